@@ -1,4 +1,4 @@
-//! Tests of the lines of an input, which comes in pieces of several sizes.
+//! Tests of the lines of an input that is read in pieces of several sizes.
 ghost use Rattle.std.specs.Prelude.{◌<◌};
 
 use crate::compare::same;

@@ -42,8 +42,8 @@ fn add_dated(rt: &impl Abort, text: &mut Vec<u8>, request: &Request<'_>) {
     }
 }
 
-/// The verb of a request that names no day, and the file that it names, if it names one. The verb
-/// is empty for any other request.
+/// The verb of a request that names no day, and the name of the file if the request has one. For a
+/// request that names a day, the verb is empty.
 fn file_words<'a>(request: &Request<'a>) -> (&'static str, Option<&'a str>) {
     match request {
         Request::Take(file) => ("take", Some(*file)),
@@ -92,7 +92,7 @@ fn asks(rt: &impl Abort, alloc: Global, line: &str, may_write: bool, words: &str
     same_in(rt, line, asked.as_slice(), words.as_bytes());
 }
 
-/// Rows of requests that every desk allows.
+/// Rows of requests that any desk accepts.
 const READING: &[Row] = &[
     ("print ASHFELD 2024-06-10", "print ASHFELD 2024-06-10"),
     ("  print  ELM   1960-01-01 ", "print ELM     1960-01-01"),
@@ -114,8 +114,8 @@ const READING: &[Row] = &[
     ("renew ", "renew"),
 ];
 
-/// Rows of requests that only a desk that may write allows. The name of a file is everything after
-/// the verb and its spaces.
+/// Rows of requests that a desk accepts only if it may write. The name of a file is everything
+/// after the verb and its spaces.
 const WRITING: &[Row] = &[
     ("take F2", "take F2"),
     (" take   F2", "take F2"),

@@ -1,4 +1,5 @@
-//! Tests of how a desk saves its state, and how it renews it after others saved.
+//! Tests of how a desk saves its state, and how it renews its state after another program has
+//! saved.
 
 use crate::compare::same;
 use crate::desks::{desk_of, ends, prints};

@@ -13,8 +13,8 @@ use docker_host::Host;
 use std::alloc::Global;
 use std::process::Abort;
 
-/// A row: a session over the state of the morning train, by its words and its input. It has the
-/// answers, the reported line, the status, and the state that the file then has.
+/// A row: the words and the input of a session over the state of the morning train. Then the
+/// answers, the reported line, the status, and the state that the file has after the session.
 type Row = (
     &'static [&'static str],
     &'static str,
@@ -24,8 +24,8 @@ type Row = (
     Parts,
 );
 
-/// Asserts that a session goes as its row says if its input comes in pieces of at most `step`
-/// bytes.
+/// Asserts that a session has the outcome of its row if its input is read in pieces of at most
+/// `step` bytes.
 fn goes_in_pieces(rt: &impl Abort, alloc: Global, row: &Row, step: usize)
     requires { 0 < step }
 {
@@ -45,7 +45,7 @@ fn goes_in_pieces(rt: &impl Abort, alloc: Global, row: &Row, step: usize)
     same_in(rt, input, text_of(&host.folder), kept.as_slice());
 }
 
-/// Asserts that each session goes as its row says.
+/// Asserts that the session of each row has the outcome of its row.
 fn go(rt: &impl Abort, alloc: Global, rows: &[Row]) {
     for row in rows {
         goes_in_pieces(rt, alloc, row, 1);

@@ -29,7 +29,7 @@ LTBRAYTON 0930 09322  FL
 END                                                                             
 ";
 
-/// The answer if no schedule of C10001 runs that day: 15 June, a Saturday.
+/// The answer if no schedule of C10001 runs on the day of the request, Saturday 15 June.
 const NONE_RUNS: &str = "\
 0 2 162
 TRAIN  C10001  2024-06-15   NONE                                                

@@ -1,4 +1,4 @@
--- How `clap` reads a command whose first word names a subcommand. Its definitions walk over the words; the walk stops at the subcommand's name.
+-- How `clap` reads a command whose first word names a subcommand. The definitions of `clap` walk over the words; the walk stops at the subcommand's name.
 use Rattle.std.proofs.Common.{◌≡◌, ◌∙◌, ◌++◌, cond, true, false, refl, sym, ap, ap₂, List, [], ◌∷◌, Some, None, is_some, codes, option_map}
 use Rattle.std.specs.List.{find, fold}
 use Rattle.std.specs.Option.{option_map_or}
@@ -16,11 +16,11 @@ use Rattle.docker_cmd.specs.Words.{is_plain_word}
 use Rattle.docker_cmd.proofs.PlainWords.{plain_walk_fault}
 use Rattle.docker_cmd.proofs.RequiredWords.{built_top}
 
--- the program with these subcommands, after `clap` has built it
+-- the program with these subcommands, after `clap` has built the program
 abbrev pub built_with : List Shape → App
 built_with subs = record { top = built_top; subs = subs }
 
--- the walk's state after it stopped at a subcommand's name, with the words that it left to the subcommand
+-- the walk's state after the walk stopped at a subcommand's name and left these words to the subcommand
 abbrev after_name : Text → List Text → Walk
 after_name name words = record (walk_from nothing_held) { stopped = Some (name, words) }
 
@@ -30,7 +30,7 @@ unfolding walk_fault walked
 no_later_fault names name seen [] = refl
 no_later_fault names name seen (word ∷ words) = no_later_fault names name (seen ++ word ∷ []) words
 
--- adding no further faults leaves the list of faults unchanged
+-- `or_else` with an empty list of other faults leaves the faults unchanged
 or_else_none : (kinds : Kinds) → or_else kinds [] ≡ kinds
 or_else_none [] = refl
 or_else_none (k ∷ kinds) = refl

@@ -7,8 +7,8 @@ use Rattle.clap.specs.Walk.{Row, first_of}
 use Rattle.docker_cmd.specs.Words.{Text, texts}
 use Rattle.docker_cmd.specs.Grammar.{found_words}
 
--- looking up all ids gives `found`, the words of the ids before `i`, followed by the words of the ids from `i` on. If a word is missing from `i` on, it gives
--- None
+-- looking up all ids returns `found`, the words of the ids before `i`, followed by the words of the ids from `i` on. It returns None if one of the ids from `i`
+-- on has no word
 abbrev pub HasFound : List (Bor Text) → List Row → ℕ → List Text → Type 0
 HasFound ids rows i found = found_words (texts ids) rows ≡ option_map (λ rest. found ++ rest) (found_words (texts (drop i ids)) rows)
 
@@ -42,7 +42,7 @@ one_more ids rows i d found word within here has =
     by None = refl
     by (Some words) = ap Some (sym (append_assoc found (word ∷ []) words))
 
--- if id `i` has no word, looking up all ids gives None
+-- if id `i` has no word, looking up all ids returns None
 pub none_here : (ids : List (Bor Text)) (rows : List Row) (i : ℕ) (d : Bor Text) (found : List Text) → i < length ids
     → first_of (slice_index_or ids i d).now rows ≡ None → HasFound ids rows i found → found_words (texts ids) rows ≡ None
 none_here ids rows i d found within never has = one_on ids rows i d found within has ∙ ap (with_word ids rows i found) never

@@ -32,7 +32,7 @@ asks_nothing words s behind names nothing = λ job is.
 pub no_plain_job : (words : List Text) → list_all is_plain_word words ≡ false → NameNoJob words
 no_plain_job words never = λ job is. true≢false (sym is.plain ∙ never)
 
--- if the number of words is wrong, they name no task of the subcommand
+-- if the number of words is wrong, the words name no task of the subcommand
 pub miscounted : (s : Subcommand) (words ids : List (Bor Text)) → texts ids ≡ ids_of s → (length words ≡ length ids → ⊥) → AskNothing s (texts words)
 miscounted s words ids are never = λ task same is.
     let required = words_counted task (texts words) is ∙ ap (λ (t : Subcommand). length (ids_of t)) same in

@@ -1,4 +1,4 @@
--- `clap` accepts words if and only if they name a subcommand. Then it finds that subcommand and the words after it.
+-- `clap` accepts words if and only if they name a subcommand. If `clap` accepts the words, it finds that subcommand and the words after it.
 use Rattle.std.proofs.Common.{◌≡◌, ◌∙◌, ◌⊎◌, ◌||◌, inl, inr, Bool, cond, true, false, refl, sym, ap, subst}
 use Rattle.std.proofs.Common.{List, [], ◌∷◌, length, map, Some, None, option_map, true≢false, arith}
 use Rattle.std.specs.Prelude.{option_and_then}
@@ -110,7 +110,7 @@ none_answers word (s ∷ ss) none =
     ap (λ b. cond (b || false) (Some (name_of s, [])) (find (answers_to word) (map label_of (map leaf_of ss)))) none.0
     ∙ none_answers word ss none.1
 
--- if the word is the name of none of these subcommands, a search by name finds none
+-- if the word is the name of none of these subcommands, a search by name finds none of them
 none_found : (word : Text) (ss : List Subcommand) → IsNoneOf word ss → find (λ s. bytes_eq (name_of s) word) ss ≡ None
 none_found word [] none = refl
 none_found word (s ∷ ss) none = ap (λ b. cond b (Some s) (find (λ t. bytes_eq (name_of t) word) ss)) none.0 ∙ none_found word ss none.1
@@ -131,7 +131,7 @@ unnamed_judged word words plain none =
       names_none = λ s behind are. no_name word s none (ap first_word are.whole);
     })
 
--- if plain words are accepted or refused when the first names none of these subcommands, they are accepted or refused in any case
+-- to show that plain words are accepted or refused, it is enough to show it under the assumption that the first word names none of these subcommands
 by_name : (word : Text) (words : List Text) → list_all is_plain_word words ≡ true → (ss : List Subcommand) → (IsNoneOf word ss → Judged (word ∷ words))
     → Judged (word ∷ words)
 by_name word words plain [] unnamed = unnamed tt

@@ -1,4 +1,4 @@
--- Reading the job line byte by byte: what the bytes read so far say about the source's text.
+-- Reading the job line byte by byte: what the bytes that were read imply about the source's text.
 use Rattle.std.proofs.Common.{◌≡◌, ℕ, ◌<◌, ◌≤◌, ◌≢◌, List, [], ◌∷◌, ◌++◌, length, Bool, true, false, refl, sym, ◌∙◌, ap}
 use Rattle.std.proofs.Common.{subst, arith, append_assoc, length-append, append-nil, Some, None, inl, inr, get_or}
 use Rattle.std.specs.Prelude.{Option, option_map, ◌&&◌, ◌⊎◌, nat_le}
@@ -48,12 +48,12 @@ long (y ∷ a) [] r s good short same =
     cc
 long (y ∷ a) (z ∷ b) r s good short same = long a b r s good.1 (omega arith) (cc)
 
--- printable bytes stay printable with one more printable byte at the end
+-- if a printable byte is appended to printable bytes, all bytes of the result are printable
 pub printable_more : (line : List ℕ) (b : ℕ) → ArePrintable line → is_printable b ≡ true → ArePrintable (line ++ b ∷ [])
 printable_more [] b good here = (here, tt)
 printable_more (y ∷ line) b good here = (good.0, printable_more line b good.1 here)
 
--- if the bytes of a line were read and then one more byte, the line with this byte at its end was read
+-- if the bytes of a line were read and then one more byte, the line with this byte appended was read
 pub reads_on : (old now new : Option (List ℕ)) (line : List ℕ) (b : ℕ) → Reads old line now → Reads now (b ∷ []) new → Reads old (line ++ b ∷ []) new
 reads_on old now None line b first then_one = first ∙ ap (option_map (λ rest. line ++ rest)) then_one
 reads_on old now (Some rest) line b first then_one = first ∙ ap (option_map (λ rest. line ++ rest)) then_one ∙ ap Some (sym (append_assoc line (b ∷ []) rest))

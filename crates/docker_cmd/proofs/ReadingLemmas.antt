@@ -133,7 +133,9 @@ state_refused first left second second_left failed failed_now fault holds few re
     by office.Lapsed why = why
     by office.Sink why = why
 
--- if the first source hasn't failed and taking the second source's file ends with a fault, one of them has failed if and only if the fault is `Source`
+-- suppose that the first source hasn't failed, and taking the second source's file ends with a fault. Then one of the two sources has failed if and only if the
+-- fault is `Source`
+-- `Source`
 pub file_failed : (A : Type 0) (one one_now two two_now : ℕ) (fault : OfficeFault) → one_now ≡ one → CountsTaking {A = A} two two_now (Err fault)
     → FailsBy one one_now two two_now fault
 file_failed A one one_now two two_now (office.File fault) same counted = (same, counted)
@@ -143,7 +145,9 @@ file_failed A one one_now two two_now office.Memory same counted = (same, counte
 file_failed A one one_now two two_now office.Lapsed same counted = counted
 file_failed A one one_now two two_now office.Sink same counted = counted
 
--- if the first source hasn't failed and reading the second source's state ends with a fault, one of them has failed if and only if the fault is `Source`
+-- suppose that the first source hasn't failed, and reading the second source's state ends with a fault. Then one of the two sources has failed if and only if
+-- the fault is `Source`
+-- `Source`
 pub state_failed : (one one_now two two_now : ℕ) (fault : OfficeFault) → one_now ≡ one → CountsWhy (why_unread fault) two two_now
     → FailsBy one one_now two two_now fault
 state_failed one one_now two two_now (office.File fault) same counted = elim counted [ ]

@@ -1,4 +1,4 @@
--- What a task has made of its sources, derived from what was read from them.
+-- What a task has made of its sources, derived from what was read from the sources.
 use Rattle.std.proofs.Common.{◌≡◌, ℕ, [], ◌∷◌, ◌⊎◌, Option, None, refl, sym, ◌∙◌, ap, subst, Some}
 use Rattle.cif_laws.proofs.lists.Membership.{Contains-single, nil-Contains}
 use Rattle.docker_model.specs.file.File.{most_records}

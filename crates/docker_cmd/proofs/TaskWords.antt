@@ -64,7 +64,7 @@ asked s t words r q same result is =
 abbrev pub unless_stdin : Text → Task → Option Task
 unless_stdin state task = cond (bytes_eq state (codes "stdin")) None (Some task)
 
--- the words name the task unless its state is named `stdin`; then they name no task
+-- the words name the task, unless its state is named `stdin`; in that case the words name no task
 tested : (s : Subcommand) (words : List Text) (state : Text) (task : Task) → subcommand_of (task_meant task) ≡ s
     → (NamesStored state → AreWordsOf (task_meant task) words) → (Suit s words → NamesStored state)
     → IsTaskOf s words (option_map task_meant (unless_stdin state task))

@@ -46,7 +46,7 @@ words_found words plain none = elim (judged words plain) [
   | inr refuses ↦ absurd (refuses.fault none)
 ]
 
--- if `clap` refuses plain words for another reason than out of memory, they name no subcommand
+-- if `clap` refuses plain words for another reason than out of memory, the words name no subcommand
 pub words_refused : (words : List Text) (kind : ErrorKind) → list_all is_plain_word words ≡ true
     → (kind ≡ OutOfMemory) ⊎ IsAmong kind (fault_of docker_app words) → kind ≢ OutOfMemory → NameNoSubcommand words
 words_refused words kind plain (inl memory) other = absurd (other memory)
@@ -55,11 +55,11 @@ words_refused words kind plain (inr among) other = elim (judged words plain) [
   | inr refuses ↦ λ s behind names. refuses.names_none s behind (record { whole = names.whole; count = names.count })
 ]
 
--- what `read_words` may return for these words. `held` gives the bytes of the words after the subcommand
+-- what `read_words` may return for these words. `held` returns the bytes of the words after the subcommand
 abbrev pub IsRead : {B : Type 0} → (B → List Text) → List Text → Result (Subcommand × B) JobFault → Type 0
 IsRead held words result = IfOk result (λ read. NamesSubcommand words read.0 (held read.1)) × ((result ≡ Err Usage) → NameNoSubcommand words)
 
--- if what `clap` found is what the words name, `read_words` returns it
+-- if `clap` found the subcommand that the words name and the words after its name, `read_words` may return them
 pub read_found : {B : Type 0} (held : B → List Text) (words : List Text) (found : Option (Subcommand × B)) (rows : Option (Subcommand × List Text))
     → IsFound words rows → option_map (λ read. pair_of read.0 (held read.1)) found ≡ rows → IsRead held words (ok_or found Usage)
 read_found held words None rows is same = let bad : None ≡ Some (pair_of is.subcommand is.behind) = same ∙ is.is in absurd (cc)

@@ -34,7 +34,7 @@ docker_app = record {
   subs = map shape_of subcommands;
 }
 
--- the first value at each of these ids, in their order; None if one id has no value
+-- the first value at each of these ids, in their order; None if any of the ids has no value
 abbrev pub found_words : List Text → List Row → Option (List Text)
 found_words [] rows = Some []
 found_words (id ∷ ids) rows = option_and_then (λ word. option_map (λ words. word ∷ words) (found_words ids rows)) (first_of id rows)

@@ -10,14 +10,14 @@ use Rattle.docker_cmd.specs.declared.holding.Holding.TheVariants.{Whole, Place, 
 abbrev pub place_read : Excerpt → ReadView
 place_read office = office_read office.state
 
--- what a job had read, given what it keeps of it
+-- what a job had read, given what the job keeps in memory
 abbrev pub held_meant : Holding → ReadView
 held_meant (Whole content) = content_meant content
 held_meant (Place office) = place_read office
 held_meant (Ledger office) = office_read office
 
--- this output can be written from what the job keeps. An excerpt gives only the docker of its own timing point and day, and a ledger gives only the list of
--- files
+-- this output can be written from what the job keeps. From an excerpt only the docker of its own timing point and day can be written, and from a ledger only
+-- the list of files
 abbrev pub IsWrittenFrom : Output → Holding → Type 0
 IsWrittenFrom output (Whole content) = IsWrittenOf output (content_meant content)
 IsWrittenFrom output (Place office) = output ≡ docker_written office.place office.day

@@ -24,7 +24,7 @@ NameNoJob words = (job : JobView) → ¬ IsJobOf words job
 abbrev pub AskNothing : Subcommand → List Text → Type 0
 AskNothing subcommand words = (task : TaskView) → subcommand_of task ≡ subcommand → ¬ AreWordsOf task words
 
--- these words name this task of the subcommand; None says that they name no task of it
+-- these words name this task of the subcommand; None says that the words name no task of the subcommand
 abbrev pub IsTaskOf : Subcommand → List Text → Option TaskView → Type 0
 IsTaskOf subcommand words (Some task) = (subcommand_of task ≡ subcommand) × AreWordsOf task words
 IsTaskOf subcommand words None = AskNothing subcommand words

@@ -10,17 +10,17 @@ pub record IsLineText (line : List ℕ) : Type 0 where
   pub short : length line ≤ 255
   pub printable : AllPass is_printable line
 
--- the text begins with this job line and its line feed, and then comes the rest
+-- the text is this job line, its line feed, and then the rest
 pub record IsJobLine (text line rest : List ℕ) : Type 0 where
   pub whole : text ≡ line ++ 10 ∷ rest
   pub line_text : IsLineText line
 
--- a job line was read from a source. If the source can name its bytes, they began with the line and its line feed, and the rest is left
+-- a job line was read from a source. If contracts know which bytes the source held, these were the line, its line feed, and the bytes that are now left
 abbrev pub ReadsLine : Option (List ℕ) → List ℕ → Option (List ℕ) → Type 0
 ReadsLine None line new = IsLineText line
 ReadsLine (Some text) line new = (rest : List ℕ) × IsJobLine text line rest × (new ≡ Some rest)
 
--- the source's bytes don't begin with a job line. This says nothing of a source that can't name its bytes
+-- the source's bytes don't begin with a job line. This says nothing if contracts don't know which bytes the source holds
 abbrev pub HasNoLine : Option (List ℕ) → Type 0
 HasNoLine None = ⊤
 HasNoLine (Some text) = (line rest : List ℕ) → ¬ IsJobLine text line rest
@@ -29,7 +29,7 @@ HasNoLine (Some text) = (line rest : List ℕ) → ¬ IsJobLine text line rest
 abbrev pub is_space : ℕ → Bool
 is_space byte = byte == 32
 
--- the words that one piece of a line gives: the piece itself, or none if it is empty
+-- the words of one piece of a line: the piece itself, or none if the piece is empty
 abbrev pub word_or_none : List ℕ → List (List ℕ)
 word_or_none piece = if length piece == 0 then [] else piece ∷ []
 
@@ -42,16 +42,17 @@ abbrev pub ReadsByte : Option (List ℕ) → Option ℕ → Option (List ℕ) �
 ReadsByte old None new = IsEnd old × (new ≡ old)
 ReadsByte old (Some byte) new = Reads old (byte ∷ []) new
 
--- a job line that names this job was read from a source. If the source can name its bytes, they began with the line and its line feed, and the rest is left
+-- a job line that names this job was read from a source. If contracts know which bytes the source held, these were the line, its line feed, and the bytes that
+-- are now left
 abbrev pub ReadsJob : Option (List ℕ) → JobView → Option (List ℕ) → Type 0
 ReadsJob old job new = (line : List ℕ) × ReadsLine old line new × IsJobOf (words_in line) job
 
--- the source's bytes don't begin with a job line that names a job. This says nothing of a source that can't name its bytes
+-- the source's bytes don't begin with a job line that names a job. This says nothing if contracts don't know which bytes the source holds
 abbrev pub HasNoJob : Option (List ℕ) → Type 0
 HasNoJob None = ⊤
 HasNoJob (Some text) = (line rest : List ℕ) → IsJobLine text line rest → NameNoJob (words_in line)
 
--- the source's bytes begin with a job line that names a job. This says nothing of a source that can't name its bytes
+-- the source's bytes begin with a job line that names a job. This says nothing if contracts don't know which bytes the source holds
 abbrev pub HasJob : Option (List ℕ) → Type 0
 HasJob None = ⊤
 HasJob (Some text) = (line : List ℕ) × ((rest : List ℕ) × (IsJobLine text line rest × (¬ NameNoJob (words_in line))))

@@ -28,7 +28,7 @@ use Rattle.docker_cmd.specs.CheckLine.{count_line}
 abbrev pub most_bytes : ℕ
 most_bytes = 1099511627776
 
--- the bytes that a source has left or that a sink has taken; None if the device can't name them
+-- the bytes that a source has left or that a sink has taken; None if contracts don't know which bytes they are
 abbrev pub DeviceBytes : Type 0
 DeviceBytes = Option (List ℕ)
 
@@ -54,13 +54,13 @@ HasSecondSource sources = (sources ≡ state_and_file) ⊎ (sources ≡ two_stat
 abbrev pub HoldsSomeState : DeviceBytes → Type 0
 HoldsSomeState left = (state : State) × ReadsState dks_2 most_bytes left state
 
--- this is the state in the first source, after its office took the file in the second
+-- this is the state of an office that read the state in the first source and then took the file in the second source
 pub record TakesBehind (first second : DeviceBytes) (state : State) : Type 0 where
   pub own : State
   pub reads : ReadsState dks_2 most_bytes first own
   pub takes : TakesFile most_records second own state
 
--- this is the state in the first source, after its office received the state in the second
+-- this is the state of an office that read the state in the first source and then received the state in the second source
 pub record JoinsBehind (first second : DeviceBytes) (state : State) : Type 0 where
   pub own : State
   pub reads : ReadsState dks_2 most_bytes first own
@@ -72,7 +72,7 @@ pub record RaisesState (day : ℕ) (first : DeviceBytes) (state : State) : Type 
   pub reads : ReadsState dks_2 most_bytes first own
   pub raised : state ≡ raise_horizon day own
 
--- this is the state that an office has after it has read these sources. A file that is only checked gives no state
+-- this is the state that an office has after it has read these sources. If a file was only checked, there is no state
 abbrev pub IsStateOf : Sources → DeviceBytes → DeviceBytes → State → Type 0
 IsStateOf no_source first second state = state ≡ no_state
 IsStateOf checked_file first second state = ⊥
@@ -86,7 +86,7 @@ abbrev pub IsContentOf : Sources → DeviceBytes → DeviceBytes → ReadView �
 IsContentOf sources first second (file_read file) = (sources ≡ checked_file) × CountsText most_records first file
 IsContentOf sources first second (office_read state) = IsStateOf sources first second state
 
--- this is the state that a task makes of its sources. `horizon` raises its horizon, and `check` makes no state
+-- this is the state that a task makes of its sources. `horizon` raises the horizon of the state that it has read, and `check` makes no state
 abbrev pub IsStateReadBy : TaskView → DeviceBytes → DeviceBytes → State → Type 0
 IsStateReadBy (horizon_task day) first second state = RaisesState day first state
 IsStateReadBy task first second state = IsStateOf (sources_of task) first second state
@@ -102,7 +102,7 @@ under None read = read
 under (Some day) (file_read file) = file_read file
 under (Some day) (office_read state) = office_read (raise_horizon day state)
 
--- what was read is the state of one file, the one whose text the source held. The state's live table is the plain table of that file
+-- what was read is the state of the one file whose text the source held. The live table of this state is the plain table of that file
 pub record IsOfOneFile (left : DeviceBytes) (read : ReadView) : Type 0 where
   pub text : List ℕ
   pub held : Held left text
@@ -113,7 +113,7 @@ pub record IsOfOneFile (left : DeviceBytes) (read : ReadView) : Type 0 where
   pub summary : IsSummary (file ∷ []) 0 state
   pub plain : IsPlainTable (file ∷ []) (live_table state)
 
--- this is the fault of the file that the sources should have held. If a state comes before the file, that state is good
+-- this is the fault of the file that the sources should have held. If the file is the second source, the state in the first source is good
 abbrev pub RefusesFileOf : Sources → DeviceBytes → DeviceBytes → FileFault → Type 0
 RefusesFileOf no_source first second fault = ⊥
 RefusesFileOf checked_file first second fault = RefusesText most_records first fault
@@ -136,8 +136,8 @@ RefusesStateOf two_states first second fault =
 abbrev pub WantsForState : Format → DeviceBytes → DeviceBytes → Type 0
 WantsForState format old new = WantsMemory format most_at_once most_bytes old new
 
--- memory ran out while these sources were read. It ran out for the first source, and nothing of the second was read; or it ran out for the second, after the
--- first held a good state. A file that is only checked needs memory only before its first byte is read
+-- memory ran out while these sources were read. Either memory ran out for the first source, and nothing of the second was read; or memory ran out for the
+-- second, after the first held a good state. A file that is only checked needs memory only before its first byte is read
 abbrev pub WantsFor : Sources → DeviceBytes → DeviceBytes → DeviceBytes → DeviceBytes → Type 0
 WantsFor no_source old new second_old second_new = ⊥
 WantsFor checked_file old new second_old second_new = Reads old [] new
@@ -148,11 +148,11 @@ WantsFor state_and_file old new second_old second_new =
 WantsFor two_states old new second_old second_new =
     (WantsForState dks_2 old new × (second_new ≡ second_old)) ⊎ (HoldsSomeState old × WantsForState dks_2 second_old second_new)
 
--- no more of a file is read after the piece that decides the answer
+-- a file is read no further than the piece that decides the answer
 abbrev pub ReadsFewOfFile : DeviceBytes → DeviceBytes → Type 0
 ReadsFewOfFile old new = ReadsNoFurther most_at_once most_records old new
 
--- no more of a state is read after the piece that decides the answer
+-- a state is read no further than the piece that decides the answer
 abbrev pub ReadsFewOfState : Format → DeviceBytes → DeviceBytes → Type 0
 ReadsFewOfState format old new = ReadsOnePieceMore format most_at_once most_bytes old new
 
@@ -246,7 +246,7 @@ abbrev pub CountsSources : {A : Type 0} → Result A OfficeFault → ℕ → ℕ
 CountsSources (Ok made) first first_now second second_now = HaveNotFailed first first_now second second_now
 CountsSources (Err fault) first first_now second second_now = FailsBy first first_now second second_now fault
 
--- this is the text to write of a state: a docker, the list of its files, or the state's own text
+-- this text is written for a state: a docker, the list of its files, or the state's own text
 abbrev pub IsStateOutput : Output → State → List ℕ → Type 0
 IsStateOutput counts_written state text = ⊥
 IsStateOutput (docker_written place day) state text = IsDockerText (live_table state) place day text

@@ -24,7 +24,8 @@ pub data Gain : Type 0 where
   version_gained : (number : ℕ) → Gain
   horizon_gained : (day : ℕ) → Gain
 
--- the old state became the new one by gaining one thing. A source held the file or the version, and the old state was joined with it; or the horizon was set
+-- the old state became the new state by gaining one thing. Either it was joined with the state of a file or of an earlier version that a source held, or its
+-- horizon was raised to this day
 abbrev pub Gains : List (List ℕ) → Gain → State → State → Type 0
 Gains earlier (file_gained file) old new =
     (held : DeviceBytes) × HoldsFile held file × TakesFile most_records held old new

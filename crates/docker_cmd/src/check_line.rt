@@ -9,8 +9,8 @@ use itoa::Buffer;
 /// The line with its line feed. It has room for any two counts.
 pub(crate) type CheckText = ArrayVec<u8, 64>;
 
-/// The line for a file of `records` records, including header and trailer, that makes `changes`
-/// changes.
+/// The line for a file with `records` records and `changes` changes. The header and the trailer
+/// count as records.
 pub(crate) fn check_line(records: u32, changes: u64) -> CheckText
     ensures { result.items ≡ count_line records changes }
 {

@@ -3,11 +3,11 @@ use crate::job_fault::JobFault;
 use docker_office::OfficeFault;
 use thiserror::Error;
 
-/// A fault that ends the program. `Display` shows the fault inside; `fault_text` gives the line
+/// A fault that ends the program. `Display` writes the inner fault; `fault_text` returns the line
 /// that the program writes to standard error.
 #[derive(Clone, Copy, PartialEq, Eq, Debug, Error)]
 pub enum Fault {
-    /// There is no job to do, for this reason.
+    /// No job was found, for this reason.
     #[error("{0}")]
     Job(JobFault),
     /// The job was refused or couldn't be finished, for this reason.

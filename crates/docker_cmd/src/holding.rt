@@ -1,5 +1,5 @@
-//! What a job keeps in memory of what it reads. `day`, `print` and `files` keep only what they
-//! write of a file or a state.
+//! What a job keeps in memory after it has read its sources. `day`, `print` and `files` keep only
+//! the part of the file or the state that their output needs.
 ghost use Rattle.std.specs.Prelude.{◌≡◌, ◌-◌, ◌^◌, ◌<◌, ◌⊎◌, IfOk};
 ghost use Rattle.docker_cmd.specs.Holding.{IsWrittenFrom, held_meant};
 ghost use Rattle.docker_cmd.specs.Prepared.{CountsSources, HasNoSource, HasSecondSource, HoldsSomeState, ReadsTask, output_of, sources_of};
@@ -15,9 +15,9 @@ use std::alloc::Global;
 /// What a job keeps in memory.
 #[derive(Debug, Drop)]
 pub(crate) enum Holding {
-    /// Everything that it has read: a file's counts or a whole state.
+    /// Everything that the job has read: a file's counts or a whole state.
     Whole(Content),
-    /// The excerpt from which it makes the docker that it prints.
+    /// The excerpt from which the job makes its docker.
     Place(PlaceOffice),
     /// Only the ledger of a state.
     Ledger(LedgerOffice),

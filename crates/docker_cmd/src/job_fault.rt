@@ -1,8 +1,8 @@
-//! The faults of words that give no job.
+//! Why no job was found.
 use std::alloc::AllocError;
 use thiserror::Error;
 
-/// Why the words, or the job line, give no job.
+/// Why no job was found in the words or in the job line.
 #[derive(Clone, Copy, PartialEq, Eq, Debug, Error)]
 pub enum JobFault {
     /// The words aren't a subcommand followed by the words that it requires.

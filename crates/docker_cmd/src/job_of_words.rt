@@ -9,8 +9,8 @@ use crate::tasks::Subcommand;
 use crate::words::{are_plain, read_words};
 use std::alloc::{AllocError, Global};
 
-/// The job that the words name. Fails with `Usage` if they name no job. Fails with `Memory` only if
-/// they name one.
+/// The job that the words name. Fails with `Usage` if the words name no job. Fails with `Memory`
+/// only if the words name a job.
 pub fn job(alloc: Global, words: &[&str]) -> Result<Job, JobFault>
     ensures job { IfOk result (λ job. IsJobOf (texts words.now) job) }
     ensures usage { (result ≡ Err JobFault.Usage) ↔ NameNoJob (texts words.now) }
@@ -23,7 +23,8 @@ pub fn job(alloc: Global, words: &[&str]) -> Result<Job, JobFault>
     }
 }
 
-/// The job that `clap` finds in the words. It may fail with `Memory` whether or not they name one.
+/// The job that `clap` finds in the words. May fail with `Memory`, whether or not the words name a
+/// job.
 fn found_job(alloc: Global, words: &[&str]) -> Result<Job, JobFault>
     ensures job { IfOk result (λ job. IsJobOf (texts words.now) job) }
     ensures usage { (result ≡ Err JobFault.Usage) → NameNoJob (texts words.now) }
@@ -36,7 +37,7 @@ fn found_job(alloc: Global, words: &[&str]) -> Result<Job, JobFault>
     }
 }
 
-/// Whether the words name a job. It allocates nothing.
+/// Whether the words name a job. Allocates nothing.
 fn names_job(words: &[&str]) -> bool
     ensures { (result ≡ false) ↔ NameNoJob (texts words.now) }
 {

@@ -13,14 +13,14 @@ use cif_file::FileCount;
 use cif_line::{Sink, write_all};
 use docker_office::{LedgerOffice, Office, OfficeFault, PlaceOffice};
 
-/// Writes what the job prints, or the text of the state that it stores. `check` writes the line
-/// with its file's counts. `day` and `print` write the docker of their timing point on their day.
-/// `files` lists the files that the office knows. Any other job writes the text of the office's
-/// state.
+/// Writes what the job prints, or the text of the state that the job stores. `check` writes the
+/// line with its file's counts. `day` and `print` write the docker of their timing point on their
+/// day. `files` lists the files that the office knows. Any other job writes the text of the
+/// office's state.
 ///
 /// Returns `Lapsed` for a docker of a day before the state's horizon plus three days. Returns
-/// `Memory` if there is no memory for a docker. In both cases nothing is written. With `Sink`, the
-/// sink has gained a proper prefix of the text.
+/// `Memory` if there is no memory for a docker. In both cases nothing is written. Returns `Sink` if
+/// the sink fails; the sink has then gained a proper prefix of the text.
 pub fn emit<K: Sink>(prepared: &Prepared<'_>, sink: &mut K) -> Result<(), OfficeFault>
     requires { K.failures sink.old < 2 ^ 64 - 1 }
     ensures ends { EndsEmitting K.taken K.failures (output_of prepared.now.job.task)
@@ -47,7 +47,7 @@ fn write_counts<K: Sink>(file: &FileCount, sink: &mut K) -> Result<(), OfficeFau
     write(sink, text.as_slice())
 }
 
-/// Writes the text. If the sink fails, it has taken a proper prefix of the text.
+/// Writes the text. If the sink fails, the sink has gained a proper prefix of the text.
 fn write<K: Sink>(sink: &mut K, text: &[u8]) -> Result<(), OfficeFault>
     requires { K.failures sink.old < 2 ^ 64 - 1 }
     ensures whole { OnOk result (Takes (K.taken sink.old) text.now (K.taken sink.new)) }

@@ -40,8 +40,8 @@ impl<'a> Prepared<'a> {
         self.job
     }
 
-    /// What the job keeps of its sources: the counts of a file for `check`, and an office for any
-    /// other job. The office may hold only what the job writes.
+    /// What the job keeps in memory: the counts of a file for `check`, and an office for any other
+    /// job. The office may hold only the part of the state that the job writes.
     pub(crate) fn held(&self) -> &Holding
         ensures held { self.now.read ≡ held_meant result.now }
         ensures written { IsWrittenFrom (output_of self.now.job.task) result.now }
@@ -53,13 +53,13 @@ impl<'a> Prepared<'a> {
 /// Reads a job's sources, in the order of its words, and returns the job with the counts of its
 /// file or with an office. `new` reads nothing. `check` and `day` read FILE from the first source;
 /// `print`, `files`, `horizon` and `migrate` read STATE from it. `take` and `merge` read STATE from
-/// the first source. They read FILE or OTHER from the second, but only if the first held a state.
-/// Each source is read to its end, or to the piece that decides the answer. A piece has at most
-/// 65,536 bytes.
+/// the first source. If the first source held a state, `take` then reads FILE from the second
+/// source, and `merge` reads OTHER from the second source. Each source is read to its end, or to
+/// the piece that decides the answer. A piece has at most 65,536 bytes.
 ///
 /// Fails with `File` or `State` if a source doesn't hold a file or a state, with `Source` if a
-/// source failed, and with `Memory` if memory ran out. With `Memory`, no fault was found in what
-/// had been judged before.
+/// source failed, and with `Memory` if memory ran out. If memory ran out, whatever was checked
+/// before has no fault.
 pub fn prepare<'a, S: Source, T: Source>(
     alloc: Global,
     job: &'a Job,

@@ -5,7 +5,7 @@
 pub enum Sources {
     /// Nothing.
     None,
-    /// A CIF file that is checked, and that no office takes.
+    /// A CIF file that is only checked. No office takes it.
     CheckedFile,
     /// A CIF file that an office takes.
     TakenFile,
@@ -13,8 +13,8 @@ pub enum Sources {
     State,
     /// A state in the older format, with the mark `DKS1`.
     OlderState,
-    /// A state, and then a CIF file that its office takes.
+    /// A state, and then a CIF file that the office with this state takes.
     StateAndFile,
-    /// A state, and then a second state that is joined to it.
+    /// A state, and then a second state that is joined to the first.
     TwoStates,
 }

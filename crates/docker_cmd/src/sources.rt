@@ -26,7 +26,7 @@ pub(crate) enum Content {
 }
 
 impl Content {
-    /// The same content, after this horizon was set on its office. `None` sets no horizon.
+    /// This content after the horizon was set on its office. `None` sets no horizon.
     pub(crate) fn under(self, horizon: Option<Day>) -> Content
         ensures { content_meant result ≡ under horizon (content_meant self) }
     {
@@ -40,7 +40,7 @@ impl Content {
     }
 }
 
-/// Reads these sources in their order, and returns the result.
+/// Reads these sources in their order, and returns what was read.
 pub(crate) fn read_content<S: Source, T: Source>(
     alloc: Global,
     sources: Sources,

@@ -31,7 +31,7 @@ pub enum Subcommand {
     Files,
     /// Raises the horizon of a state.
     Horizon,
-    /// Reads a state in the older format, and writes it in the present one.
+    /// Reads a state in the older format, and writes it in the present format.
     Migrate,
 }
 
@@ -121,9 +121,9 @@ impl Subcommand {
         first_named(Subcommand::all(), name).copied()
     }
 
-    /// The subcommand's task with these words. There must be as many words as it requires. `None`
-    /// if the state that the task writes is named `stdin`, or if a word doesn't name a timing point
-    /// or a day where it must.
+    /// The task that these words name for this subcommand. There must be as many words as the
+    /// subcommand requires. `None` if the words name the STATE to write `stdin`, or if a word that
+    /// has to name a timing point or a day doesn't name one.
     pub(crate) fn task(self, words: &[&str]) -> Option<Task>
         requires { length words.now ≡ length (ids_of self) }
         ensures { IsTaskOf self (texts words.now) (option_map task_meant result) }
@@ -168,14 +168,15 @@ fn first_named<'a>(subcommands: &'a [Subcommand], name: &str) -> Option<&'a Subc
         .find(|subcommand| subcommand.is_named(name))
 }
 
-/// The task, unless its state is named `stdin`: a state on standard input can't be replaced.
+/// The task. `None` if its state is named `stdin`: a state on standard input can't be replaced.
 fn unless_stdin(state: &str, task: Task) -> Option<Task>
     ensures { result ≡ if bytes_eq state.now (codes "stdin") then None else Some task }
 {
     if state == "stdin" { None } else { Some(task) }
 }
 
-/// The timing point and the day that these words name; `None` if either word names none.
+/// The timing point and the day that these words name. `None` if the first word isn't a timing
+/// point or the second isn't a day.
 fn place_and_day(tiploc: &str, date: &str) -> Option<(Tiploc, Day)>
     ensures pair { IfSome result (λ pair. NamesPlace tiploc.now pair.0 × NamesDay date.now pair.1) }
     ensures none { IsNone result → (place : _) (day : _) → NamesPlace tiploc.now place
@@ -267,7 +268,7 @@ impl Task {
         self.subcommand().row().reads
     }
 
-    /// What the task writes once it has read its sources.
+    /// What the task writes after it has read its sources.
     pub fn writes(self) -> Output
         ensures { output_meant result ≡ output_of (task_meant self) }
     {

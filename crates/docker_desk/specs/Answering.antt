@@ -28,17 +28,17 @@ AreFirstLines text [] rest = rest ≡ text
 AreFirstLines text (line ∷ lines) rest =
     (next : List ℕ) × (IsNextLine text line next × AreFirstLines next lines rest)
 
--- the input begins with these lines. This says nothing of an input that can't name its bytes
+-- the input begins with these lines. This says nothing if contracts don't know which bytes the input holds
 abbrev pub BeginsWith : DeviceBytes → List LineView → Type 0
 BeginsWith None lines = ⊤
 BeginsWith (Some text) lines = (rest : List ℕ) × AreFirstLines text lines rest
 
--- the input consists of exactly these lines. This says nothing of an input that can't name its bytes
+-- the input consists of exactly these lines. This says nothing if contracts don't know which bytes the input holds
 abbrev pub HasLines : DeviceBytes → List LineView → Type 0
 HasLines None lines = ⊤
 HasLines (Some text) lines = AreLines text lines
 
--- the input has at least 2 ^ 64 - 1 bytes. This says nothing of an input that can't name its bytes
+-- the input has at least 2 ^ 64 - 1 bytes. This says nothing if contracts don't know which bytes the input holds
 abbrev pub IsEndless : DeviceBytes → Type 0
 IsEndless None = ⊤
 IsEndless (Some text) = 2 ^ 64 - 1 ≤ length text
@@ -53,8 +53,8 @@ pub record BreaksOff (steps : List Step)
   pub told : Takes output (answers_text earlier) between
   pub part : TakesPart between (answer_bytes last.answer) output_now
 
--- says which lines were answered and what the output gained in a session that ended in this way. At the input's end all lines have been answered; otherwise
--- only the first lines have
+-- says which lines were answered and what the output gained in a session that ended in this way. If the input ended, every line of the input was answered;
+-- otherwise the input begins with the lines that were answered
 abbrev pub EndsSession : Ending → DeviceBytes → List Step → DeviceBytes
     → DeviceBytes → Type 0
 EndsSession Ended input steps output output_now =
@@ -67,7 +67,7 @@ EndsSession InputEndless input steps output output_now =
 EndsSession OutputFailed input steps output output_now =
     BeginsWith input (lines_of steps) × BreaksOff steps output output_now
 
--- the lines of an input were answered on an output. Their steps led from the point `before` to the point `after`, and the session then ended in this way
+-- the lines of an input were answered on an output. The steps begin at the point `before` and end at the point `after`, and the session then ended in this way
 pub record AnswersLines (setting : Setting) (before after : SessionView)
     (input output output_now : DeviceBytes) (ending : Ending) : Type 0 where
   pub steps : List Step
@@ -84,13 +84,14 @@ CountsStreams InputEndless input input_now output output_now =
 CountsStreams OutputFailed input input_now output output_now =
     (input_now ≡ input) × (output_now ≡ output + 1)
 
--- another line may follow this one. None follows a line that is cut
+-- whether another line may follow this line. No line follows a line that is cut
 abbrev pub IsFollowed : LineView → Type 0
 IsFollowed (whole_line line) = ⊤
 IsFollowed bad_line = ⊤
 IsFollowed cut_line = ⊥
 
--- one line was served with this outcome. None says that the line was answered and the session continues. Otherwise the session ended here in this way
+-- one line was served with this outcome. None says that the line was answered and the session continues. Otherwise the session ended with this line, in this
+-- way
 abbrev pub ServesNext : Setting → SessionView → SessionView → DeviceBytes → DeviceBytes
     → DeviceBytes → DeviceBytes → Option Ending → Type 0
 ServesNext setting before after input input_now output output_now None =

@@ -13,20 +13,20 @@ pub record CopyView : Type 0 where
   pub passed : Bool
   pub copy : Option Text
 
--- a sink that compares what is written with a text: the text, the bytes that it accepted, and its number of failures. It accepts bytes as long as they are the
--- text's, and the first byte that differs
+-- a sink that compares what is written with a text: the text, the bytes that the sink accepted, and its number of failures. The sink accepts the bytes of the
+-- text, and after them the first byte that differs
 pub record MatchView : Type 0 where
   pub text : Text
   pub taken : Text
   pub failures : ℕ
 
--- the copy gained these bytes, or the copy was given up
+-- the copy gained these bytes, or the copy was dropped
 abbrev pub KeepsMore : Option Text → List ℕ → Option Text → Type 0
 KeepsMore old bytes None = ⊤
 KeepsMore None bytes (Some new) = ⊥
 KeepsMore (Some old) bytes (Some new) = new ≡ old ++ bytes
 
--- these bytes, followed by the other byte if there is one
+-- these bytes, followed by the other byte if there is another byte
 abbrev pub with_other : Text → Option ℕ → Text
 with_other front None = front
 with_other front (Some other) = front ++ other ∷ []
@@ -35,7 +35,7 @@ with_other front (Some other) = front ++ other ∷ []
 abbrev pub IsNoFront : Text → Text → Type 0
 IsNoFront front text = (more : List ℕ) → text ≢ front ++ more
 
--- a copy and a text compare with this result: `Same` if the copy is the text, `Other` if it is another text. `Unknown` says nothing
+-- a copy and a text compare with this result: `Same` if the copy equals the text, `Other` if it differs from the text. `Unknown` says nothing
 abbrev pub ComparesCopy : Compared → Option Text → Text → Type 0
 ComparesCopy compared.Same copy text = copy ≡ Some text
 ComparesCopy compared.Other None text = ⊥

@@ -1,4 +1,4 @@
--- What a desk knows, and what each request answers or changes.
+-- What a desk knows, how it answers each request, and what each request changes.
 use Rattle.std.specs.Prelude.{◌≡◌, ◌≢◌, ◌<◌, ℕ, Bool, true, false, List, [], ◌∷◌, ◌++◌, Option, Some, None, Result, Ok, Err, ⊤}
 use Rattle.docker_model.specs.file.File.{most_records}
 use Rattle.docker_model.specs.state.State.{State, live_table}
@@ -24,7 +24,8 @@ use Rattle.docker_desk.specs.declared.compared.Compared.{Compared}
 use Rattle.docker_desk.specs.declared.compared.Compared.TheVariants as compared
 use Rattle.docker_desk.specs.Replies.{AnswerView, done_with, refused_for, no_request}
 
--- what a desk knows: its state, and whether it may have unsaved changes. It may if its state may differ from the state that its file was last seen to hold
+-- what a desk knows: its state, and whether the desk may have unsaved changes. It may have some if the state may differ from the state that the file was last
+-- seen to hold
 pub record DeskView : Type 0 where
   pub state : State
   pub unsaved : Bool
@@ -45,13 +46,13 @@ IsDockerAnswer state place day (done_with text) =
 IsDockerAnswer state place day (refused_for fault) = IsDockerRefused state day fault
 IsDockerAnswer state place day no_request = ⊥
 
--- the answer has the docker of this table, or says that memory ran out for its text
+-- the answer has the docker of this table, or says that memory ran out for the docker's text
 abbrev pub TellsDocker : Table → List ℕ → ℕ → AnswerView → Type 0
 TellsDocker live place day (done_with text) = IsDockerText live place day text
 TellsDocker live place day (refused_for fault) = fault ≡ office.Memory
 TellsDocker live place day no_request = ⊥
 
--- this is an answer to `permanent`, which asks for a docker without the short-term plan. It is refused like a docker
+-- this is an answer to `permanent`, the request for a docker without the short-term plan. It is refused for the same faults as `print`
 abbrev pub IsPermanentAnswer : State → List ℕ → ℕ → AnswerView → Type 0
 IsPermanentAnswer state place day (done_with text) =
     IsDockerText (permanent_table (live_table state)) place day text × (¬ IsDayRefused state.horizon day)
@@ -121,7 +122,7 @@ RefusesToReceive read (office.File fault) = ⊥
 RefusesToReceive read office.Lapsed = ⊥
 RefusesToReceive read office.Sink = ⊥
 
--- a file isn't read for this fault. None says that it couldn't be opened; otherwise it was opened, and `Refuses` holds of the reading and the fault
+-- a file isn't read for this fault. None says that the file couldn't be opened; otherwise the file was opened, and `Refuses` holds of the reading and the fault
 abbrev pub IsWhyNot : (Reading → OfficeFault → Type 0) → OfficeFault → Option Reading → Type 0
 IsWhyNot Refuses fault (Some read) = Refuses read fault
 IsWhyNot Refuses fault None = IsWhyUnopened fault
@@ -150,13 +151,13 @@ EndsReloading new (Err fault) read = IsWhyNot RefusesToReceive fault read
 
 -- ---- what is compared
 
--- these bytes are another text. This says nothing if they can't be named
+-- these bytes differ from the text. This says nothing if contracts don't know which bytes they are
 abbrev pub IsOtherText : Bytes → Text → Type 0
 IsOtherText None text = ⊤
 IsOtherText (Some bytes) text = bytes ≢ text
 
--- a file and a state compare with this result: `Same` if the file held the state's text; `Other` if it held another text, as far as its bytes can be named.
--- `Unknown` says nothing
+-- a file and a state compare with this result: `Same` if the file held the state's text, `Other` if it held another text. This says nothing for `Unknown`, or
+-- if contracts don't know which bytes the file held
 abbrev pub IsFound : Compared → State → Reading → Type 0
 IsFound compared.Same state read = IsText read.held (state_text dks_2 state)
 IsFound compared.Other state read = IsOtherText read.held (state_text dks_2 state)

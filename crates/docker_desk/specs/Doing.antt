@@ -1,4 +1,4 @@
--- What each request does in a session, and how a session goes from step to step.
+-- What each request does in a session, and the steps of a session.
 use Rattle.std.specs.Prelude.{◌≡◌, ℕ, ◌+◌, Bool, true, false, List, [], ◌∷◌, length, Option, Some, None, Result, Ok, Err, ⊤}
 use Rattle.docker_model.specs.state.State.{State, raise_horizon}
 use Rattle.docker_model.specs.state.StateText.{dks_2, state_text}
@@ -21,8 +21,8 @@ abbrev pub answer_of : {A : Type 0} → Result A OfficeFault → AnswerView
 answer_of (Ok done) = done_with []
 answer_of (Err fault) = refused_for fault
 
--- `take` or `merge` leads from one point to the next with this answer. The named file is opened once, and what it then held decides the outcome. `Stops`
--- limits how far the file is read, and `Ends` gives the outcome
+-- `take` or `merge`, done at the point `before`, has this answer and ends at the point `after`. The named file is opened once, and the bytes that it then held
+-- decide the outcome. `Stops` limits how far the file is read, and `Ends` gives the outcome
 pub record Joins (name : Text) (Stops : Reading → Type 0)
     (Ends : State → State → Result ⊤ OfficeFault → Option Reading → Type 0)
     (before : SessionView) (answer : AnswerView) (after : SessionView) : Type 0 where
@@ -33,8 +33,8 @@ pub record Joins (name : Text) (Stops : Reading → Type 0)
   pub unsaved : after.desk.unsaved ≡ unsaved_by result before.desk.unsaved
   pub look : after.look ≡ before.look
 
--- `renew` leads from one point to the next with this answer. The state's file is looked at and then opened once, and the desk's state is joined with the state
--- that the file then held. If this is done, later drafts are made from this look
+-- `renew`, done at the point `before`, has this answer and ends at the point `after`. The state's file is looked at and then opened once, and the desk's state
+-- is joined with the state that the file then held. If `renew` succeeds, later drafts are made from this look
 pub record Renews (setting : Setting) (before : SessionView) (answer : AnswerView) (after : SessionView)
     : Type 0 where
   pub result : Result Compared OfficeFault
@@ -48,8 +48,8 @@ abbrev pub desk_by : Result ⊤ OfficeFault → DeskView → DeskView
 desk_by (Ok done) desk = record desk { unsaved = false }
 desk_by (Err fault) desk = desk
 
--- `save` leads from one point to the next with this answer. A draft is made from the point's look. If the draft takes the file's place, the file is looked at
--- again, and later drafts are made from that look
+-- `save`, done at the point `before`, has this answer and ends at the point `after`. A draft is made from the look of `before`. If the draft takes the file's
+-- place, the file is looked at again, and later drafts are made from the second look
 pub record Saves (setting : Setting) (before : SessionView) (answer : AnswerView) (after : SessionView)
     : Type 0 where
   pub result : Result ⊤ OfficeFault
@@ -64,7 +64,7 @@ abbrev pub with_horizon : ℕ → SessionView → SessionView
 with_horizon day before =
     record before { desk = record { state = raise_horizon day before.desk.state; unsaved = true } }
 
--- a request leads from one point to the next with this answer
+-- this request, done at the first point, has this answer and ends at the second point
 abbrev pub DoesRequest : Setting → RequestView → SessionView → AnswerView → SessionView → Type 0
 DoesRequest setting (print_request place day) before answer after =
     IsDockerAnswer before.desk.state place day answer × (after ≡ before)
@@ -87,26 +87,27 @@ DoesRequest setting (horizon_request day) before answer after =
     (answer ≡ done_with []) × (after ≡ with_horizon day before)
 DoesRequest setting save_request before answer after = Saves setting before answer after
 
--- the line has this request, or none. A line that isn't whole has no request
+-- the line has this request; None says that it has none. A line that isn't whole has no request
 abbrev pub AsksOf : Bool → LineView → Option RequestView → Type 0
 AsksOf may_write (whole_line line) request = IsLineText line × AsksFor may_write line request
 AsksOf may_write bad_line request = request ≡ None
 AsksOf may_write cut_line request = request ≡ None
 
--- a line leads from one point to the next with this answer. If it isn't a request, the answer says so and nothing changes
+-- a line with this request, done at the first point, has this answer and ends at the second point. If the line has no request, the answer is `no_request` and
+-- nothing changes
 abbrev pub DoesAsked : Setting → Option RequestView → SessionView → AnswerView → SessionView → Type 0
 DoesAsked setting (Some request) before answer after =
     DoesRequest setting request before answer after
 DoesAsked setting None before answer after = (answer ≡ no_request) × (after ≡ before)
 
--- this step is right: its line has this request, and the request leads from the point before to the point after with this answer. The folder failed once in
--- the step if the answer has status 4, and otherwise not
+-- this step is right: its line has this request, and the request, done at the step's first point, has this answer and ends at the step's second point. The
+-- folder failed once in the step if the answer has status 4, and otherwise not
 pub record IsStep (setting : Setting) (step : Step) : Type 0 where
   pub asks : AsksOf setting.may_write step.line step.request
   pub does : DoesAsked setting step.request step.before step.answer step.after
   pub counted : IsCounted (answer_status step.answer) step.before.failures step.after.failures
 
--- a line leads from one point to the next with this answer. The folder failed once if the answer has status 4, and otherwise not
+-- this line, done at the point `before`, has this answer and ends at the point `after`. The folder failed once if the answer has status 4, and otherwise not
 pub record DoesLine (setting : Setting) (line : LineView) (before : SessionView) (answer : AnswerView)
     (after : SessionView) : Type 0 where
   pub request : Option RequestView
@@ -114,7 +115,7 @@ pub record DoesLine (setting : Setting) (line : LineView) (before : SessionView)
   pub does : DoesAsked setting request before answer after
   pub counted : IsCounted (answer_status answer) before.failures after.failures
 
--- these steps lead from one point to the next in turn
+-- these steps, done in turn from the first point, end at the second point
 abbrev pub AreSteps : Setting → SessionView → List Step → SessionView → Type 0
 AreSteps setting before [] after = after ≡ before
 AreSteps setting before (step ∷ steps) after =

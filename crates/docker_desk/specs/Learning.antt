@@ -34,14 +34,14 @@ abbrev pub KeepsAs : State → Table → Type 0
 KeepsAs state table = (place : List ℕ) (day : ℕ) (text : List ℕ) → ¬ IsDayRefused state.horizon day
     → IsDockerText (permanent_table (live_table state)) place day text ↔ IsDockerText (permanent_table table) place day text
 
--- `take` opened the named file, which held an extract, and took it. This brought the knowledge of that extract, with no horizon
+-- `take` opened the named file, which held an extract, and took the extract. The session learned this extract, with no horizon
 pub record HearsFile (name : Text) (before after : SessionView) (heard : Known) : Type 0 where
   pub read : Reading
   pub asked : after.history ≡ before.history ++ events_of name read
   pub takes : TakesFile most_records read.held before.desk.state after.desk.state
   pub heard_is : heard ≡ record { files = takes.file ∷ []; horizon = 0 }
 
--- `merge` or `renew` opened a file by these events. The file held the text of a state, which is the summary of the knowledge that this brought
+-- `merge` or `renew` opened a file by these events. The file held the text of a state, which is the summary of this knowledge. The session learned it
 pub record HearsState (events : Reading → List Event) (before after : SessionView) (heard : Known)
     : Type 0 where
   pub read : Reading
@@ -53,8 +53,8 @@ pub record HearsState (events : Reading → List Event) (before after : SessionV
 abbrev pub renewing : Text → Reading → List Event
 renewing name read = looked name ∷ events_of name read
 
--- a request that was done brought this knowledge: `take` brought its file, `merge` and `renew` the summary that they received, `horizon` its day. Any other
--- request brought nothing
+-- a request that was done added this knowledge: `take` added its file, `merge` and `renew` the knowledge of the summary that they received, `horizon` its day.
+-- Any other request added nothing
 abbrev pub Hears : Setting → RequestView → SessionView → SessionView → Known → Type 0
 Hears setting (print_request place day) before after heard = heard ≡ nothing
 Hears setting (permanent_request place day) before after heard = heard ≡ nothing
@@ -71,7 +71,7 @@ Hears setting (horizon_request day) before after heard =
     heard ≡ record { files = []; horizon = day }
 Hears setting save_request before after heard = heard ≡ nothing
 
--- if `old` was known before a line, `new` is known after it. The line adds what its request brought, if the request was done
+-- if `old` was known before a line, `new` is known after it. If the line has a request that was done, `new` also has what the request added
 abbrev pub Learns : Setting → Option RequestView → SessionView → AnswerView → SessionView
     → Known → Known → Type 0
 Learns setting (Some request) before (done_with text) after old new =
@@ -151,7 +151,7 @@ pub record GainsVersion (events : Reading → List Event) (earlier : List Text) 
   pub holds : HoldsVersion earlier read.held number
   pub gains_are : gains ≡ version_gained number ∷ []
 
--- by a request that was done, the state gained this: a file, an earlier version of some state's file, a horizon, or nothing
+-- the state gained this by a request that was done: a file, an earlier version of some state's file, a horizon, or nothing
 abbrev pub GainsDone : Setting → List Text → RequestView → SessionView → SessionView → List Gain → Type 0
 GainsDone setting earlier (print_request place day) before after gains = gains ≡ []
 GainsDone setting earlier (permanent_request place day) before after gains = gains ≡ []
@@ -169,7 +169,7 @@ GainsDone setting earlier (horizon_request day) before after gains =
     gains ≡ horizon_gained day ∷ []
 GainsDone setting earlier save_request before after gains = gains ≡ []
 
--- by a line, the state gained this: nothing, unless the line has a request that was done
+-- the state gained this by a line: nothing, unless the line has a request that was done
 abbrev pub GainsAsked : Setting → List Text → Option RequestView → SessionView → AnswerView → SessionView
     → List Gain → Type 0
 GainsAsked setting earlier (Some request) before (done_with text) after gains =
@@ -178,8 +178,8 @@ GainsAsked setting earlier (Some request) before (refused_for fault) after gains
 GainsAsked setting earlier (Some request) before no_request after gains = gains ≡ []
 GainsAsked setting earlier None before answer after gains = gains ≡ []
 
--- by these steps, the state gained these things in this order. Each file that was taken, merged or renewed can name its bytes; if it was merged or renewed, it
--- held an earlier version of some state's file
+-- by these steps, the state gained these things in this order. Contracts know which bytes each file held that was taken, merged or renewed. Each file that was
+-- merged or renewed held an earlier version of some state's file
 abbrev pub GainedBy : Setting → List Text → List Step → List Gain → Type 0
 GainedBy setting earlier [] gains = gains ≡ []
 GainedBy setting earlier (step ∷ steps) gains = (now : List Gain) × ((more : List Gain)
@@ -206,8 +206,8 @@ pub record KnowsAt (setting : Setting) (known : Known) (state : State) : Type 0 
   pub learned : AreLearned setting start steps known
   pub has : last.desk.state ≡ state
 
--- this text shows a train's schedule, or says that there is none that day. A schedule that is shown came from a known file. If the known files have a plain
--- table, the text shows what that table has for the train on that day
+-- this text shows a train's schedule, or says that the train has no schedule that day. A schedule that is shown came from a known file. If the known files have
+-- a plain table, the text shows the schedule of that table for the train on that day
 pub record IsTrainOf (known : Known) (uid : List ℕ) (day : ℕ) (text : List ℕ) : Type 0 where
   pub found : Option Stamped
   pub text_is : text ≡ train_text uid day found

@@ -42,18 +42,19 @@ abbrev pub AreLines : List ℕ → List LineView → Type 0
 AreLines text [] = text ≡ []
 AreLines text (line ∷ lines) = (rest : List ℕ) × (IsNextLine text line rest × AreLines rest lines)
 
--- says what is known of a line that was read, even if the source can't name its bytes
+-- says what contracts know of a line that was read, even if they don't know which bytes the source held
 abbrev pub IsSomeLine : LineView → Type 0
 IsSomeLine (whole_line line) = IsLineText line
 IsSomeLine bad_line = ⊤
 IsSomeLine cut_line = ⊤
 
--- this line was read from a source. If the source can name its bytes, they began with the line, and the rest is left
+-- this line was read from a source. If contracts know which bytes the source held, these began with the line, and the rest is left
 abbrev pub ReadsNext : Option (List ℕ) → LineView → Option (List ℕ) → Type 0
 ReadsNext None line new = IsSomeLine line
 ReadsNext (Some text) line new = (rest : List ℕ) × (IsNextLine text line rest × (new ≡ Some rest))
 
--- the bytes that are still to be read: first those that were read ahead, then what the source has left. None if the source can't name its bytes
+-- the bytes that are still to be read: first those that were read ahead, then what the source has left. None if contracts don't know which bytes the source has
+-- left
 abbrev pub with_ahead : List ℕ → Option (List ℕ) → Option (List ℕ)
 with_ahead ahead left = option_map (λ rest. ahead ++ rest) left
 
@@ -81,7 +82,7 @@ EndsLine old (Ok asked) new = ReadsAsked old (asked_meant asked) new
 EndsLine old (Err Failed) new = ReadsMany 0 old new
 EndsLine old (Err Endless) new = ReadsMany (2 ^ 64 - 1) old new
 
--- if a source hadn't reported its end before, then it has now if and only if `at_end` is true, and it wasn't read past its end
+-- if a source hadn't reported its end before, then it has reported its end now if and only if `at_end` is true, and the source wasn't read past its end
 pub record MeetsEnd (at_end ended now_ended passed now_passed : Bool) : Type 0 where
   pub told : ended ≡ false → now_ended ≡ at_end
   pub kept : ended ≡ false → now_passed ≡ passed
@@ -105,7 +106,7 @@ abbrev pub cut_or_end : List ℕ → Option LineView
 cut_or_end [] = None
 cut_or_end (byte ∷ bytes) = Some cut_line
 
--- the text begins with the rest of a line and its line feed, and exactly what follows is left
+-- the text begins with the rest of a line and its line feed, and the bytes after the line feed are left
 pub record SkipsTo (text : List ℕ) (left : Option (List ℕ)) : Type 0 where
   pub skipped : List ℕ
   pub rest : List ℕ
@@ -113,12 +114,12 @@ pub record SkipsTo (text : List ℕ) (left : Option (List ℕ)) : Type 0 where
   pub one : IsWithoutFeed skipped
   pub behind : left ≡ Some rest
 
--- the rest of a line and its line feed were read. This says nothing of a source that can't name its bytes
+-- the rest of a line and its line feed were read. This says nothing if contracts don't know which bytes the source held
 abbrev pub SkipsLine : Option (List ℕ) → Option (List ℕ) → Type 0
 SkipsLine None new = ⊤
 SkipsLine (Some text) new = SkipsTo text new
 
--- all that the source had left was read, and no byte of it is a line feed. This says nothing of a source that can't name its bytes
+-- all that the source had left was read, and no byte of it is a line feed. This says nothing if contracts don't know which bytes the source held
 abbrev pub SkipsAll : Option (List ℕ) → Option (List ℕ) → Type 0
 SkipsAll None new = ⊤
 SkipsAll (Some text) new = IsWithoutFeed text × (new ≡ Some [])

@@ -20,6 +20,6 @@ pub record IsAfterPlacing (name : Text) (history : List Event) (look : ℕ) : Ty
   pub number : look ≡ length earlier + 1
 
 -- this look comes right before an opening of the file, or right after a draft took the file's place. So if a draft from this look replaces a text, the desk has
--- read that text or put it there itself, unless the text arrived after the look
+-- read or written that text, unless the text arrived after the look
 abbrev pub IsGoodLook : Text → List Event → ℕ → Type 0
 IsGoodLook name history look = IsBeforeOpening name history look ⊎ IsAfterPlacing name history look

@@ -17,7 +17,7 @@ reading held left = record { held = held; left = left }
 abbrev pub events_of : Text → Reading → List Event
 events_of name read = opened name read.held ∷ closed read.left ∷ []
 
--- the events of opening the named file: its opening and its closing, or, if it couldn't be opened, only that
+-- the events of opening the named file: its opening and its closing, or only the failed opening if the file couldn't be opened
 abbrev pub opening_of : Text → Option Reading → List Event
 opening_of name (Some read) = events_of name read
 opening_of name None = unopened name ∷ []
@@ -30,8 +30,8 @@ StopsInFile read = ReadsFewOfFile read.held read.left
 abbrev pub StopsInState : Reading → Type 0
 StopsInState read = ReadsFewOfState dks_2 read.held read.left
 
--- the named file was opened once and closed, and `Stops` and `Ends` hold of the reading; or it couldn't be opened, and `Ends` holds of `None`. Nothing else was
--- asked of the folder
+-- the named file was opened once and closed, and `Stops` and `Ends` hold of the reading; or the file couldn't be opened, and `Ends` holds of `None`. The
+-- folder's history has no other new events
 pub record OpensOnce (name : Text) (Stops : Reading → Type 0) (Ends : Option Reading → Type 0)
     (old new : List Event) : Type 0 where
   pub read : Option Reading
@@ -39,8 +39,8 @@ pub record OpensOnce (name : Text) (Stops : Reading → Type 0) (Ends : Option R
   pub stops : IfSome read Stops
   pub ends : Ends read
 
--- the named file was looked at. Then it was opened once, read no further than the answer needs, and closed, and `Ends` holds of the reading; or it couldn't be
--- opened, and `Ends` holds of `None`. Nothing else was asked of the folder
+-- the named file was looked at. Then it was opened once, read no further than the answer needs, and closed, and `Ends` holds of the reading. Or it couldn't be
+-- opened, and `Ends` holds of `None`. The folder's history has no other new events
 pub record LooksAndOpens (name : Text) (Ends : Option Reading → Type 0) (old new : List Event)
     : Type 0 where
   pub read : Option Reading

@@ -118,7 +118,7 @@ without_spaces (byte ∷ bytes) = if is_space byte then without_spaces bytes els
 abbrev pub first_word : List ℕ → Text
 first_word text = before_first is_space (without_spaces text)
 
--- what follows the first word of a text, without leading spaces
+-- the text after the first word of a text, without leading spaces
 abbrev pub after_word : List ℕ → List ℕ
 after_word text = without_spaces (after_first is_space (without_spaces text))
 

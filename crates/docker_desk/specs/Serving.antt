@@ -62,7 +62,7 @@ pub record BeginsAt (name : Text) (old : List Event) (first : SessionView) : Typ
 abbrev pub unsaved_line : List ℕ
 unsaved_line = codes "desk: changes not saved\n"
 
--- what reports unsaved changes: that line if there are any, otherwise nothing
+-- the report of unsaved changes: `unsaved_line` if there are any, otherwise nothing
 abbrev pub unsaved_text : Bool → List ℕ
 unsaved_text false = []
 unsaved_text true = unsaved_line
@@ -75,7 +75,7 @@ ending_status InputFailed unsaved = 4
 ending_status InputEndless unsaved = 4
 ending_status OutputFailed unsaved = 4
 
--- what the sink of faults gains at the end of a session: first the line on a failed device, then the line on unsaved changes. Each line is there only if there
+-- what the sink of faults gains at the end of a session: first the line on a failed device, then the line on unsaved changes. A line is written only if there
 -- is something to report
 abbrev pub ending_text : Ending → Bool → List ℕ
 ending_text Ended unsaved = unsaved_text unsaved

@@ -6,7 +6,8 @@ use Rattle.docker_desk.specs.Requests.{RequestView}
 use Rattle.docker_desk.specs.Desk.{DeskView}
 use Rattle.docker_desk.specs.Replies.{AnswerView}
 
--- what doesn't change in a session: the name of the state's file, whether the desk may write, and whether the folder names the bytes of its drafts
+-- what doesn't change in a session: the name of the state's file, whether the desk may write, and whether contracts know which bytes the folder's drafts have
+-- taken
 pub record Setting : Type 0 where
   pub name : Text
   pub may_write : Bool
@@ -17,8 +18,8 @@ abbrev pub setting : Text → Bool → Bool → Setting
 setting name may_write names_bytes =
     record { name = name; may_write = may_write; names_bytes = names_bytes }
 
--- a point of a session: what the desk knows, and the number of the event that is the look for the next draft. It also has the events of the folder so far, and
--- how often the folder has failed
+-- a point of a session: what the desk knows, and the number of the event that is the look for the next draft. A point also has the folder's events up to this
+-- point, and how often the folder has failed
 pub record SessionView : Type 0 where
   pub desk : DeskView
   pub look : ℕ

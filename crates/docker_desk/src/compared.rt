@@ -6,7 +6,7 @@ pub enum Compared {
     Same,
     /// The file held another text.
     Other,
-    /// They weren't compared: the caller didn't want it, or there was no memory to keep the file's
-    /// text.
+    /// The texts weren't compared, because the caller didn't ask for it or because there was no
+    /// memory to keep the file's text.
     Unknown,
 }

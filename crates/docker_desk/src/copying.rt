@@ -7,8 +7,8 @@ use cif_line::{Failed, Source};
 use std::alloc::Global;
 use std::marker::{Brand, Model, PhantomData};
 
-/// Names the bytes that a source held when its copying began; only clauses see it. The bytes are
-/// part of the copying source's type, so that no call can change them.
+/// A ghost value for contracts: the bytes that a source held when its copying began. These bytes
+/// are part of the copying source's type, so no call can change them.
 pub(crate) trait Begun {
     ghost use Rattle.std.specs.Prelude.{List, Option, ℕ};
 
@@ -22,7 +22,7 @@ impl Begun for Brand {
 }
 
 /// A source, with a copy of all that was read from it. The copy is `None` if memory ran out for it.
-/// `at_end` says whether the last read met the end of the source.
+/// `at_end` says whether the last read reported the end of the source.
 #[derive(Drop)]
 pub(crate) struct Copying<B: Begun, S: Source> {
     source: S,
@@ -68,7 +68,7 @@ impl<B: Begun, S: Source> Copying<B, S> {
     }
 
     /// Returns the source. Also returns the copy, if there was memory for it and the source was
-    /// read to its end. Then the copy is all that the source held.
+    /// read to its end. The copy then has all that the source held.
     pub(crate) fn into_parts(self) -> (S, Option<Vec<u8>>)
         ensures left { S.left result.0 ≡ self.left }
         ensures failures { S.failures result.0 ≡ self.failures }

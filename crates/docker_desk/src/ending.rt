@@ -51,8 +51,8 @@ fn unsaved_line<'a>(unsaved: bool) -> &'a [u8]
     if unsaved { UNSAVED } else { b"" }
 }
 
-/// Reports a fault and then, if there are unsaved changes, the line on them. That second line is
-/// written only if the whole first line was. Returns the fault's exit status.
+/// Writes the line that reports a fault. Then, if there are unsaved changes, writes the line on
+/// unsaved changes, but only if the whole first line was written. Returns the fault's exit status.
 pub(crate) fn tell_failure<L: Sink>(fault: &Fault, unsaved: bool, faults: &mut L) -> u8
     requires { L.failures faults.old < 2 ^ 64 - 1 }
     ensures status { result ≡ status_of fault.now }

@@ -52,8 +52,8 @@ pub fn known_files_fix_sessions()
 /// Each point of a session has a look, from which the next draft is made. The look comes right
 /// before an opening of the state's file, whose text was then read, or right after the desk put its
 /// own text in the file's place. So a text that arrived between the look and the reading is never
-/// overwritten unread. Either the desk read it, or the file is no longer the one that the look saw,
-/// and the draft is refused.
+/// overwritten unread. Either the desk read it, or the file was replaced after the look, and the
+/// draft is refused.
 pub fn looks_come_before_readings()
     ensures { (setting : Setting) (old : List Event) (first last : SessionView) (steps : List Step)
         → BeginsAt setting.name old first → AreSteps setting first steps last
@@ -61,8 +61,9 @@ pub fn looks_come_before_readings()
 {}
 
 /// Suppose that a file that was merged or renewed held the text of a summary. Then the session
-/// learns that summary from it. If this holds for each such file, the knowledge after every step is
-/// determined, and the law `known_files_fix_sessions` applies to the whole session.
+/// learns that summary from the file. If each file that is merged or renewed holds such a text, the
+/// knowledge after every step is determined, and the law `known_files_fix_sessions` applies to the
+/// whole session.
 pub fn known_texts_are_heard()
     ensures merged { (setting : Setting) (other text : List ℕ) (before after : SessionView)
         (known : Known) → DoesRequest setting (merge_request other) before (done_with text) after
@@ -100,8 +101,8 @@ pub fn saves_are_versions()
         → IsPlaced setting earlier own gains before after }
 {}
 
-/// A session can be cut at any step: the steps before it lead to a point, and the steps after it
-/// lead on from this point. So what a law says of a session's last point holds at every point.
+/// A session can be split at any step. The steps before it end at a point, and the later steps
+/// begin at this point. So what a law says of a session's last point holds at every point.
 pub fn each_point_is_a_last_one()
     ensures { (setting : Setting) (first last : SessionView) (earlier later : List Step)
         → AreSteps setting first (earlier ++ later) last → (between : SessionView)
@@ -115,8 +116,9 @@ pub fn offices_know_as_desks()
 {}
 
 /// Two sessions that know the same files under the same horizon have equal states, and so equal
-/// bytes. So have a session and an office of a run. They print the same docker for each timing
-/// point and each day that neither refuses, even if their horizons differ.
+/// texts. Two sessions that know the same files, even under different horizons, print the same
+/// docker for each timing point and each day that neither refuses. Both facts hold for a session
+/// and an office of a run, too.
 pub fn known_files_fix_states()
     ensures state { (first second : Known) (one two : State) → IsKnown first one
         → IsKnown second two → AreOneKnowledge first second → one ≡ two }
@@ -138,10 +140,10 @@ pub fn dockers_are_of_the_plain_table()
         → (plain : Table) × IsPlainTable known.files plain × PrintsAs state plain }
 {}
 
-/// Two sessions that know the same files have the same dockers without the short-term plan. So have
-/// a session and an office of a run. This holds for each timing point and each day that neither
-/// refuses, even if their horizons differ. If no two of the files have the same moment, these are
-/// the dockers of the plain table without its short-term entries.
+/// Two sessions that know the same files, even under different horizons, have the same dockers
+/// without the short-term plan, for each timing point and each day that neither refuses. The same
+/// holds for a session and an office of a run. If no two of the files have the same moment, these
+/// are the dockers of the plain table without its short-term entries.
 pub fn known_files_fix_permanent_answers()
     ensures docker { (first second : Known) (one two : State) → IsKnown first one
         → IsKnown second two → HaveSameFiles first.files second.files → (place : List ℕ) (day : ℕ)
@@ -154,19 +156,21 @@ pub fn known_files_fix_permanent_answers()
 {}
 
 /// Each schedule that `train` shows came from a known file. If no two known files have the same
-/// moment, it is the schedule that their plain table has for the UID on the day.
+/// moment, `train` shows the schedule that the plain table of these files has for the UID on the
+/// day.
 pub fn trains_came_from_known_files()
     ensures { (known : Known) (state : State) (uid : List ℕ) (day : ℕ) (text : List ℕ)
         → IsKnown known state → IsTrainText state uid day text → state.horizon ≤ day
         → IsTrainOf known uid day text }
 {
-    // These calls are made only for their contracts, which say this of the files of any summary.
+    // These calls are made only for their contracts, which state the law for the files of any
+    // summary.
     train_came_from_a_file();
     found_train_is_plain();
 }
 
 /// Two sessions that know the same files under the same horizon have the same list of timing points
-/// and the same text of what is known. So have a session and an office of a run.
+/// and the same text of what is known. The same holds for a session and an office of a run.
 pub fn known_files_fix_lists()
     ensures places { (first second : Known) (one two : State) → IsKnown first one
         → IsKnown second two → AreOneKnowledge first second → (text other : List ℕ)

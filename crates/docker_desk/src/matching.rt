@@ -9,9 +9,9 @@ use cif_line::{Failed, Sink};
 use docker_cmd::Office;
 use std::marker::{Brand, Model, PhantomData};
 
-/// A sink that compares what is written with a text. It accepts bytes as long as they are the
-/// text's, and the first byte that differs; after that it fails. It allocates nothing. Its type
-/// names the text, for clauses.
+/// A sink that compares what is written with a text. It accepts the bytes of the text, and after
+/// them the first byte that differs. After that it fails. It allocates nothing. Its type parameter
+/// `B` has the text, for contracts.
 #[derive(Drop)]
 pub(crate) struct Matching<'a, B: Begun> {
     text: &'a [u8],
@@ -93,8 +93,8 @@ impl<B: Begun> Sink for Matching<'_, B> {
     }
 }
 
-/// A number of bytes that are equal at the beginning of the text and of the piece. It needn't be
-/// the greatest, but is 0 only if the first bytes differ or the text is empty.
+/// The length of a common prefix of the text and the piece. It needn't be the longest, but is 0
+/// only if the first bytes differ or the text is empty.
 fn matching_front(text: &[u8], piece: &[u8]) -> usize
     requires { 0 < length piece.now }
     ensures within { (result ≤ length text.now) × (result ≤ length piece.now) }

@@ -57,8 +57,8 @@ pub(crate) fn receive_state<D: Folder>(
 }
 
 /// Opens the named file once, and has the office receive the state in it. Also returns whether the
-/// file held the text of the state that the office has after that. This is found out only if
-/// `compares` is set, and if there is memory to keep the file's text until it is compared.
+/// file held the text of the office's new state. The texts are compared only if `compares` is set,
+/// and if there is memory to keep the file's text until then.
 pub(crate) fn renew_state<D: Folder>(
     alloc: Global,
     office: &mut Office,
@@ -89,7 +89,7 @@ pub(crate) fn renew_state<D: Folder>(
 }
 
 /// Has the office receive the state in a source, and returns the source. Also returns whether the
-/// source held the text of the state that the office has after that.
+/// source held the text of the office's new state.
 fn receive_copied<B: Begun, S: Source>(
     alloc: Global,
     office: &mut Office,

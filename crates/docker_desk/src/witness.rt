@@ -1,5 +1,4 @@
-//! A session over devices whose bytes are known: what the contract of `serve` then says of an
-//! answer.
+//! What the contract of `serve` says of an answer if contracts know the bytes of all devices.
 ghost use Rattle.std.specs.Prelude.{◌≡◌, ◌⊎◌, IfOk, codes};
 ghost use Rattle.docker_desk.specs.Replies.{memory_answer};
 

@@ -1,4 +1,4 @@
--- What commands know. The texts that they store and print are the summaries of known files under a known horizon. The same holds of the texts that desks save.
+-- What commands know. The texts that they store and print are the summaries of known files under a known horizon. The same holds for the texts that desks save.
 use Rattle.std.specs.Prelude.{◌≡◌, ◌⊎◌, ◌<◌, ℕ, Bool, List, [], ◌∷◌, ◌++◌, length, map, slice_index_or, Some, None, ⊤}
 use Rattle.docker_model.specs.state.Lapse.{IsDayRefused}
 use Rattle.docker_model.specs.state.State.{State, live_table}
@@ -28,7 +28,7 @@ abbrev pub history_read : List Event → JobView → SourcesRead → List Event
 history_read before job read =
     with_files_read (names_of job) read (with_look_at (stored_by job) before)
 
--- a run of a command: its words, and its devices before and after. `names_bytes` says whether the folder's drafts name their bytes
+-- a run of a command: its words, and its devices before and after. `names_bytes` says whether contracts know which bytes the folder's drafts have taken
 pub record Run : Type 0 where
   pub words : List Text
   pub names_bytes : Bool
@@ -74,18 +74,18 @@ pub record Prints (run : Run) (job : JobView) (read : SourcesRead) (text : List 
   pub history : run.new.history ≡ history_read run.old.history job read
   pub printed : Takes run.old.output text run.new.output
 
--- this event didn't put a draft in the place of a file, and can't have done so
+-- this event didn't put a draft in the place of a file, and can't have put one there
 abbrev pub IsNoStoring : Event → Type 0
 IsNoStoring (placed name bytes) = ⊥
 IsNoStoring (unplaced name bytes) = ⊥
 IsNoStoring _ = ⊤
 
--- none of these events put a draft in the place of a file, or can have done so
+-- no event in this list put a draft in the place of a file, or may have put one there
 abbrev pub AreNoStorings : List Event → Type 0
 AreNoStorings [] = ⊤
 AreNoStorings (event ∷ events) = IsNoStoring event × AreNoStorings events
 
--- none of a command's events put a draft in the place of a file, or can have done so
+-- no event of the command put a draft in the place of a file, or may have put one there
 pub record StoresNothing (run : Run) : Type 0 where
   pub events : List Event
   pub history : run.new.history ≡ run.old.history ++ events
@@ -150,7 +150,7 @@ pub record PrintsKnown (known : Known) (place : List ℕ) (day : ℕ) (text : Li
   pub is : IsStateOf known state
   pub docker : IsDockerText (live_table state) place day text
 
--- a command that knows this may write this text: the text of the summary, a docker of it, or the list of its files
+-- a command with this knowledge may write this text: the text of the summary of what it knows, a docker of that summary, or the list of the known files
 abbrev pub WritesKnown : TaskView → Known → List ℕ → Type 0
 WritesKnown new_task known text = IsKnownText dks_2 known text
 WritesKnown check_task known text = ⊤
@@ -166,8 +166,8 @@ WritesKnown migrate_task known text = IsKnownText dks_2 known text
 -- ---- versions of STATE files
 
 -- how a version of a STATE file was made. Earlier versions, of any office, have numbers, which count from 0. A command made the version: `new`; `take` of a
--- file; `merge` with another version; `horizon`; or `migrate` of a text in the older format that has this knowledge. Or a desk saved it, after its state was
--- read from a version and gained these things
+-- file; `merge` with another version; `horizon`; or `migrate` of a text in the older format that has this knowledge. Or a desk saved the version, after the
+-- desk's state was read from an earlier version and then gained these things
 pub data Origin : Type 0 where
   begun : Origin
   taken : (own : ℕ) (file : List (List ℕ)) → Origin
@@ -181,7 +181,7 @@ pub record Version : Type 0 where
   pub text : List ℕ
   pub origin : Origin
 
--- a command with this task stored this text, or may have stored it, and what its sources held has this property
+-- a command with this task stored this text, or may have stored it, and the bytes that its sources held have this property
 pub record ByCommand (task : TaskView) (Held : Bytes → Bytes → Type 0) (text : List ℕ)
     : Type 0 where
   pub run : Run
@@ -191,7 +191,7 @@ pub record ByCommand (task : TaskView) (Held : Bytes → Bytes → Type 0) (text
   pub task_is : job.task ≡ task
   pub held : Held read.first read.second
 
--- a version with this text was made in this way. These are the texts of the versions before it
+-- a version with this text was made in this way from earlier versions with these texts
 abbrev pub IsMade : List (List ℕ) → Origin → List ℕ → Type 0
 IsMade earlier begun text = ByCommand new_task (λ first second. ⊤) text
 IsMade earlier (taken own file) text = ByCommand take_task
@@ -204,7 +204,7 @@ IsMade earlier (migrated known) text =
     ByCommand migrate_task (λ first second. HoldsKnown dks_1 first known) text
 IsMade earlier (saved own gains) text = IsSaved earlier own gains text
 
--- each of these versions was made from versions before it. These are the texts of the versions that precede the list
+-- each of these versions was made from earlier versions: from versions before the list, which have these texts, or from versions that precede it in the list
 abbrev pub AreMade : List (List ℕ) → List Version → Type 0
 AreMade earlier [] = ⊤
 AreMade earlier (version ∷ versions) = IsMade earlier version.origin version.text

@@ -45,20 +45,20 @@ pub record IsAsked (words : List Text) (input : Bytes)
   pub at_most : AsksAtMost words input rest
   pub holds : Holds job rest
 
--- no job was found, for this reason, and nothing was asked of the folder
+-- no job was found, for this reason, and the folder's history is unchanged
 pub record IsNotAsked (words : List Text) (old new : HostView) (Why : Type 0) : Type 0 where
   pub why : Why
   pub at_most : AsksAtMost words old.input new.input
   pub unasked : new.history ≡ old.history
 
--- the changes of the folder and of standard input while a job's sources were opened, read and closed, up to the history `now`. If the job writes a file, it was
--- looked at before
+-- the changes of the folder and of standard input while a job's sources were opened, read and closed, up to the history `now`. If the job writes a file, the
+-- history before has a look at this file
 abbrev pub reading : HostView → HostView → JobView → Bytes → List Event → Asking
 reading old new job rest now =
     asking (with_look_at (stored_by job) old.history) now rest new.input
 
--- the program ended after the job's sources were opened, read and closed, or after one couldn't be opened. `Holds` is true of the changes that this made to the
--- folder and to standard input
+-- the program ended after the job's sources were opened, read and closed, or after a source couldn't be opened. `Holds` is true of the changes that were made
+-- to the folder and to standard input
 abbrev pub EndsReading : HostView → HostView → (Asking → JobView → Type 0)
     → JobView → Bytes → Type 0
 EndsReading old new Holds job rest = Holds (reading old new job rest new.history) job
@@ -71,7 +71,7 @@ from_first_look names_bytes old = drafting (length old.history) names_bytes
 abbrev pub writing : HostView → HostView → List Event → Written
 writing old new before = written old.output new.output before new.history
 
--- the job read its sources whole, and `Holds` is true of the changes that it then made by writing its output
+-- the job read all its sources without a fault, and `Holds` is true of the changes that it then made by writing its output
 pub record HasRead (old new : HostView) (Holds : Written → PreparedView → Type 0) (job : JobView)
     (rest : Bytes) : Type 0 where
   pub prepared : PreparedView
@@ -80,7 +80,7 @@ pub record HasRead (old new : HostView) (Holds : Written → PreparedView → Ty
   pub is : IsPrepared (reading old new job rest read) job prepared
   pub holds : Holds (writing old new read) prepared
 
--- the job didn't read its sources whole: a file couldn't be opened, or a device failed while it was read
+-- the job couldn't read its sources: a file couldn't be opened, or a device failed while it was read
 abbrev pub FailsToRead : Asking → JobView → Type 0
 FailsToRead asked job = IsNotOpened asked job ⊎ IsOpened asked job
 
@@ -93,7 +93,7 @@ abbrev pub WantsMemory : Bool → HostView → HostView → JobView → Bytes �
 WantsMemory names_bytes old new job rest = EndsReading old new WantsToRead job rest
     ⊎ HasRead old new (WantsToWrite (from_first_look names_bytes old)) job rest
 
--- says why the program ended with this fault before it wrote anything
+-- says why the program ended with this fault before anything was written
 abbrev pub IsWhy : List Text → Bool → HostView → HostView → Fault → Type 0
 IsWhy words names_bytes old new (Job job.Usage) =
     IsNotAsked words old new (AskForNone words old.input)
@@ -112,8 +112,8 @@ IsWhy words names_bytes old new (Office office.Memory) =
     IsAsked words old.input (WantsMemory names_bytes old new)
 IsWhy words names_bytes old new (Office office.Sink) = ⊥
 
--- the program ended in this way. Without a fault, it has written its job's output. With `Sink`, the output or the folder failed, and it has written a part at
--- most. With any other fault, it has written nothing
+-- the program ended in this way. Without a fault, the job's output was written. With `Sink`, the output or the folder failed, and at most a part of the output
+-- was written. With any other fault, nothing was written
 abbrev pub EndsBy : List Text → Bool → HostView → HostView → Option Fault → Type 0
 EndsBy words names_bytes old new None =
     IsAsked words old.input (HasRead old new (Writes (from_first_look names_bytes old)))
@@ -132,12 +132,12 @@ abbrev pub Tells : Option Fault → (old new : FaultsView) → Type 0
 Tells None old new = (new.taken ≡ old.taken) × (new.failures ≡ old.failures)
 Tells (Some fault) old new = TellsText (fault_line fault) old new
 
--- how often the input, the folder and the output have failed together
+-- the sum of the failure counts of the input, the folder and the output
 abbrev pub failures_of : HostView → ℕ
 failures_of host = host.input_failures + host.folder_failures + host.output_failures
 
--- a run of the program with these words ends with this status. It says which fault ended the run, if any, what was asked of the folder, and what was written.
--- `names_bytes` says whether the folder's drafts name their bytes
+-- a run of the program with these words ends with this status. The record has the fault that ended the run, if any, the requests to the folder, and what was
+-- written. `names_bytes` says whether contracts know which bytes the folder's drafts have taken
 pub record Performs (words : List Text) (names_bytes : Bool) (old new : HostView)
     (status : ℕ) : Type 0 where
   pub ending : Option Fault

@@ -1,4 +1,4 @@
--- What commands leave on a shelf, a folder in memory whose texts are known.
+-- What commands leave on a shelf, a folder in memory whose texts contracts know.
 use Rattle.std.specs.Prelude.{◌≡◌, List, [], ◌∷◌, ℕ, Some, codes}
 use Rattle.docker_model.specs.file.File.{most_records}
 use Rattle.docker_model.specs.file.FileFault.{IsFileText}
@@ -19,9 +19,9 @@ file_name = codes "FILE"
 abbrev pub both_put : (state extract : List ℕ) → List Event
 both_put state extract = placed state_name (Some state) ∷ placed file_name (Some extract) ∷ []
 
--- these are the events of a shelf on which both texts were put and `take` was then run. `take` looked at STATE. It opened STATE and the extract, which held
--- what was put there. It read STATE no further than the result needs, and the extract to its end. Then it stored a text by a draft from its look, which is
--- event 2, counted from 0. If STATE held the text of the summary of some files, the stored text is the text of the summary of these files and the extract
+-- these are the events of a shelf on which both texts were put and `take` was then run. `take` looked at STATE. It opened STATE and the extract, which held the
+-- two texts. It read STATE no further than the result needs, and the extract to its end. Then it stored a text by a draft from its look, which is event 2,
+-- counted from 0. If STATE held the text of the summary of some files, the stored text is the text of the summary of these files and the extract
 pub record IsTaken (state extract : List ℕ) (events : List Event) : Type 0 where
   pub text : List ℕ
   pub left : List ℕ

@@ -18,7 +18,7 @@ pub data SourceNames : Type 0 where
   file_and_input : (name : Text) → SourceNames
   two_files : (name other : Text) → SourceNames
 
--- the definitions' names for the sources that the code names
+-- the definitions' value for a value of the code's type `SourceNames`
 abbrev pub names_meant : declared.SourceNames → SourceNames
 names_meant code.None = no_source
 names_meant code.Stdin = standard_input
@@ -48,14 +48,14 @@ abbrev pub second_word : List Text → Text
 second_word [] = []
 second_word (word ∷ words) = first_word words
 
--- the source that the only word for a source names. If the job writes a state, the word is the name of STATE, and names a file even if it is `stdin`
+-- the source of a job with one source, which this word names. If the job writes a state, the word is the name of STATE, and names a file even if it is `stdin`
 abbrev pub only_source : Output → Text → SourceNames
 only_source counts_written word = file_or_input word
 only_source (docker_written place day) word = file_or_input word
 only_source files_written word = file_or_input word
 only_source state_written word = one_file word
 
--- the sources that these words name for a job that has these inputs and this output
+-- the sources that these words name, for a job with these kinds of input and output
 abbrev pub sources_named : Sources → Output → List Text → SourceNames
 sources_named reads.no_source output words = no_source
 sources_named reads.checked_file output words = only_source output (first_word words)

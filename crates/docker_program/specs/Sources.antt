@@ -1,4 +1,4 @@
--- What a job asks of the folder before it writes, and what its sources held.
+-- The requests that a job makes to the folder before it writes, and what its sources held.
 use Rattle.std.specs.Prelude.{◌≡◌, ◌⊎◌, List, [], ◌∷◌, ◌++◌, Option, Some, None, Result, Ok, Err}
 use Rattle.docker_host.specs.History.{Bytes, Event, looked, opened, unopened, closed}
 use Rattle.docker_host.specs.Opening.{one_of}
@@ -38,8 +38,8 @@ with_files_read (two_files name other) read history =
     history ++ opened name read.first ∷ opened other read.second
     ∷ closed read.first_left ∷ closed read.second_left ∷ []
 
--- says what the sources held that aren't files. If standard input is a source, it held `rest` and has `left` now; otherwise it is unchanged. A source that the
--- job doesn't have counts as empty
+-- says what the sources other than files held. If standard input is a source, it held `rest` and has `left` now; otherwise standard input is unchanged. A
+-- source that the job doesn't have counts as empty
 abbrev pub AreOthers : SourceNames → SourcesRead → (rest left : Bytes) → Type 0
 AreOthers no_source read rest left =
     (read.first ≡ Some []) × (read.second ≡ Some []) × (left ≡ rest)
@@ -50,8 +50,8 @@ AreOthers (file_and_input name) read rest left =
     (read.second ≡ rest) × (read.second_left ≡ left)
 AreOthers (two_files name other) read rest left = left ≡ rest
 
--- a file among these sources couldn't be opened. If it is the second, the first was opened before it, and was then closed unread. Nothing else was added to the
--- history
+-- a file among these sources couldn't be opened. If it is the second file, the first file was opened before it, and was then closed unread. The history has no
+-- other new events
 abbrev pub FailsToOpen : SourceNames → (before now : List Event) → Type 0
 FailsToOpen no_source before now = ⊥
 FailsToOpen standard_input before now = ⊥
@@ -76,7 +76,7 @@ pub record IsNotOpened (asked : Asking) (job : JobView) : Type 0 where
   pub fails : FailsToOpen (names_of job) asked.before asked.now
   pub unread : asked.left ≡ asked.rest
 
--- all files that the job reads were opened, and closed after the sources were read. Nothing else was asked of the folder. Each source was read no further than
+-- all files that the job reads were opened, and closed after the sources were read. The history has no other new events. Each source was read no further than
 -- the result needs
 pub record IsOpened (asked : Asking) (job : JobView) : Type 0 where
   pub read : SourcesRead
@@ -101,7 +101,7 @@ WantsForSources asked job = (opened : IsOpened asked job)
     × WantsFor (sources_of job.task) opened.read.first opened.read.first_left
     opened.read.second opened.read.second_left
 
--- the job read its sources whole, and became this prepared job
+-- the job read all its sources without a fault, and became this prepared job
 pub record IsPrepared (asked : Asking) (job : JobView) (prepared : PreparedView) : Type 0 where
   pub opened : IsOpened asked job
   pub job_is : prepared.job ≡ job
@@ -118,7 +118,7 @@ ReadsNamed asked job (Err office.Memory) = IsNotOpened asked job ⊎ WantsForSou
 ReadsNamed asked job (Err office.Lapsed) = ⊥
 ReadsNamed asked job (Err office.Sink) = ⊥
 
--- a file among these sources couldn't be opened, the result says why, and nothing was read
+-- a file among these sources couldn't be opened, nothing was read, and the result is the fault of the opening
 pub record AreNotOpened (names : SourceNames) (asked : Asking)
     (result : Result PreparedView OfficeFault) : Type 0 where
   pub cause : OpenFault

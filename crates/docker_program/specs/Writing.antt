@@ -1,4 +1,5 @@
--- How a job writes its output: to the output device, or to a file by a draft. A draft is a new text that takes the file's place once it is whole.
+-- How a job writes its output: to the output device, or to a file by a draft. A draft is a new file; once it has the whole output, it takes the place of the
+-- old file.
 use Rattle.std.specs.Prelude.{◌≡◌, ◌⊎◌, ℕ, Bool, List, Option, Some, None, Result, Ok, Err, ⊤}
 use Rattle.docker_host.specs.Asked.{IsDropped, IsStored, IsUndrafted, IsUnplaced}
 use Rattle.docker_host.specs.History.{Bytes, Event}
@@ -20,8 +21,8 @@ abbrev pub written : (output output_now : Bytes) (before now : List Event) → W
 written output output_now before now =
     record { output = output; output_now = output_now; before = before; now = now }
 
--- how a file is replaced. The draft is made from the look with this number, counted from 0 among the events. `names_bytes` says whether the folder names the
--- bytes of its drafts
+-- how a file is replaced. `look` is the number of the look from which the draft is made, counted from 0 among the events. `names_bytes` says whether contracts
+-- know which bytes the folder's drafts have taken
 pub record Drafting : Type 0 where
   pub look : ℕ
   pub names_bytes : Bool
@@ -30,7 +31,7 @@ pub record Drafting : Type 0 where
 abbrev pub drafting : ℕ → Bool → Drafting
 drafting look names_bytes = record { look = look; names_bytes = names_bytes }
 
--- nothing was written, and nothing was asked of the folder
+-- nothing was written, and the folder's history is unchanged
 abbrev pub IsUnwritten : Written → Type 0
 IsUnwritten written = (written.output_now ≡ written.output) × (written.now ≡ written.before)
 
@@ -48,8 +49,8 @@ pub record MayStoreOutput (by : Drafting) (written : Written) (prepared : Prepar
   pub is : IsOutputText (output_of prepared.job.task) prepared.read text
   pub history : IsUnplaced by.names_bytes name by.look text written.before written.now
 
--- the job's output was written whole. If the job prints, the output device gained it; it isn't a docker of a day that the horizon refuses. If the job writes a
--- file, a draft of it took the file's place. Nothing else changed
+-- the job's output was written whole. If the job prints, the output device gained the output, which isn't a docker of a day that the horizon refuses. If the
+-- job writes a file, a draft of the output took the file's place. Nothing else changed
 abbrev pub WritesTo : Option Text → Drafting → Written → PreparedView → Type 0
 WritesTo None by written prepared =
     GainsOutput prepared written.output written.output_now × (¬ IsRefused prepared)
@@ -57,8 +58,8 @@ WritesTo None by written prepared =
 WritesTo (Some name) by written prepared =
     StoresOutput by written prepared name × (written.output_now ≡ written.output)
 
--- the job's output wasn't written whole, because a device failed. If the job prints, the output device gained a proper prefix of it. If the job writes a file,
--- no draft was made, or the draft was given up, or it failed to take the file's place. Nothing else changed
+-- the job's output wasn't written whole, because a device failed. If the job prints, the output device gained a proper prefix of the output. If the job writes
+-- a file, no draft was made, or the draft was given up, or the draft failed to take the file's place. Nothing else changed
 abbrev pub WritesPartTo : Option Text → Drafting → Written → PreparedView → Type 0
 WritesPartTo None by written prepared =
     GainsPart prepared written.output written.output_now × (written.now ≡ written.before)
@@ -67,25 +68,26 @@ WritesPartTo (Some name) by written prepared =
     ⊎ IsDropped name by.look written.before written.now
     ⊎ MayStoreOutput by written prepared name) × (written.output_now ≡ written.output)
 
--- memory ran out before anything was written: for a docker if the job prints, or for a draft, which then wasn't made, if the job writes a file
+-- memory ran out before anything was written. If the job prints, there was no memory for the docker. If the job writes a file, there was no memory for a draft,
+-- and no draft was made
 abbrev pub WantsToWriteTo : Option Text → Drafting → Written → PreparedView → Type 0
 WantsToWriteTo None by written prepared = PrintsDocker prepared × (written.now ≡ written.before)
 WantsToWriteTo (Some name) by written prepared =
     IsUndrafted name by.look written.before written.now
 
--- the job's output was written whole to where this job writes
+-- the job's output was written whole, to the output device or to the file that the job writes
 abbrev pub Writes : Drafting → Written → PreparedView → Type 0
 Writes by written prepared = WritesTo (stored_by prepared.job) by written prepared
 
--- the job's output wasn't written whole to where this job writes, because a device failed
+-- the job's output wasn't written whole, to the output device or to the file that the job writes, because a device failed
 abbrev pub WritesPart : Drafting → Written → PreparedView → Type 0
 WritesPart by written prepared = WritesPartTo (stored_by prepared.job) by written prepared
 
--- memory ran out before anything was written to where this job writes
+-- memory ran out before the job wrote anything to the output device or to its file
 abbrev pub WantsToWrite : Drafting → Written → PreparedView → Type 0
 WantsToWrite by written prepared = WantsToWriteTo (stored_by prepared.job) by written prepared
 
--- the job would print a docker of a day that the horizon refuses, and nothing was asked of the folder
+-- the job would print a docker of a day that the horizon refuses, and the folder's history is unchanged
 abbrev pub RefusesDay : Written → PreparedView → Type 0
 RefusesDay written prepared = IsRefused prepared × (written.now ≡ written.before)
 

@@ -39,7 +39,8 @@ fn real_host(rt: &HostRuntime) -> Host<InputDevice, RealFolder, OutputDevice, Ou
     }
 }
 
-/// Runs the program with the words that the system gives it. Reports a fault if they can't be read.
+/// Runs the program with the words that the system gives it. Reports a fault if the words can't be
+/// read.
 fn run_own_words(rt: &HostRuntime) -> u8 {
     match own_words(rt).and_then(|words| run_strings(rt, words.as_slice())) {
         Ok(status) => status,

@@ -34,8 +34,8 @@ pub(crate) fn write_output<D: Folder, K: Sink>(
     }
 }
 
-/// Writes the output of a job to the file that was looked at. The new text is a draft until it is
-/// whole; then it takes the file's place.
+/// Writes the output of a job to the file that was looked at. The output is written to a draft, and
+/// the complete draft takes the file's place.
 fn write_file<D: Folder>(
     prepared: &Prepared<'_>,
     looked: Looked<'_, D::Seen>,

@@ -13,8 +13,9 @@ ghost use Rattle.docker_program.specs.Commands.{AreVersions, IsDone, IsKnownText
 ghost use Rattle.docker_program.specs.Sources.{SourcesRead};
 
 /// A command with status 0 has stored or printed the output of its job, made from what its sources
-/// held. A command with another status has stored nothing, unless a draft of the whole text failed
-/// to take its file's place. Then the file holds that text or what it held before.
+/// held. A command with another status has stored nothing, unless a draft of the whole output
+/// failed to take its file's place. In that case the file holds the whole output or what it held
+/// before.
 pub fn commands_store_or_print()
     ensures done { (run : Run) → IsRun run 0 → IsDone run }
     ensures undone { (run : Run) (status : ℕ) → IsRun run status → status ≢ 0 → IsUndone run }
@@ -36,11 +37,11 @@ pub fn commands_keep_summaries()
         → WritesKnown job.task known text }
 {}
 
-/// Each version of a STATE file is the text of the summary of what it knows. What it knows follows
-/// from the list of versions, which says how each version was made, and from which earlier versions
-/// of any office. So versions that know the same files under the same horizon are equal, byte for
-/// byte. Each docker printed from a version is the docker of the summary of what that version
-/// knows.
+/// Each version of a STATE file is the text of the summary of what the version knows. The list of
+/// versions determines what each version knows: it says how each was made, and from which earlier
+/// versions of any office. So versions that know the same files under the same horizon are equal,
+/// byte for byte. Each docker printed from a version is the docker of the summary of what that
+/// version knows.
 pub fn versions_are_summaries()
     ensures summary { (versions : List Version) (number : ℕ) (text : List ℕ) (known : Known)
         → AreVersions versions → IsVersion versions number text known

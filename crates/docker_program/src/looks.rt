@@ -12,7 +12,7 @@ use docker_host::Folder;
 pub(crate) struct Looked<'a, T> {
     /// The file's name.
     pub(crate) name: &'a str,
-    /// What the look saw under this name.
+    /// The result of the look, from which a draft of the file can be made.
     pub(crate) seen: T,
 }
 

@@ -41,10 +41,11 @@ fn do_job<S: Source, D: Folder, K: Sink, L: Sink>(
 }
 
 /// Does the job that the words name, and returns the exit status. Without words, the first line of
-/// standard input names the job. A job that writes a file looks at this file first. Then every file
-/// that the job reads is opened, once, in the order of the words; only then is anything read. After
-/// the last read the files are closed in the same order. Only then is a draft made or anything
-/// written. No draft is left over. A fault is reported as one line on the sink of faults.
+/// standard input names the job. If the job writes a file, the program looks at this file first.
+/// Then it opens every file that the job reads, once, in the order of the words; only after that is
+/// anything read. After the last read the files are closed in the same order. Only then is a draft
+/// made or anything written. No draft is left over. A fault is reported as one line on the sink of
+/// faults.
 pub fn perform<S: Source, D: Folder, K: Sink, L: Sink>(
     alloc: Global,
     words: &[&str],

@@ -1,5 +1,5 @@
-//! Runs commands on a shelf, a folder in memory. The contract of `perform` then speaks of texts
-//! that the caller knows.
+//! Runs commands on a shelf, a folder in memory. Contracts know the texts of a shelf's files, so
+//! the contract of `perform` says exactly what is stored and printed.
 ghost use Rattle.std.specs.Prelude.{◌≡◌, IfSome, length};
 ghost use Rattle.docker_model.specs.file.Change.{changes};
 ghost use Rattle.docker_model.specs.file.Text.{lines_of};
@@ -11,8 +11,9 @@ use cif_line::{Bytes, Kept};
 use docker_host::{Host, Shelf};
 use std::alloc::Global;
 
-/// Puts an extract on a shelf, runs `check` there, and returns what `check` printed: the numbers of
-/// the extract's records and changes. Returns `None` if the status isn't 0, or if memory ran out.
+/// Puts an extract on a shelf, runs `check` on the shelf, and returns what `check` printed: the
+/// numbers of the extract's records and changes. Returns `None` if the status isn't 0, or if memory
+/// ran out.
 pub fn check_on_a_shelf(alloc: Global, extract: &[u8]) -> Option<Vec<u8>>
     ensures { IfSome result (λ printed. printed.items ≡ count_line
         (length (lines_of extract.now)) (length (changes (lines_of extract.now)))) }
@@ -40,9 +41,9 @@ pub fn check_on_a_shelf(alloc: Global, extract: &[u8]) -> Option<Vec<u8>>
     Vec::from_slice(alloc, host.output.bytes()).ok()
 }
 
-/// Puts the text of a STATE file and an extract on a shelf, runs `take` there, and returns the
-/// shelf. The shelf's history has the text that was stored. `room` is the most bytes of a draft.
-/// Returns `None` if the status isn't 0, or if memory ran out.
+/// Puts the text of a STATE file and an extract on a shelf, runs `take` on the shelf, and returns
+/// the shelf. The shelf's history has the text that was stored. `room` is the most bytes of a
+/// draft. Returns `None` if the status isn't 0, or if memory ran out.
 pub fn take_on_a_shelf(alloc: Global, state: &[u8], extract: &[u8], room: usize) -> Option<Shelf>
     ensures { IfSome result (λ shelf. IsTaken state.now extract.now shelf.events) }
 {

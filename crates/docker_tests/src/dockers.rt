@@ -9,14 +9,15 @@ use test_records::printed::{ASHFELD_0900, ASHFELD_0905, NONE_AT_ASHFELD, NONE_ON
 /// A row: the files that an office takes in this order, a place, a day, and the expected docker.
 type Row = (&'static [File], &'static str, &'static str, &'static str);
 
-/// The morning train leaves ten minutes earlier.
+/// The docker of Ashfeld if the morning train leaves ten minutes earlier.
 const ASHFELD_0850: &str = "\
 DOCKER ASHFELD 2024-06-10                               
 0850  D 1A10 C10001 P   1   SL      0850 ASHFELD BRAYTON
 END                                                     
 ";
 
-/// C10002 leaves Ashfeld, and the morning train leaves two hours later than usual.
+/// The docker of Ashfeld if C10002 leaves Ashfeld, and the morning train leaves two hours later
+/// than usual.
 pub(crate) const TWO_TRAINS: &str = "\
 DOCKER ASHFELD 2024-06-10                               
 1000  D 1A20 C10002 P   1   SL      1000 ASHFELD BRAYTON
@@ -24,26 +25,26 @@ DOCKER ASHFELD 2024-06-10
 END                                                     
 ";
 
-/// Nothing happens at Brayton.
+/// The docker of Brayton on a day without events.
 const NONE_AT_BRAYTON: &str = "\
 DOCKER BRAYTON 2024-06-10                               
 END                                                     
 ";
 
-/// Nothing happens at Colwell.
+/// The docker of Colwell on a day without events.
 const NONE_AT_COLWELL: &str = "\
 DOCKER COLWELL 2024-06-10                               
 END                                                     
 ";
 
-/// A train ends at Colwell, and has no next working.
+/// The docker of Colwell if one train ends at Colwell and has no next working.
 const COLWELL_ONLY: &str = "\
 DOCKER COLWELL 2024-06-10                               
 2350  A 4D40 C40001 P   1                ASHFELD COLWELL
 END                                                     
 ";
 
-/// A train ends at Colwell, and its next working doesn't run.
+/// The docker of Colwell if one train ends at Colwell and its next working doesn't run.
 const COLWELL_UNKNOWN: &str = "\
 DOCKER COLWELL 2024-06-10                               
 2350  A 4D40 C40001 P   1                ASHFELD COLWELL

@@ -179,7 +179,7 @@ pub(crate) const DAY_BEFORE: File = two_trains!(BS_C40001, AA_P);
 /// A train to Colwell and its next working. The association has an unknown date indicator.
 pub(crate) const UNKNOWN_INDICATOR: File = two_trains!(BS_C40001, AA_X);
 
-/// A train to Colwell and another. Their association has an unknown category.
+/// Two trains, the first to Colwell, with an association of an unknown category.
 pub(crate) const UNKNOWN_CATEGORY: File = two_trains!(BS_C40001, AA_OTHER);
 
 /// A train to Colwell and its next working, on the last day of the calendar.

@@ -51,13 +51,14 @@ END
     ),
 ];
 
-/// Nothing happens at Ashfeld on 24 June.
+/// The docker of Ashfeld on 24 June, which has no lines.
 const NONE_ON_24_JUNE: &str = "\
 DOCKER ASHFELD 2024-06-24                               
 END                                                     
 ";
 
-/// Sets the row's horizon, and asserts what the row says of the office.
+/// Sets the row's horizon. Asserts the size of the state's text, the day that is refused, and the
+/// docker.
 fn is_after(rt: &impl Abort, alloc: Global, office: &mut Office, row: &Row) {
     let (horizon, bytes, refused, printed, docker) = *row;
     set(rt, office, horizon);

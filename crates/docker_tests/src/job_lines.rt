@@ -57,8 +57,8 @@ fn line_of(rt: &impl Abort, alloc: Global, spaces: usize, end: &[u8]) -> Vec<u8>
     line
 }
 
-/// Asserts whether the line with this number of spaces and this end names a job or gives this
-/// fault.
+/// Asserts whether the line with this number of spaces and this end names a job or is refused for
+/// this fault.
 fn fault_is(
     rt: &impl Abort,
     alloc: Global,
@@ -81,7 +81,7 @@ fn lengths_of_a_job_line(rt: HostRuntime) {
     fault_is(&rt, rt.alloc(), 1, b"", usage, "no line feed");
 }
 
-// An endless source that can't name its bytes. Each read gives the letter a.
+// An endless source. Contracts don't know which bytes it holds. Each read returns the letter a.
 #[derive(Drop)]
 struct Endless {
     reads: u16,

@@ -58,7 +58,7 @@ pub(crate) fn texts_of_files(rt: &impl Abort, alloc: Global) -> Vec<Vec<u8>> {
     texts
 }
 
-/// An event at an office. It names a file by its index.
+/// An event at an office. Files are given by their indexes.
 #[derive(Clone, Copy)]
 pub(crate) enum Step {
     /// The office takes a file.
@@ -116,7 +116,8 @@ impl Step {
         }
     }
 
-    /// The fault for which the office refuses the file; `None` if the event takes no such file.
+    /// The fault for which the office refuses the file; `None` if the event doesn't take one of the
+    /// refused files.
     fn refusal(&self) -> Option<FileFault> {
         match self {
             Step::Take { file, .. } => REFUSED.get(*file).copied(),
@@ -178,7 +179,7 @@ impl Known {
         state
     }
 
-    /// The text of that state.
+    /// The text of the state of the known files under the known horizon.
     pub(crate) fn text(&self, rt: &impl Abort, alloc: Global, texts: &[Vec<u8>]) -> Kept {
         let state = self.state(rt, alloc, texts);
         let room = usize::try_from(encoded_len(&state)).expect(rt, "a length");

@@ -46,8 +46,8 @@ fn receive_of(rt: &impl Abort, alloc: Global, office: &mut Office, file: File) {
     office.receive(&mut source, 1000).expect(rt, "a state");
 }
 
-/// An office that has received the states of other offices. Each of these has taken one of these
-/// files.
+/// An office that has received the states of other offices. Each of the other offices has taken one
+/// of these files.
 pub(crate) fn merged(rt: &impl Abort, alloc: Global, files: &[File]) -> Office {
     let mut office = Office::new(alloc);
     for file in files {
@@ -89,7 +89,7 @@ pub(crate) fn has_text(rt: &impl Abort, alloc: Global, office: &Office, text: &[
     same(rt, own.bytes(), text);
 }
 
-/// Asserts that the state of an office has the text that these parts make.
+/// Asserts that the text of an office's state consists of these parts.
 pub(crate) fn has(rt: &impl Abort, alloc: Global, office: &Office, parts: Parts) {
     let text = text_of_parts(rt, alloc, parts);
     has_text(rt, alloc, office, text.as_slice());

@@ -1,5 +1,5 @@
 //! A thousand random runs of three offices. At the end of a run, the text of every office and of
-//! every message is the text of the state of what it knows.
+//! every message is the text of the state of what that office or message knows.
 ghost use Rattle.docker_office.specs.RunEnds.{HasGoodLimit};
 ghost use Rattle.docker_office.specs.RunMeaning.{event_meant};
 
@@ -21,8 +21,8 @@ const FIRST_HORIZON: usize = 23537;
 
 const HORIZONS: usize = 16;
 
-/// A random event. One event in twelve is at an office that doesn't exist. The event may name any
-/// message that was sent, or one that wasn't.
+/// A random event. One event in twelve is at an office that doesn't exist. An event that delivers
+/// or reloads a message may name a message that was never sent.
 fn random_step(rt: &impl Abort, dice: &mut Dice, sent: u16) -> Step {
     let office = if dice.roll(12) == 0 {
         OFFICES
@@ -274,7 +274,7 @@ fn messages_are_of_known(
     }
 }
 
-/// Makes a random run, and asserts what it leaves.
+/// Makes a random run. Asserts its replies, and the texts of its offices and messages.
 fn random_run(
     rt: &impl Abort,
     alloc: Global,

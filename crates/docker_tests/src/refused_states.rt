@@ -75,7 +75,7 @@ fn fault(at: u64, cause: StateCause) -> StateFault {
     StateFault { at, cause }
 }
 
-/// This text, with its bytes from this offset on replaced by these.
+/// A copy of the text in which these bytes replace the bytes at this offset.
 fn changed(rt: &impl Abort, alloc: Global, text: &[u8], at: usize, bytes: &[u8]) -> Vec<u8> {
     let front = text.get(..at).expect(rt, "an offset");
     let after = at.saturating_add(bytes.len());
@@ -91,9 +91,9 @@ fn changed(rt: &impl Abort, alloc: Global, text: &[u8], at: usize, bytes: &[u8])
 /// offset and the cause of the fault.
 type Change = (usize, &'static [u8], u64, StateCause);
 
-/// Changes to the text of one file's state. In order, they are made to its mark, its horizon
-/// (twice), its ledger item's day, its tag, its stamp, its op (twice) and its first line. The last
-/// is made to its number of entries.
+/// Changes to the text of one file's state. The first four replace bytes of its mark, of its
+/// horizon (twice), and of the day of its ledger item. The next five replace bytes of its entry's
+/// tag, stamp, op (twice) and first line. The last replaces the number of entries.
 const CHANGED: &[Change] = &[
     (3, b"1", 0, StateCause::Mark),
     (4, b"\x8e\xad", 4, StateCause::Horizon),

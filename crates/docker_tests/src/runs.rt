@@ -91,7 +91,7 @@ fn message_is(rt: &impl Abort, alloc: Global, left: &Exchange, message: usize, p
     same(rt, (message, kept.bytes()), (message, wanted.as_slice()));
 }
 
-/// Asserts that the first `done` replies are `Done`, and that these others follow.
+/// Asserts that the first `done` replies are `Done`, and that the other replies are these.
 fn replies(rt: &impl Abort, left: &Exchange, done: usize, others: &[Reply]) {
     let (first, rest) = left.replies().split_at(left.replies().len().min(done));
     same(rt, first.len(), done);
@@ -131,7 +131,8 @@ macro_rules! up_to_reload {
     };
 }
 
-/// What a run of three offices leaves. Its last event is refused because of its file.
+/// What a run of three offices leaves. The last event of the run is refused, because its file has
+/// no trailer.
 fn three_left(rt: &impl Abort, alloc: Global) -> Exchange {
     let early = text_of(rt, alloc, FIFTH);
     let full = text_of(rt, alloc, SEVENTH);
@@ -148,7 +149,7 @@ fn three_left(rt: &impl Abort, alloc: Global) -> Exchange {
     left_by(rt, alloc, 3, events)
 }
 
-/// The replies to the last three events of that run.
+/// The replies to the last three events of the run of `three_left`.
 const LAST_REPLIES: &[Reply] = &[
     Reply::Refused(RunFault::NoOffice),
     Reply::Refused(RunFault::NoMessage),
@@ -260,7 +261,7 @@ macro_rules! up_to_loss {
     };
 }
 
-/// What the run leaves whose reload has lost the revision.
+/// What a run leaves whose last event is a reload that loses the revision.
 fn lost_left(rt: &impl Abort, alloc: Global) -> Exchange {
     let text = text_of(rt, alloc, MORNING);
     let revision = text_of(rt, alloc, REVISION);
@@ -288,8 +289,8 @@ fn what_a_reload_lost_comes_again(rt: HostRuntime) {
     ends(&rt, alloc, &found, 0, REVISED_STATE);
 }
 
-/// What a run of five offices leaves. The first office takes three files. The last one receives the
-/// same files from the other three offices.
+/// What a run of five offices leaves. The first office takes three files. The last office receives
+/// the same files from the other three offices.
 fn five_left(rt: &impl Abort, alloc: Global, files: [File; 3]) -> Exchange {
     let first = text_of(rt, alloc, files[0]);
     let second = text_of(rt, alloc, files[1]);

@@ -58,8 +58,8 @@ fn have(rt: &impl Abort, alloc: Global, files: &[File], parts: Parts) {
     has(rt, alloc, &merged(rt, alloc, files), parts);
 }
 
-/// Asserts that both orders of this row's files give its text, and that the text has this many
-/// bytes.
+/// Asserts that an office that takes this row's files in either order has this row's text, and that
+/// the text has this row's number of bytes.
 fn is_state(rt: &impl Abort, alloc: Global, row: &Row) {
     let (files, others, bytes, parts) = *row;
     same(rt, text_of_parts(rt, alloc, parts).len(), bytes);

@@ -9,7 +9,7 @@ use Rattle.docker_cmd.proofs.grammar.command_of.Goals as goal
 abbrev of_ids : Text → List Text → App
 of_ids name ids = record { top = words_shape name ids; subs = [] }
 
--- if the argument of the next id is added, the subcommand has one more id
+-- adding the argument of id `i` to the subcommand with the ids before `i` makes the subcommand with the ids up to and including `i`
 one_more : (name : Text) (ids : List (Bor Text)) (i : ℕ) (d : Bor Text) → i < length ids
     → with_rule (of_ids name (map (λ id. id.now) (take i ids))) (required_rule (slice_index_or ids i d).now)
     ≡ of_ids name (map (λ id. id.now) (take (i + 1) ids))

@@ -11,7 +11,7 @@ use Rattle.docker_cmd.proofs.grammar.docker.Goals as goal
 abbrev with_all : App → List Subcommand → App
 with_all app ss = fold with_subcommand app (map shape_of ss)
 
--- adding a list of subcommands with one more at its end is adding the list and then that one
+-- adding a list of subcommands with one more subcommand at its end equals adding the list and then this subcommand
 with_last : (app : App) (ss : List Subcommand) (s : Subcommand) → with_all app (ss ++ s ∷ []) ≡ with_subcommand (with_all app ss) (shape_of s)
 with_last app [] s = refl
 with_last app (t ∷ ss) s = with_last (with_subcommand app (shape_of t)) ss s

@@ -7,7 +7,7 @@ use Rattle.docker_cmd.specs.Tasks.{day_task, ids_of, print_task}
 use Rattle.docker_cmd.proofs.TaskWords.{asked, both_behind, not_both_behind, state_alone, state_first}
 use Rattle.docker_cmd.proofs.tasks.Subcommand.task.Goals as goal
 
--- the default for an index past the end, which is never used
+-- a default word for an index past the end. It is never used
 no_word : Bor (List ℕ)
 no_word = record { ref_ptr = (0, 0); now = [] }
 
