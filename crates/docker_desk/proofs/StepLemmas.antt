@@ -24,7 +24,8 @@ use Rattle.docker_desk.specs.Answering.{HasLines, IsEndless, IsFollowed, ServesN
 
 -- ---- the input
 
--- if the input's bytes can be named, they began with these lines, and the rest is left
+-- if contracts know the bytes of the input, these began with the lines, and the bytes after the
+-- lines are left
 abbrev pub ReadsFirst : DeviceBytes → List LineView → DeviceBytes → Type 0
 ReadsFirst None lines left = ⊤
 ReadsFirst (Some text) lines left = (rest : List ℕ) × (AreFirstLines text lines rest × (left ≡ Some rest))
