@@ -71,7 +71,7 @@ same_rest xs ys at block rest = chunk-drop at 16 xs ∙ (λ i. block i ++ rest i
 nothing_left : (bytes : List ℕ) → length bytes ≡ 80 → drop 80 bytes ≡ []
 nothing_left bytes size = drop_all 80 bytes (let long : length bytes ≤ 80 = omega arith in long)
 
--- two lines are equal if all five blocks of them are
+-- two lines are equal if each of their five blocks is the same in both
 same_line : (xs ys : List ℕ) → length xs ≡ 80 → length ys ≡ 80
     → take 16 (drop 0 xs) ≡ take 16 (drop 0 ys) → take 16 (drop 16 xs) ≡ take 16 (drop 16 ys) → take 16 (drop 32 xs) ≡ take 16 (drop 32 ys)
     → take 16 (drop 48 xs) ≡ take 16 (drop 48 ys) → take 16 (drop 64 xs) ≡ take 16 (drop 64 ys) → xs ≡ ys

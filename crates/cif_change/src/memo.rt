@@ -50,8 +50,8 @@ impl Memo {
         None
     }
 
-    /// Remembers the index of a place. It is written to the first free slot of the place, or to its
-    /// very first slot if none is free.
+    /// Remembers the index of a place. The index is written to the first free slot of the place, or
+    /// to its very first slot if none is free.
     pub(crate) fn set(&mut self, place: &[u8; 7], index: u32) {
         let first = slot_of(place);
         for step in 0..NEAR {

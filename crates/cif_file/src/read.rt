@@ -184,8 +184,8 @@ fn ended_of<K: Keeper>(reading: FileReading<K>) -> Result<Ended<K>, ReadFault>
     }
 }
 
-/// The fault as one of reading a source: `Memory` if memory ran out, and otherwise the file's
-/// fault.
+/// Turns a fault of the file into a fault of reading a source: `Memory` if memory ran out, and
+/// otherwise the file's fault.
 fn fault_of(fault: FileFault) -> ReadFault
     ensures memory { fault.cause ≡ FileCause.Memory → result ≡ ReadFault.Memory }
     ensures file { fault.cause ≢ FileCause.Memory → result ≡ ReadFault.File fault }

@@ -1,4 +1,4 @@
-//! Digits of a field, and the numbers that two of them spell. Several bytes are tested at once,
+//! Digits of a field, and the numbers that two digits spell. Several bytes are tested at once,
 //! without a branch per byte.
 ghost use Rattle.std.specs.Prelude.{◌≡◌, ◌+◌, ◌-◌, ◌*◌, ◌≤◌, ◌<◌, length, take, true};
 ghost use Rattle.std.specs.List.{list_all};
@@ -34,8 +34,8 @@ pub(crate) fn spelled(tens: u8, units: u8) -> u16
     (10 * u16::from(tens) + u16::from(units)).wrapping_sub(11 * u16::from(b'0'))
 }
 
-/// The number that two digits of a field spell, from this place on, counted from 0. If they are
-/// digits, it is below 100.
+/// The number that two digits of a field spell. `at` is the index of the first digit, from 0. If
+/// both bytes are digits, the number is below 100.
 pub(crate) fn two_digits(field: &[u8], at: usize) -> u16
     requires { at + 1 < length field.now }
     ensures value { result ≡ two_digits field.now at }

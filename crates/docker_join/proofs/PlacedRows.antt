@@ -96,7 +96,7 @@ module _ {E : Type 0} where
   first_below [] ys up = tt
   first_below (x ∷ xs) ys up = (all_behind (IsBelow row_cmp x) xs ys up.0, first_below xs ys up.1)
 
-  -- rows below a row are below all rows that are above it
+  -- if some rows are below a row, and other rows are above it, the former are below the latter
   below_higher : (lows highs : List (Key × E)) (row : Key × E) → AllBelow lows (row ∷ []) → Above row highs → AllBelow lows highs
   below_higher [] highs row below above = tt
   below_higher (low ∷ lows) highs row below above = (above_lower low row highs below.0.0 above, below_higher lows highs row below.1 above)
@@ -177,7 +177,7 @@ module _ {E : Type 0} (picked : E → E → E) where
   joined_is rows front back rest m is size =
       ap (λ xs. joined_with picked m xs rest) is ∙ (λ i. walk picked ((parts front back m size).0 i) rest ++ (parts front back m size).1 i)
 
-  -- what is proved of the walk holds of the join, since two tables have only one join
+  -- what is proved of the walk holds of the join, since the join of two tables is unique
   placed_of : (old : List (Key × E)) (left : ℕ) (row : Key × E) (new : List (Key × E)) (later : ℕ) → WalksOn picked old left row new later
       → IsPlaced picked old left row new later
   placed_of old left row new later on = record {

@@ -185,7 +185,7 @@ pick_laws valid is_join picked closed one commutative associative idempotent joi
   itself = λ a good. one a a (picked a a) a good good (joins a a) (idempotent a good);
 }
 
--- two tables have only one join
+-- the join of two tables is unique
 pub joins_one : {E : Type 0} (valid : E → Type 0) (picked : E → E → E) (a b c d : List (Key × E))
     → AreValidRows valid a → AreValidRows valid b → IsJoinOfRows picked a b c → IsJoinOfRows picked a b d → c ≡ d
 joins_one valid picked a b c d good_a good_b is_c is_d =
