@@ -11,8 +11,8 @@ use cif_line::Tiploc;
 use docker_join::{Entry, Op};
 use std::marker::Model;
 
-/// Walks over all rows, and gives the live ones that call or are linked at a place, in key order:
-/// each row's index, key and body. No clause says that the index is right.
+/// Walks over all rows, and returns those that are live and call or are linked at a place, in key
+/// order: each row's index, key and body. No clause says that the index is right.
 #[derive(Clone, Debug, Drop)]
 pub(crate) struct SiftedRows<'a> {
     count: usize,
@@ -100,8 +100,8 @@ fn found<'a>(row: &'a (Key, Entry), place: &Tiploc, links: bool) -> Option<(&'a 
     }
 }
 
-/// Whether a live key with this body is at the place: linked there or calling there, whichever is
-/// asked for.
+/// Whether a live key with this body is at the place: linked there if `links` is true, and
+/// otherwise calling there.
 fn is_here(links: bool, place: &Tiploc, key: &Key, body: &Body) -> bool
     ensures { result ≡ is_here links place.now (key_meant key.now) (body_meant body.now) }
 {

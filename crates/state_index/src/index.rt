@@ -28,8 +28,7 @@ use cif_change::{Key, Memory, Notes, Tiploc};
 use docker_join::Entry;
 use std::alloc::Global;
 
-/// An index of a table's rows by place. For each TIPLOC it says which rows call or are linked
-/// there.
+/// An index of a table's rows by place: for each TIPLOC, the rows that call or are linked at it.
 #[derive(Debug, Drop)]
 pub struct Index {
     /// The TIPLOCs that the rows name, in ascending order and each once.

@@ -142,7 +142,7 @@ fn joined(rt: &impl Abort, alloc: Global, floor: &Option<FileStamp>) -> Index {
     Index::of_join(alloc, &first, &second, &moves).expect(rt, "memory")
 }
 
-/// Asserts that a posting names this place and this row.
+/// Asserts that a posting has this place and this row.
 fn posting_is(rt: &impl Abort, index: &Index, posting: &Posting, code: &str, at: u32) {
     let place = index
         .places
@@ -152,7 +152,7 @@ fn posting_is(rt: &impl Abort, index: &Index, posting: &Posting, code: &str, at:
     same(rt, posting.at, at);
 }
 
-/// Asserts that postings name these places and these rows, in this order.
+/// Asserts that postings have these places and these rows, in this order.
 fn postings_are(rt: &impl Abort, index: &Index, postings: &[Posting], wanted: &[(&str, u32)]) {
     same(rt, postings.len(), wanted.len());
     for (posting, (code, at)) in postings.iter().zip(wanted) {
