@@ -105,7 +105,7 @@ in_all : (pieces : List Piece) (piece : Piece) → numbers_in (pieces ++ piece �
 in_all [] piece = omega arith
 in_all (other ∷ pieces) piece = let rest = in_all pieces piece in omega arith
 
--- if the new notes are the old notes with one more piece, in which the next row is noted, they are the notes of the old rows followed by this row
+-- if the new notes are the old ones with one more piece, in which the next row is noted, they are the notes of the old rows and this one
 pub row_noted : (old new : Notes) (item : Item) (piece : Piece) → Keeps old.names.list.items new.names.list.items → Keeps old.numbers.items new.numbers.items
     → IsNext new.names.list.items old.numbers.items new.numbers.items item piece → new.pieces.items ≡ old.pieces.items ++ piece ∷ []
     → (items : List Item) → HasNoted items old → HasNoted (items ++ item ∷ []) new
@@ -218,7 +218,7 @@ calls_put names old new kept from count from_is count_is key body schedule lines
     (sym from_is)
     (calls_next names old new kept count count_is schedule lines are))
 
--- if a single number was added, and it is the index of a place, the added numbers are the numbers of this place alone
+-- if a single number was added, and it is the index of a place, the added numbers are the numbers of just this place
 pub one_pushed : (names : List (List ℕ)) (old new : List ℕ) (place : List ℕ) (number : ℕ) → new ≡ old ++ number ∷ [] → slice_get names number ≡ Some place
     → AreRanks names (place ∷ []) (drop (length old) new)
 one_pushed names old new place number pushed is =
@@ -254,8 +254,8 @@ one_more names places place (n ∷ []) more are rest =
     let first : slice_get names n ≡ Some place = cc in
     λ i. first i ∷ rest i
 
--- Says that only the places of the remaining lines are still to be noted: the noted numbers, followed by numbers of these places, are the numbers of the places
--- of all lines.
+-- Says that only the places of the remaining lines are still to be noted. The noted numbers, followed by numbers of the remaining places, are the numbers of
+-- the places of all lines.
 abbrev pub IsLeft : List (List ℕ) → List (List ℕ) → List (List ℕ) → List ℕ → List ℕ → Type 0
 IsLeft names all rest first numbers = (others : List (List ℕ)) (more : List ℕ) → Keeps names others → AreRanks others rest more
     → AreRanks others all (drop (length first) numbers ++ more)

@@ -1,5 +1,5 @@
--- The tests and day numbers of dates, computed from tables of the months, equal those of the
--- definitions.
+-- The tests of dates and their day numbers, computed from tables of the months, equal the tests and
+-- day numbers in the definitions.
 use Rattle.std.proofs.Common.{◌≡◌, ℕ, zero, suc, ◌+◌, ◌-◌, ◌*◌, ◌/◌, ◌<◌, ◌≤◌, nat_lt, Bool, true, false, cond, ◌&&◌, List}
 use Rattle.std.proofs.Common.{[], ◌∷◌, length, slice_index_or, take, refl, sym, pos, ◌∙◌, arith}
 use Rattle.std.specs.Prelude.{◌==◌, ◌||◌, slice_index}

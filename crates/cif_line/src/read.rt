@@ -240,8 +240,8 @@ fn end_fault(line: &Line) -> u8
 }
 
 /// Reads an intermediate location (LI). The fault is the first column of the leftmost bad field: 3
-/// for the TIPLOC, 11 for the arrival, 16 for the departure, 21 for the pass, 26 for the public
-/// arrival, 30 for the public departure. Any of these times may be blank.
+/// for the TIPLOC, 11 for the arrival, 16 for the departure, 21 for the pass. It may also be 26 for
+/// the public arrival or 30 for the public departure. Any of these times may be blank.
 pub fn call(line: &Line) -> Result<Call<'_>, FieldFault>
     requires kind { HasKind intermediate_location line.now }
     ensures { ReadsAs line.now result }

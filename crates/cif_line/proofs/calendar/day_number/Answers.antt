@@ -16,7 +16,7 @@ sum_is c =
     ∙ numbered c.years_from_1960-years.result (full_year c.args.year) c.args.month c.args.day c.years_from_1960-years.ensures.value (omega arith)
     c.requires.good c.is_leap_year.result (c.is_leap_year.ensures c.requires.year_in)
 
--- the day number is at most that of the last day
+-- the day number is at most the last day's number
 bound_is : (c : goal.After-result-2-1) → day_number (full_year c.args.year) c.args.month c.args.day ≤ last_day
 bound_is c =
     number_bound c.years_from_1960-years.result (full_year c.args.year) c.args.month c.args.day c.years_from_1960-years.ensures.value (omega arith)
