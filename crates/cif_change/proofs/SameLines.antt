@@ -45,7 +45,7 @@ none_of_same (x ∷ xs) = by (nat_eq x x) (grind (arith, nat_tests)) (none_of_sa
     by true one rest = twice (mask_l (zip2 differ xs xs)) ∙ rest
     by false two rest = absurd (let bad : false ≡ true = two in cc)
 
--- the top bits of the lanes make the mask with a bit for each pair of bytes that differ
+-- the top bits of the lanes are the mask with a bit for each pair of bytes that differ
 mask_of_lanes : (xs ys : List ℕ) → length xs ≡ length ys → length xs ≤ 64
     → mask_l (map (top 7) (zip2 lane xs ys)) % 2 ^ 64 ≡ mask_l (zip2 differ xs ys)
 mask_of_lanes xs ys even few =

@@ -79,7 +79,7 @@ changes_append n (record_first ∷ records) line more stops =
     ∙ sym (append_assoc (changes_of_record n record_first records) (changes_from (n + 1) records) (changes_from (n + 1 + length records) (line ∷ more)))
     ∙ ap (λ k. (changes_of_record n record_first records ++ changes_from (n + 1) records) ++ changes_from k (line ∷ more)) (omega arith)
 
--- if the next record doesn't come within a schedule, its changes are added to the changes before
+-- if the next record doesn't come within a schedule, its changes are appended to the changes before
 pub changes_anew : (records : Lines) (line : List ℕ) → follows_basic (kind_of line) ≡ false
     → changes (records ++ line ∷ []) ≡ changes records ++ changes_of_record (length records + 1) line []
 changes_anew records line stops =
@@ -729,7 +729,7 @@ file_at_end keeps front records has at =
 
 -- ---- the whole file
 
--- at the stage after the trailer, the records are a file, and what the reader returns has the header and the changes of this file
+-- at the stage after the trailer, the records are a file, and the reader returns the header, the number of records and the keeper of this file
 pub file_ended : {K : Type 0} (keeps : Keeps K) (front : Front K) (records : Lines) (ended : Ended K) → HasRecords keeps front records
     → front.stage ≡ AfterEnd → front.header ≡ Some ended.header → ended.records ≡ length records → ended.keeper ≡ front.keeper
     → IsFile records × IsEnded keeps records ended

@@ -447,7 +447,7 @@ no_feed_by text none = λ k d below.
     let past = no_place (position_or_len (λ b. b == 10) text) (length text) _ refl none in
     fails_before_first (λ b. b == 10) text k d (omega arith)
 
--- taking bytes from the rest of a piece makes the front of the piece longer by these bytes
+-- taking bytes from the rest of a piece appends them to the front of the piece
 cut_more : (piece rest front behind : List ℕ) → before_rest piece rest ++ rest ≡ piece → rest ≡ front ++ behind
     → (before_rest piece behind ≡ before_rest piece rest ++ front) × (before_rest piece behind ++ behind ≡ piece)
 cut_more piece rest front behind whole cut =

@@ -24,7 +24,7 @@ unit_begins line (unit.Single single) is = ap (λ place. is_some place) (single_
 unit_begins line (unit.Schedule view) is = ap (λ k. is_some (unit_by_kind k line)) is.by_kind.1
 unit_begins line unit.Trailer is = ap (λ k. is_some (unit_by_kind k line)) is.by_kind
 
--- a record that is read as a unit by itself is of the kind that its type names
+-- a record that is read as a unit by itself has the kind of its view
 pub single_has_kind : (it : Unit) (single : Single) → IsOfSome it → it ≡ unit.Single single → HasKind (kind_of_single single) (line_of_single single)
 single_has_kind it single some same =
     let told = subst (IsUnitByKind some.line) same some.of.by_kind in subst (HasKind (kind_of_single single)) (sym told.0) told.1

@@ -90,7 +90,7 @@ pub fn read_thin<S: Source>(
     thin_at::<Brand, S>(alloc, source, place, day, limit)
 }
 
-/// Does what `read_thin` promises. The type `P` names the place and the day in the proofs.
+/// Does what `read_thin` promises. In the proofs the type `P` has the place and the day.
 fn thin_at<P: PlaceDay, S: Source>(
     alloc: Global,
     source: &mut S,

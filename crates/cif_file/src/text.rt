@@ -1,4 +1,4 @@
-//! Finds line ends, and cuts a text there.
+//! Finds line ends, and cuts a text at them.
 ghost use Rattle.std.specs.Prelude.{◌≡◌, ◌==◌, ◌<◌, IfSome, List, ℕ, length, position, MatchOption};
 ghost use Rattle.cif_laws.specs.CompleteLines.{HasNoFeed};
 ghost use Rattle.cif_file.specs.Cut.{IsCut, BeginsWithEnd, BeginsWithEighty};

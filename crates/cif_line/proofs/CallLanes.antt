@@ -35,7 +35,7 @@ mask_set false = refl
 
 -- ---- one lane, from its five bytes
 
--- a byte minus the code of `0`, modulo 2^16: a digit gives 0 to 9, any other byte gives more
+-- a byte minus the code of `0`, modulo 2^16: 0 to 9 for a digit, and more for any other byte
 abbrev above : ℕ → ℕ
 above b = (b + 65488) % 65536
 

@@ -1,4 +1,4 @@
--- The walk over a state's live keys gives the live table, in ascending order of keys.
+-- The walk over a state's live keys is the live table, in ascending order of keys.
 use Rattle.std.proofs.Common.{◌≡◌, List, [], ◌∷◌, refl, ap, sym, ◌∙◌, subst, inl, inr, ◌⊎◌, Contains, Some, None}
 use Rattle.std.specs.Prelude.{◌↔◌}
 use Rattle.std.specs.List.{AllByRecursion}

@@ -100,7 +100,7 @@ module _ (uid : List ℕ) (rows : List (Key × Entry)) (up : AreAscending rows) 
       by false is = is
       by true is = absurd (let bad : true ≡ false = sym (parted_before uid rows up first k d low high is) ∙ here d in cc)
 
-  -- if the walk back ends at index 0, the UID's schedules begin there
+  -- if the walk back ends at index 0, the UID's schedules begin at index 0
   pub begins_at_front : first ≡ 0 → IsBeginning uid rows first
   begins_at_front zero_is = (λ k d low high. absurd (let none : k < 0 = subst (λ n. k < n) zero_is high in omega arith), rest_behind)
 

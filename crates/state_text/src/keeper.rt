@@ -1,4 +1,4 @@
-//! Keepers, to which a reader gives the parts of a state's text.
+//! Keepers, to which a reader passes the parts of a state's text.
 ghost use Rattle.std.specs.Prelude.{◌≡◌, ◌-◌, ◌^◌, ◌<◌, [], ◌∷◌, ◌++◌, length, map, IsOk, IfOk};
 ghost use Rattle.std.specs.Option.{option_copied, option_map};
 ghost use Rattle.docker_model.specs.state.State.{State, IsLedger, IsOpOf, IsValid};

@@ -35,7 +35,7 @@ impl<K: Keeper> Model for PartsSoFar<K> {
 }
 
 impl<K: Keeper> PartsSoFar<K> {
-    /// What a keeper was given, without a horizon.
+    /// The parts that a keeper was given, as a state without a horizon.
     pub fn new(keeper: K) -> PartsSoFar<K>
         ensures { result ≡ under 0 (K.given keeper) }
     {
