@@ -40,7 +40,7 @@ pub fn read_file<S: Source>(alloc: Global, source: &mut S, limit: u32) -> Result
 }
 
 /// Reads a source like `read_file`, and notes the places that the changes name only if `noted` is
-/// true. Without notes the state of the file has no index, and making it takes less time and
+/// true. Without notes the state of the file has no index, and making the state takes less time and
 /// memory.
 pub fn read_file_noting<S: Source>(
     alloc: Global,

@@ -33,7 +33,7 @@ use Rattle.docker_state.proofs.LiveTable.{PutThere, from_live, to_live, live_has
 
 -- ---- a test that passes up to some row and fails from there on
 
--- Says that a test of a comparison fails for greater, and that it passes for less if it passes for equal.
+-- Says that a test of a comparison is monotone: it fails for greater, and if it passes for equal, it passes for less.
 abbrev GoesDown : (Ordering → Bool) → Type 0
 GoesDown test = (test Greater ≡ false) × (test Equal ≡ true → test Less ≡ true)
 

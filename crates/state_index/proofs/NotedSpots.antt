@@ -116,7 +116,7 @@ links_noted : (names sorted : List (List ℕ)) (ranks numbers : List ℕ) → Ar
 links_noted names sorted ranks numbers are count rows pieces count_is noted =
     (all_spots names sorted ranks are link_places true (λ ns item piece is. is.links) numbers count 0 rows pieces noted (omega arith)).0
 
--- Says that these postings are in row order, that their places are in the list, and that they have the spots of the rows.
+-- Says that these postings are in row order, that their places are in the list, and that their spots are the spots of the rows.
 pub record IsWalk (places : Places) (rows : List Keyed) (sorted : List (List ℕ)) (walk : List Posting) : Type 0 where
   pub spots : spots_in sorted walk ≡ spots_of places rows
   pub len : length walk ≡ length (spots_of places rows)

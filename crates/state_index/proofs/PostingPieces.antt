@@ -59,7 +59,7 @@ below_at (posting ∷ postings) (suc i) (suc j) d up before within = below_at po
 abbrev by_place : ℕ → Posting → Ordering
 by_place place posting = nat_cmp posting.place place
 
--- Says that a test of a comparison fails for greater, and that it passes for less if it passes for equal.
+-- Says that a test of a comparison is monotone: it fails for greater, and if it passes for equal, it passes for less.
 abbrev GoesDown : (Ordering → Bool) → Type 0
 GoesDown test = (test Greater ≡ false) × (test Equal ≡ true → test Less ≡ true)
 
