@@ -26,8 +26,8 @@ pub record ReadsText (limit : ℕ) (left : Option (List ℕ)) (file : FileRead) 
   pub held : Held left text
   pub of_text : IsOfFileText file limit text
 
--- Says that the source held the text of a file within the limit on records, and that this thin file
--- is the part of the file that was kept for the place and the day.
+-- Says that the source held the text of a file within the limit on records, and that this is the
+-- thin file of it for the place and the day.
 pub record ReadsThin (place : List ℕ) (day limit : ℕ) (left : Option (List ℕ)) (thin : ThinRead) : Type 0 where
   pub reads : ReadsText limit left thin.file
   pub place_is : thin.place ≡ place
