@@ -32,8 +32,8 @@ pub enum Op {
 
 impl Op {
     /// Applies a horizon, given as a day number. A put whose end number is below the horizon lapses
-    /// and loses its body. Anything else is unchanged: a deletion, a lapsed op, a TIPLOC, a body
-    /// without an end.
+    /// and loses its body. Any other op is unchanged: a deletion, a lapsed op, or a put of a TIPLOC
+    /// or of a body without an end.
     pub fn lapse(self, horizon: u16) -> Op
         ensures { op_meant result ≡ lapse horizon (op_meant self) }
     {

@@ -26,8 +26,8 @@ pub(crate) fn puts_of(alloc: Global, rows: &[(Key, Entry)]) -> Option<Vec<bool>>
     Some(puts)
 }
 
-/// Keeps only the postings of rows whose op is a put. Looks the ops up in the table `puts`, which is
-/// small enough for the cache. Without that table it reads the rows themselves.
+/// Keeps only the postings of rows whose op is a put. Looks the ops up in the table `puts`, which
+/// is small enough for the cache. Without that table it reads the rows themselves.
 pub(crate) fn keep_put(postings: &mut Vec<Posting>, rows: &[(Key, Entry)], puts: &Option<Vec<bool>>)
     requires { IfSome puts.now (λ puts. puts.items ≡ puts_in (map row_meant rows.now)) }
     ensures { postings.new.items
