@@ -5,19 +5,20 @@ use Rattle.std.specs.Ordering.{ordering_then}
 use Rattle.std.specs.Cmp.{nat_cmp_total, tied_itself}
 use Rattle.docker_model.specs.state.Order.{bytes_cmp}
 
--- putting the same bytes in front of two lists of bytes doesn't change how they compare
+-- prepending the same bytes to two lists of bytes doesn't change how the lists compare
 pub behind_front : (front xs ys : List ℕ) → bytes_cmp (front ++ xs) (front ++ ys) ≡ bytes_cmp xs ys
 behind_front [] xs ys = refl
 behind_front (b ∷ front) xs ys =
     ap (λ first. ordering_then first (bytes_cmp (front ++ xs) (front ++ ys))) (tied_itself nat_cmp_total b) ∙ behind_front front xs ys
 
--- putting equal lines in front of two lists of lines doesn't change how their joined bytes compare
+-- prepending equal lines to two lists of lines doesn't change how the joined bytes of the lists
+-- compare
 pub behind_same : (line other : List ℕ) (lines others : List (List ℕ)) → line ≡ other
     → bytes_cmp (concat (line ∷ lines)) (concat (other ∷ others)) ≡ bytes_cmp (concat lines) (concat others)
 behind_same line other lines others same =
     ap (λ l. bytes_cmp (line ++ concat lines) (l ++ concat others)) (sym same) ∙ behind_front line (concat lines) (concat others)
 
--- two lists of lines that begin with equal lines compare like what follows these lines
+-- if two lists of lines begin with equal lines, the lists compare like the lines after these
 pub after_first_record : (lines others rest left : List (List ℕ)) (line other : List ℕ) → lines ≡ line ∷ rest → others ≡ other ∷ left → line ≡ other
     → bytes_cmp (concat rest) (concat left) ≡ bytes_cmp (concat lines) (concat others)
 after_first_record lines others rest left line other one two same =

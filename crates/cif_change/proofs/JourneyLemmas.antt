@@ -40,7 +40,7 @@ some_is x y same = cc
 
 -- ---- the end of a schedule
 
--- lines that lead to a stage are a whole schedule if and only if a schedule may end at that stage
+-- if some lines may begin a schedule, they are a whole schedule if and only if a schedule may end at the stage after them
 whole_iff : (lines : Lines) (stage : Stage) → stage_of lines ≡ Some stage → IsSchedule lines ↔ (may_end stage lines ≡ true)
 whole_iff lines stage at = (
   λ is.
@@ -81,7 +81,7 @@ abbrev pub next_by : Option Stage → Lines → List ℕ → Option Stage
 next_by None lines line = cond (is_first_line line) (Some after_basic) None
 next_by (Some stage) lines line = next_stage stage lines line
 
--- the cause for a line that leads to no stage
+-- the cause for which a line is refused if there is no stage after the line
 abbrev pub cause_by : Option Stage → List ℕ → fault.FileCause
 cause_by None line = first_line_cause line
 cause_by (Some stage) line = schedule_cause stage line
@@ -112,13 +112,13 @@ fault_by journey lines line has is nowhere = by journey.stage refl nowhere
         (subst (λ l. IsScheduleFault l line (first_line_cause line)) (sym (has.fresh h)) (first (is_first_line line) refl told))
     by (Some stage) h told = subst (λ s. IsScheduleFault lines line (cause_by s line)) (sym h) (schedule_fault lines stage line (sym has.stage_is ∙ h) is told)
 
--- if a line leads to no stage, it is refused, with the cause that `cause_by` gives
+-- if there is no stage after a line, the line is refused, and the cause is the one of `cause_by`
 pub refused_by : (journey : JourneyState) (lines : Lines) (line : List ℕ) (cause : fault.FileCause) → HasLines journey lines → IsRecord line
     → next_by journey.stage lines line ≡ None → cause_by journey.stage line ≡ cause → IsScheduleFault lines line cause
 refused_by journey lines line cause has is nowhere same = subst (IsScheduleFault lines line) same (fault_by journey lines line has is nowhere)
 
--- suppose a result is `Ok` if and only if the line leads to a stage. Then it is `Ok` if and only if
--- some schedule begins with the lines taken and this line
+-- suppose a result is `Ok` if and only if there is a stage after the line. Then the result is `Ok` if and only if some schedule begins with the lines taken
+-- followed by this line
 pub judged_ok : {A : Type 0} (answer : Result A FileCause) (journey : JourneyState) (lines : Lines) (line : List ℕ) → HasLines journey lines → IsRecord line
     → IsOk answer ↔ (is_some (next_by journey.stage lines line) ≡ true) → IsOk answer ↔ BeginsSchedule (lines ++ line ∷ [])
 judged_ok answer journey lines line has is iff = (
@@ -135,8 +135,8 @@ judged_ok answer journey lines line has is iff = (
     from None h begins = absurd ((fault_by journey lines line has is h).here begins)
     from (Some next) h begins = iff.1 (λ i. is_some (h i))
 
--- suppose a result is `Ok` if and only if the line leads to a stage, and its error is otherwise the
--- cause of `cause_by`. Then this cause is why no schedule continues with the line
+-- suppose a result is `Ok` if and only if there is a stage after the line, and that otherwise its error is the cause of `cause_by`. Then this error is the
+-- cause for which no schedule continues with the line
 pub judged_err : {A : Type 0} (answer : Result A FileCause) (journey : JourneyState) (lines : Lines) (line : List ℕ) (told : fault.FileCause)
     → HasLines journey lines → IsRecord line
     → IsOk answer ↔ (is_some (next_by journey.stage lines line) ≡ true) → told ≡ cause_by journey.stage line
@@ -150,7 +150,7 @@ judged_err (Err cause) journey lines line told has is iff same err =
     by None h = fault_by journey lines line has is h
     by (Some next) h = let bad = iff.1 (λ i. is_some (h i)) in absurd cc
 
--- before any line is taken, a line leads to a stage if and only if it is a basic schedule with good fields
+-- before any line is taken, there is a stage after a line if and only if the line is a basic schedule with good fields
 pub first_test : (journey : JourneyState) (lines : Lines) (line : List ℕ) → journey.stage ≡ None
     → is_some (next_by journey.stage lines line) ≡ is_first_line line
 first_test journey lines line at = (λ i. is_some (next_by (at i) lines line)) ∙ by (is_first_line line)
@@ -159,18 +159,18 @@ first_test journey lines line at = (λ i. is_some (next_by (at i) lines line)) �
     by true = refl
     by false = refl
 
--- Says that the reader is at a stage, and that a line of this kind leads from it to the next one.
+-- Says that the reader is at a stage, that a line of this kind may come next, and that `next` is the stage after the line.
 pub record LeadsOn (stage : Option Stage) (kind : Option Kind) (next : Stage) : Type 0 where
   pub here : Stage
   pub at : stage ≡ Some here
   pub after : stage_after here kind ≡ Some next
 
--- if a line of this kind leads to a stage, the reader was at an earlier stage
+-- if there is a stage after a line of this kind, the reader was at a stage before the line
 pub leads_on : (stage : Option Stage) (kind : Option Kind) (next : Stage) → stage_then stage kind ≡ Some next → LeadsOn stage kind next
 leads_on None kind next led = absurd cc
 leads_on (Some here) kind next led = record { here = here; at = refl; after = led }
 
--- a line of a kind that may come next leads to a stage if and only if its fields and times are sound
+-- if a line's kind may come next, there is a stage after the line if and only if its fields and times are sound
 pub next_test : (journey : JourneyState) (lines : Lines) (line : List ℕ) (next : Stage) → IsRecord line → stage_then journey.stage (kind_of line) ≡ Some next
     → is_some (next_by journey.stage lines line) ≡ is_sound_next lines line
 next_test journey lines line next is led =
@@ -197,7 +197,7 @@ next_cause journey line next led =
         (λ i. cond (is_none (h i)) bad_kind (cond (is_none (stage_after here (kind_of line))) bad_place (field_cause line)))
         ∙ (λ i. cond (is_none (after i)) bad_place (field_cause line))
 
--- if a fact holds if and only if one test passes, the same is true of an equal test
+-- if a proposition holds if and only if one test passes, it holds if and only if an equal test passes
 pub iff_along : (P : Type 0) (a b : Bool) → a ≡ b → P ↔ (b ≡ true) → P ↔ (a ≡ true)
 iff_along P a b same iff = (λ p. same ∙ iff.0 p, λ test. iff.1 (sym same ∙ test))
 
@@ -252,7 +252,7 @@ falls_in_turn (Some last) None rest = omega arith
 falls_in_turn None (Some time) rest = omega arith
 falls_in_turn (Some last) (Some time) rest = omega arith
 
--- the last time after three optional times is the last one of them that is given, or the time before them if none is
+-- after three optional times, the last time is the last of those that are present, or the earlier last time if none is present
 pub last_in_turn : (last first second third : Option ℕ) → later_or third (later_or second (later_or first last)) ≡ later_or
     (last_of (time_list first ++ time_list second ++ time_list third)) last
 last_in_turn last None None None = refl
@@ -311,7 +311,7 @@ sound_by_falls journey lines line more has kept falls =
     (sym (has.falls_are kept) i + falls_after (sym (has.last_is kept) i) (times_along (line ∷ []))) 2))
     ∙ (λ i. has_good_fields line && nat_le (sym falls i) 2)
 
--- unless the schedule is a deletion, a sound line leads to the next stage, the new count of midnights and the new last time
+-- unless the schedule is a deletion, there is a next stage after a sound line, with the new count of midnights and the new last time
 pub sound_goes_on : (journey : JourneyState) (lines : Lines) (line : List ℕ) (stage next : Stage) (more : ℕ) (later : Option ℕ) → HasLines journey lines
     → IsRecord line → journey.stage ≡ Some stage
     → journey.deletion ≡ false → stage_after stage (kind_of line) ≡ Some next → HasGoodFields line
@@ -409,7 +409,7 @@ pub deletion_read : (journey : JourneyState) (lines : Lines) (line : List ℕ) (
 deletion_read journey lines line next has is led deletion =
     let on = leads_on journey.stage (kind_of line) next led in deletion_goes_on journey lines line on.here next has is on.at deletion on.after
 
--- Says that these are the times of the line, and that this is the count of midnights and this the last time after them.
+-- Says that these are the times of the line, and that these are the count of midnights and the last time after the line.
 pub record IsTimed (journey : JourneyState) (line : List ℕ) (first second third : Option ℕ) (more : ℕ) (later : Option ℕ) : Type 0 where
   pub times : map (λ (time : Occasion × ℕ). time.1) (times_of line) ≡ time_list first ++ time_list second ++ time_list third
   pub falls : more ≡ journey.falls + falls_after journey.last (time_list first ++ time_list second ++ time_list third)

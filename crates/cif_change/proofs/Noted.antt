@@ -1,4 +1,4 @@
--- Notes of earlier rows stay right when more rows are noted, and each row's piece names the row's places.
+-- Notes of earlier rows stay right when more rows are noted, and each row's piece has the numbers of the row's places.
 use Rattle.std.proofs.Common.{◌≡◌, ℕ, zero, suc, ◌+◌, ◌-◌, ◌≤◌, ◌<◌, List, [], ◌∷◌, ◌++◌, map, take, drop, length, get_or, refl}
 use Rattle.std.proofs.Common.{ap, sym, ◌∙◌, subst, Bool, true, false, cond, Some, None, inl, inr, ◌⊎◌, arith, append-nil}
 use Rattle.std.specs.Prelude.{slice_get, min}
@@ -105,7 +105,7 @@ in_all : (pieces : List Piece) (piece : Piece) → numbers_in (pieces ++ piece �
 in_all [] piece = omega arith
 in_all (other ∷ pieces) piece = let rest = in_all pieces piece in omega arith
 
--- if the new notes have one more piece, in which the next row is noted, they are the notes of all rows with this one
+-- if the new notes are the old ones with one more piece, in which the next row is noted, they are the notes of the old rows and this one
 pub row_noted : (old new : Notes) (item : Item) (piece : Piece) → Keeps old.names.list.items new.names.list.items → Keeps old.numbers.items new.numbers.items
     → IsNext new.names.list.items old.numbers.items new.numbers.items item piece → new.pieces.items ≡ old.pieces.items ++ piece ∷ []
     → (items : List Item) → HasNoted items old → HasNoted (items ++ item ∷ []) new
@@ -160,7 +160,7 @@ no_calls (schedule_key key) lapsed never = (refl, refl)
 no_calls (association_key key) lapsed never = (refl, refl)
 no_calls (tiploc_key code) lapsed never = (refl, refl)
 
--- for a row whose key isn't put, no number has to be added: its piece has none
+-- a row whose key isn't put has a piece without numbers, so no number has to be added for the row
 none_next : (names : List (List ℕ)) (numbers : List ℕ) (key : Key) (op : Op) → body_of op ≡ None → IsNext names numbers numbers (key, op) no_piece
 none_next names numbers key op none =
     let nowhere = no_calls key op (λ body put. none_some body (sym none ∙ ap body_of put)) in
@@ -194,7 +194,7 @@ module _ (names : List (List ℕ)) (old new : List ℕ) (kept : Keeps old new) (
   came : take count (drop (length old) new) ≡ drop (length old) new
   came = came_all old new count count_is
 
-  -- if the added numbers name the places where a schedule calls, they are the schedule's piece
+  -- if the added numbers are the numbers of the places where a schedule calls, they are the schedule's piece
   pub calls_next : (key : ScheduleKey) (lines : List (List ℕ)) → AreRanks names (map (columns 3 9) (location_lines lines)) (drop (length old) new)
       → IsNext names old new (schedule_key key, put_with (schedule_body lines)) (record { is_link = false; from = length old; count = count })
   calls_next key lines are = record {
@@ -218,7 +218,7 @@ calls_put names old new kept from count from_is count_is key body schedule lines
     (sym from_is)
     (calls_next names old new kept count count_is schedule lines are))
 
--- a single added number, the index of a place, names this place
+-- if a single number was added, and it is the index of a place, the added numbers are the numbers of just this place
 pub one_pushed : (names : List (List ℕ)) (old new : List ℕ) (place : List ℕ) (number : ℕ) → new ≡ old ++ number ∷ [] → slice_get names number ≡ Some place
     → AreRanks names (place ∷ []) (drop (length old) new)
 one_pushed names old new place number pushed is =
@@ -254,8 +254,8 @@ one_more names places place (n ∷ []) more are rest =
     let first : slice_get names n ≡ Some place = cc in
     λ i. first i ∷ rest i
 
--- Says that only the remaining lines' places are still to be noted: followed by numbers for these,
--- the noted numbers name the places of all lines.
+-- Says that only the places of the remaining lines are still to be noted. The noted numbers, followed by numbers of the remaining places, are the numbers of
+-- the places of all lines.
 abbrev pub IsLeft : List (List ℕ) → List (List ℕ) → List (List ℕ) → List ℕ → List ℕ → Type 0
 IsLeft names all rest first numbers = (others : List (List ℕ)) (more : List ℕ) → Keeps names others → AreRanks others rest more
     → AreRanks others all (drop (length first) numbers ++ more)
@@ -296,7 +296,7 @@ no_lines (line ∷ rest) none = absurd (omega arith)
 
 -- ---- noting one row after another
 
--- the elements of a list before a given rest of it
+-- the elements of a list that come before a given suffix
 abbrev pub front_of : List Item → List Item → List Item
 front_of all rest = take (length all - length rest) all
 
@@ -306,7 +306,7 @@ front_is front rest all whole =
     let same : length (front ++ rest) - length rest ≡ length front = omega arith in
     sym (ap (λ (xs : List Item). front_of xs rest) whole) ∙ ap (λ n. take n (front ++ rest)) same ∙ take-append_seam front rest
 
--- Says that the notes are of exactly the rows before the rest.
+-- Says that the notes are of exactly the rows before the remaining rows.
 pub record AreNotedBefore (all rest : List Item) (notes : Notes) : Type 0 where
   pub noted : HasNoted (front_of all rest) notes
   pub whole : front_of all rest ++ rest ≡ all
@@ -320,7 +320,7 @@ none_before all notes none =
       whole = ap (λ (items : List Item). items ++ all) front;
     }
 
--- after noting the first of the remaining rows, the notes are of all rows before the others
+-- after noting the first of the remaining rows, the notes are of all rows before those that still remain
 pub one_noted : (all rest behind : List Item) (item : Item) (old new : Notes) → rest ≡ item ∷ behind
     → ((items : List Item) → HasNoted items old → HasNoted (items ++ item ∷ []) new) → AreNotedBefore all rest old → AreNotedBefore all behind new
 one_noted all rest behind item old new rest_is noted before =
@@ -357,7 +357,7 @@ piece_at names numbers (first ∷ items) (piece ∷ pieces) are zero item is =
     subst (λ (i : Item). IsNoted names numbers i piece) (some_is first item is) are.0
 piece_at names numbers (first ∷ items) (piece ∷ pieces) are (suc n) item is = piece_at names numbers items pieces are.1 n item is
 
--- taking the pieces at some indexes gives the notes of the rows at these indexes
+-- the pieces at some indexes are the notes of the rows at these indexes
 pub picked_noted : (names : List (List ℕ)) (numbers : List ℕ) (items : List Item) (pieces : List Piece) → AreNoted names numbers items pieces → (order : List ℕ)
     (picked : List Item) → ArePicked items order picked → AreNoted names numbers picked (map (λ n. get_or pieces n no_piece) order)
 picked_noted names numbers items pieces are [] [] is = tt

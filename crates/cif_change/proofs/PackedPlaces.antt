@@ -11,7 +11,7 @@ last_zero [] (suc i) = refl
 last_zero (x ∷ xs) zero = refl
 last_zero (x ∷ xs) (suc i) = last_zero xs i
 
--- Unpacking the number into which seven bytes were packed gives these bytes, followed by a 0.
+-- Unpacking the number into which seven bytes were packed results in these bytes, followed by a 0.
 digits : (xs : List ℕ) → length xs ≡ 7 → ((i : ℕ) → get_or xs i 0 < 256)
     → to_le_bytes w64 (from_le_bytes w64 (xs ++ 0 ∷ [])) ≡ xs ++ 0 ∷ []
 digits xs len fits = le_bytes_8 (xs ++ 0 ∷ []) _ (length-append xs (0 ∷ []) ∙ ap (λ n. n + 1) len)

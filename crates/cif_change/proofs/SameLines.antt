@@ -45,7 +45,7 @@ none_of_same (x ∷ xs) = by (nat_eq x x) (grind (arith, nat_tests)) (none_of_sa
     by true one rest = twice (mask_l (zip2 differ xs xs)) ∙ rest
     by false two rest = absurd (let bad : false ≡ true = two in cc)
 
--- the top bits of the lanes make the mask with a bit for each pair of bytes that differ
+-- the top bits of the lanes are the mask with a bit for each pair of bytes that differ
 mask_of_lanes : (xs ys : List ℕ) → length xs ≡ length ys → length xs ≤ 64
     → mask_l (map (top 7) (zip2 lane xs ys)) % 2 ^ 64 ≡ mask_l (zip2 differ xs ys)
 mask_of_lanes xs ys even few =
@@ -71,7 +71,7 @@ same_rest xs ys at block rest = chunk-drop at 16 xs ∙ (λ i. block i ++ rest i
 nothing_left : (bytes : List ℕ) → length bytes ≡ 80 → drop 80 bytes ≡ []
 nothing_left bytes size = drop_all 80 bytes (let long : length bytes ≤ 80 = omega arith in long)
 
--- two lines are equal if all five blocks of them are
+-- two lines are equal if each of their five blocks is the same in both
 same_line : (xs ys : List ℕ) → length xs ≡ 80 → length ys ≡ 80
     → take 16 (drop 0 xs) ≡ take 16 (drop 0 ys) → take 16 (drop 16 xs) ≡ take 16 (drop 16 ys) → take 16 (drop 32 xs) ≡ take 16 (drop 32 ys)
     → take 16 (drop 48 xs) ≡ take 16 (drop 48 ys) → take 16 (drop 64 xs) ≡ take 16 (drop 64 ys) → xs ≡ ys

@@ -63,13 +63,14 @@ times_list times = time_list times.first ++ time_list times.second ++ time_list 
 abbrev pub AreTimesOf : List ℕ → LineTimes → Type 0
 AreTimesOf line times = map (λ time. time.1) (times_of line) ≡ times_list times
 
--- the stage after a line of this kind; none if it can't come next, or if no line came before it
+-- the stage after a line of this kind; none if a line of this kind can't come next, or if no line
+-- was taken before
 abbrev pub stage_then : Option place.Stage → Option Kind → Option place.Stage
 stage_then None kind = None
 stage_then (Some stage) kind = stage_after stage kind
 
--- whether a schedule may end at this stage. The flag says whether it may end without a journey.
--- Before the first line a schedule can't end.
+-- whether a schedule may end at this stage. The flag says whether the schedule may end without a
+-- journey. Before the first line a schedule can't end.
 abbrev pub may_end_by : Option place.Stage → Bool → Bool
 may_end_by (Some after_journey) lacking = true
 may_end_by (Some in_journey) lacking = false

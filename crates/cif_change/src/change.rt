@@ -33,7 +33,7 @@ pub enum Body {
 
 impl Body {
     /// The day number of the body's last day, counted from 0 for 1960-01-01. It is 65535 for a
-    /// TIPLOC, for an end date that means no end, and for one that can't be read.
+    /// TIPLOC, for an end date that means no end, and for an end date that can't be read.
     pub fn end_number(&self) -> u16
         ensures { result ≡ body_end (body_meant self.now) }
     {

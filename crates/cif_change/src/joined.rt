@@ -23,7 +23,7 @@ impl<'a> Joined<'a> {
         Joined { front, lines }
     }
 
-    /// Compares these bytes with the other ones, byte by byte.
+    /// Compares these bytes with the bytes of `other`, byte by byte.
     pub(crate) fn compare(self, other: Joined<'_>) -> Ordering
         ensures { result ≡ bytes_cmp (joined_bytes self.entry) (joined_bytes other.entry) }
     {

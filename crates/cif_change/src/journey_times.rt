@@ -9,8 +9,8 @@ ghost use Rattle.cif_change.specs.JourneyRead.{time_list, times_list, AreTimesOf
 
 use cif_line::{FieldFault, Kind, Line, Time, call, origin, terminus};
 
-/// What a reader keeps of the times before: how often the journey has passed midnight (`falls`),
-/// and the last time.
+/// What a reader remembers of the times read earlier: how often the journey has passed midnight
+/// (`falls`), and the last time.
 #[derive(Clone, Copy, PartialEq, Eq, Debug)]
 pub(crate) struct Clock {
     pub falls: u8,
@@ -38,7 +38,7 @@ impl Clock {
 
     /// The clock after one more time, or the same clock for None. A time below the last one means
     /// that midnight has been passed. There is no branch on whether there is a time: calls and
-    /// passes follow each other so irregularly that the processor couldn't predict it.
+    /// passes follow each other so irregularly that the processor couldn't predict such a branch.
     fn then(self, time: Option<Time>) -> Clock
         requires { self.falls < 255 }
         ensures falls { result.falls ≡ self.falls + falls_after self.last (time_list time) }

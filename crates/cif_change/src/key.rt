@@ -33,7 +33,8 @@ pub struct AssocKey {
     pub start: Day,
     /// The TIPLOC at which the trains are associated.
     pub location: Tiploc,
-    /// The suffix of the base train's call at that TIPLOC, which distinguishes several calls there.
+    /// The suffix of the base train's call at the association's TIPLOC. It distinguishes several
+    /// calls at the same TIPLOC.
     pub suffix: u8,
     /// The STP indicator.
     pub stp: Stp,

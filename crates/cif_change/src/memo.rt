@@ -12,8 +12,8 @@ const SLOTS: usize = 65_536;
 const NEAR: usize = 8;
 
 /// Remembers the index at which places were last found in a list. It is only a shortcut and may
-/// forget a place. A hash of a place's bytes gives its first slot. Since another place's index may
-/// be in that slot, the place at the remembered index is always compared.
+/// forget a place. A place's first slot is a hash of its bytes. Since another place's index may be
+/// in that slot, the place at the remembered index is always compared.
 #[derive(Debug, Drop)]
 pub(crate) struct Memo {
     slots: Vec<u32>,
@@ -50,8 +50,8 @@ impl Memo {
         None
     }
 
-    /// Remembers the index of a place. It is written to the first free slot of the place, or to its
-    /// very first slot if none is free.
+    /// Remembers the index of a place. The index is written to the first free slot of the place, or
+    /// to its very first slot if none is free.
     pub(crate) fn set(&mut self, place: &[u8; 7], index: u32) {
         let first = slot_of(place);
         for step in 0..NEAR {

@@ -7,8 +7,8 @@ use crate::memo::Memo;
 use cif_line::Memory;
 use std::alloc::Global;
 
-/// Places, in the order in which they were first named. If the memo has forgotten a place, it is
-/// listed again. Each of its indexes is then one of its numbers.
+/// Places, in the order in which they were first named. If the memo has forgotten a place, the
+/// place is listed again, and each of its indexes in the list is one of its numbers.
 #[derive(Debug, Drop)]
 pub struct PlaceNames {
     /// The places. The index of a place is its number.

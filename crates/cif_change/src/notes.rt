@@ -18,7 +18,7 @@ use std::alloc::Global;
 /// a piece of the list `numbers`, given by where it begins and how long it is.
 #[derive(Debug, Drop)]
 pub struct Notes {
-    /// The list of places, which gives each place its number.
+    /// The list of places. The number of a place is its index in this list.
     pub names: PlaceNames,
     /// The numbers of all places that the rows name: first those named by row 0, then by row 1, and
     /// so on.

@@ -2,12 +2,12 @@
 ghost use Rattle.std.specs.Prelude.{◌≡◌, false, drop, take};
 ghost use Rattle.cif_change.specs.Noted.{numbers_of};
 
-/// Where the numbers of one row are in the list of all numbers. The numbers name the places where a
-/// schedule calls, or the one place where an association links two trains.
+/// Where the numbers of one row are in the list of all numbers. They are the numbers of the places
+/// where a schedule calls, or of the one place where an association links two trains.
 #[derive(Clone, Copy, Debug, PartialEq, Eq, PartialOrd, Ord)]
 pub struct Piece {
-    /// Whether the row is an association. Its number is then a link, and otherwise the numbers are
-    /// calls.
+    /// Whether the row is an association. The number of an association is a link, and the numbers
+    /// of a schedule are calls.
     pub is_link: bool,
     /// The index of the row's first number.
     pub from: u32,

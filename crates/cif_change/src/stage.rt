@@ -42,8 +42,8 @@ impl ScheduleStage {
         }
     }
 
-    /// Whether a schedule may end at this stage. `lacking` says whether it may end without a
-    /// journey.
+    /// Whether a schedule may end at this stage. `lacking` says whether the schedule may end
+    /// without a journey.
     pub(crate) fn may_end(self, lacking: bool) -> bool
         ensures { result ≡ may_end_by (Some (stage_meant self)) lacking }
     {

@@ -111,8 +111,9 @@ impl Progress {
         }
     }
 
-    /// Takes a line after the first, whose kind may come next and leads to stage `next`. Refuses it
-    /// only for a bad field or the third midnight. In a deletion it is never refused.
+    /// Takes a line after the first. Its kind may come next, and `next` is the stage after it.
+    /// Refuses the line only for a bad field or the third midnight, and never refuses a line of a
+    /// deletion.
     fn advance_to(&mut self, next: ScheduleStage, kind: Kind, line: &Line) -> Result<(), FileCause>
         requires record { IsRecord line.now }
         requires kind { HasKind (meaning kind) line.now }
@@ -202,8 +203,8 @@ fn is_deletion(view: &Basic<'_>) -> bool
     }
 }
 
-/// Whether the basic schedule is a cancellation: its STP indicator is `C`, and the train doesn't
-/// run on its days.
+/// Whether the basic schedule is a cancellation: its STP indicator is `C`, so the train doesn't run
+/// on the schedule's days.
 fn is_cancellation(view: &Basic<'_>) -> bool
     ensures { result ≡ (column 80 view.now == 67) }
 {

@@ -79,7 +79,7 @@ changes_append n (record_first ∷ records) line more stops =
     ∙ sym (append_assoc (changes_of_record n record_first records) (changes_from (n + 1) records) (changes_from (n + 1 + length records) (line ∷ more)))
     ∙ ap (λ k. (changes_of_record n record_first records ++ changes_from (n + 1) records) ++ changes_from k (line ∷ more)) (omega arith)
 
--- if the next record doesn't come within a schedule, its changes are added to the changes before
+-- if the next record doesn't come within a schedule, its changes are appended to the changes before
 pub changes_anew : (records : Lines) (line : List ℕ) → follows_basic (kind_of line) ≡ false
     → changes (records ++ line ∷ []) ≡ changes records ++ changes_of_record (length records + 1) line []
 changes_anew records line stops =
@@ -104,7 +104,7 @@ some_lines (basic ∷ others) stage at = omega arith
 
 -- ---- a schedule that is complete
 
--- lines that lead to a stage are a whole schedule if and only if a schedule may end at that stage
+-- if some lines may begin a schedule, they are a whole schedule if and only if a schedule may end at the stage after them
 whole_iff : (lines : Lines) (stage : Stage) → stage_of lines ≡ Some stage → IsSchedule lines ↔ (may_end stage lines ≡ true)
 whole_iff lines stage at = (
   λ is.
@@ -119,7 +119,7 @@ same_change : (n m : ℕ) (k l : Key) (b c : Bool) (body : Body) → n ≡ m →
     → ◌≡◌ {A = Change} (record { number = n; key = k; act = cond b delete (put body) }) (record { number = m; key = l; act = cond c delete (put body) })
 same_change n m k l b c body numbers keys tests = λ i. record { number = numbers i; key = keys i; act = cond (tests i) delete (put body) }
 
--- a schedule that is complete adds one change, its own, to the changes before
+-- a complete schedule appends exactly one change, its own, to the changes before
 pub changes_closed : (opened : Opened) (lines before : Lines) → HasLines (progress_meant opened.progress) lines → opened.number ≡ length before + 1
     → key_meant (key.Schedule opened.key) ≡ schedule_named (first_record lines) → IsSchedule lines
     → changes (before ++ lines) ≡ changes before ++ change_opened opened lines ∷ []
@@ -157,7 +157,7 @@ anew_by_unit line begins = by (follows_basic (kind_of line)) refl
     by false h = h
     by true h = let bad : false ≡ true = (λ i. is_some (sym (no_unit_by_kind (kind_of line) line h) i)) ∙ begins in cc
 
--- after whole units, a record with good fields that begins a unit leads to the place given by its kind
+-- after whole units, the place after a record with good fields that begins a unit is the one for the record's kind
 pub place_over : {K : Type 0} (keeps : Keeps K) (front : Front K) (records : Lines) (line : List ℕ) (next : Place) → (over : IsOver keeps front records)
     → IsRecord line → HasGoodFields line
     → unit_by_kind (kind_of line) line ≡ Some next
@@ -326,7 +326,7 @@ stage_begun : (lines : Lines) (line : List ℕ) → BeginsSchedule (lines ++ lin
 stage_begun [] line begins = (begins_iff_stage line []).0 begins
 stage_begun (basic ∷ others) line begins = (begins_iff_stage basic (others ++ line ∷ [])).0 begins
 
--- after the line, the records lead to the place in the schedule's next stage
+-- the place after the records and this line is in the schedule, at its next stage
 place_followed : {K : Type 0} (keeps : Keeps K) (front : Front K) (opened : Opened) (line : List ℕ) (records : Lines)
     (before : StandsBefore keeps front opened line records) (next : Stage)
     → stage_of (before.lines ++ line ∷ []) ≡ Some next → IsPlaceOf (records ++ line ∷ []) (place_in next (before.lines ++ line ∷ []))
@@ -355,7 +355,7 @@ header_followed keeps front opened line records before =
     let size = ap (λ (l : Lines). length l) before.whole ∙ length-append before.before before.lines in
     before.header_is ∙ sym (header_stays records (line ∷ []) (omega arith))
 
--- if a keeper with some lines of a schedule adds a line, it has these lines followed by the new one
+-- if a keeper with some lines of a schedule adds a line, it has the same lines followed by the new one
 pub added_to : {K : Type 0} (keeps : Keeps K) (old new : K) (lines : Lines) (line : List ℕ) (made : List Change) → 0 < length lines
     → AddsLine keeps old line new → keeps old lines made → keeps new (lines ++ line ∷ []) made
 added_to keeps old new [] line made some added kept = absurd (omega arith)
@@ -465,7 +465,7 @@ end_by_test : (place : Place) → is_after_end place ≡ true → place ≡ afte
 end_by_test after_end h = refl
 end_by_test _ h = absurd cc
 
--- if a flag says whether the reader is after the trailer, it says whether the records are a file
+-- a flag that says whether the reader is after the trailer also says whether the records are a file
 pub ended_iff : {K : Type 0} (keeps : Keeps K) (front : Front K) (records : Lines) (ended : Bool) → HasRecords keeps front records
     → ((place : Place) → IsKept keeps front.stage front.keeper place records → is_after_end place ≡ ended)
     → IsTrue ended ↔ IsFile records
@@ -505,7 +505,7 @@ none_of : (b : Bool) (o : Option Place) → o ≡ None → cond b o None ≡ Non
 none_of true o h = h
 none_of false o h = refl
 
--- unless the trailer was read, the cause for a record within the limit is the one that its kind gives
+-- unless the trailer was read, the cause for a record within the limit is the one for the record's kind
 told_cause : (records : Lines) (line : List ℕ) (place : Place) (cause : fault.FileCause) → IsRecord line → is_after_end place ≡ false
     → kind_cause place line ≡ cause
     → (limit : ℕ) → length records < limit → cause_of limit (length records) place line ≡ cause
@@ -536,7 +536,7 @@ no_kind keeps front records line has unended is none = record {
     by false h = h
     by true h = absurd (unended ((file_iff_place records).1 (has.at ∙ ap Some (end_by_test has.place h))))
 
--- before the header, no record of another kind may come next
+-- before the header, a record of any other kind may not come next
 pub no_header : {K : Type 0} (keeps : Keeps K) (front : Front K) (records : Lines) (line : List ℕ) (kind : Kind) → HasRecords keeps front records
     → front.stage ≡ BeforeHeader → IsRecord line
     → HasKind kind line → is_header_kind (Some kind) ≡ false
@@ -606,7 +606,7 @@ header_added keeps old new records line has at is kind fields same_header place 
       );
     }
 
--- between units, a record that begins no unit or has a bad field leads to no place
+-- between units, there is no place after a record that begins no unit or has a bad field
 pub no_unit : (line : List ℕ) → ¬ ((is_some (unit_by_kind (kind_of line) line) ≡ true) × HasGoodFields line) → next_place between_units line ≡ None
 no_unit line bad = by (next_place between_units line) refl
   where
@@ -729,7 +729,7 @@ file_at_end keeps front records has at =
 
 -- ---- the whole file
 
--- at the stage after the trailer, the records are a file, and what the reader returns is right for it
+-- at the stage after the trailer, the records are a file, and the reader returns the header, the number of records and the keeper of this file
 pub file_ended : {K : Type 0} (keeps : Keeps K) (front : Front K) (records : Lines) (ended : Ended K) → HasRecords keeps front records
     → front.stage ≡ AfterEnd → front.header ≡ Some ended.header → ended.records ≡ length records → ended.keeper ≡ front.keeper
     → IsFile records × IsEnded keeps records ended

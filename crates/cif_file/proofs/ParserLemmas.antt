@@ -103,7 +103,7 @@ after_cause keeps limit front records line has is under = record {
     none true = refl
     none false = refl
 
--- a line that isn't a record leads to no place
+-- there is no place after a line that isn't a record
 no_next : (place : Place) (line : List ℕ) → ¬ IsRecord line → next_place place line ≡ None
 no_next place line bad = by (next_place place line) refl
   where
@@ -111,7 +111,7 @@ no_next place line bad = by (next_place place line) refl
     by None h = h
     by (Some next) h = absurd (bad (next_by_test place line next h).is)
 
--- choosing among three causes gives a cause
+-- the choice among three causes is always a cause, never none
 some_cause : (over ended : Bool) (first second third : model.FileCause)
     → cond over (Some first) (cond ended (Some second) (Some third)) ≡ Some (cond over first (cond ended second third))
 some_cause true ended first second third = refl
@@ -296,7 +296,7 @@ pub reading_tells_none : {K : Type 0} (keeps : Keeps K) (reading : FileReading K
     → ¬ IsFaultSoFar limit text fault
 reading_tells_none keeps reading limit text is = no_fault_told limit text is.counted.has.place is.counted.has.at is.counted.within is.short
 
--- a fault that shows before the end is a fault of the whole text
+-- a fault of the complete lines of a text is a fault of the whole text
 pub told_refused : (limit : ℕ) (text : List ℕ) (fault : FileFault) → IsFaultReported limit text fault → IsRefused limit text fault
 told_refused limit text fault told = by (cause_meant fault.cause) told
   where
@@ -448,7 +448,7 @@ no_feed_by text none = λ k d below.
     let past = no_place (position_or_len (λ b. b == 10) text) (length text) _ refl none in
     fails_before_first (λ b. b == 10) text k d (omega arith)
 
--- taking bytes from the rest of a piece makes the front of the piece longer by these bytes
+-- taking bytes from the rest of a piece appends them to the front of the piece
 cut_more : (piece rest front behind : List ℕ) → before_rest piece rest ++ rest ≡ piece → rest ≡ front ++ behind
     → (before_rest piece behind ≡ before_rest piece rest ++ front) × (before_rest piece behind ++ behind ≡ piece)
 cut_more piece rest front behind whole cut =

@@ -1,4 +1,4 @@
--- Reading a source: the text that is fed to the parser is what the source gave.
+-- Reading a source: the text that is fed to the parser is exactly the text that was read from the source.
 use Rattle.std.proofs.Common.{◌≡◌, ℕ, ◌≤◌, ◌≢◌, ◌⊎◌, inl, inr, List, [], ◌++◌, length, Some, None, Err, Result, refl, ◌∙◌, ap, subst, arith, append-nil}
 use Rattle.std.specs.Prelude.{Option, Ok, OnOk, IfOk, IfErr}
 use Rattle.docker_model.specs.file.Text.{lines_of}
@@ -90,7 +90,7 @@ memory_meant After none = cc
 memory_meant TooMany none = cc
 memory_meant Memory none = refl
 
--- a fault that shows before the end is a fault of any longer text that begins with this one, unless its cause is `Memory`
+-- a fault of the complete lines of a text is a fault of any longer text that begins with this one, unless the cause is `Memory`
 told_of : (limit : ℕ) (text more : List ℕ) (fault : FileFault) → IsFaultReported limit text fault → fault.cause ≢ Memory → IsFaultOf limit (text ++ more) fault
 told_of limit text more fault told other = by (cause_meant fault.cause) refl told
   where

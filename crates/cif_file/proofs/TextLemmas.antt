@@ -29,7 +29,7 @@ strip_record line is =
     let size = is.0 in
     λ i. cond (no_return (get_or line (length line - 1) 0) (is.1 (length line - 1) 0 (omega (arith, size))) i) (take (length line - 1) line) line
 
--- stripping the carriage return after a line gives the line
+-- stripping the carriage return after a line leaves the line
 strip_return : (line : List ℕ) → strip_carriage_return (line ++ 13 ∷ []) ≡ line
 strip_return line =
     let whole = line ++ 13 ∷ [] in

@@ -162,7 +162,7 @@ module _ (place : List ℕ) (day : ℕ) (opened : Opened) (near : Bool) where
       ∙ (λ i. cond ((near_renewed basic others is (sym read.deletion_is ∙ stays) ∙ runs) i)
       (put (schedule_body (lines_for place (as_new basic ∷ others)))) delete)
 
--- a key that may matter at the place that `Thinned` has may matter at the docker's place, which is the same
+-- a key that may matter at the place of a `Thinned` may matter at the docker's place, since the two places are equal
 pub matters_here : (place : List ℕ) {day : ℕ} (change : Change) {thinned : Thinned} {all : List Change} (has : HasThinned place day thinned all)
     → may_matter thinned.place change.key ≡ true → may_matter place change.key ≡ true
 matters_here place change has matters = ap (λ p. may_matter p change.key) (sym has.place_is) ∙ matters

@@ -18,13 +18,13 @@ single_leads line (TiplocAmend view) kind = ap (λ k. unit_by_kind k line) kind
 single_leads line (TiplocDelete view) kind = ap (λ k. unit_by_kind k line) kind
 single_leads line (Association view) kind = ap (λ k. unit_by_kind k line) kind
 
--- a record that begins a unit, or is the trailer, leads to some place
+-- after whole units, there is a place after a record that begins a unit, and after the trailer
 pub unit_begins : (line : List ℕ) (it : Unit) → IsUnitOf line it → is_some (unit_by_kind (kind_of line) line) ≡ true
 unit_begins line (unit.Single single) is = ap (λ place. is_some place) (single_leads line single is.by_kind.1)
 unit_begins line (unit.Schedule view) is = ap (λ k. is_some (unit_by_kind k line)) is.by_kind.1
 unit_begins line unit.Trailer is = ap (λ k. is_some (unit_by_kind k line)) is.by_kind
 
--- a record that is read as a unit by itself is of the kind that its type names
+-- a record that is read as a unit by itself has the kind of its view
 pub single_has_kind : (it : Unit) (single : Single) → IsOfSome it → it ≡ unit.Single single → HasKind (kind_of_single single) (line_of_single single)
 single_has_kind it single some same =
     let told = subst (IsUnitByKind some.line) same some.of.by_kind in subst (HasKind (kind_of_single single)) (sym told.0) told.1

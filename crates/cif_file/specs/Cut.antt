@@ -19,6 +19,6 @@ pub record BeginsWithEighty (text line rest : List ℕ) : Type 0 where
   pub whole : text ≡ line ++ after
   pub ended : BeginsWithEnd after rest
 
--- the bytes of a text that come before a given rest of it
+-- the bytes of a text that come before a given suffix
 abbrev pub before_rest : List ℕ → List ℕ → List ℕ
 before_rest text rest = take (length text - length rest) text

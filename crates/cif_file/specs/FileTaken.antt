@@ -1,4 +1,4 @@
--- What a parser has taken of a source's text, and what its fault says of the next piece.
+-- What a parser has taken of a source's text, and what a fault in the next piece means.
 use Rattle.std.specs.Prelude.{◌≡◌, ℕ, ◌^◌, ◌<◌, ◌≤◌, List, ◌++◌, length}
 use Rattle.std.proofs.Common.{arith}
 use Rattle.docker_model.specs.file.File.{most_records}

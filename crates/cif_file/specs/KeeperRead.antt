@@ -15,7 +15,7 @@ abbrev Lines : Type 0
 Lines = List (List ℕ)
 
 -- a relation between a keeper, the lines of the schedule that is being read, and the changes
--- received: it says that the keeper has what it should have of them
+-- received. It says which of these lines and changes the keeper has.
 abbrev pub Keeps : Type 0 → Type 1
 Keeps K = K → Lines → List Change → Type 0
 

@@ -108,15 +108,15 @@ pub record IsReading {K : Type 0} (keeps : Keeps K) (reading : FileReading K) (l
   pub partial_is : reading.partial.items ≡ open_line text
   pub short : length (open_line text) ≤ 81
 
--- Says that the text is a CIF file within the limit on records, and that this is what the reader
--- returns for it.
+-- Says that the text is a CIF file within the limit on records, and that this is the reader's
+-- result for the text.
 pub record IsEndedText {K : Type 0} (keeps : Keeps K) (limit : ℕ) (text : List ℕ) (ended : Ended K) : Type 0 where
   pub records : Lines
   pub is_text : IsFileText limit text records
   pub of_records : IsEnded keeps records ended
 
--- Says that any text that the parser may have taken is a CIF file, and that this is what it returns
--- for it.
+-- Says that any text that the parser may have taken is a CIF file, and that this is the parser's
+-- result for the text.
 abbrev pub EndsBy : {K : Type 0} → Keeps K → FileReading K → Ended K → Type 0
 EndsBy keeps reading ended = (limit : ℕ) (text : List ℕ) → IsReading keeps reading limit text → IsEndedText keeps limit text ended
 

@@ -41,8 +41,8 @@ pub record IsOpen {K : Type 0} (keeps : Keeps K) (opened : Opened) (keeper : K) 
   pub progress_is : HasLines (progress_meant opened.progress) lines
   pub kept : keeps keeper lines (changes before)
 
--- Says that the stage of the code is the place that the records lead to, and that their changes
--- were made.
+-- Says that the stage of the code is the place after the records, and that the changes of the
+-- records were made.
 abbrev pub IsKept : {K : Type 0} → Keeps K → FileStage → K → law.Place → Lines → Type 0
 IsKept keeps BeforeHeader keeper place records = (place ≡ before_header) × keeps keeper [] (changes records)
 IsKept keeps BetweenUnits keeper place records = (place ≡ between_units) × keeps keeper [] (changes records)

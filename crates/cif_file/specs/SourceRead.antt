@@ -26,8 +26,8 @@ pub record ReadsText (limit : ℕ) (left : Option (List ℕ)) (file : FileRead) 
   pub held : Held left text
   pub of_text : IsOfFileText file limit text
 
--- Says that the source held the text of a file within the limit on records, and that this is what
--- was kept of it for the place and the day.
+-- Says that the source held the text of a file within the limit on records, and that this is the
+-- thin file of it for the place and the day.
 pub record ReadsThin (place : List ℕ) (day limit : ℕ) (left : Option (List ℕ)) (thin : ThinRead) : Type 0 where
   pub reads : ReadsText limit left thin.file
   pub place_is : thin.place ≡ place
@@ -40,8 +40,8 @@ pub record CountsText (limit : ℕ) (left : Option (List ℕ)) (count : FileCoun
   pub held : Held left text
   pub of_text : IsCountOfFileText count limit text
 
--- Says that the source held the text of a file within the limit on records, and that the reader
--- returns this for it.
+-- Says that the source held the text of a file within the limit on records, and that this is the
+-- reader's result for the file.
 pub record ReadsEnded {K : Type 0} (keeps : Keeps K) (limit : ℕ) (left : Option (List ℕ)) (ended : Ended K) : Type 0 where
   pub text : List ℕ
   pub held : Held left text

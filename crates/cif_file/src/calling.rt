@@ -23,7 +23,8 @@ fn is_call_line(place: &Tiploc, line: &Line) -> bool
     ensures { result
         ≡ (is_location (kind_of line.now) && bytes_eq (columns 3 9 line.now) place.now) }
 {
-    // The TIPLOC is compared first, since few lines have it. Only for these is the kind looked up.
+    // The TIPLOC is compared first, since few lines have it. The kind is looked up only for lines
+    // that have this TIPLOC.
     if line.bytes()[2..9] != place.bytes()[..] {
         return false;
     }
@@ -43,8 +44,8 @@ fn is_end(line: &Line) -> bool
     )
 }
 
-/// Whether what is under a key may matter for the docker of a place. That is so for the place's
-/// TIPLOC, for an association there, and for any schedule.
+/// Whether what is under a key may matter for the docker of a place. It may if the key is the
+/// place's TIPLOC, an association at the place, or any schedule.
 pub(crate) fn may_matter(place: &Tiploc, key: &Key) -> bool
     ensures { result ≡ may_matter place.now (key_meant key.now) }
 {
@@ -55,8 +56,9 @@ pub(crate) fn may_matter(place: &Tiploc, key: &Key) -> bool
     }
 }
 
-/// Copies the lines of a schedule that a place needs. If the schedule calls there these are all
-/// lines, and otherwise its basic schedule, its origin and its terminus.
+/// Copies the lines of a schedule that the docker of a place needs. If the schedule calls at the
+/// place, the copy has all its lines, and otherwise its basic schedule, its origin and its
+/// terminus.
 pub(crate) fn lines_for(alloc: Global, place: &Tiploc, lines: &[Line]) -> Result<Lines, AllocError>
     ensures { IfOk result (λ body. body ≡ lines_for place.now lines.now) }
 {

@@ -1,5 +1,5 @@
-//! The reader of records: it takes one record after another and refuses the first that no CIF file
-//! continues with.
+//! The reader of records: it takes one record after another, and refuses the first record that
+//! can't come next in any CIF file.
 ghost use Rattle.std.specs.Prelude.{◌≡◌, ℕ, ◌+◌, ◌↔◌, List, [], ◌∷◌, ◌++◌, length, IsOk, IfErr, OnOk, OnErr, MatchOption, Some, true, false, IsTrue};
 ghost use Rattle.docker_model.specs.records.Record.{HasKind, IsRecord};
 ghost use Rattle.docker_model.specs.file.File.{follows_basic, IsFile};
@@ -34,7 +34,7 @@ pub(crate) enum FileStage {
 
 impl FileStage {
     /// Adds one more line to the schedule that is being read. Returns the cause if the schedule
-    /// can't continue with it.
+    /// can't continue with this line.
     fn advance(&mut self, kind: Kind, line: &Line) -> Result<(), FileCause>
         requires record { IsRecord line.now }
         requires kind { HasKind (meaning kind) line.now }
@@ -51,8 +51,8 @@ impl FileStage {
         }
     }
 
-    /// The schedule that is being read, if its terminus was read. No schedule has further lines
-    /// then.
+    /// The schedule that is being read, if its terminus was read. A schedule has no line after its
+    /// terminus.
     fn over(&self) -> Option<Opened>
         ensures { (opened : Opened) → self.now ≡ FileStage.InSchedule opened →
             MatchOption result (is_over_by (progress_meant opened.progress).stage ≡ false)
@@ -141,7 +141,7 @@ impl<K: Keeper> Front<K> {
     }
 
     /// Takes the next record, which has the given number. Returns the cause if no file continues
-    /// with it, or if memory runs out.
+    /// with this record, or if memory runs out.
     pub(crate) fn take(&mut self, number: u32, line: &Line) -> Result<(), FileCause>
         ensures read { OnOk result (TakesNext K.keeps self.old number line.now self.new) }
         ensures err { IfErr result (RefusesUnended K.keeps K.wants self.old line.now) }

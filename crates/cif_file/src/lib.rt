@@ -1,5 +1,6 @@
 //! The reader of CIF files. It reads the whole grammar, from a source or in pieces of any length.
-//! Of any text that isn't a CIF file it finds the one fault. The crate re-exports `cif_change`.
+//! For any text that isn't a CIF file it returns the text's one fault. The crate re-exports
+//! `cif_change`.
 #![tactic(auto)]
 
 mod calling;

@@ -43,8 +43,8 @@ fn near_starts(day: Day) -> [u16; 5]
     ]
 }
 
-/// Whether a schedule with these first and last days runs on a start day: the day is within them,
-/// and its weekday is marked in the days run.
+/// Whether a schedule with these first and last days runs on a start day. The day must be within
+/// them, and the flag of its weekday in the days run must be `1`.
 fn runs_within(first: u16, last: u16, flags: &[u8; 7], start: u16) -> bool
     ensures { result ≡ (nat_le first start && nat_le start last
         && runs_on_weekday flags.now (weekday_of start)) }
@@ -52,8 +52,8 @@ fn runs_within(first: u16, last: u16, flags: &[u8; 7], start: u16) -> bool
     (first <= start) && (start <= last) && flags[((start as u32 + 4) % 7) as usize] == b'1'
 }
 
-/// Whether a basic schedule runs on a start day near a day. For a deletion the result means
-/// nothing.
+/// Whether a basic schedule runs on a start day near a day. The result has no meaning for a
+/// deletion, whose days aren't checked.
 pub(crate) fn is_near(basic: &Basic<'_>, day: Day) -> bool
     ensures { is_deletion basic.now ≡ false → result ≡ runs_near day basic.now }
 {

@@ -3,7 +3,7 @@ ghost use Rattle.std.specs.Prelude.{ℕ, List};
 
 use std::marker::Brand;
 
-/// A type that names a place and a day, for proofs only. A thin keeper has it as a parameter, since
+/// A place and a day as a type, for proofs only. A thin keeper has this type as a parameter, since
 /// the reader of records must work for any keeper and doesn't know the place and the day.
 pub trait PlaceDay {
     // The TIPLOC of the place.

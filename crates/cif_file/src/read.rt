@@ -40,7 +40,7 @@ pub fn read_file<S: Source>(alloc: Global, source: &mut S, limit: u32) -> Result
 }
 
 /// Reads a source like `read_file`, and notes the places that the changes name only if `noted` is
-/// true. Without notes the state of the file has no index, and making it takes less time and
+/// true. Without notes the state of the file has no index, and making the state takes less time and
 /// memory.
 pub fn read_file_noting<S: Source>(
     alloc: Global,
@@ -90,7 +90,7 @@ pub fn read_thin<S: Source>(
     thin_at::<Brand, S>(alloc, source, place, day, limit)
 }
 
-/// Does what `read_thin` promises. The type `P` names the place and the day in the proofs.
+/// Does what `read_thin` promises. In the proofs the type `P` has the place and the day.
 fn thin_at<P: PlaceDay, S: Source>(
     alloc: Global,
     source: &mut S,
@@ -184,8 +184,8 @@ fn ended_of<K: Keeper>(reading: FileReading<K>) -> Result<Ended<K>, ReadFault>
     }
 }
 
-/// The fault as one of reading a source: `Memory` if memory ran out, and otherwise the file's
-/// fault.
+/// Turns a fault of the file into a fault of reading a source: `Memory` if memory ran out, and
+/// otherwise the file's fault.
 fn fault_of(fault: FileFault) -> ReadFault
     ensures memory { fault.cause ≡ FileCause.Memory → result ≡ ReadFault.Memory }
     ensures file { fault.cause ≢ FileCause.Memory → result ≡ ReadFault.File fault }

@@ -81,8 +81,8 @@ impl<K: Keeper> Records<K> {
         self.refused(FileCause::Length)
     }
 
-    /// The fault of the next line, if it isn't a record for this cause. If it is also above the
-    /// limit or after the trailer, that comes first and is the cause instead.
+    /// The fault of the next line, which isn't a record for this cause. If the line is also above
+    /// the limit or after the trailer, the limit or the trailer is the cause instead.
     fn refused(&self, cause: FileCause) -> FileFault
         ensures { (limit : ℕ) (records : List (List ℕ)) →
             HasCounted K.keeps self.now limit records →

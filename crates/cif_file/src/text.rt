@@ -1,4 +1,4 @@
-//! Finds line ends, and cuts a text there.
+//! Finds line ends, and cuts a text at them.
 ghost use Rattle.std.specs.Prelude.{◌≡◌, ◌==◌, ◌<◌, IfSome, List, ℕ, length, position, MatchOption};
 ghost use Rattle.cif_laws.specs.CompleteLines.{HasNoFeed};
 ghost use Rattle.cif_file.specs.Cut.{IsCut, BeginsWithEnd, BeginsWithEighty};
@@ -17,7 +17,7 @@ pub(crate) fn without_return(piece: &[u8]) -> &[u8]
     }
 }
 
-/// The index of the first line feed. It is searched byte by byte.
+/// The index of the first line feed. The search goes byte by byte.
 fn line_feed(text: &[u8]) -> Option<usize>
     ensures place { result ≡ position (λ byte. byte == 10) text.now }
     ensures within { IfSome result (λ at. at < length text.now) }
@@ -48,7 +48,7 @@ fn after_line_end(text: &[u8]) -> Option<&[u8]>
 }
 
 /// The first 80 bytes of a text, and the bytes after the line end that follows them. None if no
-/// line end follows the first 80 bytes. No byte has to be searched for.
+/// line end follows the first 80 bytes. Nothing is searched for.
 pub(crate) fn split_eighty(text: &[u8]) -> Option<(&[u8], &[u8])>
     ensures { MatchOption result
         ((line rest : List ℕ) → ¬ BeginsWithEighty text.now line rest)

@@ -15,7 +15,7 @@ use std::marker::PhantomData;
 
 /// Keeps of the records read until now what the docker of one place on one day needs. It also has
 /// the lines of the schedule that is being read, and whether this schedule runs near the day. The
-/// type `P` names the place and the day.
+/// type `P` has the place and the day.
 #[derive(Debug, Drop)]
 pub(crate) struct ThinSoFar<P> {
     open: OpenLines,

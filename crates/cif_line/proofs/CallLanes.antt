@@ -35,7 +35,7 @@ mask_set false = refl
 
 -- ---- one lane, from its five bytes
 
--- a byte minus the code of `0`, modulo 2^16: a digit gives 0 to 9, any other byte gives more
+-- a byte minus the code of `0`, modulo 2^16: 0 to 9 for a digit, and more for any other byte
 abbrev above : ℕ → ℕ
 above b = (b + 65488) % 65536
 
@@ -71,7 +71,7 @@ blank_mask a b c d e =
     (mask (nat_eq (above d) 65520)))
     (mask (nat_eq e 32))
 
--- the half minutes that a lane computes from its five bytes, modulo 2^16; they mean something only
+-- the half minutes that a lane computes from its five bytes, modulo 2^16. The result is right only
 -- if the bytes are a time
 abbrev lane_half_minutes : ℕ → ℕ → ℕ → ℕ → ℕ → ℕ
 lane_half_minutes a b c d e = (((spells a b * 120) % 65536 + (spells c d * 2) % 65536) % 65536 + cond (top 15 (mask (e == 72))) 1 0) % 65536
@@ -125,9 +125,9 @@ spells_is a b ha hb =
     (λ i. ((above_is a ha i * 10) % 65536 + above_is b hb i) % 65536)
     ∙ omega (arith, digit_low a ha, digit_high a ha, digit_low b hb, digit_high b hb)
 
--- a lane joins the tests of a time in another order than the definition, with the same result. The
--- tests of the hour and of the minute agree with the definition only if their bytes are digits, so
--- they are compared only then
+-- a lane joins the tests of a time by AND in another order than the definition, with the same
+-- result. The lane's test of the hour has to equal the definition's only if both bytes of the hour
+-- are digits. The same is true of the minute
 in_order : (a b c d h m : Bool) (x y z : Bool) → (a ≡ true → b ≡ true → h ≡ x) → (c ≡ true → d ≡ true → m ≡ y)
     → ((((((a && b) && c) && d) && h) && m) && z) ≡ ((((a && (b && (c && (d && true)))) && x) && y) && z)
 in_order true true true true h m x y z hour minute = λ i. (hour refl refl i && minute refl refl i) && z
@@ -268,8 +268,9 @@ eight false false false false false = refl
 
 -- ---- the lanes of a line
 
--- `cells n xs` writes out a list of `n` elements, one by one; `head_of` gives the first element, or
--- 0 if there is none, and `tail_of` the other elements
+-- `cells n xs` is the list of the first `n` elements of `xs`, each written out; `head_of` is the
+-- first element of a list, or 0 if the list is empty, and `tail_of` is the list without its first
+-- element
 abbrev head_of : List ℕ → ℕ
 head_of [] = 0
 head_of (x ∷ xs) = x
@@ -288,22 +289,22 @@ cells_are zero (x ∷ xs) size = absurd (omega arith)
 cells_are (suc n) [] size = absurd (omega arith)
 cells_are (suc n) (x ∷ xs) size = ap (λ rest. x ∷ rest) (cells_are n xs (omega arith))
 
--- the byte at an index of the bytes that a vector loads from a line: columns 11 to 26 and then
--- columns 26 to 41. `end_picked` has spaces in place of the second sixteen
+-- the byte at an index of the 32 bytes that a vector loads from a line: columns 11 to 26, followed
+-- by columns 26 to 41. `end_picked` has sixteen spaces in place of columns 26 to 41
 abbrev pub picked : List ℕ → ℕ → ℕ
 picked line k = get_or (chunk 10 16 line ++ chunk 25 16 line) k 0
 
 abbrev pub end_picked : List ℕ → ℕ → ℕ
 end_picked line k = get_or (chunk 10 16 line ++ replicate 16 32) k 0
 
--- the half minutes that a lane reads from the loaded bytes at five indexes, or 65535 if they are no
--- time
+-- the half minutes that a lane reads from the loaded bytes at five indexes, or 65535 if these bytes
+-- aren't a time
 abbrev pub tells : List ℕ → ℕ → ℕ → ℕ → ℕ → ℕ → ℕ
 tells line a b c d e =
     cond (top 15 (time_mask (picked line a) (picked line b) (picked line c) (picked line d) (end_picked line e)))
     (lane_half_minutes (picked line a) (picked line b) (picked line c) (picked line d) (end_picked line e)) 65535
 
--- whether a lane is set: the loaded bytes at its five indexes are blank or a time
+-- whether a lane is set, which it is if the loaded bytes at its five indexes are blank or a time
 abbrev pub set_lane : List ℕ → ℕ → ℕ → ℕ → ℕ → ℕ → Bool
 set_lane line a b c d e =
     top 15

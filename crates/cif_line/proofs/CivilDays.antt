@@ -30,7 +30,7 @@ end_of_2059 : day_count (pos 2059) 12 31 ≡ 4_404_824
 unfolding day_count days_of_years days_of_months
 end_of_2059 = refl
 
--- the day number computed from a date is the one in its `IsDayOf`
+-- if `IsDayOf` holds of a number and a date, the number is the date's day number
 pub number_is : (number year month day : ℕ) → IsDayOf number year month day → day_number year month day ≡ number
 number_is number year month day h =
     let there = day_number-day_count year month day h.low (omega (arith, h.high)) h.is_civil.1.0 h.is_civil.2.0 in
@@ -81,7 +81,8 @@ before_2059 number year low high count = by (cases_order year 2059)
     by (inr (inl lt)) = lt
     by (inr (inr gt)) = absurd (omega arith)
 
--- one number is below another, or it isn't
+-- to prove a claim about two numbers, it is enough to prove it if the first is below the second,
+-- and if it isn't
 by_lt : {P : Type 0} (a b : ℕ) → (a < b → P) → (b ≤ a → P) → P
 by_lt {P = P} a b below above = by (cases_order a b)
   where

@@ -33,7 +33,7 @@ digits_are n = omega arith
 abbrev pub six_digits : ℕ → ℕ → ℕ → List ℕ
 six_digits year month day = two_digit_text (year % 100) ++ two_digit_text month ++ two_digit_text day
 
--- the digits YYMMDD of a day pass as a date, and the date they give has the day's number
+-- the digits YYMMDD of a day pass the test for a date, and are read as a date with the day's number
 module _ (number year month day : ℕ) (h : IsDayOf number year month day) where
   on_calendar : is_calendar_day year month day ≡ true
   on_calendar =
@@ -55,7 +55,7 @@ module _ (number year month day : ℕ) (h : IsDayOf number year month day) where
       (omega (arith, h.is_civil.1.1)) (omega arith) (omega (arith, h.is_civil.2.1, days_in_month_bounds (pos year) month)) (omega arith) in
       (λ i. digits i && is_calendar_day (year_read i) (digits_are month i) (digits_are day i)) ∙ on_calendar
 
-  -- the date that the digits YYMMDD of a day give has the day's number
+  -- the digits YYMMDD of a day are read as a date with the day's number
   pub six_digits-date_number : date_number (six_digits year month day) ≡ number
   six_digits-date_number = (λ i. day_number (year_read i) (digits_are month i) (digits_are day i)) ∙ number_is number year month day h
 

@@ -1,4 +1,5 @@
--- Dates, judged and numbered by tables of the months, as the definitions say.
+-- The tests of dates and their day numbers, computed from tables of the months, equal the tests and
+-- day numbers in the definitions.
 use Rattle.std.proofs.Common.{◌≡◌, ℕ, zero, suc, ◌+◌, ◌-◌, ◌*◌, ◌/◌, ◌<◌, ◌≤◌, nat_lt, Bool, true, false, cond, ◌&&◌, List}
 use Rattle.std.proofs.Common.{[], ◌∷◌, length, slice_index_or, take, refl, sym, pos, ◌∙◌, arith}
 use Rattle.std.specs.Prelude.{◌==◌, ◌||◌, slice_index}
@@ -11,7 +12,7 @@ use Rattle.jiff_core.proofs.CalendarLemmas.{days_of_months_table, day_count-day_
 use Rattle.docker_model.specs.records.Date.{is_calendar_day, day_number, last_day, is_days}
 use Rattle.cif_laws.proofs.records.Dates.{is_calendar_day-IsDate, day_number-day_count}
 
--- six bytes are digits if and only if the first four are, and the other two
+-- six bytes are digits if and only if the first four are digits and the other two are digits
 pub six_digits : (field : List ℕ) → length field ≡ 6
     → ((list_all is_ascii_digit (take 4 field) && is_ascii_digit (slice_index field 4)) && is_ascii_digit (slice_index field 5))
     ≡ list_all is_ascii_digit field
@@ -38,7 +39,7 @@ six_digits (a ∷ b ∷ c ∷ d ∷ e ∷ f ∷ g ∷ field) size = absurd (omeg
 abbrev is_flag : ℕ → Bool
 is_flag b = (b == 48) || (b == 49)
 
--- seven bytes are flags if and only if the first four are, and the other three
+-- seven bytes are flags if and only if the first four are flags and the other three are flags
 pub seven_flags : (field : List ℕ) → length field ≡ 7
     → (((is_days (take 4 field) && is_flag (slice_index field 4)) && is_flag (slice_index field 5)) && is_flag (slice_index field 6)) ≡ is_days field
 seven_flags [] size = absurd (omega arith)
@@ -65,7 +66,7 @@ seven_flags (a ∷ b ∷ c ∷ d ∷ e ∷ f ∷ g ∷ h ∷ field) size = absur
 abbrev pub days_before : ℕ → ℕ
 days_before month = slice_index_or {A = ℕ} (0 ∷ 0 ∷ 31 ∷ 59 ∷ 90 ∷ 120 ∷ 151 ∷ 181 ∷ 212 ∷ 243 ∷ 273 ∷ 304 ∷ 334 ∷ []) month 0
 
--- a leap day comes after February
+-- how many leap days a year has before a month: 1 in a leap year from March on, and otherwise 0
 abbrev pub leap_before : Bool → ℕ → ℕ
 leap_before leap month = cond (nat_lt 2 month && leap) 1 0
 
@@ -90,7 +91,7 @@ start_of_2060 : day_count (pos 2060) 1 1 ≡ 4_404_825
 unfolding day_count days_of_years days_of_months
 start_of_2060 = refl
 
--- a day of the years 1960 to 2059, some years after 1960
+-- a day of the years 1960 to 2059, with the number of years from 1960 to its year
 module _ (years y month day : ℕ) (since : years + 1960 ≡ y) (high : y ≤ 2059) (good : is_calendar_day y month day ≡ true) where
   its_parts : IsCivilDate (pos y) month day
   its_parts =
@@ -100,8 +101,8 @@ module _ (years y month day : ℕ) (since : years + 1960 ≡ y) (high : y ≤ 20
         (omega (arith, signed_arith, date.2), omega (arith, signed_arith, date.2)),
       )
 
-  -- the days before the year, the days before the month and the day make one more than the day
-  -- number
+  -- the sum of the days before the year, the days before the month and the day of the month is the
+  -- day number plus 1
   pub numbered : (leap : Bool) → leap ≡ is_leap_year (pos y)
       → 365 * years + ((years + 3) / 4 + leap_before leap month) + days_before month + day ≡ day_number y month day + 1
   numbered leap is =

@@ -1,4 +1,4 @@
--- What is known of each checked field in a good record, kind by kind.
+-- If a record is good, each of its checked fields is good. There is one lemma for each checked field of each kind of record.
 use Rattle.std.proofs.Common.{◌≡◌, ℕ, List, true, false, cond, [], ◌∷◌, ◌++◌, Bool, Option, Some, None, refl, sym, subst, ◌∙◌, inl, inr, arith}
 use Rattle.std.specs.List.{AllByRecursion}
 use Rattle.docker_model.specs.records.Record.{Kind, header, tiploc_insert, tiploc_amend, tiploc_delete, association}
@@ -60,8 +60,7 @@ basic_transaction line good = subst (λ b. is_transaction (b ∷ []) ≡ true) (
 pub basic_runs_from : (line : List ℕ) → IsGood basic_schedule line → is_date (columns 10 15 line) ≡ true
 basic_runs_from line good = (each_good basic_schedule line good).1.0
 
--- the checked fields of a basic schedule to the right of its runs-from date, by whether it is a
--- deletion
+-- the checked fields of a basic schedule to the right of its runs-from date; the flag says whether the record is a deletion
 later_fields : Bool → List CheckedField
 later_fields deletion = cond deletion [] (checked 16 21 is_end_date ∷ checked 22 28 is_days ∷ []) ++ checked 80 80 is_stp_indicator ∷ []
 
@@ -101,7 +100,7 @@ assoc_transaction line good = subst (λ b. is_transaction (b ∷ []) ≡ true) (
 pub assoc_start : (line : List ℕ) → IsGood association line → is_date (columns 16 21 line) ≡ true
 assoc_start line good = (each_good association line good).1.0
 
--- the checked fields of an association to the right of its first date, by whether it is a deletion
+-- the checked fields of an association to the right of its first date; the flag says whether the record is a deletion
 assoc_fields_behind : Bool → List CheckedField
 assoc_fields_behind deletion =
     cond deletion [] (checked 22 27 is_end_date ∷ checked 28 34 is_days ∷ []) ++ checked 38 44 is_tiploc ∷ checked 80 80 is_stp_indicator ∷ []
@@ -188,8 +187,7 @@ no_new_code line never = by (kind_of line) never
 -- the lemmas on the checked fields of a good TIPLOC record
 pub ruleset tiploc_fields = (tiploc_code, tiploc_new_code, no_new_code)
 
--- if the checked fields of a TIPLOC record are good, so are its code and, in an amendment, its new
--- code
+-- if the checked fields of a TIPLOC record are good, its code is good. In an amendment the new code is good too
 pub is_good_tiploc : (line : List ℕ) → IsTiplocRecord line → HasGoodFields line → IsGoodTiploc line
 is_good_tiploc line (inl inserts) good = record {
   code = (good_fields tiploc_insert line inserts good).0;
@@ -204,5 +202,5 @@ is_good_tiploc line (inr (inr deletes)) good = record {
   new_code = λ amends. let both : Some tiploc_delete ≡ Some tiploc_amend = sym deletes ∙ amends in cc;
 }
 
--- the lemma that lets a reader make a view of a TIPLOC record
+-- the lemma on which the view of a TIPLOC record depends: if its checked fields are good, `IsGoodTiploc` holds
 pub ruleset tiploc_views = (is_good_tiploc)

@@ -33,8 +33,9 @@ agree_all : (f g : ℕ → Bool) → agree_below f g 256 ≡ true → (xs : List
 agree_all f g agree [] fits = refl
 agree_all f g agree (x ∷ xs) fits = λ i. agree_below_at f g 256 x agree fits.0.fits i && agree_all f g agree xs fits.1 i
 
--- A lane is made from its byte by two operations, each with a constant, and is clear if and only if
--- the byte passes a test. Then no lane is set if and only if all bytes pass the test.
+-- Suppose that two operations, each with a constant, make a lane from its byte, and that the lane
+-- is clear if and only if the byte passes a test. Then no lane is set if and only if all bytes pass
+-- the test.
 pub no_lane_set : (q : ℕ → Bool) (bytes : List ℕ) (n : ℕ) (f g : ℕ → ℕ → ℕ) (a b : ℕ) → length bytes ≡ n → n ≤ 64 → Each1 (Fits w8) bytes
     → agree_below (λ x. not (top 7 (f a (g x b)))) q 256 ≡ true
     → nat_eq (mask_l (map (top 7) (zip2 f (replicate n a) (zip2 g bytes (replicate n b)))) % 2 ^ 64) 0 ≡ list_all q bytes
@@ -49,7 +50,8 @@ no_lane_set q bytes n f g a b long few fits agree =
 
 -- ---- a line of 80 bytes, in five blocks
 
--- five tests joined by AND give the same whether they are grouped from the left or from the right
+-- five tests joined by AND have the same result whether they are grouped from the left or from the
+-- right
 five : (a b c d e : Bool) → ((((a && b) && c) && d) && e) ≡ (a && (b && (c && (d && (e && true)))))
 five true true true true true = refl
 five true true true true false = refl
@@ -62,16 +64,16 @@ five false b c d e = refl
 abbrev pub block_passes : (ℕ → Bool) → List ℕ → ℕ → Bool
 block_passes q bytes at = list_all q (take 16 (drop at bytes))
 
--- the bytes from an index on pass the test if and only if the next sixteen do and all later bytes
--- do
+-- all bytes from an index on pass the test if and only if the first sixteen of them pass and all
+-- later bytes pass
 block_and_rest : (q : ℕ → Bool) (bytes : List ℕ) (at : ℕ) → list_all q (drop at bytes) ≡ (block_passes q bytes at && list_all q (drop (at + 16) bytes))
 block_and_rest q bytes at = ap (list_all q) (chunk-drop at 16 bytes) ∙ list_all-append q (take 16 (drop at bytes)) (drop (at + 16) bytes)
 
--- a line has no byte after its eightieth, so all bytes after it pass the test
+-- a line has no byte after its eightieth, so every byte after the eightieth passes the test
 nothing_left : (q : ℕ → Bool) (bytes : List ℕ) → length bytes ≡ 80 → list_all q (drop 80 bytes) ≡ true
 nothing_left q bytes size = ap (list_all q) (drop_all 80 bytes (let long : length bytes ≤ 80 = omega arith in long))
 
--- a line passes the test if and only if its five blocks of sixteen bytes do
+-- a line passes the test if and only if each of its five blocks of sixteen bytes passes
 pub five_blocks : (q : ℕ → Bool) (bytes : List ℕ) → length bytes ≡ 80 →
     ((((block_passes q bytes 0 && block_passes q bytes 16) && block_passes q bytes 32) && block_passes q bytes 48) && block_passes q bytes 64)
     ≡ list_all q bytes

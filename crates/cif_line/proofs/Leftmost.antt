@@ -1,6 +1,5 @@
--- The leftmost bad field of a header, a TIPLOC record, an association or a basic schedule. To show
--- which field it is, it is enough that this field is bad and that all checked fields to its left
--- are good.
+-- The leftmost bad field of a header, a TIPLOC record, an association or a basic schedule. A field
+-- is the leftmost bad field if it is bad and all checked fields to its left are good.
 use Rattle.std.proofs.Common.{◌≡◌, ℕ, List, true, false, cond, [], ◌∷◌, ◌++◌, Bool, Some, None, ap, ◌∙◌, inl, inr}
 use Rattle.std.specs.Prelude.{not, option_map, find, Option}
 use Rattle.std.specs.List.{AllByRecursion}
@@ -21,7 +20,8 @@ by_kind : (kind : Kind) (line : List ℕ) → HasKind kind line → leftmost_bad
 unfolding first_bad
 by_kind kind line is = ap (λ k. first_bad line (fields_of k line)) is
 
--- if one field is bad, and all fields before it in the list are good, it is the first bad field
+-- if one field is bad, and all fields before it in the list are good, the first bad field is this
+-- one
 pub behind_good : (line : List ℕ) (before : List CheckedField) (field : CheckedField) (after : List CheckedField)
     → AllByRecursion (IsGoodIn line) before → field.is_good (columns field.first field.last line) ≡ false
     → first_bad line (before ++ field ∷ after) ≡ Some field.first
@@ -52,7 +52,7 @@ header_bad_indicator line is day minute bad = by_kind header line is
 -- the lemmas on the leftmost bad field of a header
 pub ruleset header_faults = (header_bad_day, header_bad_minute, header_bad_indicator)
 
--- the checked fields of a basic schedule, by whether it is a deletion
+-- the checked fields of a basic schedule; the flag says whether the record is a deletion
 basic_checked : Bool → List CheckedField
 basic_checked deletion =
     checked 3 3 is_transaction ∷ checked 10 15 is_date
@@ -104,7 +104,7 @@ basic_bad_stp_deleted line is transaction day deleted bad = of_basic line true i
 -- the lemmas on the leftmost bad field of a basic schedule
 pub ruleset basic_faults = (basic_bad_end, basic_bad_days, basic_bad_stp_kept, basic_bad_stp_deleted)
 
--- the checked fields of an association, by whether it is a deletion
+-- the checked fields of an association; the flag says whether the record is a deletion
 assoc_checked : Bool → List CheckedField
 assoc_checked deletion =
     checked 3 3 is_transaction ∷ checked 16 21 is_date
@@ -166,7 +166,7 @@ assoc_bad_stp_kept line is transaction day kept end days place bad = of_assoc li
     (checked 80 80 is_stp_indicator) [] (transaction, (day, (end, (days, (place, tt))))) bad
 
 -- if the STP indicator of a deletion of an association is bad, and the checked fields to its left
--- are good, it is the leftmost bad field, at column 80
+-- are good, the leftmost bad field is at column 80
 pub assoc_bad_stp_deleted : (line : List ℕ) → HasKind association line → is_transaction (columns 3 3 line) ≡ true → is_date (columns 16 21 line) ≡ true
     → is_deletion line ≡ true → is_tiploc (columns 38 44 line) ≡ true → is_stp_indicator (columns 80 80 line) ≡ false → leftmost_bad_field line ≡ Some 80
 unfolding assoc_checked

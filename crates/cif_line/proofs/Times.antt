@@ -1,4 +1,4 @@
--- Lemmas on times of day and the fields that they are read from.
+-- Lemmas on times of day and on the fields from which times are read.
 use Rattle.std.proofs.Common.{◌≡◌, ℕ, ◌+◌, ◌*◌, List, [], ◌∷◌, true, false, cond, Bool, ◌&&◌, Some}
 use Rattle.std.proofs.Common.{None, Option, ap, refl, sym, ◌∙◌, subst, take, length, ◌<◌, arith}
 use Rattle.std.specs.Prelude.{codes, ◌==◌, ◌||◌, nat_lt, slice_index, IfSome}
@@ -72,8 +72,8 @@ half_minutes_bound field is = by (slice_index field 4 == 72) (hour_bound field c
     by true hour minute = omega arith
     by false hour minute = omega arith
 
--- a good field gives half minutes, or 65535 if it is blank; the time made from that number is the
--- field's scheduled time
+-- the reader of a good field stores the time's half minutes, or 65535 if the field is blank. The
+-- time made from the stored number is the field's scheduled time
 pub told_read : (field : List ℕ) (told : ℕ) (time : Option ℕ) → is_scheduled_time field ≡ true → told ≡ half_minutes_or_none field
     → time ≡ cond (nat_lt told 2880) (Some told) None → time ≡ scheduled_time field
 told_read field told time good is read = read ∙ by (is_present_time field) refl
@@ -88,8 +88,7 @@ told_read field told time good is read = read ∙ by (is_present_time field) ref
         let blank : is_blank field ≡ true = blank_if (is_blank field) (is_present_time field) good absent in
         (λ i. cond (nat_lt (same i) 2880) (Some told) None) ∙ (λ i. cond (sym blank i) None (Some (half_minutes field)))
 
--- if a time is read from a field, its half minutes are the ones that the definition gives for the
--- field
+-- a time that is read from a field has the half minutes that the definition computes from the field
 pub present_read : (field shown : List ℕ) (read : TimeField) (time : Option ℕ) → ReadsTime field read → field ≡ shown
     → time ≡ cond read.is_time (Some read.half_minutes) None → IfSome time (λ t. t ≡ half_minutes shown)
 present_read field shown read time reads same is = subst (λ o. IfSome o (λ t. t ≡ half_minutes shown)) (sym is) (by read.is_time refl)

@@ -1,4 +1,4 @@
--- Texts that name a timing point.
+-- Texts that are the code of a timing point.
 use Rattle.std.specs.Prelude.{ℕ, ◌<◌, ◌≤◌, Bool, ◌&&◌, nat_le, List, length}
 use Rattle.std.specs.List.{AllPass}
 
@@ -6,7 +6,8 @@ use Rattle.std.specs.List.{AllPass}
 abbrev pub is_graphic : ℕ → Bool
 is_graphic b = nat_le 0x21 b && nat_le b 0x7E
 
--- Says that a text names a TIPLOC: it has one to seven bytes, each printable and not a space.
+-- Says that a text is a TIPLOC without its padding: it has one to seven bytes, each printable and
+-- not a space.
 pub record IsTiplocText (text : List ℕ) : Type 0 where
   pub some : 0 < length text
   pub few : length text ≤ 7

@@ -118,14 +118,14 @@ impl<'a> Assoc<'a> {
         self.line.tiploc(38)
     }
 
-    /// The suffix of the base train's call at that TIPLOC: column 45.
+    /// The suffix of the base train's call at the association's TIPLOC: column 45.
     pub fn base_suffix(&self) -> u8
         ensures { result ≡ column 45 self.now }
     {
         self.line.column(45)
     }
 
-    /// The suffix of the associated train's call at that TIPLOC: column 46.
+    /// The suffix of the associated train's call at the association's TIPLOC: column 46.
     pub fn associated_suffix(&self) -> u8
         ensures { result ≡ column 46 self.now }
     {

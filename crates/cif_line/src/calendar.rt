@@ -1,12 +1,12 @@
-//! The calendar of the years 1960 to 2059, by tables of the months. A day is judged and numbered
-//! without a branch. Years have two digits: 60 to 99 are 1960 to 1999, and 0 to 59 are 2000 to
-//! 2059.
+//! The calendar of the years 1960 to 2059, computed from tables of the months. Testing a day and
+//! computing its number take no branch. Years have two digits: 60 to 99 are 1960 to 1999, and 0 to
+//! 59 are 2000 to 2059.
 ghost use Rattle.std.specs.Prelude.{◌≡◌, ◌<◌, ◌≤◌, ◌+◌, true, pos};
 ghost use Rattle.jiff.specs.Words.{is_leap_year};
 ghost use Rattle.docker_model.specs.records.Date.{is_calendar_day, day_number, last_day, full_year};
 
-/// The days of each month, from 1 to 12, in a year that isn't a leap year. The places 0 and 13 are
-/// no months, and have no days.
+/// The days of each month, from 1 to 12, in a year that isn't a leap year. Indexes 0 and 13 aren't
+/// months, and have 0 days.
 const LENGTHS: [u16; 14] = [0, 31, 28, 31, 30, 31, 30, 31, 31, 30, 31, 30, 31, 0];
 
 /// The days of a year before each month, from 1 to 12, in a year that isn't a leap year.
@@ -35,7 +35,7 @@ pub(crate) fn day_number(year: u16, month: u16, day: u16) -> u16
     365 * years + leap_days + BEFORE[month as usize] + day - 1
 }
 
-/// Whether the year has a 29 February. Every fourth year has, and so has 2000.
+/// Whether the year is a leap year. From 1960 to 2059 every fourth year is one, including 2000.
 #[inline(always)]
 fn is_leap_year(year: u16) -> bool
     ensures { year < 100 → result ≡ is_leap_year (pos (full_year year)) }

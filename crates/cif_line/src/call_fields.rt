@@ -35,7 +35,7 @@ pub(crate) struct CallFields {
 impl CallFields {
     /// Reads the five time fields of a line. Lanes 0 to 4 hold the scheduled arrival, departure and
     /// pass, then the public arrival and departure. The three remaining lanes repeat lane 0. A
-    /// public time has only four characters, so it is read as if a space followed.
+    /// public time has only four characters, so it is read with a space appended.
     pub(crate) fn read(line: &[u8]) -> CallFields
         requires { length line.now ≡ 80 }
         ensures good { result.are_good ≡ ((((is_scheduled_time (columns 11 15 line.now)

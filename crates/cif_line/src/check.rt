@@ -1,5 +1,5 @@
-//! Tests of the checked fields, except of dates, days run and times. The fault that names the
-//! leftmost bad field.
+//! Tests of the checked fields other than dates, days run and times. Also the fault that has the
+//! column of the leftmost bad field.
 ghost use Rattle.std.specs.Prelude.{◌≡◌};
 ghost use Rattle.docker_model.specs.records.Clock.{is_blank};
 ghost use Rattle.docker_model.specs.records.Field.{is_tiploc, is_new_tiploc, is_update_indicator, is_transaction, is_stp_indicator};
@@ -7,7 +7,8 @@ ghost use Rattle.docker_model.specs.records.Field.{is_tiploc, is_new_tiploc, is_
 use crate::letter::{Extract, Stp, Transaction};
 use thiserror::Error;
 
-/// A checked field of a record isn't good: the first column, from 1, of the leftmost such field.
+/// A checked field of a record is bad. The number is the first column, from 1, of the leftmost bad
+/// field.
 #[derive(Clone, Copy, PartialEq, Eq, Debug, Error)]
 #[error("Field {0}")]
 pub struct FieldFault(pub u8);

@@ -1,4 +1,4 @@
-//! Fields of dates. Six bytes are judged at once, without a branch per digit or part. A field that
+//! Fields of dates. Six bytes are tested at once, without a branch per digit or part. A field that
 //! is known to be a date is read without a test.
 ghost use Rattle.std.specs.Prelude.{◌≡◌, ◌<◌, ◌≤◌, ◌+◌, true};
 ghost use Rattle.std.specs.List.{list_all};
@@ -45,7 +45,7 @@ pub(crate) fn date_number_day_first(field: &[u8; 6]) -> u16
     day_number(pair(field, 4), pair(field, 2), pair(field, 0))
 }
 
-/// The number that two digits of a field spell, from this place on, counted from 0.
+/// The number that two digits of a field spell. `at` is the index of the first digit, from 0.
 #[inline(always)]
 fn pair(field: &[u8; 6], at: usize) -> u16
     requires within { at + 1 < 6 }

@@ -36,7 +36,7 @@ impl Model for Day {
 }
 
 impl Day {
-    /// The day that six digits YYMMDD give, as in a basic schedule (BS). Years 60 to 99 are 1960 to
+    /// The day that six digits YYMMDD mean, as in a basic schedule (BS). Years 60 to 99 are 1960 to
     /// 1999, and 00 to 59 are 2000 to 2059. None if a byte isn't a digit or the calendar has no
     /// such day.
     pub fn from_yymmdd(field: &[u8; 6]) -> Option<Day>
@@ -60,7 +60,7 @@ impl Day {
         }
     }
 
-    /// The day that six digits DDMMYY give, as in a header (HD). Years are as in `from_yymmdd`.
+    /// The day that six digits DDMMYY mean, as in a header (HD). Years are as in `from_yymmdd`.
     /// None if a byte isn't a digit or the calendar has no such day.
     pub fn from_ddmmyy(field: &[u8; 6]) -> Option<Day>
         ensures some { IsSome result ↔ IsTrue (is_date_day_first field.now) }
@@ -83,7 +83,7 @@ impl Day {
         }
     }
 
-    /// The day that a text YYYY-MM-DD gives, as `iso` writes it. None for any other text.
+    /// Reads a day from a text YYYY-MM-DD, as `iso` writes it. None for any other text.
     pub fn from_iso(text: &str) -> Option<Day>
         ensures value { IfSome result (λ day. text.now ≡ day_text day) }
         ensures read { (day : ℕ) → day ≤ last_day → text.now ≡ day_text day → result ≡ Some day }
@@ -148,8 +148,8 @@ impl Day {
         ((self.number + 4) % 7) as u8
     }
 
-    /// The day that is this many days later, or earlier if `days` is negative. None if that is
-    /// before 1960-01-01 or after 2059-12-31.
+    /// The day that is this many days later, or earlier if `days` is negative. None if the result
+    /// would be before 1960-01-01 or after 2059-12-31.
     pub fn plus(&self, days: i32) -> Option<Day>
         ensures some { IsSome result ↔ IsBetween (pos 0) (pos last_day) (pos self.now +ℤ days) }
         ensures value { IfSome result (λ day. pos day ≡ pos self.now +ℤ days) }

@@ -6,7 +6,7 @@ use std::marker::Model;
 use std::simd::prelude::*;
 
 /// The weekdays on which a schedule or an association runs: seven flags, Monday first. A flag is
-/// `1` if it runs on that day, and otherwise `0`.
+/// `1` if the schedule or association runs on its weekday, and otherwise `0`.
 #[derive(Clone, Copy, PartialEq, Eq, Debug)]
 pub struct Days {
     flags: [u8; 7],
@@ -26,7 +26,8 @@ impl Model for Days {
 }
 
 impl Days {
-    /// The weekdays that seven flags give. None if a byte is neither `0` nor `1`.
+    /// The weekdays whose flags are `1` in a field of seven flags. None if a byte is neither `0`
+    /// nor `1`.
     pub fn from_field(field: &[u8; 7]) -> Option<Days>
         ensures some { IsSome result ↔ IsTrue (is_days field.now) }
         ensures value { IfSome result (λ days. days ≡ field.now) }
@@ -47,7 +48,7 @@ impl Days {
         Days { flags: *field }
     }
 
-    /// Whether it runs on a weekday: 0 for Monday to 6 for Sunday.
+    /// Whether the schedule or association runs on a weekday: 0 for Monday to 6 for Sunday.
     pub fn on(&self, weekday: u8) -> bool
         requires { weekday < 7 }
         ensures { result ≡ runs_on_weekday self.now weekday }

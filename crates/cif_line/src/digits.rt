@@ -1,4 +1,4 @@
-//! Digits of a field, and the numbers that two of them spell. Several bytes are tested at once,
+//! Digits of a field, and the numbers that two digits spell. Several bytes are tested at once,
 //! without a branch per byte.
 ghost use Rattle.std.specs.Prelude.{◌≡◌, ◌+◌, ◌-◌, ◌*◌, ◌≤◌, ◌<◌, length, take, true};
 ghost use Rattle.std.specs.List.{list_all};

@@ -67,7 +67,7 @@ impl<'a> Header<'a> {
         }
     }
 
-    /// The current file reference, which names this extract: columns 33 to 39.
+    /// The current file reference, which identifies this extract: columns 33 to 39.
     pub fn reference(&self) -> &'a [u8; 7]
         ensures value { result.now ≡ columns 33 39 self.now }
         ensures text { IsTextOfLength 7 result.now }
@@ -75,7 +75,7 @@ impl<'a> Header<'a> {
         self.line.field(33)
     }
 
-    /// The last file reference, which names the extract before this one: columns 40 to 46.
+    /// The last file reference, which identifies the extract before this one: columns 40 to 46.
     pub fn last_reference(&self) -> &'a [u8; 7]
         ensures value { result.now ≡ columns 40 46 self.now }
         ensures text { IsTextOfLength 7 result.now }

@@ -83,7 +83,7 @@ pub enum Stp {
     Cancellation,
     /// N, new: only in the short term plan.
     New,
-    /// O, an overlay, which replaces the permanent one on its days.
+    /// O, an overlay, which replaces the permanent schedule or association on its days.
     Overlay,
     /// P, permanent.
     Permanent,

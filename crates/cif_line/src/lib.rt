@@ -1,6 +1,6 @@
 //! The lines of a CIF extract, the fields in their columns, and views of their records, as
-//! described in the CIF End User Specification. The crate re-exports `cif_device`, the devices that
-//! bytes come from and go to.
+//! described in the CIF End User Specification. The crate re-exports `cif_device`, the devices from
+//! which bytes are read and to which they are written.
 #![tactic(auto)]
 
 mod association;

@@ -115,8 +115,8 @@ fn first_bad_index(bytes: &[u8]) -> Option<usize>
     bytes.iter().position(|byte| !is_printable(*byte))
 }
 
-/// The column, from 1, of the leftmost byte that isn't printable. The search for it starts only
-/// after a fast test has found that there is one.
+/// The column, from 1, of the leftmost byte that isn't printable. First a fast test checks all
+/// bytes. The leftmost bad byte is searched for only if that test fails.
 #[tactic(auto, using(cif_laws::proofs::records::RecordTests::no_bad_byte))]
 fn bad_column(bytes: &[u8; 80]) -> Option<u8>
     ensures value { result ≡ leftmost_bad_byte bytes.now }

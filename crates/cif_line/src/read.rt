@@ -30,7 +30,7 @@ use crate::tiploc_record::TiplocRecord;
 use crate::until::is_end_date;
 
 /// Reads a header (HD). The fault is the first column of the leftmost bad field: 23 for the date of
-/// extract, 29 for its time, 47 for the update indicator.
+/// extract, 29 for the time of extract, 47 for the update indicator.
 pub fn header(line: &Line) -> Result<Header<'_>, FieldFault>
     requires kind { HasKind header line.now }
     ensures { ReadsAs line.now result }
@@ -86,8 +86,8 @@ fn tiploc_fault(line: &Line) -> Option<u8>
 }
 
 /// Reads an association (AA). The fault is the first column of the leftmost bad field: 3 for the
-/// transaction, 16 for the first date, 38 for the TIPLOC, 80 for the STP indicator. It may also be
-/// 22 for the end date or 28 for the days run, which a deletion doesn't have checked.
+/// transaction, 16 for the first date, 38 for the TIPLOC, 80 for the STP indicator. Unless the
+/// record is a deletion, the fault may also be 22 for the end date or 28 for the days run.
 pub fn assoc(line: &Line) -> Result<Assoc<'_>, FieldFault>
     requires kind { HasKind association line.now }
     ensures { ReadsAs line.now result }
@@ -128,8 +128,8 @@ fn assoc_fault(line: &Line) -> Option<u8>
 }
 
 /// Reads a basic schedule (BS). The fault is the first column of the leftmost bad field: 3 for the
-/// transaction, 10 for the runs-from date, 80 for the STP indicator. It may also be 16 for the
-/// runs-to date or 22 for the days run, which aren't checked in a deletion.
+/// transaction, 10 for the runs-from date, 80 for the STP indicator. Unless the record is a
+/// deletion, the fault may also be 16 for the runs-to date or 22 for the days run.
 pub fn basic(line: &Line) -> Result<Basic<'_>, FieldFault>
     requires kind { HasKind basic_schedule line.now }
     ensures { ReadsAs line.now result }
@@ -239,9 +239,9 @@ fn end_fault(line: &Line) -> u8
     16
 }
 
-/// Reads an intermediate location (LI). The fault is the first column of the leftmost bad field. It
-/// is 3 for the TIPLOC, 11 for the arrival, 16 for the departure and 21 for the pass. It is 26 for
-/// the public arrival and 30 for the public departure. Any of these times may be blank.
+/// Reads an intermediate location (LI). The fault is the first column of the leftmost bad field: 3
+/// for the TIPLOC, 11 for the arrival, 16 for the departure, 21 for the pass. It may also be 26 for
+/// the public arrival or 30 for the public departure. Any of these times may be blank.
 pub fn call(line: &Line) -> Result<Call<'_>, FieldFault>
     requires kind { HasKind intermediate_location line.now }
     ensures { ReadsAs line.now result }
@@ -295,7 +295,7 @@ fn call_fault(line: &Line) -> u8
     30
 }
 
-/// Reads a change en route (CR). It has no checked field, so reading never fails.
+/// Reads a change en route (CR). A CR record has no checked field, so reading never fails.
 pub fn change(line: &Line) -> Result<ChangeEnRoute<'_>, FieldFault>
     requires kind { HasKind change_en_route line.now }
     ensures always { IsOk result }

@@ -1,12 +1,12 @@
-//! Time fields, read whether or not they are good. Reading has no branch for each byte, and gives
-//! flags that a caller joins with the tests of the record's other fields.
+//! Time fields, read whether or not they are good. Reading has no branch for each byte. It returns
+//! flags, which a caller joins with the tests of the record's other fields.
 ghost use Rattle.std.specs.Prelude.{◌≡◌, ◌≤◌, ◌<◌, ◌||◌, length, true, Some, None, if◌then◌else◌};
 ghost use Rattle.docker_model.specs.records.Clock.{is_blank, is_clock, minute_of};
 
 use crate::digits::{are_four_digits, spelled};
 use crate::time::Time;
 
-/// What the first four bytes of a field give, read as HHMM.
+/// The result of reading the first four bytes of a field as HHMM.
 #[derive(Clone, Copy, PartialEq, Eq, Debug)]
 pub(crate) struct ClockField {
     /// Whether the bytes are a time from `0000` to `2359`.
@@ -32,7 +32,7 @@ impl ClockField {
     }
 }
 
-/// What is read from the field of a scheduled time.
+/// The result of reading the field of a scheduled time.
 #[derive(Clone, Copy, PartialEq, Eq, Debug)]
 pub(crate) struct TimeField {
     /// Whether the field is all spaces.
@@ -71,7 +71,7 @@ impl TimeField {
         self.is_blank | self.is_time
     }
 
-    /// The time. None if the field isn't one.
+    /// The scheduled time. None if the field isn't a time.
     #[inline(always)]
     pub(crate) fn time(self) -> Option<Time>
         ensures { result ≡ (if self.is_time then Some self.half_minutes else None) }

@@ -5,7 +5,7 @@ ghost use Rattle.docker_model.specs.records.Date.{is_end_date, end_number, is_no
 use crate::date::{date_number, is_date};
 use std::marker::Model;
 
-/// The end number that stands for no end. It is greater than the number of any day.
+/// The end number of an end date that means no end. It is greater than the number of any day.
 pub const NO_END: u16 = 65535;
 
 /// An end date, as its end number: the number of the last day, or 65535 for no end, which is later
@@ -37,7 +37,7 @@ impl Until {
         Some(Until::of_end_date(field))
     }
 
-    /// The end date of a field that is known to be one.
+    /// The end date in a field that is known to be an end date.
     #[inline(always)]
     pub(crate) fn of_end_date(field: &[u8; 6]) -> Until
         requires good { is_end_date field.now ≡ true }

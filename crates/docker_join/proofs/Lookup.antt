@@ -35,7 +35,8 @@ module _ {E : Type 0} where
   below_at (row ∷ rows) zero (suc j) d up before within = above_at row rows j d up.0 (omega arith)
   below_at (row ∷ rows) (suc i) (suc j) d up before within = below_at rows i j d up.1 (omega arith) (omega arith)
 
-  -- if one row is below another, it isn't higher than the other in comparison with any key
+  -- the comparison with a key is monotone: if one row is below another, it doesn't compare as
+  -- greater than the other
   rises : (key : model.Key) (x y : Key × E) → row_cmp x y ≡ Less → ordering_index (by_key key x) ≤ ordering_index (by_key key y)
   rises key x y below = by (by_key key x) refl (by_key key y) refl
     where
@@ -52,7 +53,7 @@ module _ {E : Type 0} where
           let turned = key_total.antisymm (key_meant y.0) (key_meant x.0) in let r = ap ordering_reverse below in cc)
       by Greater at_x Greater at_y = omega arith
 
-  -- in ascending rows, the comparison with a key never decreases from one row to the next
+  -- in ascending rows, the comparison with a key is monotone from one row to the next
   pub rows_rise : (rows : List (Key × E)) (key : model.Key) → AreAscending rows → IsNonDecreasingBy (λ row. ordering_index (by_key key row)) rows
   rows_rise rows key up = λ i j d before within. by i j d before within (cases_lt i j)
     where

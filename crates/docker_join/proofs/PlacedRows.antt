@@ -1,4 +1,4 @@
--- Joining two tables by placing rows from the greatest key to the smallest gives the same as the walk of `MergedRows`.
+-- Joining two tables by placing rows from the greatest key to the smallest has the same result as the walk of `MergedRows`.
 use Rattle.std.proofs.Common.{◌≡◌, ℕ, zero, suc, ◌+◌, ◌-◌, ◌<◌, ◌≤◌, List, [], ◌∷◌, ◌++◌, length, get_or, take, drop, refl, ap, sym}
 use Rattle.std.proofs.Common.{◌∙◌, subst, append_assoc, length-append, length-drop, arith, true, false, Some, None, MatchOption}
 use Rattle.std.specs.Prelude.{Option}
@@ -39,7 +39,7 @@ above_turned : {E : Type 0} (a b : Key × E) → row_cmp b a ≡ Less → row_cm
 above_turned a b below = key_total.antisymm (key_meant a.0) (key_meant b.0) ∙ ap ordering_reverse below
 
 module _ {E : Type 0} (picked : E → E → E) where
-  -- the walk over a table and an empty table gives the table
+  -- the walk over a table and an empty table is the table
   pub walk_none : (xs : List (Key × E)) → walk picked xs [] ≡ xs
   walk_none [] = refl
   walk_none (x ∷ xs) = ap (λ rest. x ∷ rest) (walk_none xs)
@@ -50,7 +50,7 @@ module _ {E : Type 0} (picked : E → E → E) where
   out_first Equal a b less equal greater behind = refl
   out_first Greater a b less equal greater behind = refl
 
-  -- if some rows of the second table are below all rows of the first, the walk gives these rows first
+  -- if some rows of the second table are below all rows of the first, the walk begins with these rows
   lower_first : (x b y : List (Key × E)) → AllBelow b x → walk picked x (b ++ y) ≡ b ++ walk picked x y
   lower_first x [] y below = refl
   lower_first [] (b ∷ others) y below = refl
@@ -96,7 +96,7 @@ module _ {E : Type 0} where
   first_below [] ys up = tt
   first_below (x ∷ xs) ys up = (all_behind (IsBelow row_cmp x) xs ys up.0, first_below xs ys up.1)
 
-  -- rows below a row are below all rows that are above it
+  -- if some rows are below a row, and other rows are above it, the former are below the latter
   below_higher : (lows highs : List (Key × E)) (row : Key × E) → AllBelow lows (row ∷ []) → Above row highs → AllBelow lows highs
   below_higher [] highs row below above = tt
   below_higher (low ∷ lows) highs row below above = (above_lower low row highs below.0.0 above, below_higher lows highs row below.1 above)
@@ -121,7 +121,7 @@ module _ {E : Type 0} where
       let rest = below_row (y ∷ rows) last row d up.1 (λ _. (omega arith, known.1)) in
       ((key_total.trans (key_meant x.0) (key_meant y.0) (key_meant row.0) up.0.0 rest.0.0, tt), rest)
 
-  -- cutting two concatenated lists at the length of the second gives the two lists again
+  -- cutting the concatenation of two lists so that the second part is as long as the second list results in the two lists
   parts : (front back : List (Key × E)) (m : ℕ) → m ≡ length back
       → (drop (length (front ++ back) - m) (front ++ back) ≡ back) × (take (length (front ++ back) - m) (front ++ back) ≡ front)
   parts front back m size =
@@ -130,20 +130,18 @@ module _ {E : Type 0} where
       (ap (λ n. drop n (front ++ back)) at ∙ drop-append_seam front back, ap (λ n. take n (front ++ back)) at ∙ take-append_seam front back)
 
 module _ {E : Type 0} (picked : E → E → E) where
-  -- the walk over some rows and a single lower row gives the lower row, followed by the others
+  -- the walk over some rows and a single lower row is the lower row, followed by the others
   walk_row : (rows : List (Key × E)) (row : Key × E) → Above row rows → walk picked rows (row ∷ []) ≡ row ∷ rows
   walk_row rows row above = lower_first picked rows (row ∷ []) [] (above, tt) ∙ ap (λ rest. row ∷ rest) (walk_none picked rows)
 
-  -- if a row of the second table is its last, and the first table doesn't have its key, the walk
-  -- gives it just before the greater rows
+  -- if a row of the second table is its last, and the first table doesn't have the row's key, the walk has the row just before the greater rows
   none_out : (a r rest : List (Key × E)) (row : Key × E) → AllBelow a (row ∷ []) → Above row r → AllBelow rest (row ∷ [])
       → walk picked (a ++ r) (rest ++ row ∷ []) ≡ walk picked a rest ++ (row ∷ r)
   none_out a r rest row below above rest_below =
       walk_split picked a r rest (row ∷ []) below (below_higher rest r row rest_below above)
       ∙ ap (λ out. walk picked a rest ++ out) (walk_row r row above)
 
-  -- if a row of the second table is its last, and the first table has its key, the walk gives the
-  -- pick of both just before the greater rows
+  -- if a row of the second table is its last, and the first table has the row's key, the walk has the pick of both just before the greater rows
   level_out : (b r rest : List (Key × E)) (own row : Key × E) → row_cmp own row ≡ Equal → AllBelow b (own ∷ []) → Above own r → AllBelow rest (row ∷ [])
       → walk picked (b ++ (own ∷ r)) (rest ++ row ∷ []) ≡ walk picked b rest ++ ((own.0, picked own.1 row.1) ∷ r)
   level_out b r rest own row level below above rest_below =
@@ -177,7 +175,7 @@ module _ {E : Type 0} (picked : E → E → E) where
   joined_is rows front back rest m is size =
       ap (λ xs. joined_with picked m xs rest) is ∙ (λ i. walk picked ((parts front back m size).0 i) rest ++ (parts front back m size).1 i)
 
-  -- what is proved of the walk holds of the join, since two tables have only one join
+  -- what is proved of the walk holds of the join, since the join of two tables is unique
   placed_of : (old : List (Key × E)) (left : ℕ) (row : Key × E) (new : List (Key × E)) (later : ℕ) → WalksOn picked old left row new later
       → IsPlaced picked old left row new later
   placed_of old left row new later on = record {

@@ -36,8 +36,8 @@ IsTaken key n left old new (Some own) = (old ≡ new ++ own ∷ []) × ((key_cmp
 abbrev pub left_rows : {E : Type 0} → ℕ → List (Key × E) → List (Key × E)
 left_rows left rows = drop (length rows - left) rows
 
--- Says that the placed rows are right: if what remains of both tables is joined, and the placed
--- rows follow, the result is the join of the two tables.
+-- Says that the placed rows are right: the join of the remaining rows of both tables, followed by
+-- the placed rows, is the join of the two tables.
 pub record IsJoinWith {E : Type 0} (picked : E → E → E) (first second : List (Key × E)) (left : ℕ) (rows rest : List (Key × E)) : Type 0 where
   pub joins : (lower : List (Key × E)) → IsJoinOfRows picked (left_rows left rows) rest lower
       → IsJoinOfRows picked first second (lower ++ take (length rows - left) rows)

@@ -185,7 +185,7 @@ pick_laws valid is_join picked closed one commutative associative idempotent joi
   itself = λ a good. one a a (picked a a) a good good (joins a a) (idempotent a good);
 }
 
--- two tables have only one join
+-- the join of two tables is unique
 pub joins_one : {E : Type 0} (valid : E → Type 0) (picked : E → E → E) (a b c d : List (Key × E))
     → AreValidRows valid a → AreValidRows valid b → IsJoinOfRows picked a b c → IsJoinOfRows picked a b d → c ≡ d
 joins_one valid picked a b c d good_a good_b is_c is_d =
@@ -235,14 +235,15 @@ module _ {E : Type 0} (valid : E → Type 0) (picked : E → E → E) (laws : Ar
         (valid_at b (key_meant row.0) good_b))),
   )
 
-  -- the join of two valid tables doesn't depend on their order
+  -- the join of valid tables is commutative: it doesn't depend on their order
   pub joins_commute : (a b c : List (Key × E)) → AreValidRows valid a → AreValidRows valid b → IsJoinOfRows picked a b c → IsJoinOfRows picked b a c
   joins_commute a b c good_a good_b is = record {
     ascends = is.ascends;
     values = λ key. is.values key ∙ values_commute (value_at a key) (value_at b key) (valid_at a key good_a) (valid_at b key good_b);
   }
 
-  -- the join of three valid tables is the same whichever two are joined first
+  -- the join of valid tables is associative: the join of three is the same whichever two are joined
+  -- first
   pub joins_associate : (a b c ab bc left right : List (Key × E)) → AreValidRows valid a → AreValidRows valid b → AreValidRows valid c
       → IsJoinOfRows picked a b ab → IsJoinOfRows picked ab c left → IsJoinOfRows picked b c bc → IsJoinOfRows picked a bc right → left ≡ right
   joins_associate a b c ab bc left right good_a good_b good_c is_ab is_left is_bc is_right =
@@ -253,6 +254,6 @@ module _ {E : Type 0} (valid : E → Type 0) (picked : E → E → E) (laws : Ar
       ∙ sym (ap (λ value. picked_value picked (value_at a key) value) (is_bc.values key))
       ∙ sym (is_right.values key))
 
-  -- the join of a valid table with itself is this table
+  -- the join of valid tables is idempotent: the join of a table with itself is this table
   pub joins_itself : (a : List (Key × E)) → AreValidRows valid a → IsJoinOfRows picked a a a
   joins_itself a good = record { ascends = good.0; values = λ key. values_itself (value_at a key) (valid_at a key good) }

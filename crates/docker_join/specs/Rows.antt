@@ -13,7 +13,7 @@ use Rattle.cif_change.specs.Meaning.{key_meant}
 abbrev pub row_cmp : {E : Type 0} → Key × E → Key × E → Ordering
 row_cmp a b = key_cmp (key_meant a.0) (key_meant b.0)
 
--- Says that the keys of the rows ascend strictly.
+-- Says that the keys of the rows are strictly increasing.
 abbrev pub AreAscending : {E : Type 0} → List (Key × E) → Type 0
 AreAscending rows = IsStrictlyAscending row_cmp rows
 

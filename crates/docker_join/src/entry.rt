@@ -1,4 +1,4 @@
-//! Entries: what a state knows of a key, and from which change it knows it.
+//! Entries: what a state knows of a key, and the stamp of the change from which the state knows it.
 ghost use Rattle.std.specs.Prelude.{◌≡◌, false, IfOk, IsOk, if◌then◌else◌};
 ghost use Rattle.std.specs.Ordering.{on, as_partial_cmp, eq_by_cmp, ord_max};
 ghost use Rattle.std.specs.Cmp.{partial_equiv_from_equiv, on_equiv, on_total, eq_by_cmp_equiv, partial_order_from_total};
@@ -32,8 +32,8 @@ pub enum Op {
 
 impl Op {
     /// Applies a horizon, given as a day number. A put whose end number is below the horizon lapses
-    /// and loses its body. Anything else is unchanged: a deletion, a lapsed op, a TIPLOC, a body
-    /// without an end.
+    /// and loses its body. Any other op is unchanged: a deletion, a lapsed op, or a put of a TIPLOC
+    /// or of a body without an end.
     pub fn lapse(self, horizon: u16) -> Op
         ensures { op_meant result ≡ lapse horizon (op_meant self) }
     {
@@ -105,8 +105,8 @@ impl Ord for Op {
     }
 }
 
-/// What a state knows of a key, with the stamp of the change that it knows it from. Entries are
-/// ordered by stamp, and then by op. Of two entries of one key, the greater counts.
+/// What a state knows of a key, and the stamp of the change from which the state knows it. Entries
+/// are ordered by stamp, and then by op. Of two entries of one key, the greater counts.
 #[derive(Debug, Drop)]
 pub struct Entry {
     /// The stamp of the change that the entry comes from.

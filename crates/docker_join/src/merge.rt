@@ -9,7 +9,7 @@ use std::alloc::Global;
 /// The programs join only states. The library also implements the trait, with the same laws, for
 /// file stamps, stamps, entries and tables.
 pub trait Merge: Sized {
-    // Says that a value is valid: the laws hold for it.
+    // Says that a value is valid. The laws hold for valid values.
     ghost is_valid: { Self → Type 0 };
 
     // Says that the third value is the join of the first two.

@@ -74,7 +74,7 @@ fn place<E: Pick>(rows: &mut VecDeque<(Key, E)>, left: usize, row: (Key, E)) -> 
     }
 }
 
-/// Takes the last row of the ring, if a row is left and its key is this one.
+/// Takes the last row of the ring, if a row is left and the last row has this key.
 fn take_level<E>(rows: &mut VecDeque<(Key, E)>, left: usize, key: &Key) -> Option<(Key, E)>
     requires { left ≤ deque_len rows.old }
     ensures taken { IsTaken (key_meant key.now) (deque_len rows.old) left rows.old.items

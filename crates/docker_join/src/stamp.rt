@@ -1,4 +1,4 @@
-//! Stamps: from which file something is known, and from which of its records.
+//! Stamps: the file from which a state knows something, and the number of the record in that file.
 ghost use Rattle.std.specs.Prelude.{IfOk, IsOk, ⊤};
 ghost use Rattle.std.specs.Ordering.{on, as_partial_cmp, eq_by_cmp, ord_max};
 ghost use Rattle.std.specs.Cmp.{partial_equiv_from_equiv, on_equiv, on_total, eq_by_cmp_equiv, partial_order_from_total};

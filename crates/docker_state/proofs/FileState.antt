@@ -98,7 +98,7 @@ thin_records place day file is_file few all kept all_are thinning change among =
     op_records change.key (op_of change.act)
     (kept_good place day file is_file few kept (subst (λ (a : List model.Change). IsThinning place day a kept) all_are thinning) change among).0.1
 
--- appending an item to an empty ledger gives a ledger of that one item
+-- an empty ledger with one item appended is the ledger of just this item
 pub one_item : (item : LedgerItem) (before ledger : List LedgerItem) → before ≡ [] → ledger ≡ before ++ item ∷ [] → map item_meant ledger ≡ item_meant item ∷ []
 one_item item before ledger none pushed =
     let all : ledger ≡ item ∷ [] = pushed ∙ ap (λ (xs : List LedgerItem). xs ++ item ∷ []) none in

@@ -1,4 +1,4 @@
--- Filtering by what a floor keeps.
+-- Filtering by a test whether the floor keeps an element.
 use Rattle.std.proofs.Common.{◌≡◌, arith, List, [], ◌∷◌, length, map, refl, ap, sym, ◌∙◌, subst, Contains, Bool, true, false, cond, Some, None}
 use Rattle.std.specs.Prelude.{filter, Option, ◌↔◌, IsTrue}
 use Rattle.std.specs.declared.cmp.Ordering.TheVariants.{Less, Equal, Greater}
@@ -9,7 +9,7 @@ use Rattle.std.specs.declared.cmp.Ordering.{Ordering}
 use Rattle.docker_model.specs.state.Order.{IsBelow, IsStrictlyAscending}
 use Rattle.cif_laws.proofs.lists.FilteredMembers.{filter_back, filter_forth}
 
--- the lemmas for a filter whose test gives the same each time it is called
+-- the lemmas for a filter whose test always returns the same result for the same element
 module _ {X P : Type 0} (R : P → X → Bool → P → Type 0) (test : X → Bool) (p : P) (says : (x : X) (b : Bool) (q : P) → R p x b q → (b ≡ test x) × (q ≡ p)) where
   told : (bs : List Bool) (xs : List X) (s q : P) → s ≡ p → length bs ≡ length xs → ReturnsInTurn R s bs xs q → items_where_true bs xs ≡ filter test xs
   told [] [] s q is size turns = refl
@@ -46,7 +46,8 @@ module _ {A : Type 0} (cmp : A → A → Ordering) (test : A → Bool) where
       by true rest = (filter_above x xs up.0, rest)
       by false rest = rest
 
--- filtering by a test of what a function gives, and then applying the function, is the same as applying it first and then filtering
+-- if a test depends only on a function's value, filtering commutes with the function: filtering and then applying the function has the same result as applying
+-- it and then filtering
 pub filter-map : {A B : Type 0} (f : A → B) (test : B → Bool) (xs : List A) → map f (filter (λ x. test (f x)) xs) ≡ filter test (map f xs)
 filter-map f test [] = refl
 filter-map f test (x ∷ xs) = by (test (f x)) (filter-map f test xs)
@@ -56,7 +57,7 @@ filter-map f test (x ∷ xs) = by (test (f x)) (filter-map f test xs)
     by true same = ap (λ zs. f x ∷ zs) same
     by false same = same
 
--- whether a comparison gives less or equal
+-- whether a comparison is less or equal
 not_above : Ordering → Bool
 not_above Less = true
 not_above Equal = true
@@ -84,7 +85,7 @@ is_keeps (Some floor) stamp kept = by (file_stamp_cmp floor stamp) kept
     by Equal below = refl
     by Greater below = absurd (below refl)
 
--- any test that passes if and only if a stamp is kept gives the same as this test
+-- a test that passes if and only if a stamp is kept is equal to this test
 pub says_kept : (floor : Option FileStamp) (stamp : FileStamp) (b : Bool) → IsTrue b ↔ IsKept floor stamp → b ≡ keeps floor stamp
 says_kept floor stamp true told = sym (is_keeps floor stamp (told.0 refl))
 says_kept floor stamp false told = by (keeps floor stamp) refl

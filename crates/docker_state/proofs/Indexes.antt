@@ -8,7 +8,7 @@ use Rattle.state_index.specs.Notes.{Notes}
 use Rattle.state_index.specs.Noted.{ArePicked, items_of, items_put}
 use Rattle.docker_state.specs.Indexed.{ArePickedNotes}
 
--- if the places of changes are noted, and rows are picked from these changes, they are picked from the notes
+-- if the places of changes are noted, and rows are picked from these changes, the rows' notes are picked from the changes' notes
 pub picked_of_changes : (changes : List model.Change) (notes : Option Notes) (order : List ℕ) (rows : List (model.Key × ops.Entry))
     → AreNotesOf changes notes → ArePicked (items_put changes) order (items_of rows) → ArePickedNotes order rows notes
 picked_of_changes changes None order rows noted picked = tt

@@ -1,4 +1,4 @@
--- Applying a horizon to two tables and then joining them gives the same as joining them and then applying it.
+-- Applying a horizon commutes with the join of tables.
 use Rattle.std.proofs.Common.{◌≡◌, ℕ, List, ◌++◌, map, ap, sym, ◌∙◌, subst, Contains, Bool, true, false, cond}
 use Rattle.std.specs.Prelude.{◌↔◌, nat_lt}
 use Rattle.std.proofs.lemmas.List.{map-append}
@@ -68,7 +68,7 @@ module _ (horizon : ℕ) (first second left right : List (Key × Entry)) (up_fir
       (subst (λ (xs : List Keyed). IsGreatestAmong xs key (lapse_entry horizon entry)) (sym all_lapsed)
       (greatest_lapses horizon Before key entry (joined_greatest first second whole up_first up_second whole_is key entry among)))
 
-  -- the join has only one entry of each key
+  -- the join has at most one entry of each key
   one_there : (key : model.Key) (a b : ops.Entry) → Contains (map row_meant joined) (key, a) → Contains (map row_meant joined) (key, b) → a ≡ b
   one_there key a b first_in second_in =
       let one = value_in joined joined_is.ascends key a first_in in

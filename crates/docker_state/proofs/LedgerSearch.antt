@@ -10,7 +10,7 @@ use Rattle.docker_state.specs.Staging.{HasIfKept, HasKeptItems}
 
 -- the lemmas for looking up each item of a list in the ledger
 module _ {A : Type 0} (f : A → LedgerItem) (ledger : List LedgerItem) (floor : Option FileStamp) (items : List A) where
-  -- if the ledger has each item of the list that the floor keeps, up to the end of the list, it has all of them
+  -- once the search has passed the last item of the list, the ledger has each item of the list that the floor keeps
   pub has_all : (at : ℕ) → length items ≤ at → AllWithin (λ item. HasIfKept ledger (f item) floor) items 0 at → HasKeptItems ledger (map f items) floor
   has_all at whole each item among kept =
       let found = Contains-map f items item among in

@@ -15,13 +15,13 @@ use Rattle.cif_laws.proofs.lists.Membership.{Contains-cons, Contains-map, Contai
 use Rattle.cif_laws.proofs.orders.AtMost.{at_most_below, at_most_or, at_most_trans, level}
 use Rattle.cif_laws.proofs.orders.Orders.{file_stamp_total}
 
--- if a ledger item is below another, its stamp isn't above the other's
+-- if a ledger item is below a second item, its stamp isn't above the stamp of the second
 stamp_at_most : (a b : LedgerItem) → IsBelow ledger_item_cmp a b → IsAtMost file_stamp_cmp a.stamp b.stamp
 stamp_at_most a b below = λ above.
     let bad : Greater ≡ Less =
     sym (λ i. ordering_then (above i) (ordering_then (nat_cmp a.indicator b.indicator) (bytes_cmp a.last_reference b.last_reference))) ∙ below in cc
 
--- if a ledger item is below another, any stamp above the other's is above its own stamp
+-- if a ledger item is below a second item, any stamp above the stamp of the second is above the stamp of the first
 below_with : (a b : LedgerItem) (stamp : FileStamp) → IsBelow ledger_item_cmp a b → IsBelow file_stamp_cmp b.stamp stamp
     → IsBelow file_stamp_cmp a.stamp stamp
 below_with a b stamp before low = by (at_most_or file_stamp_total stamp a.stamp)
@@ -57,7 +57,7 @@ less_is Less told = refl
 less_is Equal told = let bad : true ≡ false = sym told in cc
 less_is Greater told = let bad : true ≡ false = sym told in cc
 
--- if a test of the code passes, that the stamp is above the last item's, the stamp is above the stamps of all items
+-- if the code finds a stamp above the stamp of the ledger's last item, the stamp is above the stamps of all items
 pub above_each : {A : Type 0} (meant : A → LedgerItem) (items before : List A) (last : A) (stamp file : FileStamp) (b : Bool)
     → items ≡ before ++ last ∷ [] → IsStrictlyAscending ledger_item_cmp (map meant items) → file ≡ (meant last).stamp
     → b ≡ is_lt (file_stamp_cmp file stamp) → IsTrue b → (item : LedgerItem) → Contains (map meant items) item → IsBelow file_stamp_cmp item.stamp stamp

@@ -48,12 +48,12 @@ pub none_of_rest : {A : Type 0} (meant : A → Key × Entry) (own : State) (floo
 none_of_rest meant own floor rows behind row is first others =
     subst (λ xs. HasNoneToStage own floor (map meant xs)) (sym is) (none_of_more own floor (meant row) (map meant behind) first others)
 
--- if a test passes if and only if a property holds, and it fails, the property doesn't hold
+-- if a test passes if and only if a property holds, and the test fails, the property doesn't hold
 pub untold : {P : Type 0} (b : Bool) → b ≡ false → IsTrue b ↔ P → ¬ P
 untold b fails tells holds = let bad : false ≡ true = sym fails ∙ tells.1 holds in cc
 
 -- Suppose a state has all items of another state that the floor keeps, and none of the other's
--- entries has to be staged. Then it is the join of both, under the greater horizon.
+-- entries has to be staged. Then the state is the join of both, under the greater horizon.
 pub covered : (own other : State) → IsValid own → IsValid other → (floor : Option FileStamp) → IsFloor (own.ledger ++ other.ledger) floor
     → HasKeptItems own.ledger other.ledger floor → HasNoneToStage own floor other.entries → IsJoin own other (raise_horizon other.horizon own)
 covered own other valid valid_too floor is_floor has none =

@@ -64,8 +64,7 @@ module _ (g h : ℕ) (items others : List LedgerItem) (first second : List (Key 
   up_second : AreAscending second
   up_second = meant_ascending row_meant (λ (a b : model.Key × ops.Entry). key_cmp a.0 b.0) second two.entries.1
 
-  -- Take the union of the ledgers, and the join of the rows with the horizon applied, and keep of
-  -- both what the floor keeps. This is the join of the states.
+  -- Take the union of the ledgers, and the join of the rows with the horizon applied. What the floor keeps of these two is the join of the states.
   pub states_joined : (floor : Option stamps.FileStamp) → IsFloor (map item_meant items ++ map item_meant others) floor
       → (union ledger : List LedgerItem) → HasUnion union items others
       → IsStrictlyAscending ledger_item_cmp (map item_meant ledger)

@@ -37,7 +37,7 @@ by_key a b = key_cmp a.0 b.0
 abbrev pub file_of : Keyed → FileStamp
 file_of pair = pair.1.stamp.file
 
--- Says that the rows of the code have an entry at a key that, translated, is this one.
+-- Says that the rows of the code have, at a key, an entry whose translation is this one.
 abbrev pub ValueMeant : List (Key × Entry) → model.Key → ops.Entry → Type 0
 ValueMeant rows key entry = (value : Entry) × (value_at rows key ≡ Some value) × (entry_meant value ≡ entry)
 
@@ -60,7 +60,7 @@ in_rows rows key value found =
 abbrev pub higher : Entry → Entry → Entry
 higher = ord_max (on entry_meant entry_cmp)
 
--- if an optional value is equal to two values, these are equal
+-- an optional value is equal to at most one value
 pub same_value : (a b : Entry) (o : Option Entry) → o ≡ Some a → o ≡ Some b → a ≡ b
 same_value a b o is_a is_b = cc
 

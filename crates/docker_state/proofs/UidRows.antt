@@ -34,7 +34,7 @@ use Rattle.docker_state.proofs.LiveTable.{PutThere, from_live, to_live, live_has
 
 -- ---- a test that passes up to some row and fails from there on
 
--- Says that a test of a comparison fails for greater, and that it passes for less if it passes for equal.
+-- Says that a test of a comparison is monotone: it fails for greater, and if it passes for equal, it passes for less.
 abbrev GoesDown : (Ordering → Bool) → Type 0
 GoesDown test = (test Greater ≡ false) × (test Equal ≡ true → test Less ≡ true)
 
@@ -101,7 +101,7 @@ module _ (uid : List ℕ) (rows : List (Key × Entry)) (up : AreAscending rows) 
       by false is = is
       by true is = absurd (let bad : true ≡ false = sym (parted_before uid rows up first k d low high is) ∙ here d in cc)
 
-  -- if the walk back ends at index 0, the UID's schedules begin there
+  -- if the walk back ends at index 0, the UID's schedules begin at index 0
   pub begins_at_front : first ≡ 0 → IsBeginning uid rows first
   begins_at_front zero_is = (λ k d low high. absurd (let none : k < 0 = subst (λ n. k < n) zero_is high in omega arith), rest_behind)
 
@@ -169,7 +169,7 @@ behind_ascends (row ∷ rows) (suc n) up = behind_ascends rows n up.1
 -- ---- the piece of the rows with the UID's schedules
 
 module _ {A : Type 0} (P : A → Type 0) where
-  -- what holds of the elements at the indexes below n holds of each of the first n elements
+  -- a property of all elements at indexes below n is a property of each of the first n elements
   front_all : (xs : List A) (n : ℕ) → n ≤ length xs → ((k : ℕ) (d : A) → 0 ≤ k → k < n → P (get_or xs k d)) → (z : A) → Contains (take n xs) z → P z
   front_all xs zero bound all z among = absurd (nil-Contains z among)
   front_all [] (suc n) bound all z among = absurd (let none : suc n ≤ 0 = bound in omega arith)
@@ -180,7 +180,7 @@ module _ {A : Type 0} (P : A → Type 0) where
       by rest (inl same) = subst P same (all 0 x (omega arith) (omega arith))
       by rest (inr inside) = rest inside
 
-  -- what holds of the elements at the indexes from n on holds of each element after the first n
+  -- a property of all elements at indexes from n on is a property of each element after the first n
   back_all : (xs : List A) (n : ℕ) → n ≤ length xs → ((k : ℕ) (d : A) → n ≤ k → k < length xs → P (get_or xs k d)) → (z : A) → Contains (drop n xs) z → P z
   back_all [] zero bound all z among = absurd (nil-Contains z among)
   back_all [] (suc n) bound all z among = absurd (let none : suc n ≤ 0 = bound in omega arith)
@@ -242,7 +242,7 @@ schedule_of key (tiploc_body bytes) good = absurd good
 schedule_of key (association_body line) good = absurd good
 schedule_of key (schedule_body lines) good = (lines, refl)
 
--- what holds of all elements of two concatenated lists holds of all elements of the first list
+-- a property of all elements of two concatenated lists is a property of all elements of the first list
 front_of : {A : Type 0} (P : A → Type 0) (xs ys : List A) → AllByRecursion P (xs ++ ys) → AllByRecursion P xs
 front_of P [] ys all = tt
 front_of P (x ∷ xs) ys all = (all.0, front_of P xs ys all.1)
@@ -272,7 +272,7 @@ module _ (state : State) (valid : IsValid state) (uid : List ℕ) (rows piece : 
       (Contains-append_left (map row_meant is.before ++ map row_meant piece) (map row_meant is.behind) pair
       (Contains-append_right (map row_meant is.before) (map row_meant piece) pair among))
 
-  -- if some rows compare in one way with the UID's schedules, so do their translations
+  -- if some rows compare in one way with the UID's schedules, so do the translated rows
   stands : (order : Ordering) (some : List (Key × Entry)) → AreTo order uid some → (pair : model.Key × ops.Entry) → Contains (map row_meant some) pair
       → to_uid pair.0 uid ≡ order
   stands order some all pair among =

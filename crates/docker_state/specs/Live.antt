@@ -16,6 +16,6 @@ abbrev pub live_rows : List (Key × Entry) → List (Key × Body)
 live_rows [] = []
 live_rows (entry ∷ entries) = put_before entry.0 entry.1.op (live_rows entries)
 
--- Says that the keys ascend strictly.
+-- Says that the keys are strictly increasing.
 abbrev pub AreInKeyOrder : List (Key × Body) → Type 0
 AreInKeyOrder rows = IsStrictlyAscending (on (λ (row : Key × Body). row.0) key_cmp) rows

@@ -1,4 +1,4 @@
--- What holds of the parts of a state while they are given one by one.
+-- A state's parts, while a caller adds them one by one.
 use Rattle.std.specs.Prelude.{ℕ, List, map, length, ◌-◌, slice_get, Option}
 use Rattle.std.specs.Option.{option_map}
 use Rattle.docker_model.specs.file.Change.{Key}

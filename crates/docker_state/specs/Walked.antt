@@ -1,10 +1,10 @@
--- The rows that a walk over the live rows at a place gives.
+-- The rows of a walk over the live rows at a place.
 use Rattle.std.specs.Prelude.{List}
 use Rattle.state_laws.specs.Row.{Row}
 use Rattle.docker_state.specs.declared.place_rows.Walk.{Walk}
 use Rattle.docker_state.specs.declared.place_rows.Walk.TheVariants.{Numbered, Sifted}
 
--- the rows that a walk gives, whichever way it finds them
+-- the rows of a walk, whether the walk uses an index or reads all rows
 abbrev pub rows_walked : Walk → List Row
 rows_walked (Numbered rows) = rows
 rows_walked (Sifted rows) = rows

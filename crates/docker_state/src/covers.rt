@@ -26,8 +26,8 @@ fn are_below(ledger: &[LedgerItem], floor: &Option<FileStamp>) -> bool
     }
 }
 
-/// Whether a state already has these entries, or a greater entry of each key, or the floor doesn't
-/// keep them. The keys of the rows must ascend.
+/// Whether these entries add nothing to a state: for each of them, the floor doesn't keep it, or
+/// the state has the same or a greater entry of its key. The keys of the rows must ascend.
 fn none_to_stage(own: &State, rows: &[(Key, Entry)], floor: &Option<FileStamp>) -> bool
     ensures { IsTrue result
         → HasNoneToStage own.now (floor_meant floor.now) (map row_meant rows.now) }
@@ -53,8 +53,8 @@ fn brings_none(own: &State, other: &State, floor: &Option<FileStamp>) -> bool
 
 impl State {
     /// Whether the join with another state is this state under the greater of the two horizons.
-    /// True only if this state has each ledger item of the other, and for each of its entries the
-    /// same or a greater one. What is below the floor of both doesn't count.
+    /// True only if this state has each ledger item of the other, and for each of the other's
+    /// entries the same or a greater one. Items and entries below the floor of both don't count.
     pub(crate) fn covers(&self, other: &State) -> bool
         ensures { IsTrue result
             → IsJoin self.now other.now (raise_horizon other.now.horizon self.now) }

@@ -1,4 +1,4 @@
-//! The index of a state's rows, if it is to have one.
+//! The index of a state's rows, if the state is to have one.
 ghost use Rattle.std.specs.Prelude.{◌≡◌, ◌≤◌, ◌++◌, [], ◌∷◌, ℕ, List, length, map, vec_len, vec_capacity, IsOk, IsErr, IfOk};
 ghost use Rattle.docker_model.specs.file.Change as model;
 ghost use Rattle.docker_model.specs.state.Op as ops;
@@ -18,7 +18,8 @@ use docker_join::{Entry, Op};
 use state_index::{Index, Notes, Piece, Room, note_row, notes_of_rows};
 use std::alloc::Global;
 
-/// The index of rows, from their notes, if there are notes. `Memory` if the allocator refuses it.
+/// The index of rows, made from their notes. None if there are no notes. Returns `Memory` if the
+/// allocator refuses.
 pub(crate) fn index_of_notes(
     alloc: Global,
     notes: Option<Notes>,
@@ -36,7 +37,7 @@ pub(crate) fn index_of_notes(
     }
 }
 
-/// The index of rows, if it is wanted. `Memory` if the allocator refuses it.
+/// The index of rows. None if no index is wanted. Returns `Memory` if the allocator refuses.
 pub(crate) fn index_if(
     alloc: Global,
     rows: &[(Key, Entry)],
@@ -51,8 +52,8 @@ pub(crate) fn index_if(
     index_of_notes(alloc, Some(notes), rows)
 }
 
-/// Notes the next row, a key with its op, if rows are noted. If it returns `Memory`, the row isn't
-/// noted.
+/// Notes the next row, a key with its op, if rows are noted. If the call returns `Memory`, the row
+/// isn't noted.
 pub(crate) fn note_if(notes: &mut Option<Notes>, key: &Key, op: &Op) -> Result<(), Memory>
     ensures ok { IsOk result → (items : List Item) → HasNotedIfAny items notes.old
         → HasNotedIfAny (items ++ (key_meant key.now, op_meant op.now) ∷ []) notes.new }
@@ -65,8 +66,8 @@ pub(crate) fn note_if(notes: &mut Option<Notes>, key: &Key, op: &Op) -> Result<(
     }
 }
 
-/// Room for the index of the rows that noted changes make, one for each key, if they are noted.
-/// `Memory` if the allocator refuses it.
+/// Reserves room for the index of the rows that noted changes make, one for each key. None if
+/// changes aren't noted. Returns `Memory` if the allocator refuses.
 pub(crate) fn room_for_notes(alloc: Global, notes: &Option<Notes>) -> Result<Option<Room>, Memory>
     ensures { (changes : List model.Change) (rows : List (model.Key × ops.Entry))
         → AreNotesOf changes notes.now → AreAscending rows → AreMadeBy changes rows

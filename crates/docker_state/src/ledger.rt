@@ -124,7 +124,7 @@ fn has_item(ledger: &[LedgerItem], item: &LedgerItem) -> bool
 }
 
 /// Whether a file stamp is greater than the stamps of all items in a ledger. Only the last item is
-/// read, as items ascend.
+/// read, since it has the greatest stamp.
 pub(crate) fn is_above_all(ledger: &[LedgerItem], stamp: &FileStamp) -> bool
     requires { IsStrictlyAscending ledger_item_cmp (map item_meant ledger.now) }
     ensures { IsTrue result → (item : _) → Contains (map item_meant ledger.now) item

@@ -12,7 +12,7 @@ use std::marker::Model;
 /// How the live rows at a place are found.
 #[derive(Clone, Debug, Drop)]
 pub(crate) enum Walk<'a> {
-    /// By the marks of an index.
+    /// By the postings of an index.
     Numbered(NumberedRows<'a>),
     /// By a walk over all rows.
     Sifted(SiftedRows<'a>),
@@ -31,9 +31,9 @@ impl<'a> Walk<'a> {
     }
 }
 
-/// An iterator over the live rows at a place, in key order. It gives the index, the key and the
-/// body of each row. No clause says that the index is right. A caller may use it as a hint where to
-/// look first, but no result may depend on it.
+/// An iterator over the live rows at a place, in key order. It returns the index, the key and the
+/// body of each row. No clause says that the index is right. A caller may use the index as a hint
+/// where to look first, but no result may depend on it.
 #[derive(Clone, Debug, Drop)]
 pub struct Numbered<'a> {
     walk: Walk<'a>,
@@ -62,7 +62,7 @@ impl<'a> Iterator for Numbered<'a> {
     }
 }
 
-/// An iterator over the live rows at a place, in key order. It gives the key and the body of each
+/// An iterator over the live rows at a place, in key order. It returns the key and the body of each
 /// row.
 #[derive(Clone, Debug, Drop)]
 pub struct PlaceRows<'a> {
@@ -88,7 +88,7 @@ impl<'a> PlaceRows<'a> {
         }
     }
 
-    /// An iterator over the same rows that also gives the index of each, from 0.
+    /// An iterator over the same rows that also returns the index of each row, from 0.
     pub fn numbered(self) -> Numbered<'a>
         ensures { result ≡ self.entry }
     {

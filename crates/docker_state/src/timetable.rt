@@ -96,8 +96,8 @@ impl<'a> Timetable<'a> {
         }
     }
 
-    /// The schedules that count and call at a TIPLOC, in an LO, LI or LT record. Each comes once,
-    /// with its lines, in the order of the keys.
+    /// The schedules that count and call at a TIPLOC, in an LO, LI or LT record. Each is returned
+    /// once, with its lines, in the order of the keys.
     pub fn calling(&self, tiploc: &Tiploc) -> TimetableRows<'a>
         ensures rows { AreCalling (live_in self.now) tiploc.now result }
         ensures good { IsOfGoodRows (live_in self.now) }
@@ -105,8 +105,8 @@ impl<'a> Timetable<'a> {
         TimetableRows::of(self.state.calling(tiploc).numbered(), self.permanent)
     }
 
-    /// The associations at a location that count. Each comes with its line, in the order of the
-    /// keys.
+    /// The associations at a location that count. Each is returned with its line, in the order of
+    /// the keys.
     pub fn linked(&self, tiploc: &Tiploc) -> TimetableRows<'a>
         ensures rows { AreLinked (live_in self.now) tiploc.now result }
         ensures good { IsOfGoodRows (live_in self.now) }
@@ -114,9 +114,9 @@ impl<'a> Timetable<'a> {
         TimetableRows::of(self.state.linked(tiploc).numbered(), self.permanent)
     }
 
-    /// The schedules of a UID that count. Each comes with its lines, in the order of the keys.
-    /// First looks at the row at index `near`, such as `TimetableRows` gives. If that row is of the
-    /// UID, no search is needed.
+    /// The schedules of a UID that count. Each is returned with its lines, in the order of the
+    /// keys. First reads the row at index `near`, for example an index from `TimetableRows`. If
+    /// that row is of the UID, no search is needed.
     pub fn of_uid_near(&self, uid: &Uid, near: usize) -> UidSchedules<'a>
         ensures rows { AreOfUid (live_in self.now) uid.now result }
         ensures good { IsOfGoodRows (live_in self.now) }

@@ -12,8 +12,9 @@ use cif_file::{Body, Key};
 use cif_line::Stp;
 use std::marker::Model;
 
-/// An iterator over the rows at a place that count, in key order. It gives the index, the key and
-/// the body of each row. No clause says that the index is right. It is a hint where to look first.
+/// An iterator over the rows at a place that count, in key order. It returns the index, the key and
+/// the body of each row. No clause says that the index is right: it is only a hint where to look
+/// first.
 #[derive(Clone, Debug, Drop)]
 pub struct TimetableRows<'a> {
     rows: Numbered<'a>,
@@ -58,8 +59,8 @@ impl<'a> Iterator for TimetableRows<'a> {
     }
 }
 
-/// An iterator over the schedules of a UID that count, in key order. It gives the key and the body
-/// of each.
+/// An iterator over the schedules of a UID that count, in key order. It returns the key and the
+/// body of each schedule.
 #[derive(Clone, Debug, Drop)]
 pub struct UidSchedules<'a> {
     rows: Live<'a>,

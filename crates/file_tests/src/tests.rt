@@ -357,7 +357,7 @@ fn cut_fault(length: u32, width: u32) -> Option<FileFault>
     Some(at(records.saturating_add(1), FileCause::NoEnd))
 }
 
-/// Asserts that each proper prefix of `F2` has the fault that `cut_fault` gives. Each line has
+/// Asserts that each proper prefix of `F2` has the fault that `cut_fault` returns. Each line has
 /// `width` bytes, including its line end.
 fn check_cuts(rt: &impl Abort, alloc: Global, end: &[u8], width: u32)
     requires { 80 < width }
@@ -434,8 +434,8 @@ fn a_journey(rt: HostRuntime) {
     same(&rt, journey.complete(), true);
 }
 
-/// The out-of-memory fault that each later call must return. That is the earlier one, if there was
-/// one, and otherwise the one that was returned at this record's line feed.
+/// The out-of-memory fault that each later call must return: the earlier fault if a call has
+/// returned one, and otherwise the fault returned at this record's line feed.
 fn memory_fault_from(
     fed: Option<FileFault>,
     wanting: Option<FileFault>,

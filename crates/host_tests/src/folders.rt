@@ -29,7 +29,7 @@ fn left_of<S: Source>(rt: &impl Abort, alloc: Global, source: &mut S) -> Option<
     None
 }
 
-/// Opens the named file and reads it to its end. `None` if either fails.
+/// Opens the named file and reads it to its end. `None` if opening or reading fails.
 pub(crate) fn read<F: Folder>(
     rt: &impl Abort,
     alloc: Global,

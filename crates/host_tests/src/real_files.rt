@@ -28,7 +28,7 @@ fn link(rt: &(impl Abort + Files), to: &str, name: &str) {
     assert!(rt; symlink(rt, to, name).is_ok());
 }
 
-/// Asserts whether anything has this name. A link counts as itself.
+/// Asserts whether there is a file or a link with this name. A symbolic link isn't followed.
 fn stands(rt: &(impl Abort + Files), name: &str, there: bool) {
     same(rt, fs::symlink_metadata(rt, name).is_ok(), there);
 }

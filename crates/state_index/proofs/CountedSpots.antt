@@ -40,7 +40,7 @@ total-append : (count : Key → Op → ℕ) (first second : List Pair) → total
 total-append count [] second = omega arith
 total-append count (pair ∷ first) second = let rest = total-append count first second in omega arith
 
--- if a list has an element, it is a front, followed by the element and a back
+-- a list that has an element is the concatenation of a front, the element and a back
 cut_at : (pairs : List Pair) (pair : Pair) → Contains pairs pair → (front : List Pair) × (back : List Pair) × (pairs ≡ front ++ (pair ∷ back))
 cut_at [] pair among = absurd (nil-Contains pair among)
 cut_at (first ∷ pairs) pair among = by (cut_at pairs pair) (Contains-cons first pairs pair among)

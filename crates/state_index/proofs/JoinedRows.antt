@@ -73,7 +73,7 @@ keyed_total : IsTotalOrder (on (λ (row : Keyed). row.0) key_cmp)
 keyed_total = on_total (λ (row : Keyed). row.0) key_total
 
 module _ (floor : Option FileStamp) (horizon : ℕ) where
-  -- `kept_lapsed` gives exactly the entries that the floor keeps, with the horizon applied
+  -- `kept_lapsed` is exactly the list of the entries that the floor keeps, with the horizon applied
   members_are : (entries : List Keyed) (key : model.Key) (entry : ops.Entry) → Contains (kept_lapsed floor horizon entries) (key, entry)
       ↔ LapsesTo entries floor horizon key entry
   members_are entries key entry = (

@@ -21,7 +21,7 @@ use Rattle.state_index.specs.Joined.{moved_spot, moved_spots}
 use Rattle.state_index.proofs.Positions.{Keyed}
 use Rattle.state_index.proofs.TurnRows.{Row, winner, IsLevel, first_len, second_len}
 
--- an op that is still a put once the horizon is applied is unchanged
+-- an op that is still a put once the horizon is applied was not changed by the horizon
 pub stays : (horizon : ℕ) (op : ops.Op) → is_put (lapse horizon op) ≡ true → lapse horizon op ≡ op
 stays horizon deleted put = refl
 stays horizon lapsed put = refl
@@ -32,12 +32,12 @@ stays horizon (put_with body) put = by (below_or horizon body)
         ≡ false = sym put ∙ gone in cc)
     by (inr above) = put_stays horizon body above
 
--- the spots of one row at its index in the join; none if it isn't live there
+-- the spots of one row at its index in the join; none if the row isn't live in the join
 abbrev pub at_move : Option ℕ → List (List ℕ) → List Spot
 at_move None places = []
 at_move (Some at) places = map (spot_at at) places
 
--- moving the spots of one row gives its spots at its new index
+-- moving the spots of one row results in the row's spots at its new index
 moved_row : (moves : List (Option ℕ)) (at : ℕ) (move : Option ℕ) → slice_get moves at ≡ Some move → (places : List (List ℕ))
     → filter_map (moved_spot moves) (map (spot_at at) places) ≡ at_move move places
 moved_row moves at None is [] = refl
@@ -83,7 +83,7 @@ module _ (places : Places) where
           ∙ (λ i. moved_row (front ++ move ∷ moves) (length front) move (behind_front front move moves) (places row.0 row.1.op) i
           ++ (sym (λ j. moved_spots (append_assoc front (move ∷ []) moves j) (spots_from places (longer j) rows)) ∙ later) i)
 
-  -- moving the spots of some rows gives the spots of each row at its new index
+  -- moving the spots of some rows results in the spots of each row at its new index
   pub moved_along : (moves : List (Option ℕ)) (rows : List Keyed) → length moves ≡ length rows → moved_spots moves (spots_of places rows) ≡ along moves rows
   moved_along moves rows size = along_from [] moves rows size
 
@@ -131,7 +131,7 @@ second_more : (front all first second : List Spot) → AreOfBoth all first secon
 second_more front all first second told =
     turned (front ++ all) (front ++ second) first (first_more front all second first (turned all first second told))
 
--- whether the floor keeps what comes from a row's file
+-- whether the floor keeps an entry that comes from the same file as a row's entry
 abbrev pub keeps : Option FileStamp → Keyed → Bool
 keeps floor pair = is_kept floor pair.1.stamp.file
 
@@ -142,7 +142,7 @@ module _ (places : Places) (none : (key : model.Key) (op : ops.Op) → is_put op
   abbrev Kept : List Row → List Keyed
   Kept rows = kept_lapsed floor horizon (map row_meant rows)
 
-  -- the spots of winning rows are the first row's at its index in the join, followed by the spots of the others
+  -- the spots of winning rows are the spots of the first row at its index in the join, followed by the spots of the other rows
   row_out : (at : ℕ) (row : Row) (rows : List Row)
       → spots_from places at (Kept (row ∷ rows)) ≡ at_move (goes floor horizon at row.1) (places (key_meant row.0) (op_meant row.1.op)) ++ spots_from places
       (after floor at row.1) (Kept rows)

@@ -21,7 +21,7 @@ use Rattle.state_index.proofs.MovedSpots.{joined_spots}
 none_some : {A : Type 0} (a : A) → None ≡ Some a → ⊥
 none_some a h = cc
 
--- applying two functions in turn, each of which maps some elements and drops the others, can be done by one such function
+-- two functions, each of which maps some elements and drops the others, can be composed into one such function
 fused : {A B C : Type 0} (f : A → Option B) (g : B → Option C) (xs : List A) → filter_map g (filter_map f xs) ≡ filter_map (λ x. option_and_then g (f x)) xs
 fused f g [] = refl
 fused {A} {B} {C} f g (x ∷ xs) = by (f x) (fused f g xs)
@@ -96,7 +96,7 @@ module _ (names others : List (List ℕ)) (ranks : List ℕ) (are : AreRanks oth
           let same : record { place = rank; at = p } ≡ moved = some_is (record { place = rank; at = p }) moved told in
           (at ∙ ap (λ (m : Posting). Some m.place) same, there ∙ ap (λ (m : Posting). Some (Some m.at)) same)
 
-  -- each rank is the index, in the new list of names, of the place that the old list has there
+  -- the i-th rank is the index, in the new list of names, of the i-th place of the old list
   placed : (i rank : ℕ) → slice_get ranks i ≡ Some rank → (place : List ℕ) × (slice_get names i ≡ Some place) × (slice_get others rank ≡ Some place)
   placed i rank is = by (slice_get names i) refl
     where

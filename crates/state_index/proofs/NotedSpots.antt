@@ -117,7 +117,7 @@ links_noted : (names sorted : List (List ℕ)) (ranks numbers : List ℕ) → Ar
 links_noted names sorted ranks numbers are count rows pieces count_is noted =
     (all_spots names sorted ranks are link_places true (λ ns item piece is. is.links) numbers count 0 rows pieces noted (omega arith)).0
 
--- Says that these postings are in row order, that their places are in the list, and that they have the spots of the rows.
+-- Says that these postings are in row order, that their places are in the list, and that their spots are the spots of the rows.
 pub record IsWalk (places : Places) (rows : List Keyed) (sorted : List (List ℕ)) (walk : List Posting) : Type 0 where
   pub spots : spots_in sorted walk ≡ spots_of places rows
   pub len : length walk ≡ length (spots_of places rows)
@@ -136,7 +136,7 @@ walked places rows sorted walk postings same told = subst (IsWalk places rows so
     in_order : AreBelow (length sorted) postings × AreFrom 0 postings
     in_order = made_of_rows places rows sorted postings told.0 (ap length told.0 ∙ sym told.1)
 
--- a walk over noted calls gives the postings of the rows' calls, in row order
+-- a walk over noted calls visits the postings of the rows' calls, in row order
 pub calls_walk : (names sorted : List (List ℕ)) (ranks numbers : List ℕ) → AreRanks sorted names ranks → (count : ℕ) (rows : List Keyed) (pieces : List Piece)
     → count ≡ length rows → AreNoted names numbers (items_of rows) pieces → (walk : List Posting) → walk ≡ noted_postings false ranks numbers count pieces
     → IsWalk call_places rows sorted walk
@@ -144,7 +144,7 @@ calls_walk names sorted ranks numbers are count rows pieces count_is noted walk 
     walked call_places rows sorted walk (noted_postings false ranks numbers count pieces) walk_is
     (calls_noted names sorted ranks numbers are count rows pieces count_is noted)
 
--- a walk over noted links gives the postings of the rows' links, in row order
+-- a walk over noted links visits the postings of the rows' links, in row order
 pub links_walk : (names sorted : List (List ℕ)) (ranks numbers : List ℕ) → AreRanks sorted names ranks → (count : ℕ) (rows : List Keyed) (pieces : List Piece)
     → count ≡ length rows → AreNoted names numbers (items_of rows) pieces → (walk : List Posting) → walk ≡ noted_postings true ranks numbers count pieces
     → IsWalk link_places rows sorted walk

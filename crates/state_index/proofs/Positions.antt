@@ -1,4 +1,4 @@
--- The elements of a list by index, and the rows that spots name.
+-- The elements of a list by index, and the rows of spots.
 use Rattle.std.proofs.Common.{◌≡◌, ℕ, zero, suc, ◌+◌, ◌<◌, List, [], ◌∷◌, map, refl, ap, sym, ◌∙◌, subst, inl, inr, ◌⊎◌, Some, None, Contains, arith}
 use Rattle.std.specs.Prelude.{Option, slice_get}
 use Rattle.std.specs.List.{AllByRecursion, filter_map, cons_option}
@@ -48,7 +48,7 @@ module _ {A : Type 0} where
   at_ascends cmp (z ∷ zs) up (suc i) (suc j) x y before is_x is_y = at_ascends cmp zs up.1 i j x y (omega arith) is_x is_y
 
 module _ {A B : Type 0} (f : A → Option B) where
-  -- each member of the results that a function gives for a list comes from an element of the list
+  -- each result that a function has for the elements of a list is its result for some element of the list
   pub chosen_from : (xs : List A) (z : B) → Contains (filter_map f xs) z → (x : A) × Contains xs x × (f x ≡ Some z)
   chosen_from [] z among = absurd (nil-Contains z among)
   chosen_from (x ∷ xs) z among = by (f x) refl (chosen_from xs z) among
@@ -65,7 +65,7 @@ module _ {A B : Type 0} (f : A → Option B) where
           cases (inl same) = (x, cons-Contains-first x xs, is ∙ ap Some same)
           cases (inr behind) = later (rest behind)
 
-  -- if a function gives a result for an element of a list, the result is among those for the list
+  -- the result that a function has for an element of a list is among its results for the list
   pub chosen_to : (xs : List A) (x : A) (z : B) → Contains xs x → f x ≡ Some z → Contains (filter_map f xs) z
   chosen_to [] x z among is = absurd (nil-Contains x among)
   chosen_to (y ∷ ys) x z among is = by (f y) refl (λ inside. chosen_to ys x z inside is) (Contains-cons y ys x among)
@@ -77,7 +77,7 @@ module _ {A B : Type 0} (f : A → Option B) where
       by None none rest (inr inside) = rest inside
       by (Some c) some rest (inr inside) = cons-Contains c (filter_map f ys) z (rest inside)
 
-  -- if a function keeps the order of elements, its results for an ascending list ascend
+  -- if a function preserves the order of elements, its results for an ascending list ascend
   module _ (low_cmp : A → A → Ordering) (cmp : B → B → Ordering) (keeps : (a b : A) (c d : B) → low_cmp a b ≡ Less → f a ≡ Some c → f b ≡ Some d → cmp c d
       ≡ Less) where
     chosen_above : (x : A) (c : B) → f x ≡ Some c → (xs : List A) → AllByRecursion (IsBelow low_cmp x) xs → AllByRecursion (IsBelow cmp c) (filter_map f xs)
@@ -97,7 +97,7 @@ module _ {A B : Type 0} (f : A → Option B) where
         by (Some c) some rest = (chosen_above x c some xs up.0, rest)
 
 module _ (places : Places) where
-  -- Says that a spot names one of these rows and is at one of its places. The first of the rows is at a given index.
+  -- Says that the row of a spot is one of these rows, and that the spot is at one of the row's places. The first of the rows is at a given index.
   abbrev StandsFrom : ℕ → List Keyed → Spot → Type 0
   StandsFrom at rows spot = (i : ℕ) × (row : Keyed) × (slice_get rows i ≡ Some row) × (spot.at ≡ i + at) × Contains (places row.0 row.1.op) spot.place
 
@@ -130,7 +130,7 @@ module _ (places : Places) where
       Contains-append_right (map (spot_at at) (places first.0 first.1.op)) (spots_from places (1 + at) rows) (spot_at (suc i + at) place)
       (subst (λ n. Contains (spots_from places (1 + at) rows) (spot_at n place)) next (to_spots (1 + at) rows i row place is among))
 
-  -- Says that a spot names one of these rows, and is at one of its places.
+  -- Says that the row of a spot is one of these rows, and that the spot is at one of the row's places.
   abbrev pub Stands : List Keyed → Spot → Type 0
   Stands rows spot = (row : Keyed) × (slice_get rows spot.at ≡ Some row) × Contains (places row.0 row.1.op) spot.place
 

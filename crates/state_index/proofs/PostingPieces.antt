@@ -18,7 +18,7 @@ use Rattle.state_index.specs.PostingOrder.{posting_cmp}
 use Rattle.state_index.specs.PlaceRows.{IsPieceOf}
 
 module _ {A : Type 0} (P : A → Type 0) where
-  -- what holds of the elements at the indexes below n holds of each of the first n elements
+  -- a property of all elements at indexes below n is a property of each of the first n elements
   taken : (xs : List A) (n : ℕ) → n ≤ length xs → ((k : ℕ) (d : A) → 0 ≤ k → k < n → P (get_or xs k d)) → (z : A) → Contains (take n xs) z → P z
   taken xs zero bound all z among = absurd (nil-Contains z among)
   taken [] (suc n) bound all z among = absurd (let none : suc n ≤ 0 = bound in omega arith)
@@ -29,7 +29,7 @@ module _ {A : Type 0} (P : A → Type 0) where
       by rest (inl same) = subst P same (all 0 x (omega arith) (omega arith))
       by rest (inr inside) = rest inside
 
-  -- what holds of the elements at the indexes from n on holds of each element after the first n
+  -- a property of all elements at indexes from n on is a property of each element after the first n
   dropped : (xs : List A) (n : ℕ) → n ≤ length xs → ((k : ℕ) (d : A) → n ≤ k → k < length xs → P (get_or xs k d)) → (z : A) → Contains (drop n xs) z → P z
   dropped [] zero bound all z among = absurd (nil-Contains z among)
   dropped [] (suc n) bound all z among = absurd (let none : suc n ≤ 0 = bound in omega arith)
@@ -62,7 +62,7 @@ below_at (posting ∷ postings) (suc i) (suc j) d up before within = below_at po
 abbrev by_place : ℕ → Posting → Ordering
 by_place place posting = nat_cmp posting.place place
 
--- Says that a test of a comparison fails for greater, and that it passes for less if it passes for equal.
+-- Says that a test of a comparison is monotone: it fails for greater, and if it passes for equal, it passes for less.
 abbrev GoesDown : (Ordering → Bool) → Type 0
 GoesDown test = (test Greater ≡ false) × (test Equal ≡ true → test Less ≡ true)
 

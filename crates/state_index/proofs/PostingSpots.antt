@@ -1,4 +1,4 @@
--- Postings, and the spots that they give with the names of places.
+-- Postings and their spots. A spot has the TIPLOC of the place whose index the posting has.
 use Rattle.std.proofs.Common.{◌≡◌, ℕ, List, [], ◌∷◌, ◌++◌, refl, ap, sym, ◌∙◌, subst, Some, None, Contains, Bool, true, false, cond, append-nil}
 use Rattle.std.specs.Prelude.{Option, ◌↔◌, filter, slice_get, option_map, option_and_then}
 use Rattle.std.specs.List.{cons_option}
@@ -68,7 +68,7 @@ module _ (names : List (List ℕ)) (up : IsStrictlyAscending bytes_cmp names) wh
   one_rank : (i j : ℕ) (place : List ℕ) → slice_get names i ≡ Some place → slice_get names j ≡ Some place → i ≡ j
   one_rank i j place is_i is_j = exact_unsigned i j (sym (place_order i j place place is_i is_j) ∙ tied_itself nat_list_cmp_total place)
 
-  -- the piece of the postings at a place gives the piece of the spots at this place
+  -- the spots of all postings of a place are all spots of this place
   pub piece_at : (rank : ℕ) (place : List ℕ) (postings piece : List Posting) → slice_get names rank ≡ Some place → IsPieceOf rank postings piece
       → IsPieceAt place (spots_in names postings) (spots_in names piece)
   piece_at rank place postings piece at is = record {
@@ -102,7 +102,7 @@ no_piece names postings place never all all_is = record {
   none_behind = λ spot among. absurd (nil-Contains spot among);
 }
 
--- the postings of a place name the same rows as their spots
+-- the postings of a place have the same rows as their spots
 pub same_rows : (names : List (List ℕ)) (rank : ℕ) (place : List ℕ) → slice_get names rank ≡ Some place → (piece : List Posting)
     → ((posting : Posting) → Contains piece posting → posting.place ≡ rank) → (rows : List Keyed)
     → rows_at_postings rows piece ≡ rows_at_spots rows (spots_in names piece)

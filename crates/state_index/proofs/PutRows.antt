@@ -9,7 +9,7 @@ use Rattle.state_index.specs.Turns.{is_put}
 use Rattle.state_index.proofs.Positions.{Keyed}
 use Rattle.state_index.proofs.LapsedSpots.{live_is}
 
--- the flag of the row that a posting names says whether this row is live
+-- the flag of a posting's row says whether this row is live
 pub told_put : (rows : List Keyed) (puts : List Bool) (posting : Posting) → puts ≡ puts_in rows
     → put_among puts posting ≡ is_put_at_posting rows posting
 told_put rows puts posting is =

@@ -11,7 +11,7 @@ use Rattle.state_index.specs.Joined.{AreRising}
 none_some : {A : Type 0} (a : A) → None ≡ Some a → ⊥
 none_some a h = cc
 
--- Says that the indexes to which rows are moved are at least a given index, and that each is greater than the ones before it.
+-- Says that the indexes to which rows are moved are strictly increasing, and that none is below a given index.
 abbrev RiseFrom : ℕ → List (Option ℕ) → Type 0
 RiseFrom low [] = ⊤
 RiseFrom low (None ∷ moves) = RiseFrom low moves
@@ -40,7 +40,7 @@ rises low (None ∷ moves) rise (suc i) (suc j) p q before is_p is_q = rises low
 rises low (Some at ∷ moves) rise (suc i) (suc j) p q before is_p is_q = rises (1 + at) moves rise.1 i j p q (omega arith) is_p is_q
 
 module _ (floor : Option FileStamp) (horizon : ℕ) where
-  -- moves are still in order if one more row is put before them, whether or not it is in the join
+  -- prepending the move of one more row keeps moves in order, whether or not the row is in the join
   one_more : (at : ℕ) (entry : Entry) (moves : List (Option ℕ)) → RiseFrom (after floor at entry) moves → RiseFrom at (goes floor horizon at entry ∷ moves)
   one_more at entry moves rise = by (is_kept floor (entry_meant entry).stamp.file) (is_put (lapse horizon (entry_meant entry).op)) rise
     where

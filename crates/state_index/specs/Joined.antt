@@ -1,4 +1,4 @@
--- How the rows of two tables get into the rows of their join.
+-- At which index each row of two tables is in their join.
 use Rattle.std.specs.Prelude.{◌≡◌, ℕ, ◌+◌, ◌<◌, ◌≤◌, ◌^◌, [], ◌↔◌, ◌⊎◌, List, map, slice_get, Option, Some, option_map, option_and_then, Contains}
 use Rattle.std.specs.List.{filter_map}
 use Rattle.std.specs.Vec.{vec_len, vec_capacity}
@@ -70,7 +70,7 @@ abbrev pub HasMovedSpots : Places → List (model.Key × ops.Entry) → List (mo
 HasMovedSpots places first second joined moves = (spot : Spot) → Contains (spots_of places joined) spot
     ↔ (Contains (moved_spots moves.first.items (spots_of places first)) spot ⊎ Contains (moved_spots moves.second.items (spots_of places second)) spot)
 
--- Says that these moves say where the rows of two tables are in their join.
+-- Says that these moves have, for each row of two tables, its index in their join.
 pub record AreMoves (first second joined : List (model.Key × ops.Entry)) (moves : Moves) : Type 0 where
   pub first_rise : AreRising moves.first.items
   pub second_rise : AreRising moves.second.items

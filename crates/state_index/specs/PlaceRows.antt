@@ -1,4 +1,4 @@
--- The live rows that spots and postings name.
+-- The live rows of spots and postings.
 use Rattle.std.specs.Prelude.{◌≡◌, ℕ, Bool, false, List, ◌++◌, map, Contains, Option, Some, None, slice_get, option_and_then}
 use Rattle.std.specs.List.{filter_map}
 use Rattle.std.specs.Option.{is_some}
@@ -13,19 +13,19 @@ use Rattle.state_index.specs.declared.posting.Posting.{Posting}
 abbrev pub live_row : Key × Entry → Option Row
 live_row row = option_and_then (λ body. Some (row.0, body)) (body_of row.1.op)
 
--- the live row that a spot names; none if the row isn't live
+-- the live row of a spot; none if the spot's row isn't live
 abbrev pub live_at : List (Key × Entry) → Spot → Option Row
 live_at rows spot = option_and_then live_row (slice_get rows spot.at)
 
--- the live rows that some spots name, in the order of the spots
+-- the live rows of some spots, in the order of the spots
 abbrev pub rows_at_spots : List (Key × Entry) → List Spot → List Row
 rows_at_spots rows spots = filter_map (live_at rows) spots
 
--- the live row that a posting names; none if the row isn't live
+-- the live row of a posting; none if the posting's row isn't live
 abbrev pub live_at_posting : List (Key × Entry) → Posting → Option Row
 live_at_posting rows posting = option_and_then live_row (slice_get rows posting.at)
 
--- the live rows that some postings name, in the order of the postings
+-- the live rows of some postings, in the order of the postings
 abbrev pub rows_at_postings : List (Key × Entry) → List Posting → List Row
 rows_at_postings rows postings = filter_map (live_at_posting rows) postings
 
@@ -47,11 +47,11 @@ pub record IsPieceAt (place : List ℕ) (spots piece : List Spot) : Type 0 where
   pub here : (spot : Spot) → Contains piece spot → spot.place ≡ place
   pub none_behind : (spot : Spot) → Contains behind spot → ¬ (spot.place ≡ place)
 
--- whether the row that a spot names is live
+-- whether the row of a spot is live
 abbrev pub is_put_at : List (Key × Entry) → Spot → Bool
 is_put_at rows spot = is_some (live_at rows spot)
 
--- whether the row that a posting names is live
+-- whether the row of a posting is live
 abbrev pub is_put_at_posting : List (Key × Entry) → Posting → Bool
 is_put_at_posting rows posting = is_some (live_at_posting rows posting)
 
@@ -64,6 +64,6 @@ abbrev pub or_not : Option Bool → Bool
 or_not None = false
 or_not (Some put) = put
 
--- whether the row that a posting names is live, according to a list with one flag for each row
+-- whether the row of a posting is live, according to a list with one flag for each row
 abbrev pub put_among : List Bool → Posting → Bool
 put_among puts posting = or_not (slice_get puts posting.at)

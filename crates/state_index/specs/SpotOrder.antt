@@ -1,5 +1,5 @@
--- Spots and their order. A spot says the same as a posting, but has the TIPLOC itself in place of its
--- index.
+-- Spots and their order. A spot is like a posting, but has the TIPLOC itself in place of the
+-- TIPLOC's index.
 use Rattle.std.specs.Prelude.{ℕ, List}
 use Rattle.std.specs.declared.cmp.Ordering.{Ordering}
 use Rattle.std.specs.Ordering.{ordering_then, nat_cmp}

@@ -11,7 +11,7 @@ use Rattle.state_index.specs.declared.posting.Posting.{Posting}
 use Rattle.state_index.specs.PostingOrder.{posting_cmp}
 use Rattle.state_index.specs.declared.index.Index.{Index}
 
--- a function that gives the places where a row with this key and op calls, or the places where it
+-- a function from a row's key and op to the places where the row calls, or to the places where it
 -- is linked
 abbrev pub Places : Type 0
 Places = Key → Op → List (List ℕ)

@@ -1,4 +1,4 @@
--- From spots to rows of the two indexes that the definitions have of a live table.
+-- Translates spots into rows of the two indexes of a live table in the definitions.
 use Rattle.std.specs.Prelude.{ℕ, List, Option, Some, None, slice_get, option_and_then}
 use Rattle.std.specs.List.{filter_map}
 use Rattle.docker_model.specs.file.Change.{Key, association_key, schedule_key}
@@ -6,20 +6,20 @@ use Rattle.docker_model.specs.state.Op.{Entry}
 use Rattle.state_laws.specs.Index.{CallingRow, LinkedRow}
 use Rattle.state_index.specs.SpotOrder.{Spot}
 
--- the row of the index of calls for a place and a key; none unless it is a schedule's key
+-- the row of the index of calls for a place and a key; none unless the key is a schedule's
 abbrev pub calling_row : List ℕ → Key → Option CallingRow
 calling_row place (schedule_key key) = Some (place, key)
 calling_row _ _ = None
 
--- the row of the index of links for a place and a key; none unless it is an association's key
+-- the row of the index of links for a place and a key; none unless the key is an association's
 abbrev pub linked_row : List ℕ → Key → Option LinkedRow
 linked_row place (association_key key) = Some (place, key)
 linked_row _ _ = None
 
--- the rows that some spots give in the index of calls
+-- the rows of the index of calls for some spots
 abbrev pub calling_rows : List (Key × Entry) → List Spot → List CallingRow
 calling_rows rows spots = filter_map (λ (spot : Spot). option_and_then (λ (row : Key × Entry). calling_row spot.place row.0) (slice_get rows spot.at)) spots
 
--- the rows that some spots give in the index of links
+-- the rows of the index of links for some spots
 abbrev pub linked_rows : List (Key × Entry) → List Spot → List LinkedRow
 linked_rows rows spots = filter_map (λ (spot : Spot). option_and_then (λ (row : Key × Entry). linked_row spot.place row.0) (slice_get rows spot.at)) spots

@@ -14,7 +14,7 @@ use Rattle.docker_join.specs.Rows.{row_cmp}
 use Rattle.state_index.specs.declared.turns.Turn.{Turn}
 use Rattle.state_index.specs.declared.turns.Turn.TheVariants as turn
 
--- one turn of the walk: a key, with the rows that two tables have there
+-- one turn of the walk: a key, with the rows of two tables that have this key
 pub data AtKey : Type 0 where
   in_first : (one : Key × Entry) → AtKey
   in_second : (other : Key × Entry) → AtKey
@@ -69,12 +69,12 @@ is_put lapsed = false
 is_put (put_with body) = true
 
 -- the index that a winning entry gets in the join, if `at` rows come before it. None if the floor
--- doesn't keep it, or if it isn't live once the horizon is applied
+-- doesn't keep the entry, or if the entry isn't live once the horizon is applied
 abbrev pub goes : Option FileStamp → ℕ → ℕ → Entry → Option ℕ
 goes floor horizon at entry =
     if is_kept floor (entry_meant entry).stamp.file && is_put (lapse horizon (entry_meant entry).op) then Some at else None
 
--- how many rows the join has after a winning entry, if it had `at` before
+-- how many rows the join has after a winning entry, if the join had `at` rows before
 abbrev pub after : Option FileStamp → ℕ → Entry → ℕ
 after floor at entry = if is_kept floor (entry_meant entry).stamp.file then 1 + at else at
 

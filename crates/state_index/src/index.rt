@@ -28,17 +28,16 @@ use cif_change::{Key, Memory, Notes, Tiploc};
 use docker_join::Entry;
 use std::alloc::Global;
 
-/// An index of a table's rows by place. For each TIPLOC it says which rows call or are linked
-/// there.
+/// An index of a table's rows by place: for each TIPLOC, the rows that call or are linked at it.
 #[derive(Debug, Drop)]
 pub struct Index {
     /// The TIPLOCs that the rows name, in ascending order and each once.
     pub places: Vec<[u8; 7]>,
-    /// One posting for each live schedule and each place at which it calls, in an LO, LI or LT record.
-    /// Postings ascend by place and then by row, and none is repeated.
+    /// One posting for each live schedule and each place at which it calls, in an LO, LI or LT
+    /// record. Postings ascend by place and then by row, and none is repeated.
     pub calls: Vec<Posting>,
-    /// One posting for each live association, at its location. Postings ascend by place and then by row,
-    /// and none is repeated.
+    /// One posting for each live association, at its location. Postings ascend by place and then by
+    /// row, and none is repeated.
     pub links: Vec<Posting>,
 }
 

@@ -1,5 +1,5 @@
-//! The laws of indexes. An index of a state's rows gives the indexes of its live table, and rows
-//! have only one index. Each law is the contract of a function without a body.
+//! The laws of indexes. An index of a state's rows determines the indexes of its live table, and
+//! the index of some rows is unique. Each law is the contract of a function without a body.
 ghost use Rattle.std.specs.Prelude.{◌≡◌, List};
 ghost use Rattle.docker_model.specs.file.Change.{Key};
 ghost use Rattle.docker_model.specs.state.Op.{Entry};
@@ -9,7 +9,7 @@ ghost use Rattle.state_index.specs.declared.index.Index.{Index};
 ghost use Rattle.state_index.specs.Spots.{IsIndexOf, call_spots, link_spots};
 ghost use Rattle.state_index.specs.Tables.{calling_rows, linked_rows};
 
-/// The spots in an index of a state's rows give the two indexes of the state's live table: where
+/// The spots in an index of a state's rows are the two indexes of the state's live table: where
 /// schedules call, and where associations are.
 pub fn indexes_of_rows()
     ensures calls { (state : State) (index : Index)

@@ -82,7 +82,7 @@ impl Moves {
     }
 
     /// Notes the moves of the one or two rows of a turn, before which the join has `at` rows.
-    /// Returns how many rows it has after the turn.
+    /// Returns how many rows the join has after the turn.
     fn take(&mut self, turn: Turn<'_>, floor: &Option<FileStamp>, horizon: u16, at: u32) -> u32
         requires few { at + 1 < 2 ^ 32 }
         requires first_room { vec_len self.old.first + length (firsts (turn_meant turn ∷ []))
@@ -153,7 +153,7 @@ fn index_of(entry: &Entry, floor: &Option<FileStamp>, horizon: u16, at: u32) -> 
     }
 }
 
-/// How many rows the join has after a winning entry, if it had `at` before.
+/// How many rows the join has after a winning entry, if the join had `at` rows before.
 fn index_after(entry: &Entry, floor: &Option<FileStamp>, at: u32) -> u32
     requires { at + 1 < 2 ^ 32 }
     ensures { result ≡ after (floor_meant floor.now) at entry.now }

@@ -18,9 +18,9 @@ use cif_change::{Body, Key};
 use docker_join::{Entry, Op};
 use std::marker::Model;
 
-/// An iterator over the live rows at a place, in key order. It gives the index, the key and the
-/// body of each row. No clause says that the index is right. A caller may use it as a hint where to
-/// look first, but no result may depend on it.
+/// An iterator over the live rows at a place, in key order. It returns the index, the key and the
+/// body of each row. No clause says that the index is right. A caller may use the index as a hint
+/// where to look first, but no result may depend on it.
 #[derive(Clone, Debug, Drop)]
 pub struct Numbered<'a> {
     rows: &'a [(Key, Entry)],
@@ -58,7 +58,7 @@ impl<'a> Iterator for Numbered<'a> {
     }
 }
 
-/// An iterator over the live rows at a place, in key order. It gives the key and the body of each
+/// An iterator over the live rows at a place, in key order. It returns the key and the body of each
 /// row.
 #[derive(Clone, Debug, Drop)]
 pub struct PlaceRows<'a> {
@@ -75,7 +75,7 @@ impl<'a> Model for PlaceRows<'a> {
 }
 
 impl<'a> PlaceRows<'a> {
-    /// An iterator over the rows that these postings name.
+    /// An iterator over the rows of these postings.
     pub(crate) fn of(rows: &'a [(Key, Entry)], postings: &'a [Posting]) -> PlaceRows<'a>
         ensures { result ≡ rows_at_postings (map row_meant rows.entry.now) postings.entry.now }
     {
@@ -84,7 +84,7 @@ impl<'a> PlaceRows<'a> {
         }
     }
 
-    /// An iterator over the same rows that also gives the index of each, from 0.
+    /// An iterator over the same rows that also returns the index of each row, from 0.
     pub fn numbered(self) -> Numbered<'a>
         ensures { result ≡ self.entry }
     {
@@ -108,7 +108,7 @@ impl<'a> Iterator for PlaceRows<'a> {
     }
 }
 
-/// The row that a posting names, if it is live: its op is a put.
+/// The row of a posting, if it is live: its op is a put.
 fn live_at<'a>(rows: &'a [(Key, Entry)], posting: &Posting) -> Option<(&'a Key, &'a Body)>
     ensures { option_map (λ row. (key_meant row.0.now, body_meant row.1.now)) result
         ≡ live_at_posting (map row_meant rows.entry.now) posting.now }
@@ -122,7 +122,7 @@ fn live_at<'a>(rows: &'a [(Key, Entry)], posting: &Posting) -> Option<(&'a Key, 
     }
 }
 
-/// Whether the op of the row that a posting names is a put.
+/// Whether the op of a posting's row is a put.
 pub(crate) fn is_put_at(rows: &[(Key, Entry)], posting: &Posting) -> bool
     ensures { result ≡ is_put_at_posting (map row_meant rows.now) posting.now }
 {
@@ -132,8 +132,8 @@ pub(crate) fn is_put_at(rows: &[(Key, Entry)], posting: &Posting) -> bool
     }
 }
 
-/// The postings of one place among ascending postings, found by binary search. `rank` is the index of the
-/// place in the list of places.
+/// The postings of one place among ascending postings, found by binary search. `rank` is the index
+/// of the place in the list of places.
 pub(crate) fn postings_of<'a>(postings: &'a [Posting], rank: usize) -> &'a [Posting]
     requires { IsStrictlyAscending posting_cmp postings.now }
     ensures { IsPieceOf rank postings.entry.now result.now }
@@ -157,8 +157,8 @@ fn is_up_to(posting: &Posting, rank: usize) -> bool
     (posting.place as usize).cmp(&rank).is_le()
 }
 
-/// The postings of one place among ascending postings, found by binary search. None are found if the
-/// place isn't in the list of places.
+/// The postings of one place among ascending postings, found by binary search. None are found if
+/// the place isn't in the list of places.
 pub(crate) fn postings_at<'a>(
     places: &[[u8; 7]],
     postings: &'a [Posting],

@@ -26,8 +26,8 @@ pub(crate) fn puts_of(alloc: Global, rows: &[(Key, Entry)]) -> Option<Vec<bool>>
     Some(puts)
 }
 
-/// Keeps only the postings of rows whose op is a put. Looks the ops up in the table `puts`, which is
-/// small enough for the cache. Without that table it reads the rows themselves.
+/// Keeps only the postings of rows whose op is a put. Looks the ops up in the table `puts`, which
+/// is small enough for the cache. Without that table it reads the rows themselves.
 pub(crate) fn keep_put(postings: &mut Vec<Posting>, rows: &[(Key, Entry)], puts: &Option<Vec<bool>>)
     requires { IfSome puts.now (λ puts. puts.items ≡ puts_in (map row_meant rows.now)) }
     ensures { postings.new.items
@@ -42,7 +42,7 @@ pub(crate) fn keep_put(postings: &mut Vec<Posting>, rows: &[(Key, Entry)], puts:
     }
 }
 
-/// Whether the op of the row that a posting names is a put, according to the table.
+/// Whether the op of a posting's row is a put, according to the table.
 fn is_put_in(puts: &[bool], posting: &Posting) -> bool
     ensures { result ≡ put_among puts.now posting.now }
 {

@@ -1,4 +1,4 @@
-//! The memory that making an index needs, reserved before it is made.
+//! The memory that making an index needs, reserved before the index is made.
 ghost use Rattle.std.specs.Prelude.{◌<◌, List, IfOk};
 ghost use Rattle.docker_model.specs.file.Change as model;
 ghost use Rattle.docker_model.specs.state.Op as ops;
@@ -26,8 +26,9 @@ pub struct Room {
 }
 
 impl Room {
-    /// Reserves memory for the index of the noted rows. If changes were noted, it is enough for the
-    /// rows that they make, one for each key. Returns `Memory` if the allocator refuses.
+    /// Reserves memory for the index of the noted rows. If changes were noted, the memory is enough
+    /// for the rows that the changes make, one for each key. Returns `Memory` if the allocator
+    /// refuses.
     pub fn for_notes(alloc: Global, notes: &Notes) -> Result<Room, Memory>
         ensures rows { (rows : List (model.Key × ops.Entry)) → HasNoted (items_of rows) notes.now
             → IfOk result (HasRoomFor rows notes.now.names.list.items) }

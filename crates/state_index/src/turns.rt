@@ -7,7 +7,7 @@ use docker_join::Entry;
 use std::cmp::Ordering;
 use std::marker::Model;
 
-/// The rows that two tables have at one key.
+/// The rows of two tables that have one key.
 #[derive(Clone, Copy, Debug)]
 pub(crate) enum Turn<'a> {
     /// Only the first table has the key.
@@ -18,8 +18,8 @@ pub(crate) enum Turn<'a> {
     Both(&'a (Key, Entry), &'a (Key, Entry)),
 }
 
-/// An iterator over the keys of two tables, in ascending order. For each key it gives the rows that
-/// the tables have there.
+/// An iterator over the keys of two tables, in ascending order. For each key it returns the rows of
+/// the tables that have the key.
 #[derive(Clone, Debug, Drop)]
 pub(crate) struct Turns<'a> {
     first: &'a [(Key, Entry)],

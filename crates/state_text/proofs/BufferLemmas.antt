@@ -1,4 +1,4 @@
--- Pieces that are given to a sink through a buffer, one after the other.
+-- Pieces that are written to a sink through a buffer, one after the other.
 use Rattle.std.proofs.Common.{◌≡◌, ℕ, suc, ◌+◌, ◌<◌, ◌≤◌, List, [], ◌∷◌, ◌++◌, length, take, drop, get_or, map, refl, ap, sym, ◌∙◌}
 use Rattle.std.proofs.Common.{subst, arith, append_assoc, append-nil, length-append, Some, None, Ok, Err, Result}
 use Rattle.std.specs.Prelude.{Option, IsErr, IsErrAnd, OnOk, OnErr}
@@ -9,7 +9,7 @@ use Rattle.cif_device.proofs.DeviceLemmas.{counts_error}
 use Rattle.cif_device.specs.Device.{CountsFailure, Takes, TakesPart}
 use Rattle.state_text.specs.Written.{Gathers, Gives, Flushes}
 
--- the bytes that a sink has taken, or None if it can't name them
+-- the bytes that a sink has taken, or None if contracts don't know them
 abbrev Told : Type 0
 Told = Option (List ℕ)
 
@@ -77,14 +77,14 @@ gathers_part a b p c d q e first part =
 -- ---- what is given, by the result
 
 module _ {S A E : Type 0} (taken : S → Told) (failures : S → ℕ) where
-  -- if a buffer is written, its bytes are given to the sink
+  -- writing the buffer writes its bytes to the sink
   pub flush_gives : (old new : S) (held holds : List ℕ) (result : Result A E) → Flushes taken failures old held result new
       → OnOk result (holds ≡ []) → Gives taken failures old held [] result new holds
   flush_gives old new held holds (Ok done) whole empty = ((held, ap (λ xs. held ++ xs) empty, whole.0), whole.1)
   flush_gives old new held holds (Err failed) part empty =
       (subst (λ xs. TakesPart (taken old) xs (taken new)) (sym (append-nil held)) part.0, part.1)
 
-  -- if a piece was gathered and the next one is given, both are given
+  -- if a piece was gathered and the next one is written, the concatenation of both is written
   pub then_gives : (old mid new : S) (b p d q h : List ℕ) (result : Result A E) → Gathers (taken old) b p (taken mid) d
       → failures mid ≡ failures old → Gives taken failures mid d q result new h → Gives taken failures old b (p ++ q) result new h
   then_gives old mid new b p d q h (Ok done) first same second =
@@ -92,7 +92,7 @@ module _ {S A E : Type 0} (taken : S → Told) (failures : S → ℕ) where
   then_gives old mid new b p d q h (Err failed) first same second =
       (gathers_part (taken old) b p (taken mid) d q (taken new) first second.0, second.1 ∙ ap (λ n. n + 1) same)
 
-  -- a failure at the first of two pieces is a failure at both together
+  -- a failure while writing the first of two pieces is a failure while writing their concatenation
   pub fails_first : (old new : S) (b p q holds : List ℕ) (result : Result A E) (Q : E → Type 0) → IsErrAnd result Q
       → TakesPart (taken old) (b ++ p) (taken new) × (failures new ≡ failures old + 1)
       → Gives taken failures old b (p ++ q) result new holds
@@ -134,7 +134,8 @@ module _ {S A E : Type 0} (taken : S → Told) (failures : S → ℕ) where
 -- ---- the bytes of a list, element by element
 
 module _ {X : Type 0} (bytes : List X → List ℕ) (joined : (xs ys : List X) → bytes (xs ++ ys) ≡ bytes xs ++ bytes ys) where
-  -- the bytes of the first elements and the next one are the bytes of one element more
+  -- the bytes of the first elements, followed by the bytes of the next one, are the bytes of one
+  -- element more
   pub one_more : (xs : List X) (i : ℕ) (x : X) (piece : List ℕ) → i < length xs → x ≡ get_or xs i x → bytes (x ∷ []) ≡ piece
       → bytes (take (i + 1) xs) ≡ bytes (take i xs) ++ piece
   one_more xs i x piece below at is =
@@ -142,13 +143,14 @@ module _ {X : Type 0} (bytes : List X → List ℕ) (joined : (xs ys : List X) �
       ∙ ap (λ p. bytes (take i xs) ++ p) is
 
   module _ (xs : List X) (i : ℕ) (x : X) (piece : List ℕ) (below : i < length xs) (at : x ≡ get_or xs i x) (is : bytes (x ∷ []) ≡ piece) where
-    -- if the next element is gathered after the first ones, one element more is gathered
+    -- if the first elements and then the next one are gathered, one element more is gathered
     pub each_given : (a : Told) (b : List ℕ) (c : Told) (d : List ℕ) (e : Told) (f : List ℕ)
         → Gathers a b (bytes (take i xs)) c d → Gathers c d piece e f → Gathers a b (bytes (take (i + 1) xs)) e f
     each_given a b c d e f first second =
         subst (λ p. Gathers a b p e f) (sym (one_more xs i x piece below at is)) (gathers_then a b (bytes (take i xs)) c d piece e f first second)
 
-    -- if a part of the next element is taken after the first ones, a part of the list is taken
+    -- if the first elements are gathered and the sink takes a proper prefix of the next one's
+    -- bytes, it has taken a proper prefix of the whole list's bytes
     pub each_part : (a : Told) (b : List ℕ) (c : Told) (d : List ℕ) (e : Told)
         → Gathers a b (bytes (take i xs)) c d → TakesPart c (d ++ piece) e → TakesPart a (b ++ bytes xs) e
     each_part a b c d e first part =
@@ -160,7 +162,7 @@ module _ {X : Type 0} (bytes : List X → List ℕ) (joined : (xs ys : List X) �
         subst (λ ys. TakesPart a ys e) whole
         (part_longer a (b ++ now) rest e (subst (λ p. TakesPart a (b ++ p) e) (sym (one_more xs i x piece below at is)) so_far))
 
-    -- a failure to make room for the next element is a failure at the whole list
+    -- a failure to make room for the next element is a failure to write the whole list
     pub each_room_fails : {S A E : Type 0} (taken : S → Told) (failures : S → ℕ) (old now new : S) (b d holds : List ℕ) (result : Result A E) (Q : E → Type 0)
         → Gathers (taken old) b (bytes (take i xs)) (taken now) d → failures now ≡ failures old → IsErrAnd result Q
         → TakesPart (taken now) (d ++ []) (taken new) × (failures new ≡ failures now + 1) → Gives taken failures old b (bytes xs) result new holds
@@ -171,7 +173,7 @@ module _ {X : Type 0} (bytes : List X → List ℕ) (joined : (xs ys : List X) �
       part.1 ∙ ap (λ n. n + 1) same,
     )
 
-    -- a failure at the next element is a failure at the whole list
+    -- a failure to write the next element is a failure to write the whole list
     pub each_fails : {S A E : Type 0} (taken : S → Told) (failures : S → ℕ) (old now new : S) (b d holds : List ℕ) (result : Result A E) (Q : E → Type 0)
         → Gathers (taken old) b (bytes (take i xs)) (taken now) d → failures now ≡ failures old → IsErrAnd result Q
         → TakesPart (taken now) (d ++ piece) (taken new) × (failures new ≡ failures now + 1) → Gives taken failures old b (bytes xs) result new holds
@@ -179,12 +181,12 @@ module _ {X : Type 0} (bytes : List X → List ℕ) (joined : (xs ys : List X) �
     each_fails taken failures old now new b d holds (Err failed) Q first same is part =
         (each_part (taken old) b (taken now) d (taken new) first part.0, part.1 ∙ ap (λ n. n + 1) same)
 
--- the bytes of two joined lists are the bytes of the first and then of the second
+-- the bytes of the concatenation of two lists are the concatenation of their bytes
 pub mapped_join : {A B : Type 0} (f : B → List ℕ) (m : A → B) (xs ys : List A)
     → flat_map f (map m (xs ++ ys)) ≡ flat_map f (map m xs) ++ flat_map f (map m ys)
 mapped_join f m xs ys = ap (flat_map f) (map-append m xs ys) ∙ flat_map-append f (map m xs) (map m ys)
 
--- the bytes of two joined lists of lines are the bytes of the first and then of the second
+-- for lists of lines too, the bytes of a concatenation are the concatenation of the bytes
 pub concat_join : (xs ys : List (List ℕ)) → concat (xs ++ ys) ≡ concat xs ++ concat ys
 concat_join [] ys = refl
 concat_join (x ∷ xs) ys = ap (λ zs. x ++ zs) (concat_join xs ys) ∙ sym (append_assoc x (concat xs) (concat ys))

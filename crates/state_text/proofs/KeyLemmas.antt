@@ -38,7 +38,7 @@ keys_above state last key test up is tested = by (slice_get state.entries (lengt
         let same : last ≡ entry.0 = cc in
         above_last (λ (e : Key × Entry). e.0) key_cmp key_total state.entries entry key test up at (tested ∙ ap (λ k. is_lt (key_cmp k key)) same)
 
--- if there are no entries, each key is above their keys
+-- if there are no entries, each key is above the keys of all entries
 pub none_above : (state : State) (key : Key) → None ≡ last_key state.entries → IsTrue true ↔ IsAboveEntries state key
 none_above state key is = by (slice_get state.entries (length state.entries - 1)) refl is
   where

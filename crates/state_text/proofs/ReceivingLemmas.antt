@@ -1,4 +1,4 @@
--- The entries that are staged of the given entries. Their commit is the join.
+-- Which of the given entries are staged. Committing the staged entries results in the join.
 use Rattle.std.proofs.Common.{◌≡◌, ℕ, ◌-◌, List, [], ◌∷◌, ◌++◌, length, refl, ap, sym, ◌∙◌, subst, inl, inr, arith, length-append, All, Some, None}
 use Rattle.std.specs.Prelude.{Option, slice_get}
 use Rattle.docker_model.specs.file.Change.{Key}
@@ -21,8 +21,8 @@ pub above_staged : (own : State) (floor : Option FileStamp) (entries staged : Li
 above_staged own floor entries staged key are above other among =
     member_of (λ (entry : Key × Entry). IsBelow key_cmp entry.0 key) entries other above ((are.members other.0 other.1).0 among).0
 
--- once one more entry is offered, what is staged is what has to be taken over of the entries given
--- before and this one
+-- after one more entry is offered, an earlier entry or this one is staged if and only if the state
+-- has to take it over
 pub offered_more : (own : State) (staging after : Staging) (entries : List (Key × Entry)) (key : Key) (entry : Entry) → IsStagedOf own staging entries
     → IsAboveStaged staging.staged key → IsOffered own staging key entry after → IsStagedOf own after (entries ++ (key, entry) ∷ [])
 offered_more own staging after entries key entry are above (inl to) =
@@ -41,7 +41,7 @@ none_staged own staging entries none empty floor = record {
       (subst (λ es. IsStaged own staging.floor [] es) (sym empty) (nothing_staged own staging.floor));
 }
 
--- a commit of the entries staged is the join with the entries given
+-- committing the staged entries results in the join with all given entries
 pub commit_joins : (own after : State) (items : List LedgerItem) (held : Option Staging) (entries : List (Key × Entry)) (staging : Staging) (horizon : ℕ)
     → IsValid own → IsValid (under horizon (given_state (items_of items held) entries)) → items_of items held ≡ staging.items
     → IsStagedOf own staging entries

@@ -22,7 +22,7 @@ first_kind line begin =
     let same : line ≡ begin.1.basic = ap first_record begin.1.whole in
     (subst (HasKind basic_schedule) (sym same) begin.1.kind, subst HasGoodFields (sym same) begin.1.fields)
 
--- a line that isn't a first line for the key begins none of the key's schedules
+-- a line that isn't a first line for the key begins no schedule of the key
 pub not_first : (state : State) (key : ScheduleKey) (count : ℕ) (lines : Lines) (line : List ℕ) → lines ≡ [] → ¬ IsFirstOf state.horizon key line
     → ¬ AreLinesUpToIn state key count (lines ++ line ∷ [])
 not_first state key count lines line none bad are =
@@ -68,7 +68,7 @@ pub more_up_to : (count : ℕ) (lines : Lines) (line : List ℕ) → length line
     → BeginUpTo count (lines ++ line ∷ [])
 more_up_to count lines line more begin = record { begin = begin; complete = λ all. let size = length-append lines (line ∷ []) in absurd (omega arith) }
 
--- the line at the buffer's end is the one that was written there
+-- the last line of the buffer is the line that was written there
 pub written_last : (lines after : Lines) (line found : List ℕ) (at : ℕ) → after ≡ lines ++ line ∷ [] → at ≡ length lines → found ≡ slice_index_or after at found
     → found ≡ line
 written_last lines after line found at put last is =

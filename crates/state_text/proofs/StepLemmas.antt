@@ -24,7 +24,7 @@ item_follows ledger told item meant same is equal may =
     let here = subst (λ l. MayFollow l meant) same (subst (MayFollow told) (sym equal) may) in
     one_item_more ledger meant is here.good here.above here.keeps_floor
 
--- after the last line there are at least as many lines as the entry's number of lines says
+-- after the last line, the number of lines is at least the count in the entry's head
 pub taken_all : (lines : List (List ℕ)) (line : List ℕ) (taken : List (List ℕ)) (n : ℕ) → taken ≡ lines ++ line ∷ [] → n ≤ length lines + 1 → n ≤ length taken
 taken_all lines line taken n is last =
     let size = length-append lines (line ∷ []) in
@@ -41,7 +41,7 @@ entry_judged format before after bytes new lines (Ok s) is fresh err same here =
 entry_judged format before after bytes new lines (Err told) is fresh err same here =
     subst (λ (k : StateCause). IsBadHere format before bytes (cause_meant k)) (sym err) here
 
--- a part is judged the same at an equal stage
+-- equal stages judge a part in the same way
 pub judged_at : (meant format : Format) (at exact : Stage) → meant ≡ format → at ≡ exact → (state new : State) (lines after : List (List ℕ)) (bytes : List ℕ)
     (result : Result Stage StateCause) → Judges format (stage_meant exact state lines) bytes new after result
     → Judges meant (stage_meant at state lines) bytes new after result

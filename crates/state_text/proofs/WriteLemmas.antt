@@ -16,7 +16,7 @@ use Rattle.cif_device.specs.Device.{TakesPart}
 use Rattle.state_text.specs.Written.{body_text, Gathers, Gives}
 use Rattle.state_text.proofs.BufferLemmas.{gathers_then, then_gives, fails_first}
 
--- an entry's bytes are its head and then its lines
+-- an entry's bytes are its head followed by its lines
 pub entry_text : (entry : Key × Entry) → entry_head entry ++ concat (op_lines entry.1.op) ≡ entry_bytes entry
 entry_text entry = by entry.1.op
   where
@@ -61,7 +61,8 @@ module _ {S A B : Type 0} (taken : S → Option (List ℕ)) (failures : S → �
     given : Gathers (taken old) b (flat_map item_bytes state.ledger) (taken first) d
     given = subst (λ es. Gathers (taken old) b (flat_map item_bytes es) (taken first) d) ledger one
 
-    -- a failure at the number of entries is a failure at the text from there on
+    -- a failure while writing the number of entries is a failure while writing the text from this
+    -- number on
     pub count_fails : {X E : Type 0} (holds : List ℕ) (result : Result X E) (Q : E → Type 0) → IsErrAnd result Q
         → TakesPart (taken first) (d ++ to_be_bytes w64 (length rows)) (taken second) × (failures second ≡ failures first + 1)
         → Gives taken failures old b (body_text state) result second holds
@@ -72,7 +73,7 @@ module _ {S A B : Type 0} (taken : S → Option (List ℕ)) (failures : S → �
         (then_gives {A = X} taken failures old first second b (flat_map item_bytes state.ledger) d (to_be_bytes w64 (length state.entries)) holds
         (Err failed) given same (subst (λ n. TakesPart (taken first) (d ++ to_be_bytes w64 n) (taken second)) many part.0, part.1))
 
-    -- after the number of entries come the entries, in full or in part
+    -- after the number of entries, the entries are written in full or in part
     pub body_given : {X E : Type 0} (third : S) (f h : List ℕ) (result : Result X E)
         → Gathers (taken first) d (to_be_bytes w64 (length rows)) (taken second) f × (failures second ≡ failures first)
         → Gives taken failures second f (flat_map entry_bytes (map row rows)) result third h

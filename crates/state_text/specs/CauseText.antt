@@ -1,9 +1,9 @@
--- The names of causes, as the text of a fault has them.
+-- The names of causes, as they are printed in the text of a fault.
 use Rattle.std.specs.Prelude.{ℕ, List, codes}
 use Rattle.state_text.specs.declared.cause.StateCause.{StateCause}
 use Rattle.state_text.specs.declared.cause.StateCause.TheVariants.{Mark, Item, Order, Floor, Tag, Stamp, Body, Short, Tail, Long, Memory, Horizon}
 
--- the name of a cause, as the text of a fault has it
+-- the name of a cause, as it is printed in the text of a fault
 abbrev pub cause_text : StateCause → List ℕ
 cause_text Mark = codes "Mark"
 cause_text Item = codes "Item"

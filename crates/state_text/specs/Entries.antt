@@ -6,13 +6,13 @@ use Rattle.docker_model.specs.state.Op.{Op, deleted, lapsed, put_with, Entry, ke
 use Rattle.docker_model.specs.state.State.{IsGoodKey, IsOpOf}
 use Rattle.docker_model.specs.state.StateText.{key_bytes, stamp_bytes}
 
--- the bytes of a body. Of a schedule they are only the count of its lines
+-- the bytes of a body. For a schedule's body, only the count of its lines
 abbrev pub body_head : Body → List ℕ
 body_head (tiploc_body bytes) = bytes
 body_head (association_body line) = line
 body_head (schedule_body lines) = to_be_bytes w32 (length lines)
 
--- the bytes of an op with its body. Of a schedule's body they are only the count of its lines
+-- the bytes of an op with its body. For a schedule's body, only the count of its lines
 abbrev pub op_head : Op → List ℕ
 op_head deleted = 0 ∷ []
 op_head lapsed = 2 ∷ []

@@ -1,5 +1,5 @@
--- Converts causes of faults from the code's type to the type of the definitions. Says also what a
--- fault means for the part at which it occurs.
+-- Converts causes of faults from the code's type to the type of the definitions. It also defines
+-- what a fault says of the part at which it occurs.
 use Rattle.std.specs.Prelude.{◌≢◌, ℕ, List, Option, Some, None, slice_index, ⊤}
 use Rattle.docker_model.specs.file.Change.{tiploc_key, association_key, schedule_key}
 use Rattle.docker_model.specs.state.StateText.{Format}
@@ -39,7 +39,7 @@ PartTakesMemory (before_body (association_key key) stamp) bytes = ⊤
 PartTakesMemory (before_body (schedule_key key) stamp) bytes = ⊥
 PartTakesMemory (before_line key stamp count lines) bytes = ⊤
 
--- says that this part needs memory: a ledger item, or a part of an entry that needs it
+-- says that this part needs memory: a ledger item, or a part of an entry that needs memory
 abbrev pub TakesMemory : Before → List ℕ → Type 0
 TakesMemory (before_item horizon count ledger) bytes = ⊤
 TakesMemory (in_entry count state part) bytes = PartTakesMemory part bytes
@@ -50,8 +50,7 @@ pub record IsWantingHere (format : Format) (before : Before) (bytes : List ℕ) 
   pub takes : TakesMemory before bytes
   pub not_bad : (cause : model.StateCause) → ¬ IsBadPart format before bytes cause
 
--- says that the part is bad for this cause. `None` stands for out of memory: memory ran out for the
--- part
+-- says that the part is bad for this cause. `None` means that memory ran out for the part
 abbrev pub IsBadHere : Format → Before → List ℕ → Option model.StateCause → Type 0
 IsBadHere format before bytes None = IsWantingHere format before bytes
 IsBadHere format before bytes (Some cause) = IsBadPart format before bytes cause

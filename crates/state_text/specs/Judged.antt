@@ -1,4 +1,4 @@
--- What is found when a part of a state's text is judged.
+-- The results of judging a part of a state's text.
 use Rattle.std.specs.Prelude.{◌≡◌, ℕ, ◌≤◌, List, Option, Some, None, Result, Ok, Err}
 use Rattle.docker_model.specs.state.Stamp as stamps
 use Rattle.docker_model.specs.file.Change as model
@@ -21,8 +21,8 @@ use Rattle.state_text.specs.FaultMeaning.{cause_meant, IsBadHere}
 use Rattle.state_text.specs.declared.stage.Stage.{Stage}
 use Rattle.state_text.specs.Stage.{LeadsTo}
 
--- says what the result for a part means: the stage that the part leads to, or a cause. With a
--- cause, the part is bad, or memory ran out for it
+-- says what the result for a part means: the stage after the part, or a cause. With a cause, the
+-- part is bad, or memory ran out for it
 abbrev pub Judges : Format → fault_statepart.Before → List ℕ → State → List (List ℕ) → Result Stage StateCause → Type 0
 Judges format before bytes state lines (Ok stage) = LeadsTo format before bytes stage state lines
 Judges format before bytes state lines (Err cause) = IsBadHere format before bytes (cause_meant cause)
@@ -33,25 +33,25 @@ pub record MayFollow (ledger : List stamps.LedgerItem) (item : stamps.LedgerItem
   pub above : IsAboveItems ledger item
   pub keeps_floor : ¬ RaisesFloor ledger item
 
--- says that this ledger item is bad for this cause. `None` stands for out of memory, which is never
--- such a cause
+-- says that this ledger item is bad for this cause. `None` means out of memory, which is never such
+-- a cause
 abbrev pub IsItemCause : List stamps.LedgerItem → stamps.LedgerItem → Option fault.StateCause → Type 0
 IsItemCause ledger item None = ⊥
 IsItemCause ledger item (Some cause) = IsBadItem ledger item cause
 
--- says what the result for a ledger item means: the item, which may come next, or the cause why it
--- may not
+-- says what the result for a ledger item means: the item, which may come next, or the cause why the
+-- item may not come next
 abbrev pub IsJudgedItem : List stamps.LedgerItem → stamps.LedgerItem → Result LedgerItem StateCause → Type 0
 IsJudgedItem ledger item (Ok told) = (item_meant told ≡ item) × MayFollow ledger item
 IsJudgedItem ledger item (Err cause) = IsItemCause ledger item (cause_meant cause)
 
--- says that this key is bad for this cause. `None` stands for out of memory, which is never such a
--- cause
+-- says that this key is bad for this cause. `None` means out of memory, which is never such a cause
 abbrev pub IsKeyCause : State → model.Key → Option fault.StateCause → Type 0
 IsKeyCause state key None = ⊥
 IsKeyCause state key (Some cause) = IsBadKey state key cause
 
--- says what the result for a key means: the key, which may come next, or the cause why it may not
+-- says what the result for a key means: the key, which may come next, or the cause why the key may
+-- not come next
 abbrev pub IsJudgedKey : State → model.Key → Result Key StateCause → Type 0
 IsJudgedKey state key (Ok told) = (key_meant told ≡ key) × IsGoodKey key × IsAboveEntries state key
 IsJudgedKey state key (Err cause) = IsKeyCause state key (cause_meant cause)
@@ -60,14 +60,14 @@ IsJudgedKey state key (Err cause) = IsKeyCause state key (cause_meant cause)
 abbrev pub IsAssociationUnder : ℕ → model.AssociationKey → List ℕ → Type 0
 IsAssociationUnder horizon key line = IsAssociationOf key line × (horizon ≤ body_end (association_body line))
 
--- says that the line has the transaction `N`, names this key, and doesn't end before the horizon
+-- says that the line has the transaction `N` and this key, and doesn't end before the horizon
 pub record IsOfKey (horizon : ℕ) (key : model.ScheduleKey) (line : List ℕ) : Type 0 where
   pub new : HasNewTransaction line
   pub key_is : schedule_named line ≡ schedule_key key
   pub stays : horizon ≤ readable_end (columns 16 21 line)
 
--- says that the line may begin a schedule with this key. It is a basic schedule with good fields
--- and the transaction `N`, it names the key, and it doesn't end before the horizon
+-- says that the line may begin a schedule with this key: it is a basic schedule with good fields,
+-- the transaction `N` and this key. It doesn't end before the horizon
 pub record IsFirstOf (horizon : ℕ) (key : model.ScheduleKey) (line : List ℕ) : Type 0 where
   pub kind : HasKind basic_schedule line
   pub fields : HasGoodFields line

@@ -1,4 +1,4 @@
--- The parts of a text that were read: a horizon, and a state without one.
+-- The parts of a text that were read: a horizon, and a state without a horizon.
 use Rattle.std.specs.Prelude.{ℕ, List, [], ◌∷◌, ◌++◌, map, Option, Some, None}
 use Rattle.docker_model.specs.file.Change.{Key}
 use Rattle.docker_model.specs.state.Stamp.{LedgerItem, FileStamp}
@@ -14,7 +14,7 @@ horizon_meant (Some day) = day
 abbrev pub file_stamps : List LedgerItem → List FileStamp
 file_stamps items = map (λ (item : LedgerItem). item.stamp) items
 
--- the state with this horizon instead of its own
+-- the state with this horizon in place of the state's horizon
 abbrev pub under : ℕ → State → State
 under horizon state = record { horizon = horizon; ledger = state.ledger; entries = state.entries }
 

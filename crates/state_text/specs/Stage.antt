@@ -1,6 +1,6 @@
 -- Converts stages from the code's type to the type of the definitions. A stage says which part
--- comes next. Together with the parts that were read and the lines of a schedule that isn't
--- complete, it says what comes before that part.
+-- comes next. What comes before that part follows from the stage, the parts that were read, and the
+-- lines of a schedule that isn't complete.
 use Rattle.std.specs.Prelude.{◌≡◌, ℕ, ◌+◌, ◌≤◌, Bool, true, false, List, [], length, ⊤}
 use Rattle.docker_model.specs.file.Change.{schedule_key}
 use Rattle.docker_model.specs.file.Change as model
@@ -86,7 +86,7 @@ pub record IsReady (format : Format) (stage : Stage) (state : State) (lines : Li
   pub good : AreGood format (stage_meant stage state lines)
   pub fresh : IsFresh stage state
 
--- says that these bytes are a part that isn't bad, and that it leads to this stage
+-- says that these bytes are a part that isn't bad, and that this is the stage after the part
 pub record LeadsTo (format : Format) (before : Before) (bytes : List ℕ) (stage : Stage) (state : State) (lines : List (List ℕ)) : Type 0 where
   pub is : stage_meant stage state lines ≡ advance format before bytes
   pub not_bad : (cause : StateCause) → ¬ IsBadPart format before bytes cause

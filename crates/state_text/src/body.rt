@@ -53,7 +53,7 @@ pub(crate) fn assoc_body(key: &AssocKey, horizon: u16, bytes: &[u8]) -> Option<B
     Some(Body::Assoc(line))
 }
 
-/// Whether the end date at an index of a line isn't before the horizon. A date that can't be read
+/// Whether the end date at an index of a line is the horizon or later. A date that can't be read
 /// means no end.
 fn stays(line: &Line, at: usize, horizon: u16) -> bool
     requires { at + 6 ≤ LINE }
@@ -86,7 +86,7 @@ fn is_association_of(key: &AssocKey, line: &Line) -> bool
     }
 }
 
-/// Whether an association is new and has this key.
+/// Whether an association has the transaction `N` and this key.
 fn is_new_association(key: &AssocKey, view: &Assoc<'_>) -> bool
     ensures { IsTrue result ↔ (HasNewTransaction view.now ×
         (association_named view.now ≡ association_key (assoc_meant key.now))) }
@@ -115,8 +115,8 @@ fn is_same(first: &Key, second: &Key) -> bool
     first == second
 }
 
-/// Whether a line is new, names this schedule key, and doesn't end before the horizon. It doesn't
-/// judge the line's fields.
+/// Whether a line has the transaction `N` and this schedule key, and doesn't end before the
+/// horizon. The line's fields aren't checked.
 pub(crate) fn is_first_of(key: &ScheduleKey, horizon: u16, line: &Line) -> bool
     ensures of_key { IsTrue result → IsOfKey horizon (schedule_meant key.now) line.now }
     ensures refused { result ≡ false → ¬ IsFirstOf horizon (schedule_meant key.now) line.now }
@@ -127,7 +127,7 @@ pub(crate) fn is_first_of(key: &ScheduleKey, horizon: u16, line: &Line) -> bool
     stays(line, SCHEDULE_END_AT, horizon)
 }
 
-/// Whether a line is new, names this schedule key, and has a first day that can be read.
+/// Whether a line has the transaction `N` and this schedule key, with a first day that can be read.
 fn is_new_schedule(key: &ScheduleKey, line: &Line) -> bool
     ensures { IsTrue result ↔ (HasNewTransaction line.now
         × IsTrue (is_date (columns 10 15 line.now))
@@ -145,7 +145,7 @@ fn is_new_schedule(key: &ScheduleKey, line: &Line) -> bool
     begins_on(line, &key.runs_from)
 }
 
-/// Whether the first day in a line is this day. A date that can't be read is no day.
+/// Whether the first day in a line is this day. False if the date can't be read.
 fn begins_on(line: &Line, day: &Day) -> bool
     ensures { IsTrue result ↔ (IsTrue (is_date (columns 10 15 line.now))
         × (date_number (columns 10 15 line.now) ≡ day.now)) }

@@ -23,8 +23,8 @@ pub(crate) fn flush<K: Sink>(sink: &mut K, buffer: &mut Buffer) -> Result<(), Fa
     Ok(())
 }
 
-/// Makes room in the buffer for `more` bytes. If it has none, the bytes that it holds are written
-/// to the sink first.
+/// Makes room in the buffer for `more` bytes. If the buffer has too little room, the bytes that it
+/// holds are written to the sink first.
 pub(crate) fn make_room<K: Sink>(
     sink: &mut K,
     buffer: &mut Buffer,

@@ -12,7 +12,7 @@ use std::fmt;
 pub enum StateCause {
     /// The text doesn't begin with the mark of its format.
     Mark,
-    /// No header of a file gives this ledger item.
+    /// No header of a file has this ledger item.
     Item,
     /// The ledger item, or the entry's key, isn't above the one before it.
     Order,
@@ -38,7 +38,7 @@ pub enum StateCause {
 }
 
 impl StateCause {
-    /// The cause's name, as the text of a fault has it.
+    /// The cause's name, as it is printed in the text of a fault.
     pub fn name(&self) -> &'static str
         ensures name { result.now ≡ cause_text self.now }
         ensures len { length result.now ≤ 7 }

@@ -80,7 +80,7 @@ fn add_schedule_key(buffer: &mut Buffer, key: &ScheduleKey)
     put(buffer, &[key.stp.letter()]);
 }
 
-/// Adds a key with its tag. It needs as much room as an association's key, which is the longest.
+/// Adds a key with its tag. The buffer needs room for an association's key, which is the longest.
 fn add_key(buffer: &mut Buffer, key: &Key)
     requires { array_vec_len buffer.old + (TAG + ASSOC_KEY) ≤ ROOM }
     ensures items { buffer.new.items ≡ buffer.old.items ++ key_text (key_meant key.now) }
@@ -96,7 +96,7 @@ fn add_key(buffer: &mut Buffer, key: &Key)
     }
 }
 
-/// Adds an op with its body, but without a schedule's lines. It needs as much room as an
+/// Adds an op with its body, but without a schedule's lines. The buffer needs room for an
 /// association's op, which is the longest.
 fn add_op(buffer: &mut Buffer, op: &Op)
     requires room { array_vec_len buffer.old + (OP + LINE) ≤ ROOM }

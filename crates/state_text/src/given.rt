@@ -1,5 +1,5 @@
-//! The entries that a keeper was given, for proofs. They take no memory, and the methods do nothing
-//! when they run.
+//! The entries that a keeper was given, for proofs. They take no memory, and their methods do
+//! nothing at run time.
 ghost use Rattle.std.specs.Prelude.{◌≡◌, List, [], ◌∷◌, ◌++◌};
 ghost use Rattle.std.specs.Borrow.{ftrue};
 ghost use Rattle.docker_model.specs.file.Change as model;

@@ -15,7 +15,7 @@ use docker_state::LedgerItem;
 /// How many minutes a day has.
 const MINUTES: u16 = 1440;
 
-/// The ledger item with these bytes. `None` if no header gives such an item.
+/// The ledger item with these bytes. `None` if no header of a file has such an item.
 fn item_in(bytes: &[u8]) -> Option<LedgerItem>
     requires { length bytes.now ≡ ITEM }
     ensures { MatchOption result (¬ IsGoodItem (item_in bytes.now))

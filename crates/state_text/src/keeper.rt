@@ -1,4 +1,4 @@
-//! Keepers, to which a reader gives the parts of a state's text.
+//! Keepers, to which a reader passes the parts of a state's text.
 ghost use Rattle.std.specs.Prelude.{◌≡◌, ◌-◌, ◌^◌, ◌<◌, [], ◌∷◌, ◌++◌, length, map, IsOk, IfOk};
 ghost use Rattle.std.specs.Option.{option_copied, option_map};
 ghost use Rattle.docker_model.specs.state.State.{State, IsLedger, IsOpOf, IsValid};
@@ -17,20 +17,20 @@ use docker_state::LedgerItem;
 /// A keeper is given the parts of a state's text in order: first the ledger items, then the
 /// entries. It may keep all, some or none of them.
 pub trait Keeper: Drop + Sized {
-    // all ledger items and entries that it was given, whether kept or not, as a state without a
-    // horizon
+    // all ledger items and entries that the keeper was given, whether kept or not, as a state
+    // without a horizon
     ghost given: { Self → State };
 
-    /// Takes the next ledger item. `Memory` if there is no room for it; no clause says what the
-    /// keeper has then.
+    /// Takes the next ledger item. Returns `Memory` if there is no room for the item; no clause
+    /// says what the keeper has then.
     fn item(&mut self, item: LedgerItem) -> Result<(), Memory>
         requires before_entries { (given self.old).entries ≡ [] }
         requires ledger { IsLedger ((given self.old).ledger ++ item_meant item ∷ []) }
         ensures { IsOk result
             → given self.new ≡ with_item (given self.old) (item_meant item) };
 
-    /// Takes the next entry, with its key. `Memory` if there is no room for it; no clause says what
-    /// the keeper has then.
+    /// Takes the next entry, with its key. Returns `Memory` if there is no room for the entry; no
+    /// clause says what the keeper has then.
     fn entry(&mut self, key: Key, entry: Entry) -> Result<(), Memory>
         requires few { length (given self.old).entries < 2 ^ 64 - 1 }
         requires here { IsStampHere (given self.old) (key_meant key) (entry_meant entry).stamp }
@@ -54,14 +54,14 @@ pub trait Keeper: Drop + Sized {
 
 /// A keeper that makes a value of the parts.
 pub trait Maker: Keeper {
-    /// The type of the value that it makes.
+    /// The type of the value that the keeper makes.
     type Made: Drop;
 
     // says that a value is made from a state
     ghost makes: { Self.Made → State → Type 0 };
 
-    /// Makes the value of the parts, under the horizon that the text has, if any. If memory runs
-    /// out, the parts are dropped.
+    /// Makes the value of the parts, under the text's horizon if it has one. If memory runs out,
+    /// the parts are dropped.
     fn finish(self, horizon: Option<Day>) -> Result<Self::Made, Memory>
         requires { IsValid (under (horizon_meant horizon) (Self.given self)) }
         ensures { IfOk result (λ made.

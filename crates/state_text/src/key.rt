@@ -84,7 +84,7 @@ fn key_in(tag: Tag, bytes: &[u8]) -> Option<Key>
     }
 }
 
-/// Whether a key is above the keys of all entries so far.
+/// Whether a key is above the keys of all entries given before.
 fn is_above<K: Keeper>(parts: &PartsSoFar<K>, key: &Key) -> bool
     requires { AreAscending parts.now.entries }
     ensures { IsTrue result ↔ IsAboveEntries parts.now (key_meant key.now) }

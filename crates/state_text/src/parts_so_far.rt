@@ -1,4 +1,4 @@
-//! What the parts of a text have said so far.
+//! The parts of a text that were read: the horizon, and the keeper that was given the other parts.
 ghost use Rattle.std.specs.Prelude.{◌≡◌, ◌-◌, ◌^◌, ◌<◌, [], ◌∷◌, ◌++◌, length, map, IsOk, IsErr, IfOk};
 ghost use Rattle.std.specs.Option.{option_copied, option_map};
 ghost use Rattle.docker_model.specs.state.State.{IsLedger, IsOpOf, IsValid, IsJoin};
@@ -18,7 +18,7 @@ use docker_join::Entry;
 use docker_state::{LedgerItem, State};
 use std::marker::Model;
 
-/// The horizon, if one was read, and the keeper of the parts so far.
+/// The horizon, if one was read, and the keeper that was given the parts read.
 #[derive(Debug, Drop)]
 pub struct PartsSoFar<K: Keeper> {
     horizon: Option<Day>,
@@ -35,7 +35,7 @@ impl<K: Keeper> Model for PartsSoFar<K> {
 }
 
 impl<K: Keeper> PartsSoFar<K> {
-    /// What a keeper was given, without a horizon.
+    /// The parts that a keeper was given, as a state without a horizon.
     pub fn new(keeper: K) -> PartsSoFar<K>
         ensures { result ≡ under 0 (K.given keeper) }
     {
@@ -82,21 +82,21 @@ impl<K: Keeper> PartsSoFar<K> {
         self.keeper.entry(key, entry)
     }
 
-    /// The ledger items so far, ascending.
+    /// The ledger items that were read, in ascending order.
     pub(crate) fn ledger(&self) -> &[LedgerItem]
         ensures { map item_meant result.now ≡ self.now.ledger }
     {
         self.keeper.ledger()
     }
 
-    /// How many entries there are so far.
+    /// How many entries were read.
     pub(crate) fn len(&self) -> u64
         ensures { result ≡ length self.now.entries }
     {
         self.keeper.len()
     }
 
-    /// The key of the last entry. `None` if there is none yet.
+    /// The key of the last entry that was read. `None` if none was read.
     pub(crate) fn last(&self) -> Option<&Key>
         ensures { option_map key_meant (option_copied result) ≡ last_key self.now.entries }
     {
@@ -118,7 +118,7 @@ impl<K: Maker> PartsSoFar<K> {
 
 impl<R: Receiver> PartsSoFar<Received<R>> {
     /// The receiving state, joined with the parts, and then with the horizon that was read. If
-    /// memory runs out, the state is as it was.
+    /// memory runs out, the state is unchanged.
     pub fn join(self) -> (State, Result<(), Memory>)
         requires { IsValid self }
         ensures ok { IsOk result.1 → IsJoin R.own self result.0 }
@@ -128,7 +128,7 @@ impl<R: Receiver> PartsSoFar<Received<R>> {
         keeper.join(horizon)
     }
 
-    /// The receiving state, as it was.
+    /// The receiving state, unchanged.
     pub fn into_own(self) -> State
         ensures { result ≡ R.own }
     {

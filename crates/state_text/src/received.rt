@@ -1,4 +1,4 @@
-//! A keeper that gives the parts to a state, which receives them.
+//! A keeper that passes the parts to a state, which receives them.
 ghost use Rattle.std.specs.Prelude.{◌≡◌, [], IsOk, IsErr};
 ghost use Rattle.docker_model.specs.state.State.{State, IsValid, IsJoin};
 ghost use Rattle.state_text.specs.PartsSoFar.{horizon_meant, under};
@@ -41,8 +41,8 @@ impl<R: Receiver> Received<R> {
         }
     }
 
-    /// Returns the receiving state, joined with the parts, under the later of its horizon and the
-    /// one that the text has. If memory runs out, the state is unchanged.
+    /// Returns the receiving state, joined with the parts, under the later of the state's horizon
+    /// and the text's. If memory runs out, the state is unchanged.
     pub(crate) fn join(self, horizon: Option<Day>) -> (State, Result<(), Memory>)
         requires { IsValid (under (horizon_meant horizon) self) }
         ensures ok { IsOk result.1

@@ -20,8 +20,8 @@ use std::alloc::Global;
 use std::marker::{Brand, PhantomData};
 use std::mem;
 
-/// Names the state that receives the parts of one text. It exists only for clauses: as it is part
-/// of the keeper's type, no call can change it.
+/// The state that receives the parts of one text, as a type. It exists only for clauses. Since it
+/// is part of the keeper's type, no call can change which state it is.
 pub trait Receiver {
     ghost use Rattle.docker_model.specs.state.State as states;
 
@@ -34,9 +34,9 @@ impl Receiver for Brand {
     ghost own = { record { horizon = 0; ledger = []; entries = [] } };
 }
 
-/// A state that receives another state's text. It has the ledger items received, and after the
-/// first entry what is staged. It also has the last key and the number of the entries given,
-/// whether staged or not.
+/// A state that receives another state's text. It has the ledger items received and, after the
+/// first entry, the staging. It also has the last key and the number of the entries given, whether
+/// staged or not.
 #[derive(Drop)]
 pub(crate) struct Receiving<R> {
     alloc: Global,

@@ -49,7 +49,8 @@ fn has_file(ledger: &[LedgerItem], file: &FileStamp) -> bool
     }
 }
 
-/// The stamp with these bytes, if it is a change's from a file in the ledger. Otherwise `None`.
+/// The stamp with these bytes, if a change from a file in the ledger can have this stamp. Otherwise
+/// `None`.
 pub(crate) fn judged_stamp(ledger: &[LedgerItem], bytes: &[u8]) -> Option<Stamp>
     requires wide { length bytes.now ≡ STAMP }
     requires ledger { IsLedger (map item_meant ledger.now) }

@@ -103,7 +103,7 @@ pub const NONE_AT_ASHFLDN: &[&[u8]] = &[AT_ASHFLDN, END];
 /// The docker of Elm with no lines.
 pub const NONE_AT_ELM: &[&[u8]] = &[AT_ELM, END];
 
-/// The docker of Colwell on which C30001 calls twice, and C30002 divides from it.
+/// The docker of Colwell with two calls of C30001, from which C30002 divides.
 pub const DIVISION: &[&[u8]] = &[
     AT_COLWELL,
     FIRST_COMES,

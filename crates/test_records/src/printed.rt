@@ -14,13 +14,13 @@ DOCKER ASHFELD 2024-06-10
 END                                                     
 ";
 
-/// The docker of Ashfeld on 10 June, on which nothing happens there.
+/// The docker of Ashfeld on 10 June, with no lines.
 pub const NONE_AT_ASHFELD: &str = "\
 DOCKER ASHFELD 2024-06-10                               
 END                                                     
 ";
 
-/// The docker of Ashfeld on 18 June, on which nothing happens there.
+/// The docker of Ashfeld on 18 June, with no lines.
 pub const NONE_ON_18_JUNE: &str = "\
 DOCKER ASHFELD 2024-06-18                               
 END                                                     

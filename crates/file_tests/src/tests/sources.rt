@@ -76,7 +76,8 @@ fn read_fails(rt: &impl Abort, alloc: Global, bytes: &[u8], name: &str) {
     same_in(rt, name, source.failures, 1);
 }
 
-/// Asserts that `judge_file` fails in the same way.
+/// Asserts that `judge_file` fails with `Source` if the source fails after these bytes, and that
+/// the source has failed once.
 fn judging_fails(rt: &impl Abort, alloc: Global, bytes: &[u8], name: &str) {
     let mut source = Broken { bytes, failures: 0 };
     let fault = judge_file(alloc, &mut source, 5).err();
@@ -84,8 +85,8 @@ fn judging_fails(rt: &impl Abort, alloc: Global, bytes: &[u8], name: &str) {
     same_in(rt, name, source.failures, 1);
 }
 
-/// Asserts that both calls fail in this way if the source fails after the first `length` bytes of a
-/// text.
+/// Asserts that `read_file` and `judge_file` both fail with `Source` if the source fails after the
+/// first `length` bytes of a text.
 fn front_fails(rt: &impl Abort, alloc: Global, text: &[u8], length: usize, name: &str) {
     let bytes = text.get(..length).expect(rt, "a front");
     read_fails(rt, alloc, bytes, name);

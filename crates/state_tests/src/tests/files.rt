@@ -41,7 +41,7 @@ fn file_is(rt: &impl Abort, alloc: Global, file: &[&[u8]], lines: &[&[u8]]) {
     made_is(rt, alloc, state(rt, alloc, file), lines);
 }
 
-/// How the state of a file is shown that puts a schedule and then deletes it.
+/// How the state of a file that puts a schedule and then deletes it is shown.
 const PUT_AND_DELETED: &[&[u8]] = &[
     b"item 23536 1260 DFROC1A U DFROC1Z",
     b"C10001 23537: record 5 of 23536 1260 DFROC1A",

@@ -1,5 +1,5 @@
-//! Indexes of rows: which rows call or are linked at which places, which postings a lapse removes, and
-//! what the index of a join has.
+//! Indexes of rows: which rows call or are linked at which places, which postings a lapse removes,
+//! and what the index of a join has.
 
 use super::compare::same;
 use cif_file::{AssocKey, Body, Key, Lines, ScheduleKey};
@@ -142,7 +142,7 @@ fn joined(rt: &impl Abort, alloc: Global, floor: &Option<FileStamp>) -> Index {
     Index::of_join(alloc, &first, &second, &moves).expect(rt, "memory")
 }
 
-/// Asserts that a posting names this place and this row.
+/// Asserts that a posting has this place and this row.
 fn posting_is(rt: &impl Abort, index: &Index, posting: &Posting, code: &str, at: u32) {
     let place = index
         .places
@@ -152,7 +152,7 @@ fn posting_is(rt: &impl Abort, index: &Index, posting: &Posting, code: &str, at:
     same(rt, posting.at, at);
 }
 
-/// Asserts that postings name these places and these rows, in this order.
+/// Asserts that postings have these places and these rows, in this order.
 fn postings_are(rt: &impl Abort, index: &Index, postings: &[Posting], wanted: &[(&str, u32)]) {
     same(rt, postings.len(), wanted.len());
     for (posting, (code, at)) in postings.iter().zip(wanted) {

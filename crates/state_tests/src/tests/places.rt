@@ -46,8 +46,8 @@ fn add_of_uid(rt: &impl Abort, alloc: Global, text: &mut Vec<u8>, state: &State,
     }
 }
 
-/// Asserts how these are shown: the rows found at a TIPLOC, and then the schedules of the UID
-/// C30002.
+/// Asserts that the rows found at a TIPLOC, followed by the schedules of the UID C30002, are shown
+/// as this text.
 fn found_is(rt: &impl Abort, alloc: Global, state: &State, tiploc: &str, lines: &[&[u8]]) {
     let mut found = Vec::new(alloc);
     let tiploc = Tiploc::from_text(tiploc).expect(rt, "a TIPLOC");
@@ -59,8 +59,9 @@ fn found_is(rt: &impl Abort, alloc: Global, state: &State, tiploc: &str, lines: 
     same(rt, found.as_slice(), wanted.as_slice());
 }
 
-/// A file with the schedules C30001 and C30002, which call at Colwell, one of them twice, and an
-/// association of them there. Its state has three rows: the association, C30001 and C30002.
+/// A file with the schedules C30001 and C30002, which call at Colwell, one of them twice, and with
+/// an association of the two trains at Colwell. Its state has three rows: the association, C30001
+/// and C30002.
 const FILE: &[&[u8]] = &[
     HD,
     BS_C30001,

@@ -1,4 +1,4 @@
-//! Shows a state as lines of text, to which the rows compare.
+//! Shows a state as lines of text, which the tests compare with the expected ones.
 
 use cif_file::{Body, Key};
 use cif_line::Line;

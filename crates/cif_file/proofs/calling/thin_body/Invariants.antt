@@ -1,4 +1,5 @@
--- Up to this line, the body has the basic schedule, the origin and the terminus, if they came.
+-- Of the lines before this one, the body has the basic schedule, the origin and the terminus, and
+-- no other line.
 use Rattle.std.proofs.Common.{◌≡◌, ◌++◌}
 use Rattle.std.specs.Prelude.{filter, take}
 use Rattle.docker_model.specs.records.Record.{kind_of}

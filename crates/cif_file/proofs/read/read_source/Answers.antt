@@ -1,4 +1,4 @@
--- The parser was fed exactly what the source gave.
+-- The parser was fed exactly the bytes that were read from the source.
 use Rattle.std.proofs.Common.{rules, [], subst, Err}
 use Rattle.cif_device.specs.FeedEnds.{EndsFeeding}
 use Rattle.cif_file.specs.FileTaken.{TakesFile, RefusesPiece}

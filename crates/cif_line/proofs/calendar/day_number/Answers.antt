@@ -7,7 +7,7 @@ use Rattle.cif_line.proofs.calendar.day_number.Goals as goal
 extra_is : (c : goal.After-result-2-1) → c.from.result ≡ leap_before c.is_leap_year.result c.args.month
 extra_is c = search rules
 
--- the sum from which 1 is taken
+-- the sum computed before 1 is subtracted is the day number plus 1
 sum_is : (c : goal.After-result-2-1)
     → 365 * c.years_from_1960-years.result + ((c.years_from_1960-years.result + 3) / 4 + c.from.result) + days_before c.args.month + c.args.day
     ≡ day_number (full_year c.args.year) c.args.month c.args.day + 1
@@ -16,7 +16,7 @@ sum_is c =
     ∙ numbered c.years_from_1960-years.result (full_year c.args.year) c.args.month c.args.day c.years_from_1960-years.ensures.value (omega arith)
     c.requires.good c.is_leap_year.result (c.is_leap_year.ensures c.requires.year_in)
 
--- the number is at most the last
+-- the day number is at most the last day's number
 bound_is : (c : goal.After-result-2-1) → day_number (full_year c.args.year) c.args.month c.args.day ≤ last_day
 bound_is c =
     number_bound c.years_from_1960-years.result (full_year c.args.year) c.args.month c.args.day c.years_from_1960-years.ensures.value (omega arith)

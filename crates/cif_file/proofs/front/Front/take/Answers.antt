@@ -1,4 +1,4 @@
--- Whether the next record may come depends on the place to which the earlier records lead.
+-- Whether the next record may come depends on the place after the earlier records.
 use Rattle.std.proofs.Common.{◌∙◌, ap, sym}
 use Rattle.std.specs.Prelude.{option_map}
 use Rattle.cif_line.specs.Kind.{meaning}

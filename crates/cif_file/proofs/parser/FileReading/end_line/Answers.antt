@@ -1,4 +1,5 @@
--- The line that ends at the line feed is taken, together with the bytes of it that were kept.
+-- The line that ends at the line feed is taken. Its first bytes may have been kept from earlier
+-- pieces.
 use Rattle.std.proofs.Common.{◌++◌, sym, ap, ◌∙◌}
 use Rattle.std.proofs.lemmas.Bool.{false≢true}
 use Rattle.cif_laws.specs.CompleteLines.{complete_lines}
