@@ -52,10 +52,10 @@ impl Line {
         let Ok(bytes) = <[u8; 80]>::try_from(bytes) else {
             return Err(LineFault::Length);
         };
-        match bad_column(&bytes) {
-            Some(column) => Err(LineFault::Byte(column)),
-            None => Ok(Line { bytes }),
+        if is_printable_line(&bytes) {
+            return Ok(Line { bytes });
         }
+        Err(LineFault::Byte(bad_column(&bytes)))
     }
 
     /// The `N` bytes of the line that begin at column `first`. Columns count from 1.
@@ -115,26 +115,17 @@ fn first_bad_index(bytes: &[u8]) -> Option<usize>
     bytes.iter().position(|byte| !is_printable(*byte))
 }
 
-/// The column, from 1, of the leftmost byte that isn't printable. First a fast test checks all
-/// bytes. The leftmost bad byte is searched for only if that test fails.
+/// The column, from 1, of the leftmost byte that isn't printable, in a line that has such a byte.
+/// It is found byte by byte.
 #[tactic(auto, using(cif_laws::proofs::records::RecordTests::no_bad_byte))]
-fn bad_column(bytes: &[u8; 80]) -> Option<u8>
-    ensures value { result ≡ leftmost_bad_byte bytes.now }
-    ensures none { IsNone result ↔ AllPass is_printable bytes.now }
+fn bad_column(bytes: &[u8; 80]) -> u8
+    requires { ¬ (AllPass is_printable bytes.now) }
+    ensures { leftmost_bad_byte bytes.now ≡ Some result }
 {
-    if is_printable_line(bytes) {
-        return None;
+    match first_bad_index(bytes) {
+        Some(index) => index as u8 + 1,
+        None => unreachable!(),
     }
-    first_bad_column(bytes)
-}
-
-/// The column, from 1, of the leftmost byte that isn't printable, found byte by byte.
-fn first_bad_column(bytes: &[u8; 80]) -> Option<u8>
-    ensures value { result ≡ leftmost_bad_byte bytes.now }
-    ensures none { IsNone result ↔ AllPass is_printable bytes.now }
-{
-    let index = first_bad_index(bytes)?;
-    Some(index as u8 + 1)
 }
 
 /// Whether a line may contain all of these bytes.

@@ -1,14 +1,25 @@
-use Rattle.std.proofs.Common.{◌≡◌, sym, subst, length, refl, rules}
+use Rattle.std.proofs.Common.{◌≡◌, sym, ◌∙◌, subst, length, refl, rules}
 use Rattle.docker_model.specs.records.Record.{is_printable}
 use Rattle.std.specs.List.{AllPass}
+use Rattle.cif_laws.proofs.records.RecordTests.{no_bad_byte}
 use Rattle.cif_line.proofs.line.Line.new.Goals as goal
 
-pub returns-in-None-clause-ok : goal.returns-in-None-clause-ok
-returns-in-None-clause-ok c =
-    let good : AllPass is_printable c.in-Ok.bytes = c.in-None.ensures.none.0 refl in
-    let long : length c.args.bytes.now ≡ 80 = search rules in
-    (λ ok. (long, subst (AllPass is_printable) c.in-Ok.ensures.1.same good), λ is. refl)
+-- if the fast test succeeds, all bytes are printable
+good : (c : goal.Then-is_printable_line) → AllPass is_printable c.args.bytes.now
+good c = subst (AllPass is_printable) c.in-Ok.ensures.1.same (c.is_printable_line.ensures.0 c.if-is_printable_line.true)
 
-pub returns-in-Some-clause-ok : goal.returns-in-Some-clause-ok
-returns-in-Some-clause-ok c =
-    (λ never. absurd (cc), λ is. sym (c.in-Some.ensures.none.1 (subst (AllPass is_printable) (sym c.in-Ok.ensures.1.same) is.1)))
+pub returns-then-is_printable_line-clause-ok : goal.returns-then-is_printable_line-clause-ok
+returns-then-is_printable_line-clause-ok c =
+    let long : length c.args.bytes.now ≡ 80 = search rules in
+    (λ ok. (long, good c), λ is. refl)
+
+pub returns-then-is_printable_line-clause-byte : goal.returns-then-is_printable_line-clause-byte
+returns-then-is_printable_line-clause-byte c column =
+    let none = good c in
+    (λ never. absurd (cc), λ both. let bad = both.1 in search (rules, no_bad_byte))
+
+pub returns-clause-ok : goal.returns-clause-ok
+returns-clause-ok c = (
+  λ never. absurd (cc),
+  λ is. sym c.if-is_printable_line.false ∙ c.is_printable_line.ensures.1 (subst (AllPass is_printable) (sym c.in-Ok.ensures.1.same) is.1),
+)
