@@ -1,5 +1,5 @@
--- Visits: for a place and a day, the trains that start on one day. There is a visit for each start
--- day.
+-- A visit is made for a place, a day and one start day. It covers the trains that start on that
+-- start day.
 use Rattle.std.specs.Prelude.{◌≡◌, ℕ, ◌≤◌, ◌-◌, nat_le, if◌then◌else◌, List, Option, Some, None, ⊤}
 use Rattle.docker_state.specs.Timetables.{Timetable, live_in}
 use Rattle.docker_model.specs.docker.DockerLine.{DockerLine}

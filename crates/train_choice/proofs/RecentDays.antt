@@ -1,5 +1,5 @@
--- Whether a schedule runs on a day, on the day before and two days before. The runs-from date in
--- its key and two fields of its basic schedule determine this.
+-- The runs-from date in a schedule's key and two fields of its basic schedule determine on which of
+-- three days the schedule runs: a given day and the two days before it.
 use Rattle.std.proofs.Common.{◌≡◌, ℕ, ◌-◌, ◌<◌, Bool, true, false, List, refl, ap, sym, ◌∙◌, subst, arith}
 use Rattle.std.specs.Prelude.{◌&&◌, ◌||◌, not, nat_le, nat_lt}
 use Rattle.std.proofs.lemmas.Bool.{leb-true, ltb-true}
