@@ -13,7 +13,7 @@ use Rattle.cif_file.specs.FileRead.{FileRead}
 use Rattle.docker_day.specs.DockerValue.{Docker}
 use Rattle.docker_day.specs.Dockers.{IsDockerOf}
 
--- an excerpt that isn't finished: its place, its day, and the state's parts that were given,
+-- an excerpt that isn't finished: its place, its day, and the state's parts that were taken,
 -- without a horizon
 pub record Excerpting : Type 0 where
   pub place : List ℕ
@@ -26,12 +26,12 @@ pub record Excerpt : Type 0 where
   pub day : ℕ
   pub state : State
 
--- the same state with other entries
+-- the state with its entries replaced by these entries
 abbrev pub with_entries : State → List (Key × Entry) → State
 with_entries state entries = record { horizon = state.horizon; ledger = state.ledger; entries = entries }
 
--- the state that a file's changes make: it has the file's ledger item, and for each key the entry
--- of the last change of this key
+-- the state made by a file's changes. It has the file's ledger item, and for each key the entry of
+-- the last change of this key
 abbrev pub state_of_read : FileRead → State
 state_of_read file = record {
   horizon = 0;

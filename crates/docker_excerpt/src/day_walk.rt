@@ -53,8 +53,8 @@ impl DayWalk {
         self.day
     }
 
-    /// Passes the next entry, which has this key. If memory runs out, the entry is dropped, and the
-    /// walk hasn't passed it.
+    /// Passes the next entry, which has this key. If memory runs out, the entry is dropped and
+    /// doesn't count as passed.
     pub(crate) fn entry(&mut self, given: &Given, key: Key, entry: Entry) -> Result<(), Memory>
         requires passed { HasPassed self.old given.now.entries }
         requires above { IsAboveEntries (state_of_entries given.now.entries) (key_meant key) }

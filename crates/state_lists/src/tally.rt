@@ -38,7 +38,7 @@ pub(crate) fn tally_of(rows: &[(Key, Entry)]) -> Tally
     tally
 }
 
-/// The tally with one more row. The row counts only if its op is a put.
+/// The tally with one more row. A row that is a deletion isn't counted.
 fn with_row(tally: Tally, row: &(Key, Entry)) -> Tally
     requires { AreFew tally }
     ensures { (rows : List Row) → IsTallyOf rows tally
