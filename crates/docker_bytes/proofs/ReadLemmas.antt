@@ -26,7 +26,7 @@ use Rattle.docker_bytes.specs.SourceRead.{ReadsOnePieceMore, ReadsAll, WantsSoFa
 use Rattle.docker_bytes.specs.ReadEnds.{as_it_is, CountsOutcome, CountsWhy, EndsReadingBy, EndsText, IsOutcome, IsWhyUnread, StopsReading, Wanting}
 use Rattle.docker_bytes.proofs.TextEnd.{sound_text}
 
--- ---- from the parser's fault to the read fault
+-- ---- the parser's fault determines the read fault
 
 none_is_memory : (c : StateCause) → cause_meant c ≡ None → c ≡ cause.Memory
 none_is_memory cause.Mark is = cc

@@ -17,11 +17,12 @@ use Rattle.state_text.specs.Stamp.{Stamp}
 use Rattle.state_text.specs.declared.stage.Stage.{Stage}
 use Rattle.state_text.specs.declared.stage.Stage.TheVariants.{Line}
 
--- the format of the text
+-- converts the format of the text to the `Format` of the definitions
 abbrev pub format_of : {K : Type 0} → StateReading K → Format
 format_of reading = format_meant reading.format
 
--- the position of the part that is being read, described by the complete parts before it
+-- converts the position of the reading to the `Before` of the definitions: the complete parts
+-- before the part that is being read
 abbrev pub before_of : {K : Type 0} → StateReading K → Before
 before_of reading = stage_meant reading.stage reading.parts reading.lines
 
@@ -65,8 +66,8 @@ pub record IsWanting (format : Format) (limit : ℕ) (text piece : List ℕ) (at
   pub ends_in_piece : length text < length (text_before format before) + width before
   pub item_at : at ≡ length (items_before format before)
 
--- says what a fault means that is returned for a piece after a text: a part is bad, or the state
--- needs a byte at the limit. The cause `None` means that memory ran out
+-- says what a fault means if it is returned for a piece that follows a text: a part is bad, or the
+-- state needs a byte at the limit. The cause `None` means that memory ran out
 abbrev pub IsCauseSoFar : Format → ℕ → List ℕ → List ℕ → ℕ → Option model.StateCause → Type 0
 IsCauseSoFar format limit text piece at None = IsWanting format limit text piece at
 IsCauseSoFar format limit text piece at (Some cause) =
@@ -84,7 +85,7 @@ IsWhole format limit text = (state : State) × IsStateText format limit text sta
 abbrev pub IsOpen : Format → ℕ → List ℕ → Type 0
 IsOpen format limit text = (fault : model.StateFault) × IsShort format limit text fault
 
--- says what a fault means that is returned at the end of a text: the text ends before the state
+-- says what a fault means if it is returned at the end of a text: the text ends before the state
 -- does. The cause `None` means that memory ran out at the end of a complete text, and the offset is
 -- this end
 abbrev pub IsCauseAtEnd : Format → ℕ → List ℕ → ℕ → Option model.StateCause → Type 0

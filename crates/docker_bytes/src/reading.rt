@@ -14,7 +14,7 @@ use state_text::{
 };
 use std::alloc::Global;
 
-/// The reading of a text up to some byte. It has the data of the complete parts, the kind of the
+/// The reading of a text up to some byte. It keeps the data of the complete parts, the kind of the
 /// next part, the bytes of this part that were read, and the offset at which its item began.
 #[derive(Debug, Drop)]
 pub(crate) struct StateReading<K: Keeper> {
@@ -161,8 +161,9 @@ impl<K: Keeper> StateReading<K> {
         Ok(rest)
     }
 
-    /// Takes the head of a put at once, if it is whole at the head of a piece, good and within the
-    /// limit. Returns the bytes after it: if no head was taken, the whole piece.
+    /// Takes the head of an entry at once: the first parts of an entry that isn't a deletion. Takes
+    /// nothing unless the head lies whole at the front of the piece, is good and ends within the
+    /// limit. Returns the bytes after the head, or the whole piece if nothing was taken.
     fn take_head<'a>(&mut self, piece: &'a [u8]) -> &'a [u8]
         requires { IsReading self.old }
         ensures rest { take (length piece.now - length result.now) piece.now ++ result.now

@@ -27,7 +27,7 @@ pub record LeavesRun (offices : ℕ) (events : List RunEvent) (exchange : Exchan
 abbrev pub known_at_end : ℕ → List RunEvent → Exchange → ℕ → Known
 known_at_end offices events exchange office = office_known (sets_of offices events exchange) office
 
--- what the office of a message knew when the message was sent
+-- what the sending office of a message knew when it sent the message
 abbrev pub sent_with : ℕ → List RunEvent → Exchange → ℕ → Known
 sent_with offices events exchange message = message_known (sets_of offices events exchange) message
 
@@ -39,7 +39,7 @@ event_at events place = slice_index_or events place (send_state 0)
 abbrev pub reply_at : List Reply → ℕ → Reply
 reply_at replies place = slice_index_or replies place done
 
--- says that the reply at this index is a reply that its event may have, after the earlier events
+-- says that the definitions allow the reply at this index for its event, after the earlier events
 -- with their replies
 abbrev pub IsReplyAt : ℕ → List RunEvent → List Reply → ℕ → Type 0
 IsReplyAt offices events replies place =
@@ -49,8 +49,8 @@ IsReplyAt offices events replies place =
 abbrev pub HasSummary : ℕ → List RunEvent → Exchange → ℕ → Type 0
 HasSummary offices events exchange office = IsStateOf (known_at_end offices events exchange office) (office_state exchange.states office)
 
--- says that this message is the text of the summary of what its office knew when the message was
--- sent
+-- says that this message is the text of a summary: the summary of what the sending office knew when
+-- it sent the message
 abbrev pub TellsSummary : ℕ → List RunEvent → Exchange → ℕ → Type 0
 TellsSummary offices events exchange message = IsMessageOf dks_2 (sent_with offices events exchange message) (message_text exchange.messages message)
 

@@ -60,8 +60,8 @@ impl PlaceOffice {
         Ok(PlaceOffice { alloc, excerpt })
     }
 
-    /// Reads a file from a source, and keeps the changes from which its docker of a timing point
-    /// and a day is made. A file with more than `limit` records is refused. Every file that
+    /// Reads a file from a source, and keeps the changes from which the file's docker of a timing
+    /// point and a day is made. A file with more than `limit` records is refused. Every file that
     /// `Office::take` refuses is refused here too, by `File`, `Source` or `Memory`: every record is
     /// judged, whether a part of it is kept or not.
     pub fn take<S: Source>(

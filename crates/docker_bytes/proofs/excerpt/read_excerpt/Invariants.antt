@@ -1,4 +1,4 @@
--- The chosen type argument names the caller's place and day.
+-- The chosen type argument determines the caller's place and day.
 use Rattle.docker_bytes.proofs.excerpt.read_excerpt.Given as goal
 
 abbrev pub ghosts-excerpt_at : goal.ghosts-excerpt_at
