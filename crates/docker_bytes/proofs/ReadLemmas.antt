@@ -281,8 +281,8 @@ refused_ends terms initial next parser (fault.State found) failed failed_now few
 refused_ends terms initial next parser fault.Memory failed failed_now few same has =
     record { few = few; outcome = wants_part terms initial next parser has; failures = same }
 
--- `WantsMemory` includes the end of the text, so a reason to stop under `WantsSoFar` is also a reason
--- to stop under `WantsMemory`
+-- `WantsMemory` also covers the end of the text, so a reason to stop under `WantsSoFar` is also a
+-- reason to stop under `WantsMemory`
 pub ends_early : (format : Format) (limit : ℕ) (initial next : Option (List ℕ)) (told : ReadFault) (failed failed_now : ℕ)
     → StopsReading format limit initial next (IsWhyUnread WantsSoFar format limit initial next (Some told)) (CountsWhy (Some told) failed failed_now)
     → StopsReading format limit initial next (IsWhyUnread WantsMemory format limit initial next (Some told)) (CountsWhy (Some told) failed failed_now)
