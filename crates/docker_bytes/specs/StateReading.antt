@@ -52,8 +52,8 @@ pub record ReadsOn {K : Type 0} (old new : StateReading K) (bytes : List ℕ) : 
 abbrev pub IsPartRefused : {K : Type 0} → StateReading K → List ℕ → StateFault → Type 0
 IsPartRefused reading bytes fault = (fault.at ≡ reading.item_at) × IsBadHere (format_of reading) (before_of reading) bytes (cause_meant fault.cause)
 
--- says that memory ran out for a part whose last byte is in `piece`, after `text`. No part up to
--- and including this part is bad, and `at` is the beginning of the part's item
+-- says that memory ran out for a part of `text ++ piece` whose last byte is in `piece`. No part up
+-- to and including this part is bad, and `at` is the beginning of the part's item
 pub record IsWanting (format : Format) (limit : ℕ) (text piece : List ℕ) (at : ℕ) : Type 0 where
   pub before : Before
   pub good : AreGood format before
@@ -73,7 +73,7 @@ IsCauseSoFar format limit text piece at None = IsWanting format limit text piece
 IsCauseSoFar format limit text piece at (Some cause) =
     HasBadPart format limit (text ++ piece) (record { at = at; cause = cause }) ⊎ IsLong format limit (text ++ piece) (record { at = at; cause = cause })
 
--- says the same as `IsCauseSoFar`, for a fault in the code's type
+-- says the same as `IsCauseSoFar`, for a fault of the code's type
 abbrev pub IsFaultReported : Format → ℕ → List ℕ → List ℕ → StateFault → Type 0
 IsFaultReported format limit text piece fault = IsCauseSoFar format limit text piece fault.at (cause_meant fault.cause)
 
@@ -92,7 +92,7 @@ abbrev pub IsCauseAtEnd : Format → ℕ → List ℕ → ℕ → Option model.S
 IsCauseAtEnd format limit text at None = IsWhole format limit text × (at ≡ length text)
 IsCauseAtEnd format limit text at (Some cause) = IsShort format limit text (record { at = at; cause = cause })
 
--- says the same as `IsCauseAtEnd`, for a fault in the code's type
+-- says the same as `IsCauseAtEnd`, for a fault of the code's type
 abbrev pub IsUnended : Format → ℕ → List ℕ → StateFault → Type 0
 IsUnended format limit text fault = IsCauseAtEnd format limit text fault.at (cause_meant fault.cause)
 

@@ -91,8 +91,8 @@ abbrev pub is_call : List ℕ → ℕ → Occurrence → Bool
 is_call place suffix event = is_at place suffix event.line
 
 -- says that `after` is `before` with more lines appended. `more` makes the lines from two
--- functions: the first returns the train of a UID and a start day, the second the association
--- chosen in a group
+-- functions. The first returns the train of a UID that starts on a day. The second returns the
+-- association chosen in a group for a start day
 abbrev pub Adds : Table → ((List ℕ → ℕ → Option Train) → (Group → ℕ → Option Link) → List DockerLine) → List DockerLine → List DockerLine → Type 0
 Adds live more before after = (rows : List Row) → AreRowsOf live rows → after ≡ before ++ more (train_in rows) (link_in rows)
 
@@ -119,8 +119,8 @@ abbrev pub link_line_by : (List ℕ → ℕ → Option Train) → ℕ → ℕ �
 link_line_by trains day start link occasion base None = []
 link_line_by trains day start link occasion base (Some event) = link_line_at trains day start link occasion base event
 
--- the docker line of an association. Empty if it has no occasion, because its category isn't `JJ`,
--- `VV` or `NP`. Also empty if there is no base train
+-- the docker line of an association. Empty if the association has no occasion, because its category
+-- isn't `JJ`, `VV` or `NP`. Also empty if there is no base train
 abbrev pub link_line_with : (List ℕ → ℕ → Option Train) → ℕ → ℕ → Link → Option Occasion → Option Train → List DockerLine
 link_line_with trains day start link None base = []
 link_line_with trains day start link (Some occasion) None = []

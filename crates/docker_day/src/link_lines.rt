@@ -19,8 +19,8 @@ use cif_line::Memory;
 use train_choice::{LinkView, Occasion, Occurrence, is_cancellation};
 
 /// The docker line of an association for a visit. `None` if the association isn't in force on the
-/// start day, if its category isn't `JJ`, `VV` or `NP`, or if its base train doesn't call at the
-/// place on the day.
+/// start day, or if its category isn't `JJ`, `VV` or `NP`. Also `None` if its base train doesn't
+/// call at the place on the day.
 pub(crate) fn link_line<'a>(
     visit: &mut Visit<'a>,
     link: &LinkView<'a>,

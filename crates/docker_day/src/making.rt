@@ -25,9 +25,9 @@ use train_choice::{associations_at, schedules_at};
 
 /// Makes the docker of a timing point and a day. The docker has the events of trains that run, and
 /// the associations, at this timing point on this day. `Lapsed` if and only if the state has a
-/// horizon and the day is earlier than three days after the horizon, because the docker could lack
-/// the lines of lapsed entries. `Memory` if there is no room for the lines, or for the trains that
-/// are looked up for them.
+/// horizon and the day is earlier than three days after the horizon. On such a day the docker could
+/// lack the lines of lapsed entries. `Memory` if there is no room for the lines, or for the trains
+/// that are looked up for them.
 pub fn docker<'a>(
     alloc: Global,
     state: &'a State,

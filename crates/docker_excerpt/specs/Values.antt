@@ -44,8 +44,8 @@ state_of_read file = record {
 abbrev pub StandsAt : List ℕ → ℕ → State → State → Type 0
 StandsAt place day state part = (docker : Docker) → IsDockerOf (live_table part) place day docker → IsDockerOf (live_table state) place day docker
 
--- says that `part` is an excerpt for the place of a valid state, without the entries that can't
--- count on the day
+-- says that the state is valid, and that `part` is the state's excerpt for the place, without the
+-- entries that can't count on the day
 pub record IsExcerptOf (place : List ℕ) (day : ℕ) (state part : State) : Type 0 where
   pub valid : IsValid state
   pub excerpt : IsExcerptState place (near_state day state) part

@@ -9,7 +9,8 @@ use Rattle.docker_model.specs.run.Run.{RunEvent, take_file, send_state, deliver,
 use Rattle.docker_model.specs.run.Run.{Exchange, IsRun, IsReply, IsStateOf, IsMessageOf, office_known, message_known, known_sets}
 use Rattle.docker_model.specs.run.Knowledge.{IsGoodEvent, office_state, message_text, sets_of}
 
--- says that the limit of a take is at most 4,294,967,294 records
+-- says that an event that takes a file has a limit of at most 4,294,967,294 records. True of every
+-- other event
 abbrev pub HasGoodLimit : RunEvent → Type 0
 HasGoodLimit (take_file office text limit) = limit ≤ 4_294_967_294
 HasGoodLimit (send_state office) = ⊤
@@ -18,7 +19,7 @@ HasGoodLimit (reload office message) = ⊤
 HasGoodLimit (horizon_event office day) = ⊤
 
 -- says that this is the result of a run of these events at `offices` offices. Messages are in the
--- format `DKS2`, and the limits and horizons of the events are good
+-- format `DKS2`, and the limits and horizons of the events are valid
 pub record LeavesRun (offices : ℕ) (events : List RunEvent) (exchange : Exchange) : Type 0 where
   pub run : IsRun dks_2 offices events exchange
   pub good : All (IsGoodEvent dks_2) events

@@ -197,8 +197,8 @@ fn is_front(bytes: &[u8], wanted: &[u8], call: u64) -> bool {
     bytes.len() as u64 == call.saturating_sub(1) && wanted.starts_with(bytes)
 }
 
-/// `LINE`: a job is read from a source that holds the line and fails at the first read, then from a
-/// source that fails at the second read, and so on.
+/// `LINE`: a job is read from a source that holds the line. The source fails at the first read,
+/// then a second source fails at the second read, and so on.
 pub(crate) fn line(desk: &Desk, words: &[&str]) {
     let [name] = words else {
         return desk.trouble("LINE");

@@ -1,5 +1,5 @@
-//! Tables of rows, each of which makes many calls: texts that are cut, limits, sources without end,
-//! and devices that fail.
+//! Rows that make many calls, one table for each kind of row: texts that are cut, limits, sources
+//! without end, and devices that fail.
 ghost use Rattle.std.specs.Prelude.{◌<◌, length};
 
 use crate::answers::Answer;

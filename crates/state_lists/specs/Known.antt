@@ -16,8 +16,8 @@ use Rattle.state_laws.specs.Row.{Row, AreRowsOf}
 abbrev pub count_of : ℕ → List Row → ℕ
 count_of tag rows = length (filter (λ (row : Row). key_tag row.0 == tag) rows)
 
--- the day of an end number. `None` if the end number is greater than every day number. For example,
--- it is `None` for 65535, which means no end
+-- the day with this number. `None` for a number greater than every day number, such as 65535, which
+-- means no end
 abbrev pub day_in : ℕ → Option ℕ
 day_in end = if nat_le end last_day then Some end else None
 

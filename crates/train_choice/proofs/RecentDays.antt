@@ -1,5 +1,5 @@
--- The runs-from date in a schedule's key and two fields of its basic schedule determine on which of
--- three days the schedule runs: a given day and the two days before it.
+-- On which of three days a schedule runs: a given day and the two days before it. The runs-from
+-- date in the schedule's key and two fields of its basic schedule determine these days.
 use Rattle.std.proofs.Common.{◌≡◌, ℕ, ◌-◌, ◌<◌, Bool, true, false, List, refl, ap, sym, ◌∙◌, subst, arith}
 use Rattle.std.specs.Prelude.{◌&&◌, ◌||◌, not, nat_le, nat_lt}
 use Rattle.std.proofs.lemmas.Bool.{leb-true, ltb-true}

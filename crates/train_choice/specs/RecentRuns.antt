@@ -36,8 +36,9 @@ runs_back_by_fields line first day back = begun_back (columns 22 28 line) first 
 abbrev pub marked_back : List ℕ → ℕ → ℕ → Bool
 marked_back days day back = nat_le back day && runs_on_weekday days (weekday_of (day - back))
 
--- whether the schedule's runs-from date isn't after the day, and its days run include the weekday
--- of at least one of three days: the day and the two days before it
+-- whether the schedule may run on one of three days: the day and the two days before it. That is so
+-- if its runs-from date isn't after the day, and its days run include at least one of the three
+-- weekdays
 abbrev pub may_run_recently : ScheduleKey → List (List ℕ) → ℕ → Bool
 may_run_recently key lines day = not (nat_lt day key.runs_from)
     && (marked_back (columns 22 28 (first_record lines)) day 0 || marked_back (columns 22 28 (first_record lines)) day 1
