@@ -329,12 +329,14 @@ ends_with wants why left failures format limit IsMade IsRead source source_now (
     record { few = ends.few; outcome = of made ends.outcome; failures = ends.failures }
 ends_with wants why left failures format limit IsMade IsRead source source_now (Err fault) of ends = ends
 
--- if a keeper makes the state itself, the value it makes is the state with the text that was read
+-- if a keeper makes the state itself, the value that the keeper makes is the state with the text
+-- that was read
 pub made_itself : (format : Format) (limit : ℕ) (text : List ℕ) (made : State) → IsMadeOf (λ made state. made ≡ state) format limit text made
     → IsStateText format limit text made
 made_itself format limit text made of = subst (IsStateText format limit text) (sym of.made_of) of.is
 
--- if a keeper makes the state itself, the value it makes is the state whose text the source held
+-- if a keeper makes the state itself, the value that the keeper makes is the state whose text the
+-- source held
 pub read_itself : (format : Format) (limit : ℕ) (initial : Option (List ℕ)) (made : State) → ReadsMade (λ made state. made ≡ state) format limit initial made
     → ReadsState format limit initial made
 read_itself format limit initial made read =

@@ -13,8 +13,8 @@ use state_text::{Keeper, Maker, PartsSoFar, Received, Receiver, State};
 use std::alloc::Global;
 use std::marker::Model;
 
-/// A parser of the text of one state, which is fed in pieces of any length. It passes each complete
-/// part to its keeper, and itself holds at most 80 bytes of the next part.
+/// A parser of the text of one state. The parser is fed the text in pieces of any length. It passes
+/// each complete part to its keeper, and itself holds at most 80 bytes of the next part.
 #[derive(Debug, Drop)]
 pub(crate) struct Parser<K: Keeper> {
     reading: StateReading<K>,
@@ -32,8 +32,8 @@ impl<K: Keeper> Model for Parser<K> {
 }
 
 impl<K: Keeper> Parser<K> {
-    /// A parser of a text in this format, of at most `limit` bytes. It passes the parts to
-    /// `keeper`, which has no parts yet.
+    /// A parser of a text in this format, of at most `limit` bytes. The parser will pass the parts
+    /// to `keeper`, which has no parts yet.
     pub(crate) fn new(alloc: Global, format: Format, limit: u64, keeper: K) -> Parser<K>
         requires { K.given keeper ≡ record { horizon = 0; ledger = []; entries = [] } }
         ensures { HasRead result (format_meant format) limit [] }

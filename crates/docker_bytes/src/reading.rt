@@ -15,7 +15,7 @@ use state_text::{
 use std::alloc::Global;
 
 /// The reading of a text up to some byte. It keeps the data of the complete parts, the kind of the
-/// next part, the bytes of this part that were read, and the offset at which its item began.
+/// next part, the bytes of this part that were read, and the offset at which the part's item began.
 #[derive(Debug, Drop)]
 pub(crate) struct StateReading<K: Keeper> {
     alloc: Global,
@@ -132,7 +132,7 @@ impl<K: Keeper> StateReading<K> {
 
     /// Takes the complete lines at the front of a piece, up to but not including the schedule's
     /// last line. Takes no line if the next part isn't a line, or if some of its bytes have already
-    /// been read. The number of lines is computed once for all of them. Returns the bytes after
+    /// been read. The number of lines is computed once for all these lines. Returns the bytes after
     /// these lines.
     fn take_lines<'a>(&mut self, piece: &'a [u8]) -> Result<&'a [u8], StateFault>
         requires { IsReading self.old }

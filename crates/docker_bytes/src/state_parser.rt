@@ -13,8 +13,8 @@ use state_text::{State, Whole};
 use std::alloc::Global;
 use std::marker::Model;
 
-/// A parser of the text of one state, which is fed in pieces of any length. It holds the complete
-/// parts, and at most 80 bytes of the next part.
+/// A parser of the text of one state. The parser is fed the text in pieces of any length. It holds
+/// the complete parts, and at most 80 bytes of the next part.
 #[derive(Debug, Drop)]
 pub struct StateParser {
     parser: Parser<Whole>,

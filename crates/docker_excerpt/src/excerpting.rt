@@ -54,7 +54,7 @@ impl fmt::Debug for Excerpting {
 }
 
 impl Excerpting {
-    /// An excerpt before its first part. It allocates nothing.
+    /// An excerpt before its first part. The call allocates nothing.
     pub fn new(alloc: Global, place: Tiploc, day: Day) -> Excerpting
         ensures { result ≡ record {
           place = place;

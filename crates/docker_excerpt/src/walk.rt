@@ -17,7 +17,7 @@ use state_text::{Entry, Given};
 use std::alloc::Global;
 
 /// The entries that a walk has kept, and the current run: the schedules of one UID. When the run
-/// ends, it is kept or dropped as a whole.
+/// ends, its schedules are kept or dropped as a whole.
 #[derive(Debug, Drop)]
 pub(crate) struct ExcerptWalk {
     place: Tiploc,
@@ -30,7 +30,7 @@ pub(crate) struct ExcerptWalk {
 }
 
 impl ExcerptWalk {
-    /// A walk that hasn't passed any entry. It allocates nothing.
+    /// A walk that hasn't passed any entry. The call allocates nothing.
     pub(crate) fn new(alloc: Global, place: Tiploc) -> ExcerptWalk
         ensures walked { HasWalked result [] }
         ensures place { result.place ≡ place }

@@ -19,8 +19,8 @@ use std::alloc::Global;
 use std::marker::Model;
 
 /// An office for the docker of one timing point and one day. In contracts its value is the timing
-/// point, the day and the whole state, of which it keeps an excerpt. The office can only print this
-/// docker: the state can't be written, joined or sent.
+/// point, the day and the whole state, of which the office keeps an excerpt. The office can only
+/// print this docker: the state can't be written, joined or sent.
 #[derive(Debug, Drop)]
 pub struct PlaceOffice {
     alloc: Global,

@@ -49,8 +49,8 @@ pub fn day_back(day: Day, back: u16) -> Option<Day>
 }
 
 /// On which of the three days a schedule that begins on `first` runs: `day` and the two days before
-/// it. The days-run field and the last date are read from its basic schedule. The last date is read
-/// only if the result depends on it.
+/// it. The days-run field and the last date are read from `line`, which is the basic schedule. The
+/// last date is read only if the result depends on it.
 #[tactic(auto, using(crate::proofs::RunFields::schedule_fields))]
 pub(crate) fn recent_runs_of(line: &Line, first: Day, day: Day) -> RecentRuns
     requires kind { HasKind basic_schedule line.now }
