@@ -218,7 +218,7 @@ pub(crate) fn write_for_job(desk: &Desk, words: &[&str]) {
     }
 }
 
-/// Lets a job write what it has prepared. If memory runs out, it writes a second time.
+/// Lets a job write what it has prepared. If memory runs out, the job writes a second time.
 fn write_prepared(desk: &Desk, prepared: &Prepared<'_>, wanted: &str) {
     if let Some(fault) = has_written(desk, prepared, wanted, true) {
         report_status(desk, Fault::Office(fault));

@@ -69,8 +69,8 @@ impl<'a> Asked<'a> {
         self.judge(desk, &office, done)
     }
 
-    /// The answer for a source that holds this text. The answer is `Uneven` if it depends on the
-    /// number of bytes per read.
+    /// The answer for a source that holds this text. `Uneven` if the answer depends on the number
+    /// of bytes per read.
     pub(crate) fn answer_to(&self, desk: &Desk, text: &[u8]) -> Answer {
         let mut answer = self.answer(desk, text, 1);
         for step in STEPS {
