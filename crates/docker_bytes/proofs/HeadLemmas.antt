@@ -1,4 +1,4 @@
--- The head of an entry, which is read at once: the first parts of an entry that isn't a deletion.
+-- The head of an entry, which is read at once: all parts before the body of an entry with a body.
 use Rattle.std.proofs.Common.{◌≡◌, ℕ, ◌+◌, ◌≤◌, List, [], ◌++◌, length, ap, sym, ◌∙◌, subst, arith, append-nil, length-append}
 use Rattle.std.proofs.lemmas.List.{nil_from_length}
 use Rattle.docker_model.specs.state.State.{IsValid}

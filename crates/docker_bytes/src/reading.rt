@@ -162,7 +162,7 @@ impl<K: Keeper> StateReading<K> {
         Ok(rest)
     }
 
-    /// Takes the head of an entry at once: the first parts of an entry that isn't a deletion. Takes
+    /// Takes the head of an entry at once: all parts before the body of an entry with a body. Takes
     /// nothing unless the head lies whole at the front of the piece, is good and ends within the
     /// limit. Returns the bytes after the head, or the whole piece if nothing was taken.
     fn take_head<'a>(&mut self, piece: &'a [u8]) -> &'a [u8]

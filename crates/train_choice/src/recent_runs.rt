@@ -8,7 +8,7 @@ ghost use Rattle.train_choice.specs.RecentRuns.{AreRecentRuns, begun_back, lasts
 
 use cif_line::{Day, Days, Line};
 
-/// Whether a schedule runs on a day, on the day before and two days before.
+/// On which of three days a schedule runs: a day and the two days before it.
 #[derive(Clone, Copy, Debug)]
 pub struct RecentRuns {
     /// Whether the schedule runs on the day.
