@@ -17,7 +17,7 @@ use cif_line::{Day, Memory, Tiploc};
 use state_text::{Entry, Given};
 use std::alloc::Global;
 
-/// A walk over the entries of a state that may count on a day.
+/// A walk over those entries of a state that may count on a day.
 #[derive(Drop)]
 pub(crate) struct DayWalk {
     day: Day,

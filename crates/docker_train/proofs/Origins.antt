@@ -141,7 +141,8 @@ schedules_are : (state : State) (uid : List ℕ) (day : ℕ) (found : Option Sta
 schedules_are state uid day None is = is
 schedules_are state uid day (Some found) (is, stamp) = is
 
--- the schedule found in the summary of some files is the schedule chosen in their plain table
+-- on a day that isn't before the horizon, the schedule found in the summary of some files is the
+-- schedule chosen in their plain table
 pub found_is_plain : (files : List (List (List ℕ))) (horizon : ℕ) (state : State) (table : Table) (uid : List ℕ) (day : ℕ) (found : Option Stamped)
     → IsSummary files horizon state → IsPlainTable files table → IsDay horizon → horizon ≤ day → IsFoundFor state uid day found
     → IsChosenOn table uid day (option_map (λ (it : Stamped). it.schedule) found)

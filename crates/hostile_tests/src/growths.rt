@@ -1,5 +1,5 @@
-//! Chooses the function that runs a row whose call allocates memory. The name of the call
-//! determines the function.
+//! Chooses the function that runs a row whose call allocates memory. The choice depends only on the
+//! name of the call.
 
 use crate::desk::Desk;
 use crate::{file_growths, job_growths, office_growths, part_growths, run_growth, state_growths};

@@ -13,9 +13,9 @@ use cif_line::{Day, Days, Line};
 pub struct RecentRuns {
     /// Whether the schedule runs on the day.
     pub today: bool,
-    /// Whether the schedule runs on the day before.
+    /// Whether the schedule runs one day earlier.
     pub day_before: bool,
-    /// Whether the schedule runs two days before.
+    /// Whether the schedule runs two days earlier.
     pub two_before: bool,
 }
 
