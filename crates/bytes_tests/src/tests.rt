@@ -66,7 +66,8 @@ fn read(rt: &impl Abort, alloc: Global, text: &[u8], step: usize, limit: u64) ->
     read_state(alloc, &mut source, limit).expect(rt, "a state")
 }
 
-/// Reads the ledger of a text, `step` bytes at a time, and returns the number of its files.
+/// Reads the ledger of a state's text, `step` bytes at a time, and returns the number of files in
+/// the ledger.
 fn files_in(rt: &impl Abort, alloc: Global, text: &[u8], step: usize, limit: u64) -> usize
     requires { 0 < step }
 {

@@ -1,4 +1,4 @@
--- The head of an entry, read at once.
+-- The head of an entry, which is read at once: all parts before the body of an entry with a body.
 use Rattle.std.proofs.Common.{◌≡◌, ℕ, ◌+◌, ◌≤◌, List, [], ◌++◌, length, ap, sym, ◌∙◌, subst, arith, append-nil, length-append}
 use Rattle.std.proofs.lemmas.List.{nil_from_length}
 use Rattle.docker_model.specs.state.State.{IsValid}
@@ -21,11 +21,11 @@ module _ {K : Type 0} (old : StateReading K) (count : ℕ) (is : IsReading old) 
   none : old.partial.items ≡ []
   none = let short = is.short in let wide = ap width before in nil_from_length old.partial.items (omega arith)
 
-  -- before a tag, the state so far is valid
+  -- if the next part is a tag, the complete parts are a valid state
   pub valid_so_far : IsValid old.parts
   valid_so_far = good.0.valid
 
-  -- if the parts of a head are good, the reading goes on after them
+  -- if the parts of a head are good, the text has been read up to the end of the head
   pub head_read : (new : StateReading K) (bytes : List ℕ) → IsHead count old.parts bytes new.stage → old.reached + length bytes ≤ old.limit
       → new.parts ≡ old.parts → new.lines ≡ [] → new.partial.items ≡ old.partial.items → new.reached ≡ old.reached + length bytes
       → new.item_at ≡ old.item_at → new.limit ≡ old.limit → format_of new ≡ format_of old → ReadsOn old new bytes

@@ -26,7 +26,7 @@ use Rattle.docker_bytes.specs.SourceRead.{ReadsOnePieceMore, ReadsAll, WantsSoFa
 use Rattle.docker_bytes.specs.ReadEnds.{as_it_is, CountsOutcome, CountsWhy, EndsReadingBy, EndsText, IsOutcome, IsWhyUnread, StopsReading, Wanting}
 use Rattle.docker_bytes.proofs.TextEnd.{sound_text}
 
--- ---- from the parser's fault to the read fault
+-- ---- the parser's fault determines the read fault
 
 none_is_memory : (c : StateCause) → cause_meant c ≡ None → c ≡ cause.Memory
 none_is_memory cause.Mark is = cc
@@ -281,8 +281,8 @@ refused_ends terms initial next parser (fault.State found) failed failed_now few
 refused_ends terms initial next parser fault.Memory failed failed_now few same has =
     record { few = few; outcome = wants_part terms initial next parser has; failures = same }
 
--- `WantsMemory` includes the end of the text, so a reason to stop under `WantsSoFar` is also a reason
--- to stop under `WantsMemory`
+-- `WantsMemory` also covers the end of the text, so a reason to stop under `WantsSoFar` is also a
+-- reason to stop under `WantsMemory`
 pub ends_early : (format : Format) (limit : ℕ) (initial next : Option (List ℕ)) (told : ReadFault) (failed failed_now : ℕ)
     → StopsReading format limit initial next (IsWhyUnread WantsSoFar format limit initial next (Some told)) (CountsWhy (Some told) failed failed_now)
     → StopsReading format limit initial next (IsWhyUnread WantsMemory format limit initial next (Some told)) (CountsWhy (Some told) failed failed_now)
@@ -329,12 +329,14 @@ ends_with wants why left failures format limit IsMade IsRead source source_now (
     record { few = ends.few; outcome = of made ends.outcome; failures = ends.failures }
 ends_with wants why left failures format limit IsMade IsRead source source_now (Err fault) of ends = ends
 
--- if a keeper makes the state itself, the value it makes is the state with the text that was read
+-- if a keeper makes the state itself, the value that the keeper makes is the state with the text
+-- that was read
 pub made_itself : (format : Format) (limit : ℕ) (text : List ℕ) (made : State) → IsMadeOf (λ made state. made ≡ state) format limit text made
     → IsStateText format limit text made
 made_itself format limit text made of = subst (IsStateText format limit text) (sym of.made_of) of.is
 
--- if a keeper makes the state itself, the value it makes is the state whose text the source held
+-- if a keeper makes the state itself, the value that the keeper makes is the state whose text the
+-- source held
 pub read_itself : (format : Format) (limit : ℕ) (initial : Option (List ℕ)) (made : State) → ReadsMade (λ made state. made ≡ state) format limit initial made
     → ReadsState format limit initial made
 read_itself format limit initial made read =

@@ -11,8 +11,9 @@ use Rattle.docker_bytes.specs.StateReading.{IsWhole}
 abbrev pub BytesLeft : Type 0
 BytesLeft = Option (List ℕ)
 
--- a statement that memory ran out while a text was read. Its parameters are the format, the most
--- bytes of a piece, the limit of the text, and the bytes left in the source before and after
+-- a statement that memory ran out while a text was read. Its parameters are the format, the
+-- greatest length of a piece, the limit of the text, and the bytes left in the source before and
+-- after reading
 abbrev pub Wanting : Type 1
 Wanting = (format : Format) (most limit : ℕ) (left left_now : BytesLeft) → Type 0
 
@@ -59,7 +60,7 @@ EndsReadingBy wants why left failures format limit IsMade source source_now resu
     StopsReading format limit (left source) (left source_now) (IsOutcome wants why format limit IsMade (left source) (left source_now) result)
     (CountsOutcome why (failures source) (failures source_now) result)
 
--- the read fault of a result whose fault is already a read fault
+-- returns the fault itself, for results whose fault is already a read fault
 abbrev pub as_it_is : ReadFault → Option ReadFault
 as_it_is fault = Some fault
 

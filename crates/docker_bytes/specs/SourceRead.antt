@@ -35,7 +35,7 @@ abbrev pub IsCauseOf : Format → ℕ → List ℕ → ℕ → Option model.Stat
 IsCauseOf format limit text at None = ⊥
 IsCauseOf format limit text at (Some cause) = IsStateFault format limit text (record { at = at; cause = cause })
 
--- says that the text has this fault, given in the code's type
+-- says the same as `IsCauseOf`, for a fault of the code's type
 abbrev pub IsFaultOf : Format → ℕ → List ℕ → StateFault → Type 0
 IsFaultOf format limit text fault = IsCauseOf format limit text fault.at (cause_meant fault.cause)
 

@@ -17,11 +17,12 @@ use Rattle.state_text.specs.Stamp.{Stamp}
 use Rattle.state_text.specs.declared.stage.Stage.{Stage}
 use Rattle.state_text.specs.declared.stage.Stage.TheVariants.{Line}
 
--- the format of the text
+-- converts the format of the text to the `Format` of the definitions
 abbrev pub format_of : {K : Type 0} → StateReading K → Format
 format_of reading = format_meant reading.format
 
--- the position of the part that is being read, described by the complete parts before it
+-- converts the position of the reading to the `Before` of the definitions: the complete parts
+-- before the part that is being read
 abbrev pub before_of : {K : Type 0} → StateReading K → Before
 before_of reading = stage_meant reading.stage reading.parts reading.lines
 
@@ -51,8 +52,8 @@ pub record ReadsOn {K : Type 0} (old new : StateReading K) (bytes : List ℕ) : 
 abbrev pub IsPartRefused : {K : Type 0} → StateReading K → List ℕ → StateFault → Type 0
 IsPartRefused reading bytes fault = (fault.at ≡ reading.item_at) × IsBadHere (format_of reading) (before_of reading) bytes (cause_meant fault.cause)
 
--- says that memory ran out for a part whose last byte is in `piece`, after `text`. No part up to
--- and including this part is bad, and `at` is the beginning of the part's item
+-- says that memory ran out for a part of `text ++ piece` whose last byte is in `piece`. No part up
+-- to and including this part is bad, and `at` is the beginning of the part's item
 pub record IsWanting (format : Format) (limit : ℕ) (text piece : List ℕ) (at : ℕ) : Type 0 where
   pub before : Before
   pub good : AreGood format before
@@ -65,14 +66,14 @@ pub record IsWanting (format : Format) (limit : ℕ) (text piece : List ℕ) (at
   pub ends_in_piece : length text < length (text_before format before) + width before
   pub item_at : at ≡ length (items_before format before)
 
--- says what a fault means that is returned for a piece after a text: a part is bad, or the state
--- needs a byte at the limit. The cause `None` means that memory ran out
+-- says what a fault means if it is returned for a piece that follows a text: a part is bad, or the
+-- state needs a byte at the limit. The cause `None` means that memory ran out
 abbrev pub IsCauseSoFar : Format → ℕ → List ℕ → List ℕ → ℕ → Option model.StateCause → Type 0
 IsCauseSoFar format limit text piece at None = IsWanting format limit text piece at
 IsCauseSoFar format limit text piece at (Some cause) =
     HasBadPart format limit (text ++ piece) (record { at = at; cause = cause }) ⊎ IsLong format limit (text ++ piece) (record { at = at; cause = cause })
 
--- says the same as `IsCauseSoFar`, for a fault in the code's type
+-- says the same as `IsCauseSoFar`, for a fault of the code's type
 abbrev pub IsFaultReported : Format → ℕ → List ℕ → List ℕ → StateFault → Type 0
 IsFaultReported format limit text piece fault = IsCauseSoFar format limit text piece fault.at (cause_meant fault.cause)
 
@@ -84,14 +85,14 @@ IsWhole format limit text = (state : State) × IsStateText format limit text sta
 abbrev pub IsOpen : Format → ℕ → List ℕ → Type 0
 IsOpen format limit text = (fault : model.StateFault) × IsShort format limit text fault
 
--- says what a fault means that is returned at the end of a text: the text ends before the state
+-- says what a fault means if it is returned at the end of a text: the text ends before the state
 -- does. The cause `None` means that memory ran out at the end of a complete text, and the offset is
 -- this end
 abbrev pub IsCauseAtEnd : Format → ℕ → List ℕ → ℕ → Option model.StateCause → Type 0
 IsCauseAtEnd format limit text at None = IsWhole format limit text × (at ≡ length text)
 IsCauseAtEnd format limit text at (Some cause) = IsShort format limit text (record { at = at; cause = cause })
 
--- says the same as `IsCauseAtEnd`, for a fault in the code's type
+-- says the same as `IsCauseAtEnd`, for a fault of the code's type
 abbrev pub IsUnended : Format → ℕ → List ℕ → StateFault → Type 0
 IsUnended format limit text fault = IsCauseAtEnd format limit text fault.at (cause_meant fault.cause)
 

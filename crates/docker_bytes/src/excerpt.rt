@@ -30,7 +30,7 @@ pub fn read_excerpt<S: Source>(
     excerpt_at::<Brand, S>(alloc, source, place, day, limit)
 }
 
-/// Like `read_excerpt`, for the place and the day that the type `P` names.
+/// Like `read_excerpt`, for the place and the day that the type `P` determines.
 fn excerpt_at<P: PlaceDay, S: Source>(
     alloc: Global,
     source: &mut S,

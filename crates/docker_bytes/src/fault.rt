@@ -6,7 +6,7 @@ use state_text::StateCause;
 use std::error::Error;
 use std::fmt;
 
-/// The place and the reason of a fault in the text of a state, or the place at which memory ran
+/// The offset and the cause of a fault in the text of a state, or the offset at which memory ran
 /// out.
 #[derive(Clone, Copy, PartialEq, Eq, Debug)]
 pub struct StateFault {

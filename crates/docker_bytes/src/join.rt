@@ -17,10 +17,10 @@ use std::alloc::Global;
 use std::marker::Brand;
 use std::mem;
 
-/// Joins a state with the state that a source holds, whose text has the mark `DKS2`. The source is
-/// read as by `read_state`, and the faults are the same. Of the received entries, only the entries
-/// that the state will take over are kept. The state takes these entries over after the end of the
-/// source, so a fault leaves the state unchanged.
+/// Joins a state with the state whose text a source holds. The text has the mark `DKS2`. The source
+/// is read as by `read_state`, and the faults are the same. Of the received entries, only the
+/// entries that the state will take over are kept. The state takes these entries over after the end
+/// of the source, so a fault leaves the state unchanged.
 pub fn join_state<S: Source>(
     alloc: Global,
     state: &mut State,
@@ -41,8 +41,8 @@ pub fn join_state<S: Source>(
     result
 }
 
-/// Like `join_state`, for a state that is moved into the call and returned. The type `R` names this
-/// state.
+/// Like `join_state`, for a state that is moved into the call and returned. In contracts, `R.own`
+/// is this state.
 fn receive<R: Receiver, S: Source>(
     alloc: Global,
     own: State,

@@ -21,8 +21,9 @@ pub fn migrate<S: Source>(alloc: Global, source: &mut S, limit: u64) -> Result<S
     migrate_noting(alloc, source, limit, true)
 }
 
-/// Like `migrate`, but notes the places of the entries only if `noted` is true. Without these notes
-/// the state has no index, and making the state takes less time and memory.
+/// Like `migrate`, but notes the timing points of the entries for the index only if `noted` is
+/// true. Without these notes the state has no index, and making the state takes less time and
+/// memory.
 pub fn migrate_noting<S: Source>(
     alloc: Global,
     source: &mut S,

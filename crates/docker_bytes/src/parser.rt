@@ -13,8 +13,8 @@ use state_text::{Keeper, Maker, PartsSoFar, Received, Receiver, State};
 use std::alloc::Global;
 use std::marker::Model;
 
-/// A parser of the text of one state, which is fed in pieces of any length. It passes each complete
-/// part to its keeper, and itself holds at most 80 bytes of the next part.
+/// A parser of the text of one state. The parser is fed the text in pieces of any length. It passes
+/// each complete part to its keeper, and itself holds at most 80 bytes of the next part.
 #[derive(Debug, Drop)]
 pub(crate) struct Parser<K: Keeper> {
     reading: StateReading<K>,
@@ -32,8 +32,8 @@ impl<K: Keeper> Model for Parser<K> {
 }
 
 impl<K: Keeper> Parser<K> {
-    /// A parser of a text in this format, of at most `limit` bytes. It passes the parts to
-    /// `keeper`, which has no parts yet.
+    /// A parser of a text in this format, of at most `limit` bytes. The parser will pass the parts
+    /// to `keeper`, which has no parts yet.
     pub(crate) fn new(alloc: Global, format: Format, limit: u64, keeper: K) -> Parser<K>
         requires { K.given keeper ≡ record { horizon = 0; ledger = []; entries = [] } }
         ensures { HasRead result (format_meant format) limit [] }
@@ -44,13 +44,13 @@ impl<K: Keeper> Parser<K> {
         }
     }
 
-    /// Takes the next bytes of the text, and returns how many of these bytes it used. With `More`
-    /// it has used all of them, and the state needs more bytes. With `Done` it has used the bytes
-    /// up to the state's last byte, and later calls use no bytes. Returns a fault once a part is
-    /// bad, or once the state needs a byte at the limit. Also returns a fault if memory runs out
-    /// for a part that ends in this piece. The offset of this fault is the beginning of the part's
-    /// item, and no part up to and including this part is bad. After a fault, each later call
-    /// returns the same fault.
+    /// Takes the next bytes of the text, and returns how many of these bytes it used. `More` means
+    /// that all of these bytes were used, and that the state needs more bytes. `Done` means that
+    /// the bytes up to the state's last byte were used, and that later calls use no bytes. Returns
+    /// a fault once a part is bad, or once the state needs a byte at the limit. Also returns a
+    /// fault if memory runs out for a part that ends in this piece. The offset of this fault is the
+    /// beginning of the part's item, and no part up to and including this part is bad. After a
+    /// fault, each later call returns the same fault.
     pub(crate) fn feed(&mut self, piece: &[u8]) -> Result<(usize, Step), StateFault>
         ensures within { IfOk result (λ answer. answer.0 ≤ length piece.now) }
         ensures read { (format : formats.Format) (limit : ℕ) (text : List ℕ) →

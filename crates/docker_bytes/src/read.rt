@@ -54,8 +54,9 @@ pub fn read_state<S: Source>(alloc: Global, source: &mut S, limit: u64) -> Resul
     read_state_noting(alloc, source, limit, true)
 }
 
-/// Like `read_state`, but notes the places of the entries only if `noted` is true. Without these
-/// notes the state has no index, and making the state takes less time and memory.
+/// Like `read_state`, but notes the timing points of the entries for the index only if `noted` is
+/// true. Without these notes the state has no index, and making the state takes less time and
+/// memory.
 pub fn read_state_noting<S: Source>(
     alloc: Global,
     source: &mut S,

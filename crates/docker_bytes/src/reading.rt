@@ -14,8 +14,9 @@ use state_text::{
 };
 use std::alloc::Global;
 
-/// The reading of a text up to some byte. It has the data of the complete parts, the kind of the
-/// next part, the bytes of this part that were read, and the offset at which its item began.
+/// The reading of a text up to some byte. It keeps the data of the complete parts and the kind of
+/// the next part. It also keeps the bytes of the next part that were read, and the offset at which
+/// this part's item began.
 #[derive(Debug, Drop)]
 pub(crate) struct StateReading<K: Keeper> {
     alloc: Global,
@@ -132,7 +133,7 @@ impl<K: Keeper> StateReading<K> {
 
     /// Takes the complete lines at the front of a piece, up to but not including the schedule's
     /// last line. Takes no line if the next part isn't a line, or if some of its bytes have already
-    /// been read. The number of lines is computed once for all of them. Returns the bytes after
+    /// been read. The number of lines is computed once for all these lines. Returns the bytes after
     /// these lines.
     fn take_lines<'a>(&mut self, piece: &'a [u8]) -> Result<&'a [u8], StateFault>
         requires { IsReading self.old }
@@ -161,8 +162,9 @@ impl<K: Keeper> StateReading<K> {
         Ok(rest)
     }
 
-    /// Takes the head of a put at once, if it is whole at the head of a piece, good and within the
-    /// limit. Returns the bytes after it: if no head was taken, the whole piece.
+    /// Takes the head of an entry at once: all parts before the body of an entry with a body. Takes
+    /// nothing unless the head lies whole at the front of the piece, is good and ends within the
+    /// limit. Returns the bytes after the head, or the whole piece if nothing was taken.
     fn take_head<'a>(&mut self, piece: &'a [u8]) -> &'a [u8]
         requires { IsReading self.old }
         ensures rest { take (length piece.now - length result.now) piece.now ++ result.now

@@ -13,8 +13,8 @@ use state_text::{State, Whole};
 use std::alloc::Global;
 use std::marker::Model;
 
-/// A parser of the text of one state, which is fed in pieces of any length. It holds the complete
-/// parts, and at most 80 bytes of the next part.
+/// A parser of the text of one state. The parser is fed the text in pieces of any length. It holds
+/// the complete parts, and at most 80 bytes of the next part.
 #[derive(Debug, Drop)]
 pub struct StateParser {
     parser: Parser<Whole>,
@@ -39,13 +39,13 @@ impl StateParser {
         }
     }
 
-    /// Takes the next bytes of the text, and returns how many of these bytes it used. With `More`
-    /// it has used all of them, and the state needs more bytes. With `Done` it has used the bytes
-    /// up to the state's last byte, and later calls use no bytes. Returns a fault once a part is
-    /// bad, or once the state needs a byte at the limit. Also returns a fault if memory runs out
-    /// for a part that ends in this piece. The offset of this fault is the beginning of the part's
-    /// item, and no part up to and including this part is bad. After a fault, each later call
-    /// returns the same fault.
+    /// Takes the next bytes of the text, and returns how many of these bytes it used. `More` means
+    /// that all of these bytes were used, and that the state needs more bytes. `Done` means that
+    /// the bytes up to the state's last byte were used, and that later calls use no bytes. Returns
+    /// a fault once a part is bad, or once the state needs a byte at the limit. Also returns a
+    /// fault if memory runs out for a part that ends in this piece. The offset of this fault is the
+    /// beginning of the part's item, and no part up to and including this part is bad. After a
+    /// fault, each later call returns the same fault.
     pub fn feed(&mut self, piece: &[u8]) -> Result<(usize, Step), StateFault>
         ensures within { IfOk result (λ answer. answer.0 ≤ length piece.now) }
         ensures read { (format : formats.Format) (limit : ℕ) (text : List ℕ) →

@@ -10,10 +10,10 @@ added_if test more before after is same = same ∙ (λ i. before ++ cond (sym is
 pub not_added : (test : Bool) (more before : List DockerLine) → test ≡ false → before ≡ before ++ cond test more []
 not_added test more before is = sym (append-nil before) ∙ (λ i. before ++ cond (sym is i) more [])
 
--- if the test passes, the conditional lines equal the given lines
+-- if the test passes, the conditional list is the whole list
 pub told_if : (test : Bool) (told lines : List DockerLine) → test ≡ true → lines ≡ told → lines ≡ cond test told []
 told_if test told lines is same = same ∙ (λ i. cond (sym is i) told [])
 
--- if the test fails, the conditional lines are empty
+-- if the test fails, the conditional list is empty
 pub untold : (test : Bool) (told : List DockerLine) → test ≡ false → [] ≡ cond test told []
 untold test told is = λ i. cond (sym is i) told []

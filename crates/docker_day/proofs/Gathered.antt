@@ -22,7 +22,7 @@ use Rattle.docker_day.specs.Lines.{Adds}
 use Rattle.docker_day.specs.DockerValue.{Docker}
 use Rattle.docker_day.specs.Dockers.{HasGathered, IsDockerOf}
 
--- the docker list can be made from any walk that includes every row of the place
+-- sorting the docker lines of any walk that includes every row of the place yields the docker list
 docker_of_walk : (live : Table) (place : List ℕ) (day : ℕ) (rows walk : List Row) (none made lines : List DockerLine) → HasGoodBodies live
     → AreRowsOf live rows → IsWalk live place walk
     → none ≡ [] → Adds live (λ trains links. gathered trains links place day walk) none made → IsPermutation made lines → IsSorted docker_line_cmp lines

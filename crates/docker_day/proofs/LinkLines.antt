@@ -39,7 +39,7 @@ pub first_call_is : (lines : List (List ℕ)) (location : List ℕ) (suffix : �
     → find (is_call location suffix) (occurrences lines) ≡ option_map (occurrence_of lines) (first_event_at lines location suffix)
 first_call_is lines location suffix = find_mapped (occurrence_of lines) (is_call location suffix) (events_of lines)
 
--- the line of an association that the code makes is its line in the definitions
+-- the docker line that the code makes for an association equals its line in the definitions
 link_line_is : (trains : List ℕ → ℕ → Option choices.Train) (day start : ℕ) (link : live_rows.Link) (occasion : Option Occasion) (base : Option choices.Train)
     → link_line_with trains day start link occasion base ≡ line_with trains day start link.key link.line occasion base
 link_line_is trains day start link None base = refl

@@ -117,14 +117,14 @@ no_lines_then place day start key lines before none =
     sym (event_lines_are place day start key lines) ∙ sym (lines_to_last place day start key detail lines)
     ∙ none_late place day start key detail (occurrences_to place lines) before none
 
--- if neither of two tests passes together with a third test, then both fail or the third test fails
+-- if `(a || b) && c` is false, then `a` and `b` are both false, or `c` is false
 none_of_both : (a b c : Bool) → ((a || b) && c) ≡ false → ((a ≡ false) × (b ≡ false)) ⊎ (c ≡ false)
 none_of_both a b false h = inr refl
 none_of_both false false true h = inl (refl, refl)
 none_of_both true b true h = absurd (true_false h)
 none_of_both false true true h = absurd (true_false h)
 
--- if none of three tests passes, each of them fails
+-- if the disjunction of three tests is false, each test is false
 none_of_three : (a b c : Bool) → (a || b || c) ≡ false → (a ≡ false) × (b ≡ false) × (c ≡ false)
 none_of_three false false false h = (refl, refl, refl)
 none_of_three true b c h = absurd (true_false h)

@@ -61,21 +61,21 @@ none_behind day all rest fewer false true left before after none = let bad : tru
 none_behind day all rest fewer false false left before after none =
     passed_again day all rest fewer left (before refl) (after (λ bad. cc))
 
--- if the rows read before may have no lines, and no more rows are read, all rows that were read may
--- be skipped
+-- if none of the rows read before may have lines, and no more rows are read, all rows that were
+-- read may be skipped
 pub none_after : (day : ℕ) (all rest fewer : List Row) (so_far : Bool) (found : Option Bool) → AreLeft all rest
     → (so_far ≡ false → ArePassedOver day all rest) → ((may : Bool) → ¬ (found ≡ Some may)) → (¬ (found ≡ Some true) → ArePassedOver day rest fewer)
     → so_far ≡ false → ArePassedOver day all fewer
 none_after day all rest fewer so_far None left before end after none = passed_again day all rest fewer left (before none) (after (λ bad. cc))
 none_after day all rest fewer so_far (Some may) left before end after none = absurd (end may refl)
 
--- two moves of a walk, one after the other, are together one move
+-- `HaveMoved` is transitive
 pub moved_again : (there again : PlaceDay) (all rest fewer : List Row) (first second third : List DockerLine) → again ≡ there
     → HaveMoved there all rest first second → HaveMoved again rest fewer second third → HaveMoved there all fewer first third
 moved_again there again all rest fewer first second third same one two = λ rows are.
     subst (λ (p : PlaceDay). HaveMoved p rest fewer second third) same two rows are ∙ one rows are
 
--- a move of a walk, followed by skipped rows, is together one move
+-- `HaveMoved` is preserved if further rows of the walk are skipped
 pub moved_over : (there again : PlaceDay) (all rest fewer : List Row) (first second : List DockerLine) → again ≡ there
     → AreLive (live_in again.timetable) rest → HaveMoved there all rest first second → ArePassedOver again.day rest fewer
     → HaveMoved there all fewer first second
@@ -91,7 +91,7 @@ live_again there again rows same live = subst (λ (p : PlaceDay). AreLive (live_
 
 -- ---- the rows of a portion
 
--- if all of some views are live, any prefix of these views is live
+-- if all views of a list are live, all views of any prefix of the list are live
 pub live_first : (live : Table) (first second : List RowView) → AreLiveViews live (first ++ second) → AreLiveViews live first
 live_first live [] second are = tt
 live_first live (row ∷ rows) second are = (are.0, live_first live rows second are.1)

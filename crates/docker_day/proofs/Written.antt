@@ -110,11 +110,11 @@ drop_next i xs x below at = drop-cons xs i x below ∙ (λ j. sym at j ∷ drop 
     one_more : suc i ≡ i + 1
     one_more = omega arith
 
--- before the first line is written, all lines remain
+-- before the first line is written, writing all lines completes the text
 pub leads_first : {A : Type 0} (bytes : A → List ℕ) (lines : List A) (first : Option (List ℕ)) → Leads bytes lines (drop 0 lines) first first
 leads_first bytes lines first = record { whole = λ last taken. taken; part = λ last taken. taken }
 
--- after a line is written, the later lines remain
+-- after a line is written, writing the later lines completes the text
 pub leads_on : {A : Type 0} (bytes : A → List ℕ) (lines : List A) (i : ℕ) (line : A) (text : List ℕ) (first now next : Option (List ℕ))
     → i < length lines → line ≡ get_or lines i line
     → text ≡ bytes line → Leads bytes lines (drop i lines) first now → Takes now text next → Leads bytes lines (drop (i + 1) lines) first next

@@ -19,7 +19,7 @@ abbrev pub first_call : Option Train → List ℕ → ℕ → Option events.Occu
 first_call None place suffix = None
 first_call (Some train) place suffix = find (is_call place suffix) (occurrences train.lines)
 
--- an event of the code, if there is one, converted to the definitions' type
+-- converts an event of the code, if there is one, to the `Occurrence` of the definitions
 abbrev pub meant_if : Option Occurrence → Option events.Occurrence
 meant_if event = option_map occurrence_meant event
 
@@ -41,8 +41,8 @@ HasCall own before event after =
     (suffix : ℕ) → get nat_cmp after suffix ≡ (if own == suffix then kept_or (get nat_cmp before suffix) (Some event) else get nat_cmp before suffix)
 
 -- says how one more event changes the kept events, which are the first events of each suffix. If a
--- suffix has a kept event, this event is unchanged. If a suffix has no kept event, it gets the new
--- event, provided that the new event is at the place and has this suffix
+-- suffix has a kept event, this event is unchanged. If a suffix has no kept event, the new event is
+-- kept for the suffix, provided that the new event is at the place and has this suffix
 abbrev pub HasEvent : List ℕ → BTreeMap ℕ events.Occurrence → events.Occurrence → BTreeMap ℕ events.Occurrence → Type 0
 HasEvent place before event after =
     (suffix : ℕ) (later : Option events.Occurrence)

@@ -80,9 +80,9 @@ lines_there place day start key detail (event ∷ events) =
 abbrev pub runs_recently : List (List ℕ) → ℕ → Bool
 runs_recently lines day = runs_back lines day 0 || runs_back lines day 1 || runs_back lines day 2
 
--- whether the schedule's train may be at the place on the day after an earlier start day. It may if
--- the schedule runs on one of the two days before, and passes midnight before or at its last event
--- at the place
+-- whether the schedule's train may be at the place on this day, having started on an earlier day.
+-- That is so if the schedule runs on one of the two days before, and passes midnight before or at
+-- its last event at the place
 abbrev pub is_under_way : List ℕ → List (List ℕ) → ℕ → Bool
 is_under_way place lines day = (runs_back lines day 1 || runs_back lines day 2) && some_late (occurrences_to place lines)
 
@@ -90,8 +90,9 @@ is_under_way place lines day = (runs_back lines day 1 || runs_back lines day 2) 
 abbrev pub is_call : List ℕ → ℕ → Occurrence → Bool
 is_call place suffix event = is_at place suffix event.line
 
--- says that these lines were appended. `more` makes the lines from two functions: the first returns
--- the train of a UID and a start day, the second the association chosen in a group
+-- says that `after` is `before` with more lines appended. `more` makes the lines from two
+-- functions. The first returns the train of a UID that starts on a day. The second returns the
+-- association chosen in a group for a start day
 abbrev pub Adds : Table → ((List ℕ → ℕ → Option Train) → (Group → ℕ → Option Link) → List DockerLine) → List DockerLine → List DockerLine → Type 0
 Adds live more before after = (rows : List Row) → AreRowsOf live rows → after ≡ before ++ more (train_in rows) (link_in rows)
 
@@ -105,21 +106,21 @@ listed (Some line) = line ∷ []
 abbrev pub schedule_piece : (List ℕ → ℕ → Option Train) → List ℕ → ℕ → ScheduleKey → List (List ℕ) → ℕ → List DockerLine
 schedule_piece trains place day key lines start = if runs_by (trains key.uid start) key then event_lines place day start key lines else []
 
--- the docker line of an association at an event of the base train. `None` if the event is on
--- another day
+-- the docker line of an association at an event of the base train. Empty if the event is on another
+-- day
 abbrev pub link_line_at : (List ℕ → ℕ → Option Train) → ℕ → ℕ → Link → Occasion → ScheduleKey → Occurrence → List DockerLine
 link_line_at trains day start link occasion base event =
     if is_today day start event
     then line_of_link occasion link.key base start event (partner_identity trains link.key.associated (partner_start (column 37 link.line) start)) ∷ []
     else []
 
--- like `link_line_at`, or `None` if there is no event
+-- like `link_line_at`, or empty if there is no event
 abbrev pub link_line_by : (List ℕ → ℕ → Option Train) → ℕ → ℕ → Link → Occasion → ScheduleKey → Option Occurrence → List DockerLine
 link_line_by trains day start link occasion base None = []
 link_line_by trains day start link occasion base (Some event) = link_line_at trains day start link occasion base event
 
--- the docker line of an association. `None` if its category gives no line, or if there is no base
--- train
+-- the docker line of an association. Empty if the association has no occasion, because its category
+-- isn't `JJ`, `VV` or `NP`. Also empty if there is no base train
 abbrev pub link_line_with : (List ℕ → ℕ → Option Train) → ℕ → ℕ → Link → Option Occasion → Option Train → List DockerLine
 link_line_with trains day start link None base = []
 link_line_with trains day start link (Some occasion) None = []

@@ -1,5 +1,5 @@
--- Visits: for a place and a day, the trains that start on one day. There is a visit for each start
--- day.
+-- A visit is made for a place, a day and one start day. It covers the trains that start on that
+-- start day.
 use Rattle.std.specs.Prelude.{◌≡◌, ℕ, ◌≤◌, ◌-◌, nat_le, if◌then◌else◌, List, Option, Some, None, ⊤}
 use Rattle.docker_state.specs.Timetables.{Timetable, live_in}
 use Rattle.docker_model.specs.docker.DockerLine.{DockerLine}
@@ -15,8 +15,8 @@ pub record Visit : Type 0 where
   pub day : ℕ
   pub start : ℕ
 
--- says that the parts of a visit fit together: each part has the visit's timetable, place and start
--- day. The start day isn't after the day
+-- says that the parts of a visit fit together: each part has the visit's timetable and start day,
+-- and each part with a place has the visit's place. The start day isn't after the day
 pub record IsOnePlace (timetable : Timetable) (place : List ℕ) (day start : ℕ) (trains : StartDay) (links bases : PlaceDay) : Type 0 where
   pub past : start ≤ day
   pub trains_are : trains ≡ record { timetable = timetable; day = start }

@@ -70,8 +70,8 @@ impl<'a> Bases<'a> {
     }
 
     /// The first event of a train's call with this suffix at the place. `None` if the train has no
-    /// call with this suffix, or if it doesn't run. `Memory` if there is no room for the train's
-    /// calls.
+    /// call with this suffix, or if the train doesn't run. `Memory` if there is no room for the
+    /// train's calls.
     pub(crate) fn first_call(
         &mut self,
         uid: &Uid,

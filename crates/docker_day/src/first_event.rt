@@ -34,7 +34,7 @@ impl<'a> Model for FirstEvent<'a> {
 }
 
 impl<'a> FirstEvent<'a> {
-    /// The event, converted to the form that can be kept in a map.
+    /// Converts the event to a form that can be kept in a map.
     pub(crate) fn of(event: &Occurrence<'a>) -> FirstEvent<'a>
         ensures { result ≡ occurrence_meant event.now }
     {
@@ -48,7 +48,7 @@ impl<'a> FirstEvent<'a> {
         }
     }
 
-    /// The kept event, converted back to an `Occurrence`.
+    /// Converts the kept event back to an `Occurrence`.
     pub(crate) fn event(&self) -> Occurrence<'a>
         ensures { occurrence_meant result ≡ self.now }
     {

@@ -40,8 +40,9 @@ pub(crate) fn add_row<'a>(
     add_back(lines, &mut visits.two_before, row, view)
 }
 
-/// Whether a row may have lines on a day. A schedule has none if it runs neither on that day nor on
-/// one of the two days before. The call reads the fields of the schedule once for all three days.
+/// Whether a row may have lines on a day. A schedule has no lines if it runs neither on that day
+/// nor on one of the two days before. The call reads the fields of the schedule once for all three
+/// days.
 fn row_runs_recently(view: &RowView<'_>, day: Day) -> bool
     ensures { result ≡ row_runs_recently view.now day }
 {
@@ -52,7 +53,7 @@ fn row_runs_recently(view: &RowView<'_>, day: Day) -> bool
 }
 
 /// Whether a row may have lines at a place on a day for a train that started on an earlier day. A
-/// schedule has none unless its train may be under way.
+/// schedule has no such lines unless its train may be under way.
 fn is_row_under_way(view: &RowView<'_>, place: &Tiploc, day: Day) -> bool
     ensures { result ≡ row_under_way place.now view.now day }
 {

@@ -19,8 +19,8 @@ use cif_line::Memory;
 use train_choice::{LinkView, Occasion, Occurrence, is_cancellation};
 
 /// The docker line of an association for a visit. `None` if the association isn't in force on the
-/// start day, if its category gives no line, or if its base train doesn't call at the place on the
-/// day.
+/// start day, or if its category isn't `JJ`, `VV` or `NP`. Also `None` if its base train doesn't
+/// call at the place on the day.
 pub(crate) fn link_line<'a>(
     visit: &mut Visit<'a>,
     link: &LinkView<'a>,
@@ -40,7 +40,7 @@ pub(crate) fn link_line<'a>(
 }
 
 /// Whether an association is in force on the start day: it is chosen in its group, isn't a
-/// cancellation, and has a date indicator that gives a line.
+/// cancellation, and has the date indicator `S`, a space, `N` or `P`.
 fn is_in_force(visit: &Visit<'_>, link: &LinkView<'_>) -> bool
     requires live { IsLiveLink (live_in visit.now.timetable) link.now }
     requires here { link.now.key.location ≡ visit.now.place }
@@ -54,14 +54,15 @@ fn is_in_force(visit: &Visit<'_>, link: &LinkView<'_>) -> bool
     visit.counts(link.key()) & !is_cancellation(link.key().stp) & has_indicator(link)
 }
 
-/// Whether the date indicator of an association gives a line.
+/// Whether the date indicator of an association is `S`, a space, `N` or `P`.
 fn has_indicator(link: &LinkView<'_>) -> bool
     ensures { result ≡ is_date_indicator (column 37 link.now.line) }
 {
     is_date_indicator(link.record().date_indicator())
 }
 
-/// Whether this is a date indicator that gives a line: `S`, a space, `N` or `P`.
+/// Whether an association with this date indicator can have a docker line. That is so for `S`, a
+/// space, `N` and `P`.
 fn is_date_indicator(indicator: u8) -> bool
     ensures { result ≡ is_date_indicator indicator }
 {
@@ -80,8 +81,8 @@ fn occasion_of(category: &[u8; 2]) -> Option<Occasion>
     }
 }
 
-/// The docker line of an association in force. `None` if its category gives no line, or if its base
-/// train doesn't run or doesn't call at the place on the day.
+/// The docker line of an association in force. `None` if its category isn't `JJ`, `VV` or `NP`, or
+/// if its base train doesn't run or doesn't call at the place on the day.
 fn line_with<'a>(
     visit: &mut Visit<'a>,
     link: &LinkView<'a>,

@@ -97,7 +97,7 @@ fn shown_public(field: &[u8; 4]) -> &[u8; 4]
     if field == b"0000" { b"    " } else { field }
 }
 
-/// `N` bytes of a line, from this column on, counted from 1.
+/// The `N` bytes of a line that begin at column `first`. Columns are counted from 1.
 fn field<const N: usize>(line: &Line, first: usize) -> &[u8; N]
     requires from { 0 < first }
     requires within { first - 1 + N ≤ 80 }

@@ -25,9 +25,9 @@ use train_choice::{associations_at, schedules_at};
 
 /// Makes the docker of a timing point and a day. The docker has the events of trains that run, and
 /// the associations, at this timing point on this day. `Lapsed` if and only if the state has a
-/// horizon and the day is earlier than three days after the horizon, because lapsed entries could
-/// be missing on the docker. `Memory` if there is no room for the lines, or for the trains that are
-/// looked up for them.
+/// horizon and the day is earlier than three days after the horizon. On such a day the docker could
+/// lack the lines of lapsed entries. `Memory` if there is no room for the lines, or for the trains
+/// that are looked up for them.
 pub fn docker<'a>(
     alloc: Global,
     state: &'a State,
@@ -133,7 +133,8 @@ fn description_of(bytes: &[u8; 63]) -> &[u8; 26]
     columns_of(bytes, 10)
 }
 
-/// `N` bytes of a TIPLOC's body from column `first` on. Columns of the body are counted from 1.
+/// The `N` bytes of a TIPLOC's body that begin at column `first`. Columns of the body are counted
+/// from 1.
 fn columns_of<const N: usize>(bytes: &[u8; 63], first: usize) -> &[u8; N]
     requires from { 0 < first }
     requires within { first - 1 + N ≤ 63 }

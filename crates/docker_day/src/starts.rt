@@ -8,9 +8,9 @@ use crate::location::tiploc_in;
 use cif_line::{Day, Tiploc};
 use train_choice::{Occurrence, day_back};
 
-/// The start day of the associated train, from the base train's start day and the date indicator.
-/// It is the next day for `N`, the day before for `P`, and otherwise the same day. `None` if this
-/// day has no day number. Day numbers are 0 to 36524.
+/// The start day of the associated train, computed from the base train's start day and the date
+/// indicator. The associated train starts on the next day for `N`, the day before for `P`, and
+/// otherwise the same day. `None` if this start day has no day number. Day numbers are 0 to 36524.
 pub(crate) fn partner_start(indicator: u8, start: Day) -> Option<Day>
     ensures { result ≡ partner_start indicator start }
 {
@@ -28,7 +28,8 @@ pub(crate) fn is_here(event: &Occurrence<'_>, place: &Tiploc) -> bool
     tiploc_in(event.line) == place.bytes()
 }
 
-/// Whether an event of a train that starts on `start` is on the day. The day isn't before `start`.
+/// Whether an event of a train that starts on `start` is on the day. The day must not be before
+/// `start`.
 #[tactic(auto, using(crate::proofs::Days::today_is))]
 pub(crate) fn is_today(event: &Occurrence<'_>, day: Day, start: Day) -> bool
     requires past { start ≤ day }

@@ -53,9 +53,9 @@ pub(crate) fn runs_recently(train: &ScheduleView<'_>, day: Day) -> bool
     train.recent_runs(day).is_some()
 }
 
-/// Whether the train of a schedule may be at a place on a day after an earlier start day. It may if
-/// the schedule runs on one of the two days before, and passes midnight before or at its last event
-/// at the place.
+/// Whether the train of a schedule may be at a place on this day, having started on an earlier day.
+/// That is so if the schedule runs on one of the two days before, and passes midnight before or at
+/// its last event at the place.
 pub(crate) fn is_under_way(train: &ScheduleView<'_>, place: &Tiploc, day: Day) -> bool
     ensures { result ≡ is_under_way place.now train.now.lines day }
 {
@@ -85,7 +85,7 @@ fn add_events<'a>(
     }
 }
 
-/// Like `add_events`, for a train whose origin and destination are given as `detail`.
+/// Like `add_events`, with the train's origin and destination in `detail`.
 fn add_there<'a>(
     lines: &mut Vec<DockerLine<'a>>,
     train: &ScheduleView<'a>,

@@ -58,7 +58,7 @@ module _ (place : List ℕ) (day horizon : ℕ) (told : State) (valid : IsValid 
       → part.entries ≡ rows → part ≡ excerpt_on place day (under horizon told)
   part_is part rows is same_horizon same entries = λ i. record { horizon = same_horizon i; ledger = same i; entries = (entries ∙ is) i }
 
-  -- the kept entries make the same docker as the state whose entries were given
+  -- the state made from the kept entries makes the same docker as the state whose parts were taken
   pub is_excerpt_of : (part : State) (rows entries : List (Key × Entry)) → rows ≡ (excerpt_on place day told).entries → part.horizon ≡ horizon
       → part.ledger ≡ told.ledger → part.entries ≡ rows → entries ≡ told.entries → StandsAt place day (with_entries part entries) part
   is_excerpt_of part rows entries is same_horizon same kept given =
@@ -71,7 +71,7 @@ module _ (place : List ℕ) (day horizon : ℕ) (told : State) (valid : IsValid 
         excerpt = walk_is_excerpt place (near_state day (under horizon told)) (near_valid day (under horizon told) valid).entries.1;
       })))
 
-  -- the value of the excerpt has the state whose parts were given, under the horizon
+  -- the value of the excerpt has the state whose parts were taken, under the horizon
   pub stands_for : (part : State) (entries : List (Key × Entry)) → part.horizon ≡ horizon → part.ledger ≡ told.ledger → entries ≡ told.entries
       → ◌≡◌ {A = Excerpt} (record { place = place; day = day; state = with_entries part entries })
       (record { place = place; day = day; state = under horizon told })

@@ -1,4 +1,4 @@
--- The parts of a state that were given, with one more entry.
+-- The parts of a state that were taken, with one more entry.
 use Rattle.std.proofs.Common.{◌≡◌, ℕ, ◌-◌, List, [], ◌∷◌, ◌++◌, length, map, refl, ap, sym, ◌∙◌, subst, arith, length-append, Some}
 use Rattle.std.proofs.lemmas.List.{append_assoc}
 use Rattle.std.specs.Prelude.{Option, slice_get}
@@ -20,7 +20,7 @@ use Rattle.state_text.specs.Parts.{last_key}
 use Rattle.docker_excerpt.specs.Values.{with_entries}
 use Rattle.docker_excerpt.specs.Ledger.{IsLedgerOf}
 
--- if the given parts are valid and one more entry fits, the parts with the new entry are valid
+-- if the taken parts are valid and one more entry fits, the parts with the new entry are valid
 pub valid_with : (parts : State) (last : Option Key) (count : ℕ) (entries : List (model.Key × Entry)) (told : State) → with_entries parts entries ≡ told
     → IsLedgerOf parts last count entries → (key : model.Key) (entry : Entry) → IsStampHere told key entry.stamp → IsOpOf key entry.op
     → (after : List (model.Key × Entry)) → after ≡ told.entries ++ (key, entry) ∷ [] → IsValid (with_entries told after)
@@ -41,7 +41,7 @@ last_of xs x =
     there [] = refl
     there (y ∷ ys) = there ys
 
--- after one more entry, its key is the last key
+-- after one more entry is appended, the last key is the key of this entry
 pub last_with : (entries after : List (model.Key × Entry)) (key : model.Key) (entry : Entry) → after ≡ entries ++ (key, entry) ∷ [] → last_key after ≡ Some key
 last_with entries after key entry pushed =
     ap last_key pushed ∙ ap (option_map (λ (one : model.Key × Entry). one.0)) (last_of entries (key, entry))

@@ -11,7 +11,7 @@ use Rattle.state_text.specs.Entry.{Entry}
 use Rattle.docker_join.specs.Meaning.{entry_meant, row_meant}
 use Rattle.docker_excerpt.specs.Walked.{IsWalk}
 
--- a row that the code appends is the same row in the definitions
+-- converting rows commutes with appending a row
 pub rows_more : (rows before after : List (Key × Entry)) (key : Key) (entry : Entry) → before ≡ rows → after ≡ before ++ (key, entry) ∷ []
     → map row_meant after ≡ map row_meant rows ++ (key_meant key, entry_meant entry) ∷ []
 rows_more rows before after key entry same pushed =
@@ -27,7 +27,7 @@ pub names_with_none : (names : List (List ℕ)) (found told : Option (List ℕ))
 names_with_none names found told is same =
     sym (append-nil names) ∙ ap (λ (one : Option (List ℕ)). names ++ option_to_list one) (sym is ∙ same)
 
--- if two walks have equal parts, a property of one walk is also a property of the other
+-- if two walks have equal parts and `IsWalk` holds for one of them, it holds for the other
 pub walk_by : (place : List ℕ) (entries kept run other_kept other_run : List (model.Key × ops.Entry)) (needed other_needed : Bool)
     (names other_names : List (List ℕ))
     → other_kept ≡ kept → other_run ≡ run → other_needed ≡ needed → other_names ≡ names → IsWalk place entries kept run needed names
@@ -38,7 +38,8 @@ walk_by place entries kept run other_kept other_run needed other_needed names ot
     (subst (λ (b : Bool). IsWalk place entries kept run b other_names) (sym needed_is)
     (subst (λ (n : List (List ℕ)). IsWalk place entries kept run needed n) (sym names_is) is)))
 
--- after a run has ended, its rows are among the kept rows if and only if the run is needed
+-- after a run has ended, the rows of the run are appended to the kept rows if the run is needed,
+-- and dropped otherwise
 pub run_ended : (needed other : Bool) (kept run after : List (Key × Entry)) → needed ≡ other → after ≡ cond needed (kept ++ run) kept
     → map row_meant after ≡ cond other (map row_meant kept ++ map row_meant run) (map row_meant kept)
 run_ended true other kept run after same is =

@@ -19,7 +19,7 @@ use Rattle.docker_excerpt.specs.Walked.{AreNames, IsWalk}
 abbrev Keyed : Type 0
 Keyed = Key × Entry
 
--- without entries, no associated train is named
+-- if there are no entries, there are no names
 pub no_names : AreNames [] []
 no_names uid = (λ among. among, λ among. among)
 
@@ -32,7 +32,7 @@ unneeded : (place : List ℕ) (entries kept run : List Keyed) (needed : Bool) �
 unneeded place entries kept run needed has none =
     sym has.is_needed ∙ ap (λ (r : List Keyed). is_run_needed place (record { kept = kept; run = r })) none
 
--- the associated trains that a single entry names: at most one
+-- a single entry names at most one associated train
 names_of_one : (key : Key) (entry : Entry) → names_in ((key, entry) ∷ []) ≡ option_to_list (name_in key entry.op)
 names_of_one key entry = by (name_in key entry.op)
   where
@@ -40,7 +40,8 @@ names_of_one key entry = by (name_in key entry.op)
     by None = refl
     by (Some name) = refl
 
--- if one more entry is kept, the associated train of this entry is appended to the names
+-- if one more entry is kept, the UID of the entry's associated train, if any, is appended to the
+-- names
 names_more : (names : List (List ℕ)) (kept : List Keyed) (key : Key) (entry : Entry) → AreNames names kept
     → AreNames (names ++ option_to_list (name_in key entry.op)) (kept ++ (key, entry) ∷ [])
 names_more names kept key entry are uid =
@@ -68,8 +69,8 @@ module _ (place : List ℕ) (state : State) (kept run : List Keyed) (needed : Bo
       subst (λ (r : List Keyed). HasKept place entries after r needed) (sym none)
       (subst (λ (b : Bool). HasKept place entries after [] b) (sym (unneeded place state.entries kept run needed is.has_kept none)) has)
 
-  -- a TIPLOC or an association at the place is kept, and the associated train of the association is
-  -- appended to the names
+  -- a TIPLOC or an association at the place is kept, and the UID of the association's associated
+  -- train is appended to the names
   pub walk_here : (key : Key) (entry : Entry) → IsAboveEntries state key → ((uid : List ℕ) → has_uid uid key ≡ false) → is_here place key ≡ true
       → IsWalk place (state.entries ++ (key, entry) ∷ []) (kept ++ (key, entry) ∷ []) run needed (names ++ option_to_list (name_in key entry.op))
   walk_here key entry above never here = record {
@@ -102,7 +103,7 @@ module _ (place : List ℕ) (state : State) (kept run : List Keyed) (needed : Bo
       by (inl none) = absurd (let bad : false ≡ true = ap (λ (r : List Keyed). goes_on r key.uid) (sym none) ∙ goes in cc)
       by (inr sorted) = inr sorted
 
-  -- a schedule with another UID ends the run and begins the next one
+  -- a schedule with another UID ends the run and begins the next run
   pub walk_begins : (key : ScheduleKey) (entry : Entry) (named : Bool) → goes_on run key.uid ≡ false → IsSorted bytes_cmp names
       → (named ≡ true) ↔ Contains names key.uid
       → IsWalk place (state.entries ++ (schedule_key key, entry) ∷ []) (cond needed (kept ++ run) kept) ((schedule_key key, entry) ∷ [])

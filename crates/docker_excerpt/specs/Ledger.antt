@@ -1,4 +1,4 @@
--- The ledger of a state whose parts are given one after the other.
+-- The ledger of a state whose parts are taken one after the other.
 use Rattle.std.specs.Prelude.{◌≡◌, ℕ, List, [], length, Option}
 use Rattle.std.specs.Option.{option_map}
 use Rattle.docker_model.specs.file.Change as model

@@ -13,7 +13,7 @@ use Rattle.cif_file.specs.FileRead.{FileRead}
 use Rattle.docker_day.specs.DockerValue.{Docker}
 use Rattle.docker_day.specs.Dockers.{IsDockerOf}
 
--- an excerpt that isn't finished: its place, its day, and the state's parts that were given,
+-- an excerpt that isn't finished: its place, its day, and the state's parts that were taken,
 -- without a horizon
 pub record Excerpting : Type 0 where
   pub place : List ℕ
@@ -26,12 +26,12 @@ pub record Excerpt : Type 0 where
   pub day : ℕ
   pub state : State
 
--- the same state with other entries
+-- the state with its entries replaced by these entries
 abbrev pub with_entries : State → List (Key × Entry) → State
 with_entries state entries = record { horizon = state.horizon; ledger = state.ledger; entries = entries }
 
--- the state that a file's changes make: it has the file's ledger item, and for each key the entry
--- of the last change of this key
+-- the state made by a file's changes. It has the file's ledger item, and for each key the entry of
+-- the last change of this key
 abbrev pub state_of_read : FileRead → State
 state_of_read file = record {
   horizon = 0;
@@ -44,8 +44,8 @@ state_of_read file = record {
 abbrev pub StandsAt : List ℕ → ℕ → State → State → Type 0
 StandsAt place day state part = (docker : Docker) → IsDockerOf (live_table part) place day docker → IsDockerOf (live_table state) place day docker
 
--- says that `part` is an excerpt for the place of a valid state, without the entries that can't
--- count on the day
+-- says that the state is valid, and that `part` is the state's excerpt for the place, without the
+-- entries that can't count on the day
 pub record IsExcerptOf (place : List ℕ) (day : ℕ) (state part : State) : Type 0 where
   pub valid : IsValid state
   pub excerpt : IsExcerptState place (near_state day state) part

@@ -7,14 +7,14 @@ use Rattle.docker_model.specs.state.Order.{bytes_cmp}
 use Rattle.docker_model.specs.state.State.{State}
 use Rattle.docker_laws.specs.ExcerptWalk.{names_in, HasKept}
 
--- says that these names are the associated trains of the live associations among the entries. The
--- order of the names doesn't matter, and a name may occur more than once
+-- says that these names are the UIDs of the associated trains of the live associations among the
+-- entries. The order of the names doesn't matter, and a name may occur more than once
 abbrev pub AreNames : List (List ℕ) → List (Key × Entry) → Type 0
 AreNames names entries = (uid : List ℕ) → Contains names uid ↔ Contains (names_in entries) uid
 
--- says which of these entries a walk has kept. `run` has the schedules of the present UID, and
--- `needed` says whether the run will be kept. `names` are the associated trains, which are sorted
--- after the first run has begun
+-- says which of these entries a walk has kept. `run` has the schedules of the current UID, and
+-- `needed` says whether the run will be kept. `names` are the UIDs of the associated trains. They
+-- are sorted when the first run begins
 pub record IsWalk (place : List ℕ) (entries kept run : List (Key × Entry)) (needed : Bool) (names : List (List ℕ)) : Type 0 where
   pub has_kept : HasKept place entries kept run needed
   pub told : AreNames names kept

@@ -17,7 +17,7 @@ use cif_line::{Day, Memory, Tiploc};
 use state_text::{Entry, Given};
 use std::alloc::Global;
 
-/// A walk over the entries of a state that may count on a day.
+/// A walk over those entries of a state that may count on a day.
 #[derive(Drop)]
 pub(crate) struct DayWalk {
     day: Day,
@@ -26,7 +26,7 @@ pub(crate) struct DayWalk {
 }
 
 impl DayWalk {
-    /// A walk that hasn't passed any entry. It allocates nothing.
+    /// A walk that hasn't passed any entry. The call allocates nothing.
     pub(crate) fn new(alloc: Global, place: Tiploc, day: Day) -> DayWalk
         ensures passed { HasPassed result [] }
         ensures place { result.walk.place ≡ place }
@@ -53,8 +53,8 @@ impl DayWalk {
         self.day
     }
 
-    /// Passes the next entry, which has this key. If memory runs out, the entry is dropped, and the
-    /// walk hasn't passed it.
+    /// Passes the next entry, which has this key. If memory runs out, the entry is dropped and
+    /// doesn't count as passed.
     pub(crate) fn entry(&mut self, given: &Given, key: Key, entry: Entry) -> Result<(), Memory>
         requires passed { HasPassed self.old given.now.entries }
         requires above { IsAboveEntries (state_of_entries given.now.entries) (key_meant key) }

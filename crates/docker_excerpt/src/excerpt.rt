@@ -91,8 +91,8 @@ impl Excerpt {
     }
 
     /// Makes the docker of the place and the day. `Lapsed` if the state has a horizon and the day
-    /// is earlier than three days after it, because lapsed entries may be missing. `Memory` if
-    /// there is no room for the docker.
+    /// is earlier than three days after the horizon, because lapsed entries may be missing.
+    /// `Memory` if there is no room for the docker.
     pub fn docker(&self, alloc: Global) -> Result<Docker<'_>, DockerFault>
         ensures ok { IfOk result
             (IsDockerOf (live_table self.now.state) self.now.place self.now.day) }

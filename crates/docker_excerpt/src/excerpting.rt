@@ -1,4 +1,4 @@
-//! Makes the excerpt of a state for a place and a day while the state's parts are given.
+//! Makes the excerpt of a state for a place and a day while the state's parts are taken.
 ghost use Rattle.std.specs.Prelude.{◌≡◌, ◌-◌, ◌^◌, ◌<◌, [], ◌∷◌, ◌++◌, length, map, IsOk, IsErr, IfOk};
 ghost use Rattle.std.specs.Option.{option_copied, option_map};
 ghost use Rattle.docker_model.specs.state.State.{IsLedger, IsOpOf, IsValid, AreEntries};
@@ -20,12 +20,12 @@ use std::alloc::Global;
 use std::fmt;
 use std::marker::Model;
 
-/// Makes the excerpt of a state for a place and a day. The state's parts are given in order, as to
-/// `Parts`. Only the entries from which the docker is made are kept: the place's TIPLOC, the
-/// associations at the place, and all schedules of some UIDs. These are the UIDs of the trains that
-/// call at the place, and of the associated trains of live associations at the place. If a schedule
-/// doesn't run on any start day from three days before the day to the day after, it is skipped: it
-/// is neither kept nor searched for calls.
+/// Makes the excerpt of a state for a place and a day. The calls take the state's parts in the same
+/// order as the calls of `Parts`. Only the entries from which the docker is made are kept: the
+/// place's TIPLOC, the associations at the place, and all schedules of some UIDs. These are the
+/// UIDs of the trains that call at the place, and of the associated trains of live associations at
+/// the place. If a schedule doesn't run on any start day from three days before the day to the day
+/// after, it is skipped: it is neither kept nor searched for calls.
 #[derive(Drop)]
 pub struct Excerpting {
     ledger: Ledger,
@@ -54,7 +54,7 @@ impl fmt::Debug for Excerpting {
 }
 
 impl Excerpting {
-    /// An excerpt before its first part. It allocates nothing.
+    /// An excerpt before its first part. The call allocates nothing.
     pub fn new(alloc: Global, place: Tiploc, day: Day) -> Excerpting
         ensures { result ≡ record {
           place = place;
@@ -99,7 +99,7 @@ impl Excerpting {
         Ok(())
     }
 
-    /// The ledger items that were given, in ascending order.
+    /// The ledger items that were taken, in ascending order.
     pub fn ledger(&self) -> &[LedgerItem]
         ensures items { map item_meant result.now ≡ self.now.told.ledger }
         ensures valid { IsValid self.now.told }
@@ -107,22 +107,22 @@ impl Excerpting {
         self.ledger.items()
     }
 
-    /// The number of entries that were given, whether they were kept or not.
+    /// The number of entries that were taken, whether they were kept or not.
     pub fn len(&self) -> u64
         ensures { result ≡ length self.now.told.entries }
     {
         self.ledger.len()
     }
 
-    /// The key of the last entry that was given, whether the entry was kept or not. `None` if no
-    /// entry was given.
+    /// The key of the last entry that was taken, whether the entry was kept or not. `None` if no
+    /// entry was taken.
     pub fn last(&self) -> Option<&Key>
         ensures { option_map key_meant (option_copied result) ≡ last_key self.now.told.entries }
     {
         self.ledger.last()
     }
 
-    /// Makes the excerpt of the state whose parts were given. `horizon` is the state's horizon, if
+    /// Makes the excerpt of the state whose parts were taken. `horizon` is the state's horizon, if
     /// it has one. `Memory` if memory runs out, or if more than 4,294,967,295 entries or places are
     /// kept, because entries and places are numbered in 32 bits. After `Memory`, the kept entries
     /// are dropped.

@@ -9,8 +9,9 @@ use cif_line::{Day, Memory};
 use state_text::{LedgerItem, Maker};
 use std::marker::Model;
 
-/// The ledger and the horizon of a state, without the entries. Its value is the whole state. A
-/// `KeptLedger` is used only to list the state's files, and can't be written, joined or sent.
+/// The ledger and the horizon of a state, without the entries. In contracts, the value of a
+/// `KeptLedger` is the whole state. A `KeptLedger` is used only to list the state's files, and
+/// can't be written, joined or sent.
 #[derive(Debug, Drop)]
 pub struct KeptLedger {
     ledger: Ledger,

@@ -1,4 +1,4 @@
-//! Keeps the ledger of a state whose parts are given, and none of its entries.
+//! Takes the parts of a state, and keeps only the state's ledger.
 ghost use Rattle.std.specs.Prelude.{◌≡◌, ◌+◌, ◌-◌, ◌^◌, ◌<◌, [], ◌∷◌, ◌++◌, length, map, IsOk, IsErr, Some};
 ghost use Rattle.std.specs.Option.{option_copied, option_map};
 ghost use Rattle.docker_model.specs.state.State.{IsLedger, IsOpOf, IsValid};
@@ -17,8 +17,8 @@ use std::alloc::Global;
 use std::fmt;
 use std::marker::Model;
 
-/// The ledger of a state whose parts are given in order, as to `Parts`: first the ledger items,
-/// then the entries. Only the number of the entries and the last key are kept.
+/// The ledger of a state whose parts are taken in order: first the ledger items, then the entries.
+/// Only the number of the entries and the last key are kept.
 #[derive(Drop)]
 pub struct Ledger {
     // these parts have ledger items and no entries
@@ -47,7 +47,7 @@ impl fmt::Debug for Ledger {
 }
 
 impl Ledger {
-    /// A ledger before its first part. It allocates nothing.
+    /// A ledger before its first part. The call allocates nothing.
     pub fn new(alloc: Global) -> Ledger
         ensures { result ≡ record { horizon = 0; ledger = []; entries = [] } }
     {
@@ -77,28 +77,28 @@ impl Ledger {
         self.parts.ledger()
     }
 
-    /// The number of entries that were given.
+    /// The number of entries that were taken.
     pub fn len(&self) -> u64
         ensures { result ≡ length self.now.entries }
     {
         self.count
     }
 
-    /// The key of the last entry that was given. `None` if no entry was given.
+    /// The key of the last entry that was taken. `None` if no entry was taken.
     pub fn last(&self) -> Option<&Key>
         ensures { option_map key_meant (option_copied result) ≡ last_key self.now.entries }
     {
         self.last.as_ref()
     }
 
-    /// The entries that were given. They exist only for proofs.
+    /// The entries that were taken. They exist only for proofs.
     pub(crate) fn given(&self) -> &Given
         ensures { result.now.entries ≡ self.now.entries }
     {
         &self.given
     }
 
-    /// The entries that were given, followed by one more entry. They exist only for proofs.
+    /// The entries that were taken, followed by one more entry. They exist only for proofs.
     pub(crate) fn with(&self, key: &Key, entry: &Entry) -> Given
         requires here { IsStampHere self.now (key_meant key.now) (entry_meant entry.now).stamp }
         requires op { IsOpOf (key_meant key.now) (entry_meant entry.now).op }
@@ -110,8 +110,8 @@ impl Ledger {
         Given::with(&self.given, key, entry)
     }
 
-    /// Counts one more entry and keeps its key. `given` are all entries that were given, and exist
-    /// only for proofs.
+    /// Counts one more entry and keeps its key. `given` are all entries that were taken, including
+    /// this one, and exist only for proofs.
     pub(crate) fn pass(&mut self, key: Key, given: Given)
         requires few { length self.old.entries < 2 ^ 64 - 1 }
         requires valid { IsValid (with_entries self.old given.entries) }
@@ -125,7 +125,7 @@ impl Ledger {
     }
 
     /// Returns the ledger items as parts of a state, to which entries can then be added. Also
-    /// returns the entries that were given, which exist only for proofs.
+    /// returns the entries that were taken, which exist only for proofs.
     pub(crate) fn into_parts(self) -> (Parts, Given)
         ensures parts { result.0 ≡ record { horizon = 0; ledger = self.ledger; entries = [] } }
         ensures given { result.1.entries ≡ self.entries }

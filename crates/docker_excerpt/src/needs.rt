@@ -51,7 +51,7 @@ pub(crate) fn has_name(names: &[Uid], uid: &Uid) -> bool
     names.binary_search(uid).is_ok()
 }
 
-/// Whether a run with one more entry is needed: it was needed before, or the entry is a live
+/// Whether a run with one more entry is needed: the run was needed before, or the entry is a live
 /// schedule that calls at the place.
 pub(crate) fn is_needed_with(needed: bool, place: &Tiploc, op: &Op) -> bool
     ensures { result ≡ (needed || is_call place.now (op_meant op.now)) }
@@ -62,7 +62,7 @@ pub(crate) fn is_needed_with(needed: bool, place: &Tiploc, op: &Op) -> bool
     is_call(place, op)
 }
 
-/// Whether an op puts a schedule that calls at the place.
+/// Whether the entry with this op is a live schedule that calls at the place.
 fn is_call(place: &Tiploc, op: &Op) -> bool
     ensures { result ≡ is_call place.now (op_meant op.now) }
 {

@@ -1,5 +1,5 @@
-//! An excerpt whose type names its place and its day. A reader passes a state's parts to it, as to
-//! any `Keeper`.
+//! An excerpt whose place and day are determined by its type. A reader passes a state's parts to an
+//! `ExcerptingAt`, as to any `Keeper`.
 ghost use Rattle.std.specs.Prelude.{◌≡◌, []};
 
 use crate::excerpt::Excerpt;
@@ -11,7 +11,7 @@ use state_text::{Entry, Keeper, LedgerItem, Maker};
 use std::alloc::Global;
 use std::marker::{Model, PhantomData};
 
-/// An `Excerpting` for the place and the day that the type `P` names.
+/// An `Excerpting` whose place and day are determined by the type `P`.
 #[derive(Debug, Drop)]
 pub struct ExcerptingAt<P: PlaceDay> {
     excerpting: Excerpting,
@@ -31,7 +31,7 @@ impl<P: PlaceDay> Model for ExcerptingAt<P> {
 }
 
 impl<P: PlaceDay> ExcerptingAt<P> {
-    /// An excerpt before its first part. It allocates nothing.
+    /// An excerpt before its first part. The call allocates nothing.
     pub fn new(alloc: Global, place: Tiploc, day: Day) -> ExcerptingAt<P>
         requires place { place ≡ P.place }
         requires day { day ≡ P.day }

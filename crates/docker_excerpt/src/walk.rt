@@ -16,8 +16,8 @@ use cif_line::{Memory, Tiploc, Uid};
 use state_text::{Entry, Given};
 use std::alloc::Global;
 
-/// The entries that a walk has kept, and the present run: the schedules of one UID. When the run
-/// ends, it is kept or dropped as a whole.
+/// The entries that a walk has kept, and the current run: the schedules of one UID. When the run
+/// ends, its schedules are kept or dropped as a whole.
 #[derive(Debug, Drop)]
 pub(crate) struct ExcerptWalk {
     place: Tiploc,
@@ -25,12 +25,12 @@ pub(crate) struct ExcerptWalk {
     run: Vec<(Key, Entry)>,
     // whether the run is needed: its UID is in `names`, or one of its schedules calls at the place
     needed: bool,
-    // the associated trains of the kept associations, sorted when the first run begins
+    // the UIDs of the associated trains of the kept associations, sorted when the first run begins
     names: Vec<Uid>,
 }
 
 impl ExcerptWalk {
-    /// A walk that hasn't passed any entry. It allocates nothing.
+    /// A walk that hasn't passed any entry. The call allocates nothing.
     pub(crate) fn new(alloc: Global, place: Tiploc) -> ExcerptWalk
         ensures walked { HasWalked result [] }
         ensures place { result.place ≡ place }
@@ -51,8 +51,8 @@ impl ExcerptWalk {
         self.place
     }
 
-    /// Passes the next entry, which has this key. If memory runs out, the entry is dropped, and the
-    /// walk hasn't passed it.
+    /// Passes the next entry, which has this key. If memory runs out, the entry is dropped and
+    /// doesn't count as passed.
     pub(crate) fn entry(&mut self, given: &Given, key: Key, entry: Entry) -> Result<(), Memory>
         requires walked { HasWalked self.old given.now.entries }
         requires above { IsAboveEntries (state_of_entries given.now.entries) (key_meant key) }
@@ -89,7 +89,7 @@ impl ExcerptWalk {
         Ok(())
     }
 
-    /// Passes a schedule, which belongs to the present run or begins the next run.
+    /// Passes a schedule, which belongs to the current run or begins the next run.
     fn schedule(&mut self, given: &Given, key: ScheduleKey, entry: Entry) -> Result<(), Memory>
         requires { HasWalked self.old given.now.entries }
         ensures ok { IsOk result → HasWalked self.new
@@ -104,7 +104,7 @@ impl ExcerptWalk {
         }
     }
 
-    /// Adds a schedule to the present run, which has the same UID.
+    /// Adds a schedule to the current run, which has the same UID.
     fn join(&mut self, given: &Given, key: ScheduleKey, entry: Entry) -> Result<(), Memory>
         requires walked { HasWalked self.old given.now.entries }
         requires same { goes_on (map row_meant self.old.run.items) key.uid ≡ true }
@@ -119,7 +119,7 @@ impl ExcerptWalk {
         Ok(())
     }
 
-    /// Ends the present run, and begins the next run with a schedule of another UID.
+    /// Ends the current run, and begins the next run with a schedule of another UID.
     fn begin(&mut self, given: &Given, key: ScheduleKey, entry: Entry) -> Result<(), Memory>
         requires walked { HasWalked self.old given.now.entries }
         requires other { goes_on (map row_meant self.old.run.items) key.uid ≡ false }

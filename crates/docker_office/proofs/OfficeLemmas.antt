@@ -164,12 +164,12 @@ joins_summaries limit left old new joins files others g h sent of_files of_other
 
 -- ---- excerpts
 
--- an excerpt that was read has the place that was given
+-- an excerpt that was read for a place has this place
 pub place_read : (place : List ℕ) (day limit : ℕ) (left : Option (List ℕ)) (excerpt : Excerpt)
     → ReadsMade (IsExcerptAt place day) dks_2 limit left excerpt → excerpt.place ≡ place
 place_read place day limit left excerpt reads = ap (λ (it : Excerpt). it.place) reads.of.made_of
 
--- an excerpt that was read has the day that was given
+-- an excerpt that was read for a day has this day
 pub day_read : (place : List ℕ) (day limit : ℕ) (left : Option (List ℕ)) (excerpt : Excerpt)
     → ReadsMade (IsExcerptAt place day) dks_2 limit left excerpt → excerpt.day ≡ day
 day_read place day limit left excerpt reads = ap (λ (it : Excerpt). it.day) reads.of.made_of

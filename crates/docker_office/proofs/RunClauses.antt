@@ -10,7 +10,7 @@ use Rattle.docker_laws.proofs.runs.RunEnd.{run_holds}
 use Rattle.docker_laws.proofs.runs.RunSteps.{sizes, office_is, message_is}
 use Rattle.docker_office.specs.RunEnds.{LeavesRun, IsReplyAt, HasSummary, TellsSummary, event_at, reply_at}
 
--- each reply is a reply that its event may have, whatever was known before the first event
+-- the definitions allow each reply for its event, whatever was known before the first event
 reply_there : (known : KnownSets) (events : List RunEvent) (replies : List Reply) → AreReplies known events replies → (place : ℕ) → place < length events
     → IsReply (fold after_reply known (zip (take place events) (take place replies))) (event_at events place) (reply_at replies place)
 reply_there known [] replies are place low = absurd (omega arith)
@@ -31,7 +31,7 @@ module _ (offices : ℕ) (events : List RunEvent) (exchange : Exchange) (leaves 
   pub one_each : length exchange.replies ≡ length events
   one_each = sym (replies_long (none_known offices) events exchange.replies leaves.run.replies)
 
-  -- each reply of a run is a reply that its event may have
+  -- the definitions allow each reply of a run for its event
   pub each_reply : (place : ℕ) → place < length events → IsReplyAt offices events exchange.replies place
   each_reply place low = reply_there (none_known offices) events exchange.replies leaves.run.replies place low
 
@@ -49,7 +49,8 @@ module _ (offices : ℕ) (events : List RunEvent) (exchange : Exchange) (leaves 
       office_is dks_2 (sets_of offices events exchange) exchange.states exchange.messages held office
       (let same = offices_are offices events exchange.replies in omega arith)
 
-  -- each message is the text of the summary of what its office knew when the message was sent
+  -- each message is the text of a summary: the summary of what the sending office knew when it sent
+  -- the message
   pub each_message : (message : ℕ) → message < length exchange.messages → TellsSummary offices events exchange message
   each_message message sent =
       message_is dks_2 (sets_of offices events exchange) exchange.states exchange.messages held message (let same = many.1 in omega arith)

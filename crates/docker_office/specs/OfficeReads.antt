@@ -12,10 +12,10 @@ use Rattle.docker_office.specs.Office.{WantsForFile}
 use Rattle.docker_office.specs.declared.fault.OfficeFault.{OfficeFault}
 use Rattle.docker_office.specs.declared.fault.OfficeFault.TheVariants.{File, State, Lapsed, Source, Sink, Memory}
 
--- ---- a state
+-- ---- how reading a state ends
 
--- the fault of reading a state from which an office's fault was converted. `None` if the office's
--- fault has another origin
+-- converts an office's fault back to the fault of reading a state. `None` if the office's fault has
+-- another origin
 abbrev pub why_unread : OfficeFault → Option ReadFault
 why_unread (State fault) = Some (states.State fault)
 why_unread Source = Some states.Source
@@ -29,10 +29,10 @@ abbrev pub EndsReadingState : {S A : Type 0} → (S → BytesLeft) → (S → �
 EndsReadingState left failures format limit IsMade source source_now result =
     EndsReadingBy WantsMemory why_unread left failures format limit IsMade source source_now result
 
--- ---- a file
+-- ---- how taking a file ends
 
 -- says what the result of taking a file means. If the result is a value, `IsMade` holds for the
--- value, and the source was read to its end. If the result is a fault, it is the file's fault, or
+-- value, and the source was read to its end. If the result is a fault, the text has this fault, or
 -- memory ran out, or the source failed
 abbrev pub IsTakingOutcome : {A : Type 0} → ℕ → (A → Type 0) → BytesLeft → BytesLeft → Result A OfficeFault → Type 0
 IsTakingOutcome limit IsMade left left_now (Ok made) = IsMade made × IsEnd left_now

@@ -9,7 +9,8 @@ use Rattle.docker_model.specs.run.Run.{RunEvent, take_file, send_state, deliver,
 use Rattle.docker_model.specs.run.Run.{Exchange, IsRun, IsReply, IsStateOf, IsMessageOf, office_known, message_known, known_sets}
 use Rattle.docker_model.specs.run.Knowledge.{IsGoodEvent, office_state, message_text, sets_of}
 
--- says that the limit of a take is at most 4,294,967,294 records
+-- says that an event that takes a file has a limit of at most 4,294,967,294 records. True of every
+-- other event
 abbrev pub HasGoodLimit : RunEvent → Type 0
 HasGoodLimit (take_file office text limit) = limit ≤ 4_294_967_294
 HasGoodLimit (send_state office) = ⊤
@@ -18,7 +19,7 @@ HasGoodLimit (reload office message) = ⊤
 HasGoodLimit (horizon_event office day) = ⊤
 
 -- says that this is the result of a run of these events at `offices` offices. Messages are in the
--- format `DKS2`, and the limits and horizons of the events are good
+-- format `DKS2`, and the limits and horizons of the events are valid
 pub record LeavesRun (offices : ℕ) (events : List RunEvent) (exchange : Exchange) : Type 0 where
   pub run : IsRun dks_2 offices events exchange
   pub good : All (IsGoodEvent dks_2) events
@@ -27,7 +28,7 @@ pub record LeavesRun (offices : ℕ) (events : List RunEvent) (exchange : Exchan
 abbrev pub known_at_end : ℕ → List RunEvent → Exchange → ℕ → Known
 known_at_end offices events exchange office = office_known (sets_of offices events exchange) office
 
--- what the office of a message knew when the message was sent
+-- what the sending office of a message knew when it sent the message
 abbrev pub sent_with : ℕ → List RunEvent → Exchange → ℕ → Known
 sent_with offices events exchange message = message_known (sets_of offices events exchange) message
 
@@ -39,7 +40,7 @@ event_at events place = slice_index_or events place (send_state 0)
 abbrev pub reply_at : List Reply → ℕ → Reply
 reply_at replies place = slice_index_or replies place done
 
--- says that the reply at this index is a reply that its event may have, after the earlier events
+-- says that the definitions allow the reply at this index for its event, after the earlier events
 -- with their replies
 abbrev pub IsReplyAt : ℕ → List RunEvent → List Reply → ℕ → Type 0
 IsReplyAt offices events replies place =
@@ -49,8 +50,8 @@ IsReplyAt offices events replies place =
 abbrev pub HasSummary : ℕ → List RunEvent → Exchange → ℕ → Type 0
 HasSummary offices events exchange office = IsStateOf (known_at_end offices events exchange office) (office_state exchange.states office)
 
--- says that this message is the text of the summary of what its office knew when the message was
--- sent
+-- says that this message is the text of a summary: the summary of what the sending office knew when
+-- it sent the message
 abbrev pub TellsSummary : ℕ → List RunEvent → Exchange → ℕ → Type 0
 TellsSummary offices events exchange message = IsMessageOf dks_2 (sent_with offices events exchange message) (message_text exchange.messages message)
 

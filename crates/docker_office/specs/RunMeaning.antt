@@ -14,7 +14,7 @@ use Rattle.docker_office.specs.declared.reply.Reply.TheVariants.{Done, Refused}
 use Rattle.docker_office.specs.declared.reply.RunFault.{RunFault}
 use Rattle.docker_office.specs.declared.reply.RunFault.TheVariants.{NoOffice, NoMessage, Office}
 
--- an event of the code, converted to the definitions' type
+-- converts an event of the code to the `RunEvent` of the definitions
 abbrev pub event_meant : Event → model.RunEvent
 event_meant (event.Take office text limit) = take_file office text.now limit
 event_meant (event.Send office) = send_state office
@@ -22,30 +22,30 @@ event_meant (event.Deliver office message) = deliver office message
 event_meant (event.Reload office message) = reload office message
 event_meant (event.Horizon office day) = horizon_event office day
 
--- events of the code, converted to the definitions' type
+-- converts events of the code to events of the definitions
 abbrev pub events_meant : List Event → List model.RunEvent
 events_meant = map event_meant
 
--- the refusal of a file for its fault at this record, in the definitions' type. The cause `None`
--- means out of memory
+-- converts a file's fault to the `Refusal` of the definitions. `number` is the number of the record
+-- at fault. The cause `None` means out of memory
 abbrev pub refusal_of_file : ℕ → Option files.FileCause → model.Refusal
 refusal_of_file number None = no_memory
 refusal_of_file number (Some cause) = bad_file (record { number = number; cause = cause })
 
--- the fault of an office in a run, converted to the definitions' type: a file's fault, or out of
--- memory
+-- converts the fault of an office in a run to the `Refusal` of the definitions. In a run, the fault
+-- is a file's fault or out of memory
 abbrev pub refusal_meant : OfficeFault → model.Refusal
 refusal_meant (fault.File why) = refusal_of_file why.number (cause_meant why.cause)
 refusal_meant _ = no_memory
 
--- a reply of the code, converted to the definitions' type
+-- converts a reply of the code to the `Reply` of the definitions
 abbrev pub reply_meant : Reply → model.Reply
 reply_meant Done = done
 reply_meant (Refused NoOffice) = refused no_office
 reply_meant (Refused NoMessage) = refused no_message
 reply_meant (Refused (Office why)) = refused (refusal_meant why)
 
--- says that the cause can be the cause of a text's fault. Out of memory can't
+-- says that a text's fault can have this cause. That is so for every cause except out of memory
 abbrev pub IsTextCause : Option files.FileCause → Type 0
 IsTextCause None = ⊥
 IsTextCause (Some cause) = ⊤
@@ -67,13 +67,14 @@ IsRunReply (Refused NoOffice) = ⊤
 IsRunReply (Refused NoMessage) = ⊤
 IsRunReply (Refused (Office why)) = IsRunRefusal why
 
--- the reply to an event, from the office's result
+-- converts the result of an office's call to the reply to the event
 abbrev pub reply_for : Result Unit OfficeFault → Reply
 reply_for (Ok unit) = Done
 reply_for (Err why) = Refused (Office why)
 
--- says which of the two doesn't exist among this many offices and messages: the office, or
--- otherwise the message
+-- says that the fault is correct for an office and a message, among this many of each. `NoOffice`
+-- is correct if the office doesn't exist, and `NoMessage` if the office exists and the message
+-- doesn't
 abbrev pub IsMissing : (offices messages office message : ℕ) → RunFault → Type 0
 IsMissing offices messages office message NoOffice = offices ≤ office
 IsMissing offices messages office message NoMessage = (office < offices) × (messages ≤ message)

@@ -6,12 +6,13 @@ use Rattle.docker_office.specs.declared.reply.Reply.{Reply}
 use Rattle.docker_office.specs.declared.steps.Holdings.{Holdings}
 use Rattle.docker_office.specs.RunMeaning.{IsRunReply, reply_meant, texts_of}
 
--- says that the offices and the messages hold exactly the states of what is known
+-- says that each office has the summary of what it knows, and each message the text of the summary
+-- of what its sender knew
 abbrev pub AreOf : KnownSets → Holdings → Type 0
 AreOf known held = Holds dks_2 known held.offices.items (texts_of held.messages.items)
 
--- says that an event may have this reply, and that after the event the offices and messages hold
--- the states of what is then known
+-- says that the definitions allow this reply to the event, and that after the event each office and
+-- each message has the summary of what is then known
 pub record MeetsEvent (known : KnownSets) (event : RunEvent) (reply : Reply) (held : Holdings) : Type 0 where
   pub told : IsRunReply reply
   pub may : IsReply known event (reply_meant reply)

@@ -19,8 +19,8 @@ use std::alloc::Global;
 use std::marker::Model;
 
 /// An office for the docker of one timing point and one day. In contracts its value is the timing
-/// point, the day and the whole state, of which it keeps an excerpt. The office can only print this
-/// docker: the state can't be written, joined or sent.
+/// point, the day and the whole state, of which the office keeps an excerpt. The office can only
+/// print this docker: the state can't be written, joined or sent.
 #[derive(Debug, Drop)]
 pub struct PlaceOffice {
     alloc: Global,
@@ -60,8 +60,8 @@ impl PlaceOffice {
         Ok(PlaceOffice { alloc, excerpt })
     }
 
-    /// Reads a file from a source, and keeps the changes from which its docker of a timing point
-    /// and a day is made. A file with more than `limit` records is refused. Every file that
+    /// Reads a file from a source, and keeps the changes from which the file's docker of a timing
+    /// point and a day is made. A file with more than `limit` records is refused. Every file that
     /// `Office::take` refuses is refused here too, by `File`, `Source` or `Memory`: every record is
     /// judged, whether a part of it is kept or not.
     pub fn take<S: Source>(

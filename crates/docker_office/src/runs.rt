@@ -14,12 +14,12 @@ use std::alloc::Global;
 /// result. Fails with `Memory` only before the first event, if there is no room for the offices,
 /// the messages or the replies. Otherwise each event gets one reply. A refused event has no effect.
 ///
-/// Each reply is a reply that its event may have after the earlier events. The reply is `NoOffice`
-/// if the office doesn't exist, and `NoMessage` if the office exists and the message doesn't. If
-/// both exist, a `Take` is done, or refused for its text's fault or because memory ran out. A
-/// `Send`, a `Deliver` or a `Reload` is done, or refused because memory ran out. A `Horizon` is
-/// done. Each office has the state of exactly the files and the horizon that it knows. Each message
-/// has the state that its office had when the message was sent.
+/// Each reply is one that the definitions allow for its event after the earlier events. The reply
+/// is `NoOffice` if the office doesn't exist, and `NoMessage` if the office exists and the message
+/// doesn't. If both exist, a `Take` is done, or refused for its text's fault or because memory ran
+/// out. A `Send`, a `Deliver` or a `Reload` is done, or refused because memory ran out. A `Horizon`
+/// is done. Each office has the state of exactly the files and the horizon that it knows. Each
+/// message has the state that its office had when the message was sent.
 ///
 /// So the files and the horizon that an office knows determine its bytes and its dockers, whatever
 /// was lost, repeated or reordered. The laws of `headline` state this.

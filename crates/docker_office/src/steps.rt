@@ -72,7 +72,7 @@ impl Holdings {
         }
     }
 
-    /// Returns why an event can't be done: its office doesn't exist, or its office exists and its
+    /// Returns why an event can't be done: the office doesn't exist, or the office exists and the
     /// message doesn't. `None` if both exist.
     fn missing(&self, office: usize, message: usize) -> Option<RunFault>
         ensures some { IfSome result (IsMissing (length self.now.offices.items)
@@ -89,7 +89,7 @@ impl Holdings {
         None
     }
 
-    /// An office takes the file with this text.
+    /// Lets an office take the file with this text.
     fn take(&mut self, office: usize, text: &[u8], limit: u32) -> Reply
         requires { limit ≤ MOST_RECORDS }
         ensures met { (known : KnownSets) → AreOf known self.old
@@ -102,7 +102,7 @@ impl Holdings {
         reply_to(take_text(&mut self.offices[office], text, limit))
     }
 
-    /// An office sends its state. If memory runs out, no message is sent.
+    /// Lets an office send its state. If memory runs out, no message is sent.
     fn send(&mut self, alloc: Global, office: usize) -> Reply
         requires { vec_len self.old.messages < vec_capacity self.old.messages }
         ensures met { (known : KnownSets) → AreOf known self.old
@@ -122,7 +122,7 @@ impl Holdings {
         }
     }
 
-    /// An office receives a message.
+    /// Lets an office receive a message.
     fn deliver(&mut self, office: usize, message: usize) -> Reply
         ensures met { (known : KnownSets) → AreOf known self.old
             → MeetsEvent known (deliver office message) result self.new }
@@ -137,7 +137,7 @@ impl Holdings {
         }
     }
 
-    /// An office replaces its state with the state in a message.
+    /// Lets an office replace its state with the state in a message.
     fn reload(&mut self, office: usize, message: usize) -> Reply
         ensures met { (known : KnownSets) → AreOf known self.old
             → MeetsEvent known (reload office message) result self.new }
@@ -152,7 +152,7 @@ impl Holdings {
         }
     }
 
-    /// An office sets a horizon.
+    /// Sets the horizon of an office.
     fn set_horizon(&mut self, office: usize, day: Day) -> Reply
         ensures good { IsGoodEvent dks_2 (horizon_event office day) }
         ensures met { (known : KnownSets) → AreOf known self.old
@@ -169,7 +169,7 @@ impl Holdings {
     }
 }
 
-/// An office takes the file with this text.
+/// Lets an office take the file with this text.
 fn take_text(office: &mut Office, text: &[u8], limit: u32) -> Result<(), OfficeFault>
     requires { limit ≤ MOST_RECORDS }
     ensures ok { IsOk result → TakesFile limit (Some text.now) office.old office.new }
@@ -182,7 +182,7 @@ fn take_text(office: &mut Office, text: &[u8], limit: u32) -> Result<(), OfficeF
     office.take(&mut Bytes::new(text, PIECE), limit)
 }
 
-/// An office receives the state with this text.
+/// Lets an office receive the state with this text.
 fn receive_text(office: &mut Office, text: &[u8]) -> Result<(), OfficeFault>
     ensures ok { IsOk result
         → JoinsState dks_2 (length text.now) (Some text.now) office.old office.new }
@@ -195,7 +195,7 @@ fn receive_text(office: &mut Office, text: &[u8]) -> Result<(), OfficeFault>
     office.receive(&mut Bytes::new(text, PIECE), text.len() as u64)
 }
 
-/// An office replaces its state with the state that has this text.
+/// Lets an office replace its state with the state that has this text.
 fn reload_text(office: &mut Office, text: &[u8]) -> Result<(), OfficeFault>
     ensures ok { IsOk result → ReadsState dks_2 (length text.now) (Some text.now) office.new }
     ensures unchanged { IsErr result → office.new ≡ office.old }
@@ -233,7 +233,7 @@ fn text_at(messages: &[Kept], message: usize) -> &[u8]
     messages[message].bytes()
 }
 
-/// The reply to an event, from the office's result.
+/// Converts the result of an office's call to the reply to the event.
 fn reply_to(answer: Result<(), OfficeFault>) -> Reply
     ensures { result ≡ reply_for answer }
 {

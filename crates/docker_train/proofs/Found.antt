@@ -13,13 +13,13 @@ use Rattle.state_laws.proofs.joins.StagedEntry.{entry_at_iff}
 use Rattle.train_choice.specs.Along.{IsLiveTrain}
 use Rattle.docker_train.specs.TrainText.{IsStampOf}
 
--- an op with a body puts this body
+-- an op with a body is the op `put_with` of this body
 put_of : (op : Op) (body : Body) → body_of op ≡ Some body → op ≡ put_with body
 put_of deleted body is = none_some body is
 put_of lapsed body is = none_some body is
 put_of (put_with own) body is = cc
 
--- the entry at a live schedule's key puts the schedule's lines, so the entry's stamp is the
+-- the entry at a live schedule's key has the schedule's lines, so the entry's stamp is the
 -- schedule's stamp
 pub stamp_is : (state : State) (train : Train) (entry : Entry) → IsLiveTrain (live_table state) train
     → Some entry ≡ entry_at state (schedule_key train.key) → IsStampOf state train entry.stamp

@@ -141,7 +141,8 @@ schedules_are : (state : State) (uid : List ℕ) (day : ℕ) (found : Option Sta
 schedules_are state uid day None is = is
 schedules_are state uid day (Some found) (is, stamp) = is
 
--- the schedule found in the summary of some files is the schedule chosen in their plain table
+-- on a day that isn't before the horizon, the schedule found in the summary of some files is the
+-- schedule chosen in their plain table
 pub found_is_plain : (files : List (List (List ℕ))) (horizon : ℕ) (state : State) (table : Table) (uid : List ℕ) (day : ℕ) (found : Option Stamped)
     → IsSummary files horizon state → IsPlainTable files table → IsDay horizon → horizon ≤ day → IsFoundFor state uid day found
     → IsChosenOn table uid day (option_map (λ (it : Stamped). it.schedule) found)
@@ -178,7 +179,8 @@ found_to_run state start day key lines open_day near runs =
       runs = runs.no_cancellation;
     }
 
--- the schedule of an event's train on a docker is the schedule found for its UID on its start day
+-- for each event on a docker, the schedule of the event's train is the schedule found for the
+-- train's UID on its start day
 pub event_train : (state : State) (place : List ℕ) (day : ℕ) (line : DockerLine) → IsValid state → ¬ IsDayRefused state.horizon day
     → (made : IsEventLine (live_table state) place day line)
     → IsFoundToRun state line.uid line.start (record { key = made.key; lines = made.schedule })
@@ -187,8 +189,8 @@ event_train state place day line valid open_day made =
     subst (λ (l : DockerLine). IsFoundToRun state l.uid l.start (record { key = made.key; lines = made.schedule })) (sym made.is)
     (found_to_run state made.start day made.key made.schedule open_day near.1 made.train_runs)
 
--- the schedule of an association's base train on a docker is the schedule found for its UID on its
--- start day
+-- for each association on a docker, the schedule of the base train is the schedule found for the
+-- base train's UID on its start day
 pub base_train : (state : State) (place : List ℕ) (day : ℕ) (line : DockerLine) → IsValid state → ¬ IsDayRefused state.horizon day
     → (made : IsAssociationLine (live_table state) place day line)
     → IsFoundToRun state line.uid line.start (record { key = made.base_key; lines = made.base })

@@ -6,7 +6,7 @@ use Rattle.docker_model.specs.state.State.{State}
 use Rattle.docker_model.specs.docker.Choice.{IsCancellation, Train}
 use Rattle.docker_train.specs.TrainText.{Stamped, IsFoundFor}
 
--- the change that put this schedule: its record number is in the stamp
+-- the change that this schedule comes from. The stamp has the record number of the change
 abbrev pub change_of : Stamped → Change
 change_of found = record {
   number = found.stamp.number;
@@ -15,7 +15,7 @@ change_of found = record {
 }
 
 -- says that the schedule came from one of these files. This file has the stamp's date, time and
--- reference, and makes the change that put the schedule
+-- reference, and makes the change that the schedule comes from
 pub record CameFrom (files : List (List (List ℕ))) (found : Stamped) : Type 0 where
   pub file : List (List ℕ)
   pub among : Contains files file

@@ -11,13 +11,13 @@ use Rattle.docker_model.specs.docker.Choice.{Train, IsChosenOn}
 use Rattle.docker_model.specs.docker.DockerText.{ended}
 use Rattle.train_choice.specs.Ranked.{is_cancellation}
 
--- a schedule with the stamp of the change that put it. The stamp has the extract's date, time and
--- reference, and the number of the schedule's record in the extract
+-- a schedule with the stamp of the change that it comes from. The stamp has the extract's date,
+-- time and reference, and the number of the schedule's record in the extract
 pub record Stamped : Type 0 where
   pub schedule : Train
   pub stamp : Stamp
 
--- says that the state's entry at the schedule's key has this stamp, and puts the schedule's lines
+-- says that the state's entry at the schedule's key has this stamp and the schedule's lines
 abbrev pub IsStampOf : State → Train → Stamp → Type 0
 IsStampOf state schedule stamp =
     entry_at state (schedule_key schedule.key) ≡ Some (record { stamp = stamp; op = put_with (schedule_body schedule.lines) })
@@ -40,8 +40,8 @@ stamp_text stamp =
     day_text stamp.file.moment.day ++ spaces 1 ++ minute_text stamp.file.moment.minute ++ spaces 1 ++ stamp.file.reference ++ spaces 1
     ++ number_text stamp.number
 
--- whether a train runs by a schedule with this STP indicator, as a word of nine columns. It doesn't
--- run if the indicator is `C`
+-- whether a train runs by a schedule with this STP indicator, as a word of nine columns. The train
+-- doesn't run if the indicator is `C`
 abbrev pub running_text : ℕ → List ℕ
 running_text indicator = if is_cancellation indicator then codes "CANCELLED" else codes "RUNS     "
 

@@ -6,7 +6,7 @@ use docker_join::Stamp;
 use std::marker::Model;
 use train_choice::ScheduleView;
 
-/// A live schedule, with the stamp of the change that put it.
+/// A live schedule, with the stamp of the change that it comes from.
 #[derive(Debug, Drop)]
 pub(crate) struct Stamped<'a> {
     schedule: ScheduleView<'a>,
@@ -47,8 +47,8 @@ impl<'a> Stamped<'a> {
         &self.schedule
     }
 
-    /// The stamp of the change that put the schedule: the date, time and reference of its extract,
-    /// and the number of its record in the extract.
+    /// The stamp of the change that the schedule comes from: the date, time and reference of its
+    /// extract, and the number of its record in the extract.
     pub(crate) fn stamp(&self) -> &'a Stamp
         ensures stamp { stamp_meant result.now ≡ self.now.stamp }
         ensures minute { result.now.file.minute < 1440 }

@@ -1,4 +1,4 @@
--- The parts of a state with one ledger item and one entry are given to another state: the item
+-- The parts of a state with one ledger item and one entry are passed to another state: the item
 -- itself, and a copy of the entry.
 use Rattle.std.proofs.Common.{◌≡◌, List, [], ◌∷◌, ◌++◌, map, length, get_or, refl, ap, sym, ◌∙◌, subst, arith}
 use Rattle.docker_model.specs.state.Stamp as stamps

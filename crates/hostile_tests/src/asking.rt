@@ -45,7 +45,7 @@ pub(crate) fn ask<S: Source>(
     }
 }
 
-/// A limit as a number of records: `MOST_RECORDS` if it is greater.
+/// A limit as a number of records. `MOST_RECORDS` if the limit is greater.
 fn records_of(limit: u64) -> u32
     ensures { result < 2 ^ 32 - 1 }
 {

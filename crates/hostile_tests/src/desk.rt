@@ -7,7 +7,7 @@ use std::alloc::Global;
 use std::fs;
 use std::io::Write;
 
-/// A row and the runtime in which it is run.
+/// A row, and the runtime in which the row runs.
 #[derive(Drop)]
 pub(crate) struct Desk<'a> {
     rt: HostRuntime,
@@ -58,7 +58,7 @@ impl<'a> Desk<'a> {
         let _ = self.rt.stdout().write_all(bytes);
     }
 
-    /// Prints the row in one write. Between this write and the next one, only the row's call
+    /// Prints the row in one write. Between this write and the next write, only the row's call
     /// allocates memory.
     pub(crate) fn begin(&self) {
         let row = self.row;
@@ -73,7 +73,8 @@ impl<'a> Desk<'a> {
         self.print(ending.line());
     }
 
-    /// Prints a statement. If the statement doesn't hold, `not so: ` comes before it.
+    /// Prints a statement. If the statement doesn't hold, `not so: ` is printed before the
+    /// statement.
     pub(crate) fn report(&self, holds: bool, what: &str) {
         let front = if holds { "" } else { "not so: " };
         let _ = println!(self.rt; "  {front}{what}");

@@ -184,7 +184,7 @@ fn written_answer(done: Result<(), OfficeFault>, bytes: &[u8], wanted: &[u8], ca
     }
 }
 
-/// Whether a good sink gets the whole text.
+/// Whether a good sink, to which the office writes, gains the whole text.
 fn is_written(desk: &Desk, office: &Office, output: &Output, wanted: &[u8]) -> bool {
     match sink(desk) {
         Some(mut good) => write(output, office, &mut good).is_ok() && good.bytes() == wanted,
@@ -197,8 +197,8 @@ fn is_front(bytes: &[u8], wanted: &[u8], call: u64) -> bool {
     bytes.len() as u64 == call.saturating_sub(1) && wanted.starts_with(bytes)
 }
 
-/// `LINE`: a job is read from the line, by a source that fails at the first read, then by a source
-/// that fails at the second read, and so on.
+/// `LINE`: a job is read from a source that holds the line. The source fails at the first read,
+/// then a second source fails at the second read, and so on.
 pub(crate) fn line(desk: &Desk, words: &[&str]) {
     let [name] = words else {
         return desk.trouble("LINE");
@@ -216,8 +216,8 @@ pub(crate) fn line(desk: &Desk, words: &[&str]) {
     spans.report(desk);
 }
 
-/// The answer for a source of the line that fails at this read, and whether the source did fail.
-/// After a failure, a job has to be read from a good source.
+/// The answer for a source that holds the line and fails at this read, and whether the source did
+/// fail. After a failure, a job has to be read from a good source.
 fn line_read(desk: &Desk, text: &[u8], call: u64) -> (Answer, bool)
     requires { 0 < call }
 {

@@ -52,7 +52,7 @@ fn feed_again(desk: &Desk, text: &[u8], wanted: &str) {
     }
 }
 
-/// `FILE STATE`: a parser is fed the file. The file's state has to be the given state.
+/// `FILE STATE`: a parser is fed the file. The file's state has to equal `STATE`.
 pub(crate) fn feed(desk: &Desk, words: &[&str]) {
     let [name, wanted] = words else {
         return desk.trouble("FILE STATE");
@@ -71,8 +71,7 @@ pub(crate) fn feed(desk: &Desk, words: &[&str]) {
     }
 }
 
-/// `FILE STATE`: a parser that was fed the file finishes. The file's state has to be the given
-/// state.
+/// `FILE STATE`: a parser that was fed the file finishes. The file's state has to equal `STATE`.
 pub(crate) fn finish(desk: &Desk, words: &[&str]) {
     let [name, wanted] = words else {
         return desk.trouble("FILE STATE");
@@ -101,8 +100,8 @@ fn fed(desk: &Desk, pieces: &[&[u8]]) -> Result<CifFile, FileFault> {
 }
 
 /// `FILE STATE`: the file is read from pieces, by `read_pieces` or by a parser that is fed these
-/// pieces. If memory runs out, the two faults must have the same record number, which no clause
-/// says.
+/// pieces. If memory runs out, the two faults must have the same record number. No clause promises
+/// this.
 pub(crate) fn read(desk: &Desk, call: &str, words: &[&str]) {
     let [name, wanted] = words else {
         return desk.trouble("FILE STATE");
@@ -173,7 +172,7 @@ fn of_this_file(desk: &Desk, file: CifFile, text: &[u8], wanted: &str) {
     }
 }
 
-/// Prints whether a file that was returned is the file with this text.
+/// Prints whether a file that was returned equals the file with this text.
 fn report_returned(desk: &Desk, back: &CifFile, text: &[u8]) {
     if let Some(file) = file_of(desk, text) {
         desk.report(are_same(back, &file), "the file is handed back");

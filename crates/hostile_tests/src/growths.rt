@@ -1,4 +1,5 @@
-//! Finds the function for a row of a call that allocates memory, by the name of the call.
+//! Chooses the function that runs a row whose call allocates memory. The choice depends only on the
+//! name of the call.
 
 use crate::desk::Desk;
 use crate::{file_growths, job_growths, office_growths, part_growths, run_growth, state_growths};
@@ -17,7 +18,7 @@ pub(crate) fn do_row(desk: &Desk, call: &str, words: &[&str]) {
     }
 }
 
-/// Runs the row of a call that is about a state.
+/// Runs the row of a call that takes or makes a state.
 fn do_state_row(desk: &Desk, call: &str, words: &[&str]) {
     match call {
         "State::join" => state_growths::join(desk, words),
@@ -32,7 +33,7 @@ fn do_state_row(desk: &Desk, call: &str, words: &[&str]) {
     }
 }
 
-/// Runs the row of a call that is about an office or a job.
+/// Runs the row of a call of an office or a job.
 fn do_office_row(desk: &Desk, call: &str, words: &[&str]) {
     match call {
         "Office::take" | "Office::receive" | "Office::reload" | "Office::migrate" => {

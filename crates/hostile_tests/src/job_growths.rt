@@ -29,7 +29,7 @@ fn are_same(one: &str, other: &str) -> bool {
     one == other
 }
 
-/// Whether a job has these words: the first names the subcommand.
+/// Whether a job has these words. The first word is the subcommand's name.
 fn is_of(job: &Job, words: &[&str]) -> bool {
     let Some((first, rest)) = words.split_first() else {
         return false;
@@ -123,8 +123,8 @@ fn prepared<'a>(
     )
 }
 
-/// Writes what a job has prepared, and prints whether the written text is this text. Returns the
-/// fault if the call is refused and nothing is written.
+/// Writes what a job has prepared, and prints whether the written text is the text named `wanted`.
+/// Returns the fault if the call is refused and nothing is written.
 fn has_written(
     desk: &Desk,
     prepared: &Prepared<'_>,
@@ -155,7 +155,7 @@ fn write_again(desk: &Desk, prepared: &Prepared<'_>, wanted: &str) {
     }
 }
 
-/// The job that these words name. Prints a line if they name no job.
+/// The job with these words. Prints a line if the words aren't a job.
 fn job_of(desk: &Desk, words: &[&str]) -> Option<Job> {
     match job(desk.alloc(), words) {
         Ok(named) => Some(named),
@@ -218,7 +218,7 @@ pub(crate) fn write_for_job(desk: &Desk, words: &[&str]) {
     }
 }
 
-/// Lets a job write what it has prepared. If memory runs out, it writes a second time.
+/// Lets a job write what it has prepared. If memory runs out, the job writes a second time.
 fn write_prepared(desk: &Desk, prepared: &Prepared<'_>, wanted: &str) {
     if let Some(fault) = has_written(desk, prepared, wanted, true) {
         report_status(desk, Fault::Office(fault));

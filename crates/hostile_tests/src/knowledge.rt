@@ -7,39 +7,39 @@ use std::alloc::{AllocError, Global};
 /// The number of offices.
 pub(crate) const OFFICES: usize = 3;
 
-/// Which of the three files an office or a message knows.
+/// Which of the three files an office knows, or the state in a message includes.
 #[derive(Clone, Copy, PartialEq, Eq)]
 pub(crate) struct Known {
-    /// The update of 5 June.
+    /// Whether the update of 5 June is included.
     pub(crate) fifth: bool,
-    /// The full extract of 7 June.
+    /// Whether the full extract of 7 June is included.
     pub(crate) seventh: bool,
-    /// The update of 9 June.
+    /// Whether the update of 9 June is included.
     pub(crate) ninth: bool,
 }
 
-/// None of the files.
+/// No file.
 const NONE: Known = Known {
     fifth: false,
     seventh: false,
     ninth: false,
 };
 
-/// The update of 5 June.
+/// Only the update of 5 June.
 const FIFTH: Known = Known {
     fifth: true,
     seventh: false,
     ninth: false,
 };
 
-/// The full extract of 7 June.
+/// Only the full extract of 7 June.
 const SEVENTH: Known = Known {
     fifth: false,
     seventh: true,
     ninth: false,
 };
 
-/// The update of 9 June.
+/// Only the update of 9 June.
 const NINTH: Known = Known {
     fifth: false,
     seventh: false,
@@ -47,7 +47,7 @@ const NINTH: Known = Known {
 };
 
 impl Known {
-    /// The union of the files that the two know.
+    /// The files that at least one of the two includes.
     fn with(self, other: Known) -> Known {
         Known {
             fifth: self.fifth | other.fifth,
@@ -131,14 +131,14 @@ pub(crate) const STEPS: [Step; 18] = [
 /// The reply to an event for which memory runs out.
 const OUT_OF_MEMORY: Reply = Reply::Refused(RunFault::Office(OfficeFault::Memory));
 
-/// What each office and each message knows after a prefix of the events.
+/// What each office knows, and what each message includes, after a prefix of the events.
 #[derive(Drop)]
 pub(crate) struct Book {
     /// What each office knows.
     pub(crate) offices: [Known; OFFICES],
-    /// What each message knows.
+    /// The files that the state in each message includes.
     pub(crate) messages: Vec<Known>,
-    /// Whether each reply was a reply that its event may get.
+    /// Whether each reply is one that is allowed for its event.
     pub(crate) fits: bool,
     /// How many replies said that memory ran out.
     pub(crate) wanting: u32,
@@ -170,7 +170,7 @@ impl Book {
         Ok(())
     }
 
-    /// The reply that an event has to get unless memory runs out.
+    /// The only reply that is allowed for an event unless memory runs out.
     fn reply_to(&self, step: Step) -> Reply {
         match step {
             Step::Take(_, _) | Step::Send(_) => Reply::Done,
@@ -216,7 +216,7 @@ impl Book {
         self.offices.get(office).copied().unwrap_or(NONE)
     }
 
-    /// What a message knows.
+    /// The files that the state in a message includes.
     fn known_by(&self, message: usize) -> Known {
         self.messages.get(message).copied().unwrap_or(NONE)
     }

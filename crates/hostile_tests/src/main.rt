@@ -1,7 +1,8 @@
 //! Runs rows of hostile use, one per line of standard input. A row names a call, the texts that the
-//! call gets, and the expected text. Files and dockers are made in `records.rt`, and other texts
-//! are in the folder `data`. The program prints the results. If a result isn't the expected text,
-//! the program also prints a statement about it, so its output differs from the file `stdout`.
+//! call receives, and the expected text. Files and dockers are made in `records.rt`, and other
+//! texts are in the folder `data`. The program prints the results. If a result isn't the expected
+//! text, the program also prints a statement about the difference, so its output differs from the
+//! file `stdout`.
 //!
 //! A row that begins with `growth` is a call that allocates memory. The call is made once, and once
 //! more if memory runs out. `tests/growth/calls` runs the program once for each allocation of the
@@ -38,7 +39,8 @@ fn main(rt: HostRuntime) {
     }
 }
 
-/// Runs a row. The first word of the row says whether its call is a call that allocates memory.
+/// Runs a row. If the first word is `growth`, the row's call allocates memory. Otherwise the first
+/// word is the name of a table.
 fn do_row(desk: &Desk) {
     let words = desk.words();
     match words.as_slice() {

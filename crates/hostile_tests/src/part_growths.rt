@@ -32,7 +32,7 @@ fn call_of(call: &str) -> At {
     }
 }
 
-/// Prints the row if it tests this call.
+/// Prints the row if the row tests this call.
 fn begin(desk: &Desk, here: bool) {
     if here {
         desk.begin();

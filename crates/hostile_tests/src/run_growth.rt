@@ -76,7 +76,7 @@ fn left_by_run(alloc: Global, files: &Files) -> Result<Exchange, Memory> {
     )
 }
 
-/// What offices and messages know after a run, computed from its replies.
+/// What offices know and messages include after a run, computed from the replies of the run.
 fn book_of(desk: &Desk, left: &Exchange) -> Book {
     let mut book = Book::new(desk.alloc());
     for (step, reply) in STEPS.iter().zip(left.replies()) {

@@ -3,8 +3,8 @@
 use crate::answers::Answer;
 use crate::desk::Desk;
 
-/// The present span: its first and its last number, and their answer. There is no answer before the
-/// first number.
+/// The current span: its first and its last number, and the answer for all its numbers. There is no
+/// answer before the first number.
 #[derive(Drop)]
 pub(crate) struct Spans {
     from: u64,
@@ -13,7 +13,7 @@ pub(crate) struct Spans {
 }
 
 impl Spans {
-    /// The spans before the first number is added.
+    /// An empty span, to which no number has been added.
     pub(crate) fn new() -> Spans {
         Spans {
             from: 0,

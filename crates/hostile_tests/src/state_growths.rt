@@ -175,8 +175,7 @@ fn migrated(desk: &Desk, text: &[u8]) -> Result<State, ReadFault> {
     migrate(desk.alloc(), &mut source_of(text), MOST_BYTES)
 }
 
-/// `OLDER STATE`: a text in the older format is read from a source. Its state has to equal the
-/// given state.
+/// `OLDER STATE`: a text in the older format is read from a source. The state has to equal `STATE`.
 pub(crate) fn migrate_text(desk: &Desk, words: &[&str]) {
     let [name, wanted] = words else {
         return desk.trouble("OLDER STATE");

@@ -1,5 +1,5 @@
-//! Tables of rows, each of which makes many calls: texts that are cut, limits, sources without end,
-//! and devices that fail.
+//! Rows that make many calls, one table for each kind of row: texts that are cut, limits, sources
+//! without end, and devices that fail.
 ghost use Rattle.std.specs.Prelude.{◌<◌, length};
 
 use crate::answers::Answer;
@@ -55,7 +55,7 @@ impl<'a> Asked<'a> {
         }
     }
 
-    /// The answer for a source that gives this text, at most `step` bytes per read.
+    /// The answer for a source that holds this text and returns at most `step` bytes per read.
     fn answer(&self, desk: &Desk, text: &[u8], step: usize) -> Answer
         requires { 0 < step }
     {
@@ -69,8 +69,8 @@ impl<'a> Asked<'a> {
         self.judge(desk, &office, done)
     }
 
-    /// The answer for a source that gives this text. The answer is `Uneven` if it depends on the
-    /// number of bytes per read.
+    /// The answer for a source that holds this text. `Uneven` if the answer depends on the number
+    /// of bytes per read.
     pub(crate) fn answer_to(&self, desk: &Desk, text: &[u8]) -> Answer {
         let mut answer = self.answer(desk, text, 1);
         for step in STEPS {
@@ -81,7 +81,7 @@ impl<'a> Asked<'a> {
         answer
     }
 
-    /// The answer for a source that gives `front` and then repeats `again` without end.
+    /// The answer for a source that returns `front` and then repeats `again` without end.
     fn answer_without_end(&self, desk: &Desk, front: &[u8], again: &[u8], step: usize) -> Answer
         requires step { 0 < step }
         requires again { 0 < length again.now }
@@ -146,7 +146,7 @@ fn cut_all(desk: &Desk, asked: Asked<'_>, text: &[u8]) {
     spans.report(desk);
 }
 
-/// The limit that a word gives. 0 if the word isn't a number.
+/// The limit that is written as this word. 0 if the word isn't a number.
 fn limit_of(word: &str) -> u64 {
     word.parse::<u64>().unwrap_or(0)
 }
@@ -168,8 +168,8 @@ fn limit(desk: &Desk, words: &[&str]) {
     asked.answer_to(desk, text.as_slice()).report(desk);
 }
 
-/// `CALL STATE FRONT AGAIN LIMIT`: the call reads a source that gives the first text and then
-/// repeats the second without end, under the limit.
+/// `CALL STATE FRONT AGAIN LIMIT`: under the limit, the call reads a source that returns the first
+/// text and then repeats the second text without end.
 fn endless(desk: &Desk, words: &[&str]) {
     let [call, own, front, again, limit] = words else {
         return desk.trouble("CALL STATE FRONT AGAIN LIMIT");

@@ -12,13 +12,13 @@ use docker_state::State;
 /// The capacity in bytes of a sink for a written text.
 pub(crate) const ROOM: usize = 2000;
 
-/// The number of bytes that a source gives per read, unless a row sets another number.
+/// The number of bytes that a source returns per read, unless a row sets another number.
 pub(crate) const STEP: usize = 100;
 
 /// The most bytes that a state's text may have, unless a row sets another limit.
 pub(crate) const MOST_BYTES: u64 = 1_099_511_627_776;
 
-/// A source that gives this text.
+/// A source that holds this text.
 pub(crate) fn source_of<'a>(text: &'a [u8]) -> Bytes<'a> {
     Bytes::new(text, STEP)
 }
@@ -81,8 +81,8 @@ pub(crate) fn compare_state(desk: &Desk, state: &State, name: &str) {
     desk.report(has_text(desk, state, text.as_slice()), name);
 }
 
-/// The timing point and the day that two words name. Prints a line if a word names neither a timing
-/// point nor a day.
+/// The timing point and the day that are written as these two words. Prints a line if the first
+/// word isn't a TIPLOC or the second word isn't a date.
 pub(crate) fn occasion_of(desk: &Desk, place: &str, day: &str) -> Option<(Tiploc, Day)> {
     match (Tiploc::from_text(place), Day::from_iso(day)) {
         (Some(place), Some(day)) => Some((place, day)),

@@ -92,7 +92,7 @@ module _ (rows : List Row) (tally : Tally) (body : Body) (is : IsTallyOf rows ta
 
 -- ---- the greater of two days
 
--- some days with their greatest day, `one`, before a further day, `other`, is compared
+-- a list of days whose greatest day is `one`, and a day `other` that is added to the list
 module _ (days : List ℕ) (one other : ℕ) (is : IsGreatest days (Some one)) where
   later_wins : one ≤ other → IsGreatest (days ++ other ∷ []) (Some other)
   later_wins below =
@@ -110,7 +110,8 @@ module _ (days : List ℕ) (one other : ℕ) (is : IsGreatest days (Some one)) w
       by day (inl inside) = is.1 day inside
       by day (inr last) = let same : other ≡ day = Contains-single other day last in omega arith
 
--- if the further day isn't earlier than the greatest day before, it is the greatest
+-- if the day that is added isn't earlier than the greatest day of the list, the added day is the
+-- greatest
 pub other_later : (days : List ℕ) (first second : Option ℕ) (one other : ℕ) → first ≡ Some one → second ≡ Some other → one ≤ other
     → IsGreatest days first → IsGreatest (with_day days second) (Some other)
 other_later days first second one other first_is second_is below is =
@@ -126,7 +127,7 @@ pub one_alone : (days : List ℕ) (first second : Option ℕ) (one : ℕ) → fi
 one_alone days first second one first_is second_is is =
     subst (λ o. IsGreatest (with_day days o) (Some one)) (sym second_is) (subst (IsGreatest days) first_is is)
 
--- if there was no day before, the further day is the greatest
+-- if the list has no days yet, the day that is added, if any, is the greatest
 pub first_day : (days : List ℕ) (first second : Option ℕ) → first ≡ None → IsGreatest days first → IsGreatest (with_day days second) second
 first_day days first second first_is is = by second (subst (IsGreatest days) first_is is)
   where
@@ -136,7 +137,7 @@ first_day days first second first_is is = by second (subst (IsGreatest days) fir
         subst (λ (before : List ℕ). IsGreatest (before ++ day ∷ []) (Some day)) (sym none)
         (cons-Contains-first day [], λ other among. let same : day ≡ other = Contains-single day other among in omega arith)
 
--- ---- along the rows of a state
+-- ---- the tally of a state's first rows
 
 live_append : (xs ys : List (Key × Entry)) → live_rows (xs ++ ys) ≡ live_rows xs ++ live_rows ys
 live_append [] ys = refl
@@ -190,7 +191,7 @@ live_more rows i row below at =
     ∙ live_append (map row_meant (take i rows)) (map row_meant (get_or rows i row ∷ []))
     ∙ ap (λ (it : Kept × Held). live_up_to i rows ++ live_rows (row_meant it ∷ [])) (sym at)
 
--- if a tally is correct after an op, it is correct after the row that has this op
+-- if a tally counts the op of a row correctly, the tally counts the row correctly
 pub with_op : (before : List Row) (row : Kept × Held) (op : Op) (tally : Tally) → op_meant row.1.op ≡ op
     → IsTallyOf (before ++ put_before (row_meant row).0 op []) tally → IsTallyOf (before ++ live_rows (row_meant row ∷ [])) tally
 with_op before row op tally is told =

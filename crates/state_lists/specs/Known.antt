@@ -16,8 +16,8 @@ use Rattle.state_laws.specs.Row.{Row, AreRowsOf}
 abbrev pub count_of : ℕ → List Row → ℕ
 count_of tag rows = length (filter (λ (row : Row). key_tag row.0 == tag) rows)
 
--- the day of an end number. `None` if the end number is greater than every day number, as 65535 is,
--- which means no end
+-- the day with this number. `None` for a number greater than every day number, such as 65535, which
+-- means no end
 abbrev pub day_in : ℕ → Option ℕ
 day_in end = if nat_le end last_day then Some end else None
 
@@ -30,7 +30,7 @@ end_of _ _ = None
 abbrev pub ends_of : List Row → List ℕ
 ends_of rows = filter_map (λ (row : Row). end_of row.0 row.1) rows
 
--- says that this is the greatest of the numbers, or that there are no numbers
+-- says that this is the greatest of the numbers, or `None` if there are no numbers
 abbrev pub IsGreatest : List ℕ → Option ℕ → Type 0
 IsGreatest numbers None = numbers ≡ []
 IsGreatest numbers (Some greatest) = Contains numbers greatest × ((number : ℕ) → Contains numbers number → number ≤ greatest)

@@ -15,12 +15,13 @@ use docker_state::State;
 use fixed_text::put;
 use itoa::Buffer;
 
-/// What a state knows, as text. It has room for all lines, whatever the counts.
+/// The text of what a state knows. Its capacity is enough for all lines, whatever the counts.
 pub type KnownText = ArrayVec<u8, 187>;
 
-/// What a state knows, as text. There is a line for its horizon, and lines for how many schedules,
-/// associations and timing points are live. The newest full extract and the greatest last day of a
-/// live schedule have a line if there is one. It counts all entries, and allocates nothing.
+/// The text of what a state knows. There is a line for its horizon, and lines for how many
+/// schedules, associations and timing points are live. The newest full extract and the greatest
+/// last day of a live schedule have a line if there is one. The call counts all entries, and
+/// allocates nothing.
 pub fn known_text(state: &State) -> KnownText
     ensures { IsKnownText state.now result.items }
 {

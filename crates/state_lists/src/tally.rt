@@ -38,7 +38,7 @@ pub(crate) fn tally_of(rows: &[(Key, Entry)]) -> Tally
     tally
 }
 
-/// The tally with one more row. The row counts only if its op is a put.
+/// The tally with one more row. Only a live row is counted: neither a deletion nor a lapsed entry.
 fn with_row(tally: Tally, row: &(Key, Entry)) -> Tally
     requires { AreFew tally }
     ensures { (rows : List Row) → IsTallyOf rows tally

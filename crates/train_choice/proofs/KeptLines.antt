@@ -1,4 +1,5 @@
--- Facts about a schedule's lines, and about an association's record, that fit their keys.
+-- Facts about a schedule whose lines fit its key, and about an association whose record fits its
+-- key.
 use Rattle.std.proofs.Common.{◌≡◌, ℕ, ◌<◌, ◌≤◌, ◌^◌, true, false, List, ◌∷◌, ◌++◌, length, ap, sym, ◌∙◌, subst, inl, inr, ◌⊎◌, All, arith}
 use Rattle.std.specs.Prelude.{IsTrue, ◌==◌, ◌&&◌, nat_le}
 use Rattle.std.specs.List.{AllByRecursion}
@@ -47,7 +48,7 @@ lines_good key lines of =
 pub falls_few : (key : ScheduleKey) (lines : List (List ℕ)) (number : ℕ) → IsScheduleOf key lines → falls_to lines number ≤ 2
 falls_few key lines number of = let all = few_midnights key lines of in let some = falls_below lines number in omega arith
 
--- ---- on which days a schedule runs, by the runs-from date in its key
+-- ---- the runs-from date in its key determines when a schedule begins
 
 same_key : (a b : ScheduleKey) → schedule_key a ≡ schedule_key b → a ≡ b
 same_key a b h = cc
@@ -68,9 +69,9 @@ runs_by_key key lines day of =
 
 pub ruleset kept_lines = (first_kind, first_good, first_stays, first_there, lines_few, lines_good, runs_by_key)
 
--- ---- the line of an association
+-- ---- the record of an association
 
--- the record is an association
+-- a record that fits an association's key is an association (AA)
 pub link_kind : (key : AssociationKey) (line : List ℕ) → IsAssociationOf key line → HasKind association line
 link_kind key line of = of.kind
 

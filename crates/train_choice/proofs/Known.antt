@@ -1,4 +1,5 @@
--- The kept train identities and associations are correct, and each look-up preserves this.
+-- The kept train identities and associations are correct, and each look-up preserves their
+-- correctness.
 use Rattle.std.proofs.Common.{◌≡◌, ℕ, Bool, true, false, cond, List, refl, ap, sym, ◌∙◌, subst, Some}
 use Rattle.std.specs.Prelude.{Option, ◌&&◌, ◌==◌}
 use Rattle.std.specs.declared.cmp.Ordering.{Ordering}

@@ -29,9 +29,9 @@ fall_is (Some last) time = refl
 sum : (a b c : ℕ) → a ≡ 0 → b ≡ c → a + b ≡ c
 sum a b c none same = omega arith
 
--- says that the times of a line determine whether midnight is passed. If the times ascend, no
--- midnight is passed, and the given time is the last time of the line. Otherwise midnight is passed
--- before some event
+-- says that the times of a line determine whether midnight is passed. `Some` means that the times
+-- ascend: no midnight is passed, and the time in `Some` is the last time of the line. `None` means
+-- that midnight is passed before some event
 abbrev Told : Progress → List ℕ → Times → Option ℕ → Type 0
 Told p line times None = (rest : List Occurrence) → some_late (occurrences_at p line times ++ rest) ≡ true
 Told p line times (Some last) =

@@ -1,5 +1,5 @@
--- Whether a schedule runs on a day, on the day before and two days before. The runs-from date in
--- its key and two fields of its basic schedule determine this.
+-- On which of three days a schedule runs: a given day and the two days before it. The runs-from
+-- date in the schedule's key and two fields of its basic schedule determine these days.
 use Rattle.std.proofs.Common.{◌≡◌, ℕ, ◌-◌, ◌<◌, Bool, true, false, List, refl, ap, sym, ◌∙◌, subst, arith}
 use Rattle.std.specs.Prelude.{◌&&◌, ◌||◌, not, nat_le, nat_lt}
 use Rattle.std.proofs.lemmas.Bool.{leb-true, ltb-true}
@@ -67,7 +67,8 @@ recent_runs_told key lines line first day recent of line_is first_is are =
     (subst (λ (n : ℕ). AreRecentRuns (runs_back_by_fields (first_record lines) n day) recent) first_is
     (subst (λ (l : List ℕ). AreRecentRuns (runs_back_by_fields l first day) recent) line_is are))
 
--- if a schedule begins after the day, three flags that are false are correct for the schedule
+-- a schedule that begins after the day doesn't run on any of the three days, so three false flags
+-- are correct for the schedule
 pub never_told : (key : ScheduleKey) (lines : List (List ℕ)) (first day : ℕ) (recent : RecentRuns) → IsScheduleOf key lines
     → first ≡ key.runs_from → nat_lt day first ≡ true → AreRecentRuns (λ back. false) recent → AreRecentRuns (runs_back lines day) recent
 never_told key lines first day recent of first_is late are =

@@ -21,7 +21,7 @@ last_named place last [] named = λ i. before_named (named i) last []
 last_named place last (line ∷ lines) named =
     ap (before_named (names_place place line) line) (last_named place last lines named) ∙ kept (names_place place line) line last lines
 
--- if the last line isn't at the place, it is dropped
+-- a last line that isn't at the place is dropped
 pub last_elsewhere : (place last : List ℕ) (lines : List (List ℕ)) → names_place place last ≡ false
     → up_to_last place (lines ++ last ∷ []) ≡ up_to_last place lines
 last_elsewhere place last [] elsewhere = λ i. before_named (elsewhere i) last []

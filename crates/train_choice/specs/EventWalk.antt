@@ -1,4 +1,4 @@
--- The state of a walk over a schedule's lines, and the remaining events.
+-- The state of a walk over a schedule's lines, and the remaining events of the walk.
 use Rattle.std.specs.Prelude.{ℕ, ◌+◌, ◌*◌, ◌^◌, ◌≤◌, List, ◌++◌, length, All}
 use Rattle.docker_model.specs.records.Field.{HasGoodFields}
 use Rattle.train_choice.specs.Meaning.{occasion_meant, times_meant}
@@ -7,7 +7,7 @@ use Rattle.train_choice.specs.Occurrences.{Progress, occurrences_at, occurrences
 use Rattle.train_choice.specs.declared.walk.Occurrence.{Occurrence}
 use Rattle.train_choice.specs.declared.walk.EventWalk.{EventWalk}
 
--- an event of the code, converted to the definitions' type
+-- converts an event of the code to the `Occurrence` of the definitions
 abbrev pub occurrence_meant : Occurrence → model.Occurrence
 occurrence_meant event = record {
   number = event.number;
@@ -18,7 +18,7 @@ occurrence_meant event = record {
   identity = event.identity.now;
 }
 
--- the progress of the walk, converted to the definitions' type
+-- converts the progress of the code's walk to the `Progress` of the definitions
 abbrev pub progress_of : EventWalk → Progress
 progress_of walk = record { number = walk.number; falls = walk.falls; last = walk.last; identity = walk.identity.now }
 
@@ -30,13 +30,13 @@ events_here walk = occurrences_at (progress_of walk) walk.line.now (times_meant 
 abbrev pub progress_after_line : EventWalk → Progress
 progress_after_line walk = past_times (progress_of walk) (times_meant walk.times)
 
--- says that the remaining times of the current line and `more` further times can be numbered
+-- says that the remaining events of the current line and `more` further events can be numbered
 -- without overflow
 pub record HasRoom (walk : EventWalk) (more : ℕ) : Type 0 where
   pub bound : walk.number + length (times_meant walk.times) + more ≤ 2 ^ 40
   pub few : walk.falls ≤ walk.number
 
--- all remaining events: of the current line, and of the lines after it
+-- the remaining events of the current line, and then the events of these later lines
 abbrev pub events_left : EventWalk → List (List ℕ) → List model.Occurrence
 events_left walk lines = events_here walk ++ occurrences_from (progress_after_line walk) lines
 

@@ -46,11 +46,12 @@ group_cmp a b =
     ordering_then (bytes_cmp a.base b.base) (ordering_then (bytes_cmp a.associated b.associated)
     (ordering_then (bytes_cmp a.location b.location) (nat_cmp a.suffix b.suffix)))
 
--- the best association of each group, if the group has one
+-- a map from each group to its best association. A group without an association isn't in the map
 abbrev pub GroupLinks : Type 0
 GroupLinks = BTreeMap Group Link
 
--- says that for each group at the place, the kept association is the association chosen on the day
+-- says that for each group at the place, the map holds the association chosen on the day, or
+-- nothing if none is chosen
 abbrev pub AreDayLinks : Table → List ℕ → ℕ → GroupLinks → Type 0
 AreDayLinks live place day best =
     (group : Group) → group.location ≡ place → (rows : List Row) → AreRowsOf live rows → get group_cmp best group ≡ link_in rows group day

@@ -6,7 +6,7 @@ use Rattle.train_choice.specs.declared.occasion.Occasion.{Occasion}
 use Rattle.train_choice.specs.declared.occasion.Occasion.TheVariants.{Arrival, Pass, Joining, Dividing, NextWorking, Departure}
 use Rattle.train_choice.specs.declared.times.EventTimes.{EventTimes}
 
--- an occasion of the code, converted to the definitions' type
+-- converts an occasion of the code to the `Occasion` of the definitions
 abbrev pub occasion_meant : Occasion → journey.Occasion
 occasion_meant Arrival = journey.arrival
 occasion_meant Pass = journey.pass
@@ -15,6 +15,7 @@ occasion_meant Dividing = journey.dividing
 occasion_meant NextWorking = journey.next_working
 occasion_meant Departure = journey.departure
 
--- the times in a line, in order, each with its kind of event, converted to the definitions' types
+-- converts the times in a line to the definitions' types, in order. Each time is paired with its
+-- kind of event
 abbrev pub times_meant : EventTimes → List (journey.Occasion × ℕ)
 times_meant times = timed journey.arrival times.arrival ++ timed journey.pass times.pass ++ timed journey.departure times.departure

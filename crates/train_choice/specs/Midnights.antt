@@ -3,7 +3,7 @@ use Rattle.std.specs.Prelude.{ℕ, Bool, true, false, not, ◌==◌, ◌||◌, n
 use Rattle.docker_model.specs.file.Journey.{Occasion, times_of}
 use Rattle.train_choice.specs.Occurrences.{Occurrence}
 
--- whether a midnight is passed before some event
+-- whether the train passes midnight before some event in the list
 abbrev pub some_late : List Occurrence → Bool
 some_late [] = false
 some_late (event ∷ events) = not (event.falls == 0) || some_late events

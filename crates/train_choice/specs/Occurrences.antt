@@ -45,7 +45,7 @@ pub record Progress : Type 0 where
 abbrev pub before_all : List ℕ → Progress
 before_all basic = record { number = 1; falls = 0; last = None; identity = columns 33 36 basic }
 
--- the event for one time of a line. `p` is the progress before this time
+-- the event at one time of a line. `p` is the progress before this time
 abbrev pub occurrence_at : Progress → List ℕ → Occasion × ℕ → Occurrence
 occurrence_at p line time = record {
   number = p.number;
@@ -65,7 +65,7 @@ past_time p time = record {
   identity = p.identity;
 }
 
--- the events for some times of a line. `p` is the progress before these times
+-- the events at some times of a line. `p` is the progress before these times
 abbrev pub occurrences_at : Progress → List ℕ → List (Occasion × ℕ) → List Occurrence
 occurrences_at p line [] = []
 occurrences_at p line (time ∷ times) = occurrence_at p line time ∷ occurrences_at (past_time p time) line times

@@ -8,12 +8,12 @@ use Rattle.cif_line.specs.declared.letter.Stp.{Stp}
 use Rattle.cif_line.specs.declared.letter.Stp.TheVariants.{Cancellation}
 use Rattle.docker_model.specs.docker.Choice.{choice_cmp}
 
--- the order of choice for values that have an STP indicator's letter and a first date. `rank` gives
--- both
+-- the order of choice for values that have an STP indicator's letter and a first date. `rank`
+-- returns both
 abbrev pub rank_cmp : {A : Type 0} → (A → ℕ × ℕ) → A → A → Ordering
 rank_cmp rank a b = choice_cmp (rank a).0 (rank a).1 (rank b).0 (rank b).1
 
--- the letter of an STP indicator, and a first date
+-- converts a pair of an STP indicator and a first date: the indicator becomes its letter
 abbrev pub rank_meant : Stp × ℕ → ℕ × ℕ
 rank_meant rank = (stp_letter rank.0, rank.1)
 

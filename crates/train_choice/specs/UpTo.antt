@@ -9,8 +9,8 @@ use Rattle.train_choice.specs.Occurrences.{Occurrence, before_all, occurrences_f
 abbrev pub names_place : List ℕ → List ℕ → Bool
 names_place place line = bytes_eq (columns 3 9 line) place
 
--- prepends a line to the lines after it. The line is dropped if there are no lines after it and it
--- isn't at the place
+-- prepends a line to later lines. If there are no later lines, the line is kept only if it is at
+-- the place
 abbrev pub before_named : Bool → List ℕ → List (List ℕ) → List (List ℕ)
 before_named named line [] = if named then line ∷ [] else []
 before_named named line (next ∷ rest) = line ∷ next ∷ rest

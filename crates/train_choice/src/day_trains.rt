@@ -44,7 +44,7 @@ impl<'a> Model for DayTrains<'a> {
 }
 
 impl<'a> DayTrains<'a> {
-    /// The trains that start on a day in a timetable. No train is kept yet.
+    /// The trains that start on a day in a timetable. No train has been looked up yet.
     pub fn of(timetable: &Timetable<'a>, day: Day) -> DayTrains<'a>
         ensures { result ≡ record { timetable = timetable.entry.now; day = day } }
     {

@@ -9,8 +9,9 @@ ghost use Rattle.train_choice.specs.Runs.{runs_until};
 
 use cif_line::{Day, Kind, Line, kind};
 
-/// Whether a basic schedule (BS) or an association (AA) runs on a day. It does if the day is in the
-/// period from its first date to its last date, and its days run include the weekday.
+/// Whether a basic schedule (BS) or an association (AA) runs on a day. That is so if the day is in
+/// the period from the record's first date to its last date, and the record's days run include the
+/// weekday.
 pub fn runs(line: &Line, day: Day) -> bool
     requires kind { HasKind basic_schedule line.now ⊎ HasKind association line.now }
     requires good { HasGoodFields line.now }

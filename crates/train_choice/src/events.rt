@@ -29,8 +29,8 @@ impl<'a> Model for Events<'a> {
 }
 
 impl<'a> Events<'a> {
-    /// The events of these lines. `basic` is the first line of their schedule, and `identity` is
-    /// the train identity in it.
+    /// The events of these lines. `basic` is the first line of the schedule, and `identity` is the
+    /// train identity in that line.
     pub(crate) fn of(basic: &'a Line, identity: &'a [u8; 4], lines: &'a [Line]) -> Events<'a>
         requires good { All HasGoodFields lines.now }
         requires few { length lines.now < 2 ^ 32 }

@@ -35,7 +35,7 @@ impl<'a> Model for Identities<'a> {
 }
 
 impl<'a> Identities<'a> {
-    /// The train identities of a timetable. No identity is kept yet.
+    /// The train identities of a timetable. No identity has been looked up yet.
     pub fn of(alloc: Global, timetable: &Timetable<'a>) -> Identities<'a>
         ensures { result ≡ timetable.entry.now }
     {

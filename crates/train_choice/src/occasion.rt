@@ -1,10 +1,10 @@
-//! What happens at a line of a docker.
+//! What a line of a docker reports.
 ghost use Rattle.std.specs.Prelude.{◌≡◌, [], ◌∷◌};
 ghost use Rattle.docker_model.specs.docker.DockerLine.{occasion_rank};
 ghost use Rattle.docker_model.specs.docker.DockerText.{occasion_text};
 ghost use Rattle.train_choice.specs.Meaning.{occasion_meant};
 
-/// What happens at a line of a docker: an event of a train, or an association of the train with
+/// What a line of a docker reports: an event of a train, or an association of the train with
 /// another train. The order of these variants is the order of lines with the same time.
 #[derive(Clone, Copy, PartialEq, Eq, Debug)]
 pub enum Occasion {

@@ -1,5 +1,5 @@
-//! Whether a schedule runs on a day, on the day before and two days before. A train that starts on
-//! one of these three days may still be under way on the day.
+//! On which of three days a schedule runs: a given day and the two days before it. A train that
+//! starts on one of these three days may still be under way on the day.
 ghost use Rattle.std.specs.Prelude.{◌≡◌, ◌≤◌, ◌||◌, ◌-◌, false};
 ghost use Rattle.std.specs.Option.{SomeIff};
 ghost use Rattle.docker_model.specs.records.Record.{HasKind, basic_schedule, columns};
@@ -8,14 +8,14 @@ ghost use Rattle.train_choice.specs.RecentRuns.{AreRecentRuns, begun_back, lasts
 
 use cif_line::{Day, Days, Line};
 
-/// Whether a schedule runs on a day, on the day before and two days before.
+/// On which of three days a schedule runs: a day and the two days before it.
 #[derive(Clone, Copy, Debug)]
 pub struct RecentRuns {
     /// Whether the schedule runs on the day.
     pub today: bool,
-    /// Whether the schedule runs on the day before.
+    /// Whether the schedule runs one day earlier.
     pub day_before: bool,
-    /// Whether the schedule runs two days before.
+    /// Whether the schedule runs two days earlier.
     pub two_before: bool,
 }
 
@@ -31,7 +31,7 @@ impl RecentRuns {
         }
     }
 
-    /// Whether the schedule runs on any of the three days.
+    /// Whether the schedule runs on at least one of the three days.
     pub fn is_some(&self) -> bool
         ensures { result ≡ (self.now.today || self.now.day_before || self.now.two_before) }
     {
@@ -48,9 +48,9 @@ pub fn day_back(day: Day, back: u16) -> Option<Day>
     Day::from_number(number)
 }
 
-/// Whether a schedule that begins on `first` runs on a day, on the day before and two days before.
-/// The days-run field and the last date are read from its basic schedule. The last date is read
-/// only if the result depends on it.
+/// On which of the three days a schedule that begins on `first` runs: `day` and the two days before
+/// it. The days-run field and the last date are read from `line`, which is the basic schedule. The
+/// last date is read only if the result depends on it.
 #[tactic(auto, using(crate::proofs::RunFields::schedule_fields))]
 pub(crate) fn recent_runs_of(line: &Line, first: Day, day: Day) -> RecentRuns
     requires kind { HasKind basic_schedule line.now }
@@ -80,8 +80,8 @@ pub(crate) fn recent_runs_of(line: &Line, first: Day, day: Day) -> RecentRuns
     }
 }
 
-/// Whether the day `back` days before exists, isn't before the first date, and falls on a weekday
-/// that the days run include.
+/// Whether the day `back` days before `day` exists, isn't before the first date, and falls on a
+/// weekday that the days run include.
 fn begun_back(days: &Days, first: Day, day: Day, back: u16) -> bool
     ensures { result ≡ begun_back days.now first day back }
 {
@@ -91,15 +91,15 @@ fn begun_back(days: &Days, first: Day, day: Day, back: u16) -> bool
     }
 }
 
-/// Whether the day `back` days before isn't after the last date.
+/// Whether the day `back` days before `day` isn't after the last date.
 fn lasts_back(last: u16, day: Day, back: u16) -> bool
     ensures { result ≡ lasts_back last day back }
 {
     day.number().saturating_sub(back) <= last
 }
 
-/// Whether the days run of a basic schedule include the weekday of the day, of the day before or of
-/// two days before.
+/// Whether the days run of a basic schedule include the weekday of at least one of three days: the
+/// day and the two days before it.
 pub(crate) fn runs_on_recent_weekday(line: &Line, day: Day) -> bool
     ensures { result ≡ (marked_back (columns 22 28 line.now) day 0
         || marked_back (columns 22 28 line.now) day 1 || marked_back (columns 22 28 line.now) day 2) }
@@ -109,7 +109,8 @@ pub(crate) fn runs_on_recent_weekday(line: &Line, day: Day) -> bool
         | runs_on_weekday_back(line, day, 2)
 }
 
-/// Whether the days run of a basic schedule include the weekday of the day `back` days before.
+/// Whether the days run of a basic schedule include the weekday of the day `back` days before
+/// `day`. False if there is no such day.
 fn runs_on_weekday_back(line: &Line, day: Day, back: u16) -> bool
     ensures { result ≡ marked_back (columns 22 28 line.now) day back }
 {

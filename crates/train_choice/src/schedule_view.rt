@@ -98,7 +98,7 @@ impl<'a> ScheduleView<'a> {
         (self.key.runs_from.number() <= day.number()) && schedule_runs_on(self.first(), day)
     }
 
-    /// Whether the schedule runs on a day, on the day before and two days before. Doesn't read the
+    /// On which of three days the schedule runs: a day and the two days before it. Doesn't read the
     /// lines if the day is before the runs-from date in the key.
     pub fn recent_runs(&self, day: Day) -> RecentRuns
         ensures { AreRecentRuns (runs_back self.now.lines day) result }
@@ -109,9 +109,9 @@ impl<'a> ScheduleView<'a> {
         recent_runs_of(self.first(), self.key.runs_from, day)
     }
 
-    /// Whether the schedule may run on a day or on one of the two days before. It may if it has
-    /// begun by the day, and its days run include at least one of the three weekdays. The call
-    /// reads only the key and three flags, so it costs less than `recent_runs`.
+    /// Whether the schedule may run on a day or on one of the two days before. That is so if its
+    /// runs-from date isn't after the day, and its days run include at least one of the three
+    /// weekdays. The call reads only the key and three flags, so it costs less than `recent_runs`.
     pub fn may_run_recently(&self, day: Day) -> bool
         ensures { result ≡ may_run_recently self.now.key self.now.lines day }
     {

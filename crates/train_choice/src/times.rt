@@ -65,7 +65,7 @@ impl Iterator for EventTimes {
     }
 }
 
-/// The departure from an origin.
+/// The times at an origin: only a departure.
 #[tactic(auto, using(crate::proofs::LineTimes::line_times))]
 fn origin_times(line: &Line) -> EventTimes
     requires kind { HasKind origin_location line.now }
@@ -93,7 +93,7 @@ fn call_times(line: &Line) -> EventTimes
     }
 }
 
-/// The arrival at a terminus.
+/// The times at a terminus: only an arrival.
 #[tactic(auto, using(crate::proofs::LineTimes::line_times))]
 fn terminus_times(line: &Line) -> EventTimes
     requires kind { HasKind terminating_location line.now }

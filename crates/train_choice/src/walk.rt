@@ -27,12 +27,12 @@ pub struct Occurrence<'a> {
     pub falls: u64,
     /// The event's line.
     pub line: &'a Line,
-    /// The train identity at that line.
+    /// The train identity at the event.
     pub identity: &'a [u8; 4],
 }
 
-/// A walk over the lines of a schedule. It has the current line and the remaining times of this
-/// line. It also has the number of the next event, the number of midnights passed, the last time
+/// A walk over the lines of a schedule. It keeps the current line and the remaining times of this
+/// line. It also keeps the number of the next event, the number of midnights passed, the last time
 /// and the train identity.
 #[derive(Clone, Copy, Debug)]
 pub(crate) struct EventWalk<'a> {

@@ -1,5 +1,5 @@
 //! Tests compare values by a call of these functions, which end the test if the values differ. The
-//! assertion is in a function of its own, so it is proved once for all rows.
+//! assertions are in separate functions, so each assertion is proved once for all tests.
 use std::fmt::Debug;
 use std::process::Abort;
 

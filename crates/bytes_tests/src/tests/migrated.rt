@@ -52,7 +52,7 @@ pub(super) fn refused_old(
 }
 
 /// Asserts that a text in the older format, read `step` bytes at a time, is migrated to a state
-/// with the text `known` in the present format.
+/// with the text `known` in the current format.
 fn gives(rt: &impl Abort, alloc: Global, old: &[u8], known: &[u8], step: usize)
     requires { 0 < step }
 {

@@ -37,15 +37,15 @@ pub(super) const ITEM_10B: &[u8] = b"\x5b\xf1\x04\xecDFROC1BUDFROC1A";
 /// The ledger item of the third update of 9 June.
 pub(super) const ITEM_9C: &[u8] = b"\x5b\xf0\x04\xecDFROC1CUDFROC1B";
 
-/// The head of the entry for C10001's schedule, put by the update of 10 June.
+/// The head of the entry for C10001's schedule from the update of 10 June.
 pub(super) const HEAD_10B: &[u8] =
     b"\x03C10001\x5b\xf1P\x5b\xf1\x04\xecDFROC1B\x00\x00\x00\x02\x01\x00\x00\x00\x03";
 
-/// The head of the entry for C10001's schedule, put by the third update of 9 June.
+/// The head of the entry for C10001's schedule from the third update of 9 June.
 pub(super) const HEAD_9C: &[u8] =
     b"\x03C10001\x5b\xf1P\x5b\xf0\x04\xecDFROC1C\x00\x00\x00\x02\x01\x00\x00\x00\x03";
 
-/// The head of the entry for C10002's schedule, put by the full extract.
+/// The head of the entry for C10002's schedule from the full extract.
 pub(super) const HEAD_C10002: &[u8] =
     b"\x03C10002\x5b\xf1P\x5b\xee\x04\xecDFROC1B\x00\x00\x00\x02\x01\x00\x00\x00\x03";
 
@@ -67,7 +67,7 @@ pub(super) const SECOND: &[u8] = b"\x00\x00\x00\x02";
 /// The op of a deletion.
 pub(super) const DELETED: &[u8] = b"\x00";
 
-/// The op of a put.
+/// The op of a live entry.
 pub(super) const PUT: &[u8] = b"\x01";
 
 /// The body of a TIPLOC: 63 printable bytes, including the least and the greatest printable byte.

@@ -1,5 +1,5 @@
-//! Tests compare values by a call of this function, which ends the test if they differ. The
-//! assertion is in a function of its own, so it is proved once for all rows.
+//! Tests compare values by a call of this function, which ends the test if the values differ. The
+//! assertion is in a separate function, so the assertion is proved once for all tests.
 use std::fmt::Debug;
 use std::process::Abort;
 

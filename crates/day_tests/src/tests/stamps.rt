@@ -47,7 +47,8 @@ fn deletion_first(rt: HostRuntime) {
     shows(&rt, alloc, files, "BRAYTON", "2024-06-10", &[]);
 }
 
-/// Of two puts with equal stamps, the put with the later end date wins.
+/// If two changes with equal stamps set the same schedule, the change with the later end date
+/// counts.
 #[test]
 fn later_end_of_equal_stamps(rt: HostRuntime) {
     let first: &[&[u8]] = &[HD, BS, LO, LT, ZZ];
@@ -55,7 +56,8 @@ fn later_end_of_equal_stamps(rt: HostRuntime) {
     at_ashfeld(&rt, rt.alloc(), &[first, second], &[LEAVES_0850]);
 }
 
-/// Of two puts with equal stamps and end dates, the put with the greater bytes wins.
+/// If two changes with equal stamps set the same schedule until the same end date, the change with
+/// the greater bytes counts.
 #[test]
 fn greater_bytes_of_equal_stamps(rt: HostRuntime) {
     let first: &[&[u8]] = &[HD, BS, LO, LT, ZZ];
@@ -63,7 +65,8 @@ fn greater_bytes_of_equal_stamps(rt: HostRuntime) {
     at_ashfeld(&rt, rt.alloc(), &[first, second], &[LEAVES_0905]);
 }
 
-/// Of a put and a deletion with equal stamps, the put wins.
+/// If one of two changes with equal stamps sets a schedule and the other change deletes it, the
+/// schedule stays.
 #[test]
 fn put_before_deletion_of_equal_stamps(rt: HostRuntime) {
     let first: &[&[u8]] = &[HD, BS, LO, LT, ZZ];

@@ -81,7 +81,7 @@ fn permanent_and_overlay(rt: HostRuntime) {
     says(&rt, rt.alloc(), &state, "C10001", "2024-06-11", overlay);
 }
 
-/// A cancellation is chosen like any other schedule, and its own record is printed.
+/// A cancellation is chosen like any other schedule, and the record of the cancellation is printed.
 #[test]
 fn cancellation(rt: HostRuntime) {
     let state = trains(&rt, rt.alloc());

@@ -1,4 +1,4 @@
-//! Which of two files is the file of the chosen schedule.
+//! Which of two files the chosen schedule comes from.
 
 use super::texts::END;
 use super::{joined, says};

@@ -1,4 +1,4 @@
-//! Refusals: of a day before the horizon, of a word that isn't a UID, and by a sink without room.
+//! A day before the horizon is refused, a word that isn't a UID is refused, and a full sink fails.
 
 use super::compare::same;
 use super::texts::{END, NONE_ON_17_JUNE};

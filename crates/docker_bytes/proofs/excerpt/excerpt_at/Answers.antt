@@ -1,4 +1,4 @@
--- The place and the day equal the place and the day that the type names.
+-- The place and the day equal the place and the day that the type determines.
 use Rattle.std.proofs.Common.{sym, subst}
 use Rattle.docker_model.specs.state.StateText.{dks_2}
 use Rattle.docker_bytes.specs.Excerpts.{IsExcerptAt}

@@ -1,4 +1,4 @@
--- The chosen type argument names the caller's place and day.
+-- The type argument is chosen so that its place and day are the caller's place and day.
 use Rattle.docker_bytes.proofs.excerpt.read_excerpt.Given as goal
 
 abbrev pub ghosts-excerpt_at : goal.ghosts-excerpt_at
