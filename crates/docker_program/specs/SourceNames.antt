@@ -18,7 +18,7 @@ pub data SourceNames : Type 0 where
   file_and_input : (name : Text) → SourceNames
   two_files : (name other : Text) → SourceNames
 
--- the definitions' value for a value of the code's type `SourceNames`
+-- converts the code's `SourceNames` to the definitions' `SourceNames`
 abbrev pub names_meant : declared.SourceNames → SourceNames
 names_meant code.None = no_source
 names_meant code.Stdin = standard_input
