@@ -48,8 +48,9 @@ abbrev pub desk_by : Result ⊤ OfficeFault → DeskView → DeskView
 desk_by (Ok done) desk = record desk { unsaved = false }
 desk_by (Err fault) desk = desk
 
--- `save`, done at the point `before`, has this answer and ends at the point `after`. A draft is made from the look of `before`. If the draft takes the file's
--- place, the file is looked at again, and later drafts are made from the second look
+-- `save`, done at the point `before`, has this answer and ends at the point `after`. A draft is
+-- made from the look of `before`. If the draft replaces the file, the file is looked at again, and
+-- later drafts are made from the second look
 pub record Saves (setting : Setting) (before : SessionView) (answer : AnswerView) (after : SessionView)
     : Type 0 where
   pub result : Result ⊤ OfficeFault
@@ -64,7 +65,7 @@ abbrev pub with_horizon : ℕ → SessionView → SessionView
 with_horizon day before =
     record before { desk = record { state = raise_horizon day before.desk.state; unsaved = true } }
 
--- this request, done at the first point, has this answer and ends at the second point
+-- this request, done at the point `before`, has this answer and ends at the point `after`
 abbrev pub DoesRequest : Setting → RequestView → SessionView → AnswerView → SessionView → Type 0
 DoesRequest setting (print_request place day) before answer after =
     IsDockerAnswer before.desk.state place day answer × (after ≡ before)
@@ -93,15 +94,16 @@ AsksOf may_write (whole_line line) request = IsLineText line × AsksFor may_writ
 AsksOf may_write bad_line request = request ≡ None
 AsksOf may_write cut_line request = request ≡ None
 
--- a line with this request, done at the first point, has this answer and ends at the second point. If the line has no request, the answer is `no_request` and
--- nothing changes
+-- a line with this request, done at the point `before`, has this answer and ends at the point
+-- `after`. If the line has no request, the answer is `no_request` and nothing changes
 abbrev pub DoesAsked : Setting → Option RequestView → SessionView → AnswerView → SessionView → Type 0
 DoesAsked setting (Some request) before answer after =
     DoesRequest setting request before answer after
 DoesAsked setting None before answer after = (answer ≡ no_request) × (after ≡ before)
 
--- this step is right: its line has this request, and the request, done at the step's first point, has this answer and ends at the step's second point. The
--- folder failed once in the step if the answer has status 4, and otherwise not
+-- this step is one that a session can do. Its line has its request, and doing the request at the
+-- step's first point gives its answer and its second point. The folder failed once in the step if
+-- the answer has status 4, and otherwise not
 pub record IsStep (setting : Setting) (step : Step) : Type 0 where
   pub asks : AsksOf setting.may_write step.line step.request
   pub does : DoesAsked setting step.request step.before step.answer step.after
