@@ -1,4 +1,4 @@
--- What `clap` returns for the words of a command of docker.
+-- What `clap` returns for the words of a command.
 use Rattle.std.proofs.Common.{◌≡◌, true, refl, subst, List, IfOk, Result}
 use Rattle.std.proofs.lemmas.Result.{IfOk-weaker}
 use Rattle.clap.specs.Words.{App, FailsBy, Text, fault_of, is_simple_and_free, subcommand_of, subcommand_rows_of}
@@ -7,11 +7,11 @@ use Rattle.clap.specs.declared.error.Error.{Error}
 use Rattle.clap.specs.declared.parser.matches.ArgMatches.{ArgMatches}
 use Rattle.docker_cmd.specs.Grammar.{docker_app}
 
--- docker's command line is simple enough for `clap`'s definitions to determine its matches
+-- docker's command line is simple enough that the definitions of `clap` determine its matches
 simple : is_simple docker_app ≡ true
 simple = refl
 
--- docker's command line is simple enough for `clap`'s definitions to determine its faults
+-- docker's command line is simple enough that the definitions of `clap` determine its faults
 free : is_simple_and_free docker_app ≡ true
 free = refl
 

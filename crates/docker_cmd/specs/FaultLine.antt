@@ -29,7 +29,7 @@ abbrev pub result_status : {A : Type 0} → Result A OfficeFault → ℕ
 result_status (Ok answer) = 0
 result_status (Err fault) = status_of (Office fault)
 
--- the number of device failures grew by one if the exit status is 4, and is unchanged otherwise
+-- the failure count of a device grew by one if the exit status is 4, and is unchanged otherwise
 abbrev pub IsCounted : (status before after : ℕ) → Type 0
 IsCounted status before after = CountsFailure (status ≡ 4) before after
 

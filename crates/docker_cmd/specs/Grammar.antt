@@ -34,12 +34,12 @@ docker_app = record {
   subs = map shape_of subcommands;
 }
 
--- the first value at each of these ids, in their order; None if any of the ids has no value
+-- the first value at each of these ids, in order; None if any of the ids has no value
 abbrev pub found_words : List Text → List Row → Option (List Text)
 found_words [] rows = Some []
 found_words (id ∷ ids) rows = option_and_then (λ word. option_map (λ words. word ∷ words) (found_words ids rows)) (first_of id rows)
 
--- a subcommand paired with the words after it
+-- the pair of a subcommand and the words after it
 abbrev pub pair_of : Subcommand → List Text → Subcommand × List Text
 pair_of subcommand words = (subcommand, words)
 

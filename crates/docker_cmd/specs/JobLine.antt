@@ -10,12 +10,13 @@ pub record IsLineText (line : List ℕ) : Type 0 where
   pub short : length line ≤ 255
   pub printable : AllPass is_printable line
 
--- the text is this job line, its line feed, and then the rest
+-- the text begins with this job line and its line feed, and `rest` are the bytes after them
 pub record IsJobLine (text line rest : List ℕ) : Type 0 where
   pub whole : text ≡ line ++ 10 ∷ rest
   pub line_text : IsLineText line
 
--- a job line was read from a source. If contracts know which bytes the source held, these were the line, its line feed, and the bytes that are now left
+-- a job line was read from a source. If contracts know which bytes the source held, these were the
+-- line, its line feed, and the bytes that are left in it
 abbrev pub ReadsLine : Option (List ℕ) → List ℕ → Option (List ℕ) → Type 0
 ReadsLine None line new = IsLineText line
 ReadsLine (Some text) line new = (rest : List ℕ) × IsJobLine text line rest × (new ≡ Some rest)
@@ -29,7 +30,7 @@ HasNoLine (Some text) = (line rest : List ℕ) → ¬ IsJobLine text line rest
 abbrev pub is_space : ℕ → Bool
 is_space byte = byte == 32
 
--- the words of one piece of a line: the piece itself, or none if the piece is empty
+-- the piece of a line as a list of words: the piece itself, or no word if the piece is empty
 abbrev pub word_or_none : List ℕ → List (List ℕ)
 word_or_none piece = if length piece == 0 then [] else piece ∷ []
 
@@ -42,8 +43,8 @@ abbrev pub ReadsByte : Option (List ℕ) → Option ℕ → Option (List ℕ) �
 ReadsByte old None new = IsEnd old × (new ≡ old)
 ReadsByte old (Some byte) new = Reads old (byte ∷ []) new
 
--- a job line that names this job was read from a source. If contracts know which bytes the source held, these were the line, its line feed, and the bytes that
--- are now left
+-- a job line that names this job was read from a source. If contracts know which bytes the source
+-- held, these were the line, its line feed, and the bytes that are left in it
 abbrev pub ReadsJob : Option (List ℕ) → JobView → Option (List ℕ) → Type 0
 ReadsJob old job new = (line : List ℕ) × ReadsLine old line new × IsJobOf (words_in line) job
 
