@@ -58,8 +58,7 @@ impl Sink for Page {
         ensures counted { OnErr result (self.new.failures ≡ self.old.failures + 1) }
         ensures unmoved { OnErr result (self.new.text ≡ self.old.text) }
 
-        // The clauses above are those that every sink has. The clause below holds only for this
-        // sink.
+        // Every sink promises the clauses above. Only this sink promises the clause below.
         ensures whole { IfOk result (λ n. n ≡ length piece.now) }
     {
         match self.bytes.extend_from_slice(piece) {
