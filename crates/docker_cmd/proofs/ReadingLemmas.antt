@@ -69,8 +69,8 @@ file_failed_alone A one one_now two office.Sink counted = counted
 
 -- ---- two sources
 
--- if reading a state from the first source ends with a fault, the file in the second source isn't
--- read, and the fault is one for which the sources may be refused
+-- suppose that reading a state from the first source ends with a fault, so that the file in the
+-- second source isn't read. Then this fault is one for which the sources may be refused
 pub file_unread : (first left second : DeviceBytes) (fault : OfficeFault)
     → ReadsFew (one_state dks_2) first left second second (IsWhyRefused (one_state dks_2) first left second second fault)
     → ReadsFew state_and_file first left second second (IsWhyRefused state_and_file first left second second fault)
@@ -84,8 +84,8 @@ file_unread first left second fault reads = record { first_few = reads.first_few
     by office.Lapsed why = why
     by office.Sink why = why
 
--- if reading a state from the first source ends with a fault, the state in the second source isn't
--- read, and the fault is one for which the sources may be refused
+-- suppose that reading a state from the first source ends with a fault, so that the state in the
+-- second source isn't read. Then this fault is one for which the sources may be refused
 pub state_unread : (first left second : DeviceBytes) (fault : OfficeFault)
     → ReadsFew (one_state dks_2) first left second second (IsWhyRefused (one_state dks_2) first left second second fault)
     → ReadsFew two_states first left second second (IsWhyRefused two_states first left second second fault)

@@ -136,8 +136,8 @@ module _ (earlier : List (List ℕ)) where
         (λ day same. day_asked setting.may_write step.line step.request day are.1.0.asks same) are.1.0.does gained.1.1.0)
         (gained_steps step.after last steps gained.1.0 are.1.1 gained.1.1.1.0)))
 
-    -- if the text is saved after some steps, `IsPlaced` holds: the text is that of the version read
-    -- at the beginning, with what the steps gained
+    -- if the text is saved after some steps, `IsPlaced` holds. The saved text is the text of the
+    -- version read at the beginning, with the gains of the steps
     pub places_version : (first before after : SessionView) (steps : List Step) (old : List Event) (own : ℕ) (gains : List Gain) (answer : List ℕ)
         → (begins : BeginsAt setting.name old first) → HoldsVersion earlier begins.held own → AreSteps setting first steps before
         → GainedBy setting earlier steps gains → Saves setting before (done_with answer) after → IsPlaced setting earlier own gains before after
