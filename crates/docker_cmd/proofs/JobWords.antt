@@ -1,4 +1,5 @@
--- `clap` accepts words if and only if they name a subcommand. If `clap` accepts the words, it finds that subcommand and the words after it.
+-- `clap` accepts words if and only if they name a subcommand. If `clap` accepts the words, it finds
+-- that subcommand and the words after it.
 use Rattle.std.proofs.Common.{◌≡◌, ◌∙◌, ◌⊎◌, ◌||◌, inl, inr, Bool, cond, true, false, refl, sym, ap, subst}
 use Rattle.std.proofs.Common.{List, [], ◌∷◌, length, map, Some, None, option_map, true≢false, arith}
 use Rattle.std.specs.Prelude.{option_and_then}
@@ -103,8 +104,7 @@ abbrev IsNoneOf : Text → List Subcommand → Type 0
 IsNoneOf word [] = Unit {0}
 IsNoneOf word (s ∷ ss) = (bytes_eq (name_of s) word ≡ false) × IsNoneOf word ss
 
--- if the word isn't the name of any subcommand in a list, `clap` doesn't recognise it as one of
--- them
+-- if the word isn't the name of any subcommand in a list, `clap` doesn't recognise the word
 none_answers : (word : Text) (ss : List Subcommand) → IsNoneOf word ss → find (answers_to word) (map label_of (map leaf_of ss)) ≡ None
 none_answers word [] none = refl
 none_answers word (s ∷ ss) none =
@@ -133,8 +133,8 @@ unnamed_judged word words plain none =
       names_none = λ s behind are. no_name word s none (ap first_word are.whole);
     })
 
--- to show that `clap` accepts or refuses plain words, it is enough to show it for a first word that
--- isn't the name of any subcommand in a list
+-- to show that `clap` accepts or refuses plain words, it is enough to show this for a first word
+-- that isn't the name of any subcommand in a list
 by_name : (word : Text) (words : List Text) → list_all is_plain_word words ≡ true → (ss : List Subcommand) → (IsNoneOf word ss → Judged (word ∷ words))
     → Judged (word ∷ words)
 by_name word words plain [] unnamed = unnamed tt

@@ -1,4 +1,4 @@
--- The meaning of what the code has read, in terms of the definitions.
+-- The content that the code has read, as the definitions see it.
 use Rattle.docker_cmd.specs.Prepared.{ReadView, file_read, office_read}
 use Rattle.docker_cmd.specs.declared.sources.Content.{Content}
 use Rattle.docker_cmd.specs.declared.sources.Content.TheVariants.{File, Office}

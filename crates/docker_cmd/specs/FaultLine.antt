@@ -12,7 +12,8 @@ use Rattle.docker_office.specs.declared.fault.OfficeFault.TheVariants as office
 use Rattle.docker_cmd.specs.declared.fault.Fault.{Fault}
 use Rattle.docker_cmd.specs.declared.fault.Fault.TheVariants.{Job, Office}
 
--- the exit status for a fault: 1 for refused input, 2 for usage, 3 for out of memory, 4 for a failed device
+-- the exit status for a fault: 1 for refused input, 2 for usage, 3 for out of memory, 4 for a
+-- failed device
 abbrev pub status_of : Fault → ℕ
 status_of (Job job.Usage) = 2
 status_of (Job job.Memory) = 3

@@ -13,7 +13,8 @@ required_rule id = record (new_rule id) { required = true }
 abbrev pub words_shape : Text → List Text → Shape
 words_shape name ids = record (new_shape name) { rules = map required_rule ids }
 
--- the program without its subcommands: a subcommand is required, and there is no `--help`, `help` or `--version`
+-- the program without its subcommands: a subcommand is required, and there is no `--help`, `help`
+-- or `--version`
 abbrev pub docker_shape : Shape
 docker_shape = record (new_shape (codes "docker")) {
   no_binary_name = true;
@@ -47,6 +48,7 @@ pair_of subcommand words = (subcommand, words)
 abbrev pub found_at : Text → List Row → Option (Subcommand × List Text)
 found_at name rows = option_and_then (λ subcommand. option_map (pair_of subcommand) (found_words (ids_of subcommand) rows)) (subcommand_named name)
 
--- the subcommand in `clap`'s result, and the words after it; None if there is no subcommand, or a word is missing
+-- the subcommand in `clap`'s result, and the words after it; None if there is no subcommand, or a
+-- word is missing
 abbrev pub found_in : Option (Text × List Row) → Option (Subcommand × List Text)
 found_in = option_and_then (λ found. found_at found.0 found.1)

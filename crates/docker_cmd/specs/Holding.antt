@@ -1,4 +1,4 @@
--- The meaning of what a job keeps in memory, in terms of what it has read.
+-- What a job keeps in memory, as the definitions see it.
 use Rattle.std.specs.Prelude.{◌≡◌}
 use Rattle.docker_office.specs.Values.{Excerpt}
 use Rattle.docker_cmd.specs.Content.{content_meant}

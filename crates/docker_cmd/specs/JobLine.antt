@@ -21,7 +21,8 @@ abbrev pub ReadsLine : Option (List ℕ) → List ℕ → Option (List ℕ) → 
 ReadsLine None line new = IsLineText line
 ReadsLine (Some text) line new = (rest : List ℕ) × IsJobLine text line rest × (new ≡ Some rest)
 
--- the source's bytes don't begin with a job line. This says nothing if contracts don't know which bytes the source holds
+-- the source's bytes don't begin with a job line. This says nothing if contracts don't know which
+-- bytes the source holds
 abbrev pub HasNoLine : Option (List ℕ) → Type 0
 HasNoLine None = ⊤
 HasNoLine (Some text) = (line rest : List ℕ) → ¬ IsJobLine text line rest
@@ -34,7 +35,8 @@ is_space byte = byte == 32
 abbrev pub word_or_none : List ℕ → List (List ℕ)
 word_or_none piece = if length piece == 0 then [] else piece ∷ []
 
--- the words of a line: the pieces between its spaces, without the empty ones. For example, `a  b` has the words `a` and `b`
+-- the words of a line: the pieces between its spaces, without the empty ones. For example, `a  b`
+-- has the words `a` and `b`
 abbrev pub words_in : List ℕ → List (List ℕ)
 words_in line = filter (λ word. not (length word == 0)) (slice_split is_space line)
 
@@ -48,12 +50,14 @@ ReadsByte old (Some byte) new = Reads old (byte ∷ []) new
 abbrev pub ReadsJob : Option (List ℕ) → JobView → Option (List ℕ) → Type 0
 ReadsJob old job new = (line : List ℕ) × ReadsLine old line new × IsJobOf (words_in line) job
 
--- the source's bytes don't begin with a job line that names a job. This says nothing if contracts don't know which bytes the source holds
+-- the source's bytes don't begin with a job line that names a job. This says nothing if contracts
+-- don't know which bytes the source holds
 abbrev pub HasNoJob : Option (List ℕ) → Type 0
 HasNoJob None = ⊤
 HasNoJob (Some text) = (line rest : List ℕ) → IsJobLine text line rest → NameNoJob (words_in line)
 
--- the source's bytes begin with a job line that names a job. This says nothing if contracts don't know which bytes the source holds
+-- the source's bytes begin with a job line that names a job. This says nothing if contracts don't
+-- know which bytes the source holds
 abbrev pub HasJob : Option (List ℕ) → Type 0
 HasJob None = ⊤
 HasJob (Some text) = (line : List ℕ) × ((rest : List ℕ) × (IsJobLine text line rest × (¬ NameNoJob (words_in line))))

@@ -55,13 +55,15 @@ HasSecondSource sources = (sources ≡ state_and_file) ⊎ (sources ≡ two_stat
 abbrev pub HoldsSomeState : DeviceBytes → Type 0
 HoldsSomeState left = (state : State) × ReadsState dks_2 most_bytes left state
 
--- this is the state of an office that read the state in the first source and then took the file in the second source
+-- this is the state of an office that read the state in the first source and then took the file in
+-- the second source
 pub record TakesBehind (first second : DeviceBytes) (state : State) : Type 0 where
   pub own : State
   pub reads : ReadsState dks_2 most_bytes first own
   pub takes : TakesFile most_records second own state
 
--- this is the state of an office that read the state in the first source and then received the state in the second source
+-- this is the state of an office that read the state in the first source and then received the
+-- state in the second source
 pub record JoinsBehind (first second : DeviceBytes) (state : State) : Type 0 where
   pub own : State
   pub reads : ReadsState dks_2 most_bytes first own
@@ -73,7 +75,8 @@ pub record RaisesState (day : ℕ) (first : DeviceBytes) (state : State) : Type 
   pub reads : ReadsState dks_2 most_bytes first own
   pub raised : state ≡ raise_horizon day own
 
--- this is the state that an office has after it has read these sources. If a file was only checked, there is no state
+-- this is the state that an office has after it has read these sources. If a file was only checked,
+-- there is no state
 abbrev pub IsStateOf : Sources → DeviceBytes → DeviceBytes → State → Type 0
 IsStateOf no_source first second state = state ≡ no_state
 IsStateOf checked_file first second state = ⊥
@@ -87,7 +90,8 @@ abbrev pub IsContentOf : Sources → DeviceBytes → DeviceBytes → ReadView �
 IsContentOf sources first second (file_read file) = (sources ≡ checked_file) × CountsText most_records first file
 IsContentOf sources first second (office_read state) = IsStateOf sources first second state
 
--- this is the state that a task makes of its sources. `horizon` raises the horizon of the state that it has read, and `check` makes no state
+-- this is the state that a task makes of its sources. `horizon` raises the horizon of the state
+-- that it has read, and `check` makes no state
 abbrev pub IsStateReadBy : TaskView → DeviceBytes → DeviceBytes → State → Type 0
 IsStateReadBy (horizon_task day) first second state = RaisesState day first state
 IsStateReadBy task first second state = IsStateOf (sources_of task) first second state
@@ -320,8 +324,9 @@ IsDocker state_written = ⊥
 abbrev pub PrintsDocker : PreparedView → Type 0
 PrintsDocker prepared = IsDocker (output_of prepared.job.task)
 
--- writing an output to a sink ended with this result. On success the sink has gained the text. If the sink failed, it has gained a proper prefix of the text.
--- If a docker can't be made, the sink is unchanged
+-- writing an output to a sink ended with this result. On success the sink has gained the text. If
+-- the sink failed, it has gained a proper prefix of the text. If a docker can't be made, the sink
+-- is unchanged
 abbrev pub EndsEmitting : {K : Type 0} → (K → DeviceBytes) → (K → ℕ) → Output → ReadView → K → K → Result ⊤ OfficeFault → Type 0
 EndsEmitting taken failures output read old new (Ok done) =
     GainsText output read (taken old) (taken new) × (failures new ≡ failures old)

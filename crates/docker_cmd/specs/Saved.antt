@@ -41,7 +41,8 @@ AreGained earlier [] old new = new ≡ old
 AreGained earlier (gain ∷ gains) old new =
     (next : State) × Gains earlier gain old next × AreGained earlier gains next new
 
--- this is the text of a state that was read from the earlier version with number `own`, and that then gained these things
+-- this is the text of a state that was read from the earlier version with number `own`, and that
+-- then gained these things
 pub record IsSaved (earlier : List (List ℕ)) (own : ℕ) (gains : List Gain) (text : List ℕ) : Type 0 where
   pub held : DeviceBytes
   pub holds : HoldsVersion earlier held own

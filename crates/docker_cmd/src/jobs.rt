@@ -6,7 +6,7 @@ use crate::tasks::{Subcommand, Task};
 use cif_line::{Day, Tiploc};
 use std::marker::Model;
 
-/// A job: what to do, and the words after the subcommand.
+/// A job: its task, and the words after the subcommand.
 #[derive(Debug, Drop)]
 pub struct Job {
     task: Task,

@@ -219,7 +219,7 @@ module _ (setting : Setting) where
   known_then known state at = subst (IsKnown known) at.has (known_steps at.first at.last at.steps at.start known at.begins at.are at.learned)
 
   -- if a list of steps is split in two, the first part ends at some point, and the second part
-  -- begins there
+  -- begins at that point
   pub steps_apart : (first last : SessionView) (earlier later : List Step) → AreSteps setting first (earlier ++ later) last
       → (between : SessionView) × (AreSteps setting first earlier between × AreSteps setting between later last)
   steps_apart first last [] later are = (first, (refl, are))

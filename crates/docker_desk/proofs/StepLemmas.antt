@@ -159,8 +159,8 @@ takes_more (Some taken) now new first second one two =
 -- ---- steps
 
 module _ (setting : Setting) where
-  -- if some steps end at a point, and more steps begin there, their concatenation is a list of
-  -- steps
+  -- if some steps end at a point, and more steps begin at that point, their concatenation is a list
+  -- of steps
   steps_more : (first now last : SessionView) (steps more : List Step) → AreSteps setting first steps now → AreSteps setting now more last
       → AreSteps setting first (steps ++ more) last
   steps_more first now last [] more are then_more = subst (λ m. AreSteps setting m more last) are then_more

@@ -28,17 +28,20 @@ AreFirstLines text [] rest = rest ≡ text
 AreFirstLines text (line ∷ lines) rest =
     (next : List ℕ) × (IsNextLine text line next × AreFirstLines next lines rest)
 
--- the input begins with these lines. This says nothing if contracts don't know which bytes the input holds
+-- the input begins with these lines. This says nothing if contracts don't know which bytes the
+-- input holds
 abbrev pub BeginsWith : DeviceBytes → List LineView → Type 0
 BeginsWith None lines = ⊤
 BeginsWith (Some text) lines = (rest : List ℕ) × AreFirstLines text lines rest
 
--- the input consists of exactly these lines. This says nothing if contracts don't know which bytes the input holds
+-- the input consists of exactly these lines. This says nothing if contracts don't know which bytes
+-- the input holds
 abbrev pub HasLines : DeviceBytes → List LineView → Type 0
 HasLines None lines = ⊤
 HasLines (Some text) lines = AreLines text lines
 
--- the input has at least 2 ^ 64 - 1 bytes. This says nothing if contracts don't know which bytes the input holds
+-- the input has at least 2 ^ 64 - 1 bytes. This says nothing if contracts don't know which bytes
+-- the input holds
 abbrev pub IsEndless : DeviceBytes → Type 0
 IsEndless None = ⊤
 IsEndless (Some text) = 2 ^ 64 - 1 ≤ length text
@@ -115,8 +118,9 @@ abbrev pub StopsAtEnd : Option Ending → Bool → Bool → Bool → Bool → Ty
 StopsAtEnd result ended ended_now passed passed_now =
     ended ≡ false → (passed_now ≡ passed) × (result ≡ None → ended_now ≡ false)
 
--- writing an answer to the output ended with this result. Either the answer was written, and the result is `next`. Or the output failed after a proper prefix
--- of the answer, and the result is `OutputFailed`
+-- writing an answer to the output ended with this result. Either the answer was written, and the
+-- result is `next`. Or the output failed after a proper prefix of the answer, and the result is
+-- `OutputFailed`
 abbrev pub TellsAnswer : List ℕ → Option Ending → DeviceBytes → DeviceBytes → ℕ → ℕ → Option Ending
     → Type 0
 TellsAnswer told next output output_now failures failures_now result =

@@ -24,8 +24,8 @@ use Rattle.docker_desk.specs.declared.compared.Compared.{Compared}
 use Rattle.docker_desk.specs.declared.compared.Compared.TheVariants as compared
 use Rattle.docker_desk.specs.Replies.{AnswerView, done_with, refused_for, no_request}
 
--- what a desk knows: its state, and whether the desk may have unsaved changes. It may have some if the state may differ from the state that the file was last
--- seen to hold
+-- what a desk knows: its state, and whether the desk may have unsaved changes. The flag is set if
+-- the state may differ from the state that the file was last seen to hold
 pub record DeskView : Type 0 where
   pub state : State
   pub unsaved : Bool
@@ -53,7 +53,8 @@ TellsDocker live place day (done_with text) = IsDockerText live place day text
 TellsDocker live place day (refused_for fault) = fault ≡ office.Memory
 TellsDocker live place day no_request = ⊥
 
--- this is an answer to `permanent`, the request for a docker without the short-term plan. It is refused for the same faults as `print`
+-- this is an answer to `permanent`, the request for a docker without the short-term plan. It is
+-- refused for the same faults as `print`
 abbrev pub IsPermanentAnswer : State → List ℕ → ℕ → AnswerView → Type 0
 IsPermanentAnswer state place day (done_with text) =
     IsDockerText (permanent_table (live_table state)) place day text × (¬ IsDayRefused state.horizon day)
@@ -138,12 +139,14 @@ pub record TakesReading (old new : State) (read : Reading) : Type 0 where
   pub takes : TakesFile most_records read.held old new
   pub end : IsEnd read.left
 
--- taking a file ended with this result. If the file couldn't be opened, there is no reading. A refusal leaves the state unchanged
+-- taking a file ended with this result. If the file couldn't be opened, there is no reading. A
+-- refusal leaves the state unchanged
 abbrev pub EndsTaking : State → State → Result ⊤ OfficeFault → Option Reading → Type 0
 EndsTaking old new (Ok done) read = HasOpened (TakesReading old new) read
 EndsTaking old new (Err fault) read = IsWhyNot RefusesToTake fault read × (new ≡ old)
 
--- receiving the state in a file ended with this result. If the file couldn't be opened, there is no reading. A refusal leaves the state unchanged
+-- receiving the state in a file ended with this result. If the file couldn't be opened, there is no
+-- reading. A refusal leaves the state unchanged
 abbrev pub EndsReceiving : {A : Type 0} → State → State → Result A OfficeFault → Option Reading
     → Type 0
 EndsReceiving old new (Ok done) read =
@@ -171,7 +174,8 @@ IsFound compared.Same state read = IsText read.held (state_text dks_2 state)
 IsFound compared.Other state read = IsOtherText read.held (state_text dks_2 state)
 IsFound compared.Unknown state read = ⊤
 
--- receiving the state in a file, and comparing what the file held with the text of the new state, ended with this result
+-- receiving the state in a file, and comparing what the file held with the text of the new state,
+-- ended with this result
 abbrev pub EndsComparing : State → State → Result Compared OfficeFault → Option Reading → Type 0
 EndsComparing old new (Ok found) read =
     EndsReceiving old new (Ok found) read × HasOpened (IsFound found new) read
@@ -195,12 +199,14 @@ EndsRenewing old new (Err fault) read = IsWhyNot RefusesToReceive fault read × 
 
 -- ---- the unsaved flag and the look
 
--- the unsaved flag after a request that may change the state: set if the request was done, unchanged if it was refused
+-- the unsaved flag after a request that may change the state: set if the request was done,
+-- unchanged if it was refused
 abbrev pub unsaved_by : Result ⊤ OfficeFault → Bool → Bool
 unsaved_by (Ok done) unsaved = true
 unsaved_by (Err fault) unsaved = unsaved
 
--- the number of the look after a request: `look` if the request was done, otherwise the number before
+-- the number of the look after a request: `look` if the request was done, otherwise the number
+-- before
 abbrev pub look_by : {A : Type 0} → Result A OfficeFault → ℕ → ℕ → ℕ
 look_by (Ok done) look before = look
 look_by (Err fault) look before = before

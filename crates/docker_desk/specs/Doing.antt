@@ -21,8 +21,9 @@ abbrev pub answer_of : {A : Type 0} → Result A OfficeFault → AnswerView
 answer_of (Ok done) = done_with []
 answer_of (Err fault) = refused_for fault
 
--- `take` or `merge`, done at the point `before`, has this answer and ends at the point `after`. The named file is opened once, and the bytes that it then held
--- decide the outcome. `Stops` limits how far the file is read, and `Ends` gives the outcome
+-- `take` or `merge`, done at the point `before`, has this answer and ends at the point `after`. The
+-- named file is opened once, and the bytes that it then held decide the outcome. `Stops` limits how
+-- far the file is read, and `Ends` gives the outcome
 pub record Joins (name : Text) (Stops : Reading → Type 0)
     (Ends : State → State → Result ⊤ OfficeFault → Option Reading → Type 0)
     (before : SessionView) (answer : AnswerView) (after : SessionView) : Type 0 where
@@ -33,8 +34,9 @@ pub record Joins (name : Text) (Stops : Reading → Type 0)
   pub unsaved : after.desk.unsaved ≡ unsaved_by result before.desk.unsaved
   pub look : after.look ≡ before.look
 
--- `renew`, done at the point `before`, has this answer and ends at the point `after`. The state's file is looked at and then opened once, and the desk's state
--- is joined with the state that the file then held. If `renew` succeeds, later drafts are made from this look
+-- `renew`, done at the point `before`, has this answer and ends at the point `after`. The state's
+-- file is looked at and then opened once, and the desk's state is joined with the state that the
+-- file then held. If `renew` succeeds, later drafts are made from this look
 pub record Renews (setting : Setting) (before : SessionView) (answer : AnswerView) (after : SessionView)
     : Type 0 where
   pub result : Result Compared OfficeFault
@@ -60,7 +62,8 @@ pub record Saves (setting : Setting) (before : SessionView) (answer : AnswerView
   pub desk : after.desk ≡ desk_by result before.desk
   pub look : after.look ≡ look_by result (length before.history + 2) before.look
 
--- the point after a horizon was set: the state has the later of the two horizons, and the unsaved flag is set
+-- the point after a horizon was set: the state has the later of the two horizons, and the unsaved
+-- flag is set
 abbrev pub with_horizon : ℕ → SessionView → SessionView
 with_horizon day before =
     record before { desk = record { state = raise_horizon day before.desk.state; unsaved = true } }
@@ -109,7 +112,8 @@ pub record IsStep (setting : Setting) (step : Step) : Type 0 where
   pub does : DoesAsked setting step.request step.before step.answer step.after
   pub counted : IsCounted (answer_status step.answer) step.before.failures step.after.failures
 
--- this line, done at the point `before`, has this answer and ends at the point `after`. The folder failed once if the answer has status 4, and otherwise not
+-- this line, done at the point `before`, has this answer and ends at the point `after`. The folder
+-- failed once if the answer has status 4, and otherwise not
 pub record DoesLine (setting : Setting) (line : LineView) (before : SessionView) (answer : AnswerView)
     (after : SessionView) : Type 0 where
   pub request : Option RequestView

@@ -36,7 +36,8 @@ abbrev pub KeepsAs : State → Table → Type 0
 KeepsAs state table = (place : List ℕ) (day : ℕ) (text : List ℕ) → ¬ IsDayRefused state.horizon day
     → IsDockerText (permanent_table (live_table state)) place day text ↔ IsDockerText (permanent_table table) place day text
 
--- `take` opened the named file, which held an extract, and took the extract. The session learned this extract, with no horizon
+-- `take` opened the named file, which held an extract, and took the extract. The session learned
+-- this extract, with no horizon
 pub record HearsFile (name : Text) (before after : SessionView) (heard : Known) : Type 0 where
   pub read : Reading
   pub asked : after.history ≡ before.history ++ events_of name read
@@ -75,7 +76,8 @@ Hears setting (horizon_request day) before after heard =
     heard ≡ record { files = []; horizon = day }
 Hears setting save_request before after heard = heard ≡ nothing
 
--- if `old` was known before a line, `new` is known after it. If the line has a request that was done, `new` also has what the request added
+-- if `old` was known before a line, `new` is known after it. If the line has a request that was
+-- done, `new` also has what the request added
 abbrev pub Learns : Setting → Option RequestView → SessionView → AnswerView → SessionView
     → Known → Known → Type 0
 Learns setting (Some request) before (done_with text) after old new =
@@ -116,7 +118,8 @@ ReceivesKnown setting (merge_request other) before after =
 ReceivesKnown setting (horizon_request day) before after = ⊤
 ReceivesKnown setting save_request before after = ⊤
 
--- if the line's request was done and is `merge` or `renew`, the file held the text of the summary of some knowledge
+-- if the line's request was done and is `merge` or `renew`, the file held the text of the summary
+-- of some knowledge
 abbrev pub HearsKnown : Setting → Option RequestView → SessionView → AnswerView → SessionView → Type 0
 HearsKnown setting (Some request) before (done_with text) after =
     ReceivesKnown setting request before after
@@ -124,7 +127,8 @@ HearsKnown setting (Some request) before (refused_for fault) after = ⊤
 HearsKnown setting (Some request) before no_request after = ⊤
 HearsKnown setting None before answer after = ⊤
 
--- in each of these steps, every file that was merged or renewed held the text of the summary of some knowledge
+-- in each of these steps, every file that was merged or renewed held the text of the summary of
+-- some knowledge
 abbrev pub AllHearKnown : Setting → List Step → Type 0
 AllHearKnown setting [] = ⊤
 AllHearKnown setting (step ∷ steps) =
@@ -138,7 +142,8 @@ pub record PlacesKnown (setting : Setting) (before after : SessionView) (known :
   pub asked : after.history ≡ before.history ++ drafted setting.name before.look
       ∷ placed setting.name (named_if setting.names_bytes text) ∷ looked setting.name ∷ []
 
--- the named file was opened and held the text of an extract. The state gained this extract and nothing else
+-- the named file was opened and held the text of an extract. The state gained this extract and
+-- nothing else
 pub record GainsFile (name : Text) (before after : SessionView) (gains : List Gain) : Type 0 where
   pub read : Reading
   pub asked : after.history ≡ before.history ++ events_of name read

@@ -78,7 +78,8 @@ pub record ReadsMany (least : ℕ) (old new : Option (List ℕ)) : Type 0 where
   pub many : least ≤ length lost
   pub read : Reads old lost new
 
--- reading a line ended with this result: the line, or a source that failed, or a line of at least 2 ^ 64 - 1 bytes
+-- reading a line ended with this result: the line, or a source that failed, or a line of at least 2
+-- ^ 64 - 1 bytes
 abbrev pub EndsLine : Option (List ℕ) → Result Asked InputFault → Option (List ℕ) → Type 0
 EndsLine old (Ok asked) new = ReadsAsked old (asked_meant asked) new
 EndsLine old (Err Failed) new = ReadsMany 0 old new
@@ -120,7 +121,8 @@ pub record SkipsTo (text : List ℕ) (left : Option (List ℕ)) : Type 0 where
   pub one : IsWithoutFeed skipped
   pub behind : left ≡ Some rest
 
--- the rest of a line and its line feed were read. This says nothing if contracts don't know which bytes the source held
+-- the rest of a line and its line feed were read. This says nothing if contracts don't know which
+-- bytes the source held
 abbrev pub SkipsLine : Option (List ℕ) → Option (List ℕ) → Type 0
 SkipsLine None new = ⊤
 SkipsLine (Some text) new = SkipsTo text new

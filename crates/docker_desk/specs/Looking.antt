@@ -2,7 +2,8 @@
 use Rattle.std.specs.Prelude.{◌≡◌, ℕ, ◌+◌, List, ◌∷◌, ◌++◌, length, ◌⊎◌}
 use Rattle.docker_host.specs.History.{Bytes, Event, Text, closed, looked, opened, placed}
 
--- the event with this number is a look at the named file, and the next two events are the opening and the closing of that file
+-- the event with this number is a look at the named file, and the next two events are the opening
+-- and the closing of that file
 pub record IsBeforeOpening (name : Text) (history : List Event) (look : ℕ) : Type 0 where
   pub earlier : List Event
   pub held : Bytes

@@ -17,7 +17,8 @@ reading held left = record { held = held; left = left }
 abbrev pub events_of : Text → Reading → List Event
 events_of name read = opened name read.held ∷ closed read.left ∷ []
 
--- the events of opening the named file: its opening and its closing, or only the failed opening if the file couldn't be opened
+-- the events of opening the named file: its opening and its closing, or only the failed opening if
+-- the file couldn't be opened
 abbrev pub opening_of : Text → Option Reading → List Event
 opening_of name (Some read) = events_of name read
 opening_of name None = unopened name ∷ []
@@ -40,7 +41,7 @@ pub record OpensOnce (name : Text) (Stops : Reading → Type 0) (Ends : Option R
   pub stops : IfSome read Stops
   pub ends : Ends read
 
--- the named file was looked at. Then it was opened once, read no further than the answer needs, and
+-- the named file was looked at. Then it was opened once, read no further than the result needs, and
 -- closed, and `Ends` holds for the reading. Or it couldn't be opened, and `Ends` holds for `None`.
 -- The folder's history has no other new events
 pub record LooksAndOpens (name : Text) (Ends : Option Reading → Type 0) (old new : List Event)

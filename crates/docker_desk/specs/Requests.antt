@@ -128,7 +128,8 @@ pub record NamesTrain (word : Text) (uid : List ℕ) : Type 0 where
   pub six : IsTextOfLength 6 word
   pub same : uid ≡ word
 
--- the text names this file: it is the file's name, isn't empty, doesn't begin with a hyphen, and isn't `stdin`
+-- the text names this file: it is the file's name, isn't empty, doesn't begin with a hyphen, and
+-- isn't `stdin`
 pub record NamesFile (text : List ℕ) (file : Text) : Type 0 where
   pub same : file ≡ text
   pub plain : IsTrue (is_plain_word text)

@@ -20,7 +20,8 @@ use Rattle.docker_desk.specs.Answering.{AnswersLines, CountsStreams}
 
 -- ---- words
 
--- the words of a session: the name of the state's file, with `--write` before it if the desk may write
+-- the words of a session: the name of the state's file, with `--write` before it if the desk may
+-- write
 abbrev pub session_words : Text → Bool → List Text
 session_words name false = name ∷ []
 session_words name true = codes "--write" ∷ name ∷ []
@@ -47,7 +48,7 @@ EndsOpening desk_in (Ok made) read =
 EndsOpening desk_in (Err fault) read = IsWhyNot RefusesToReceive fault read
 
 -- this is the first point of a session. The state's file was looked at, opened, read no further
--- than the answer needs, and closed. The desk has the state that the file held. The next draft is
+-- than the result needs, and closed. The desk has the state that the file held. The next draft is
 -- made from this look
 pub record BeginsAt (name : Text) (old : List Event) (first : SessionView) : Type 0 where
   pub held : Bytes
@@ -123,8 +124,9 @@ pub record IsRefusedStart (words : List Text) (old new : HostView) (status : ℕ
   pub status_is : status ≡ status_of (Office fault)
   pub tells : TellsText (fault_line (Office fault)) (faults_of old) (faults_of new)
 
--- the session started, the lines of the input were answered, and then the session ended. Unsaved changes count only if the desk may write. If the input hadn't
--- reported its end at the start, it wasn't read past its end
+-- the session started, the lines of the input were answered, and then the session ended. Unsaved
+-- changes count only if the desk may write. If the input hadn't reported its end at the start, it
+-- wasn't read past its end
 pub record IsServed (words : List Text) (names_bytes : Bool) (old new : HostView) (status : ℕ)
     : Type 0 where
   pub name : Text

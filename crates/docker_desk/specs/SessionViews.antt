@@ -6,8 +6,8 @@ use Rattle.docker_desk.specs.Requests.{RequestView}
 use Rattle.docker_desk.specs.Desk.{DeskView}
 use Rattle.docker_desk.specs.Replies.{AnswerView}
 
--- what doesn't change in a session: the name of the state's file, whether the desk may write, and whether contracts know which bytes the folder's drafts have
--- taken
+-- what doesn't change in a session: the name of the state's file, whether the desk may write, and
+-- whether contracts know which bytes the folder's drafts have taken
 pub record Setting : Type 0 where
   pub name : Text
   pub may_write : Bool

@@ -81,8 +81,8 @@ impl Desk {
         }
     }
 
-    /// The docker of a timing point on a day without the short-term plan, as a whole text. Refused as
-    /// `print` is.
+    /// The docker of a timing point on a day without the short-term plan, as a whole text. Refused
+    /// as `print` is.
     pub fn permanent(&self, place: &Tiploc, day: Day) -> Answer
         ensures { IsPermanentAnswer self.now.state place.now day (answer_meant result) }
     {
@@ -236,8 +236,8 @@ impl Desk {
 
     /// Stores the text of the desk's state in the named file, by a draft from what was seen of that
     /// file. If that is done, looks at the file again, and `seen` is what this look saw. A refusal
-    /// leaves the desk and `seen` as they were: `Sink` if the draft can't be made, written or put in
-    /// the file's place, or `Memory` if there is no memory to make it.
+    /// leaves the desk and `seen` as they were: `Sink` if the draft can't be made, written or put
+    /// in the file's place, or `Memory` if there is no memory to make it.
     pub fn save<D: Folder>(
         &mut self,
         name: &str,

@@ -28,7 +28,7 @@ kept_still places events event kept still met = record {
       ∙ sym (ap (λ (texts : Texts). texts name) (after_events-append no_texts events event ∙ still (after_events no_texts events)));
 }
 
--- putting a text in a file, and appending the event of that, preserves the invariant
+-- writing a text to a file, and appending the event `placed`, preserves the invariant
 pub kept_placed : (place : Place) (places : List Place) (events : List Event) (name text : Text) → IsKept places events
     → string_bytes place.name ≡ name → place.text.items ≡ text
     → IsKept (place ∷ places) (events ++ placed name (Some text) ∷ [])
@@ -45,7 +45,7 @@ kept_placed place places events name text kept named held = record {
         → with_text name text texts other ≡ with_text name text texts' other
     with_same name text other texts texts' same = rw same refl
 
--- opening a file, and appending the event of that, preserves the invariant
+-- opening a file, and appending the event `opened`, preserves the invariant
 pub kept_opened : (places : List Place) (events : List Event) (name text : Text) → IsKept places events
     → text_under events name ≡ Some text → IsKept places (events ++ opened name (Some text) ∷ [])
 kept_opened places events name text kept found =

@@ -26,7 +26,7 @@ Texts = Text → Option Text
 abbrev pub no_texts : Texts
 no_texts name = None
 
--- these files after this text was put in the named file
+-- these files after this text was written to the named file
 abbrev pub with_text : Text → Text → Texts → Texts
 with_text name text texts other = if bytes_eq name other then Some text else texts other
 

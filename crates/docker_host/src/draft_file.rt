@@ -142,7 +142,7 @@ fn open_in_folder_of(
     Ok((file, Some(place)))
 }
 
-/// Whether a pipe or a device was seen under the name, and is still there.
+/// Whether a pipe or a device was seen, and is still the file under the name.
 fn is_still_pipe(seen: Option<Version>, there: &Version) -> bool {
     match seen {
         Some(seen) => seen.is_same_pipe(there),

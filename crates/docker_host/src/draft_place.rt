@@ -114,7 +114,8 @@ fn remove_left_over(rt: &HostRuntime, name: &str) {
 }
 
 /// Whether a file that this command has locked is a marked draft, and is still the file under this
-/// name. It may no longer be, if the command that made the draft has meanwhile ended.
+/// name. If the command that made the draft has ended meanwhile, the file may have lost its mark or
+/// its name.
 fn is_left_over(rt: &HostRuntime, left: &File, name: &str) -> bool {
     let Ok(held) = left.metadata() else {
         return false;

@@ -118,7 +118,7 @@ impl Shelf {
         self.fails = fails;
     }
 
-    /// Puts a text in the named file, as another program would. If memory runs out, the shelf is
+    /// Writes a text to the named file, as another program would. If memory runs out, the shelf is
     /// unchanged.
     pub fn put(&mut self, name: &str, text: &[u8]) -> Result<(), Memory>
         ensures placed { OnOk result

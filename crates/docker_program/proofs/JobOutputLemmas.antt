@@ -61,7 +61,7 @@ pub ends_wanting : (by : Drafting) (written : Written) (prepared : PreparedView)
 ends_wanting by written prepared name is none kept =
     (subst (λ (stored : Option Text). WantsToWriteTo stored by written prepared) (sym is) none, kept)
 
--- if the draft failed and was given up, the writing ends with the draft's fault
+-- if the draft failed and was discarded, the writing ends with the draft's fault
 pub ends_dropped : (by : Drafting) (written : Written) (prepared : PreparedView) (name : Text) (fault : OfficeFault) → stored_by prepared.job ≡ Some name
     → fault ≡ office.Sink → IsDropped name by.look written.before written.now → written.output_now ≡ written.output
     → EndsWriting by written prepared (Err fault)
@@ -82,7 +82,7 @@ holds_gained : (names_bytes : Bool) (empty taken : Bytes) (text : List ℕ) → 
 holds_gained true empty taken text none gained = subst (λ (b : Bytes). Takes b text taken) none gained
 holds_gained false empty taken text none gained = subst (λ (b : Bytes). Takes b text taken) none gained
 
--- if the complete draft took its file's place, the writing succeeded
+-- if the complete draft replaced its file, the writing succeeded
 pub ends_stored : (by : Drafting) (written : Written) (prepared : PreparedView) (name : Text) (middle : List Event) (empty taken : Bytes)
     → stored_by prepared.job ≡ Some name → empty ≡ named_if by.names_bytes [] → GainsOutput prepared empty taken
     → middle ≡ written.before ++ drafted name by.look ∷ [] → written.now ≡ middle ++ placed name taken ∷ []
@@ -99,7 +99,7 @@ ends_stored by written prepared name middle empty taken is none gains made put k
       kept,
     )
 
--- if the complete draft may not have taken its file's place, `WritesPart` holds
+-- if replacing the file by the complete draft failed, `WritesPart` holds
 pub ends_unplaced : (by : Drafting) (written : Written) (prepared : PreparedView) (name : Text) (middle : List Event) (empty taken : Bytes)
     → stored_by prepared.job ≡ Some name → empty ≡ named_if by.names_bytes [] → GainsOutput prepared empty taken
     → middle ≡ written.before ++ drafted name by.look ∷ [] → written.now ≡ middle ++ unplaced name taken ∷ []
@@ -116,7 +116,7 @@ ends_unplaced by written prepared name middle empty taken is none gains made put
       kept,
     )
 
--- making a draft and then giving it up adds these two events to the history
+-- making a draft and then discarding it adds these two events to the history
 pub then_dropped : (before middle now : List Event) (name : Text) (look : ℕ) → middle ≡ before ++ drafted name look ∷ []
     → now ≡ middle ++ dropped name ∷ [] → now ≡ before ++ drafted name look ∷ dropped name ∷ []
 then_dropped before middle now name look made given_up =

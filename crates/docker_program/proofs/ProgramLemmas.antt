@@ -159,17 +159,17 @@ performs_telling words names_bytes old shown new faults failures fault status sa
       (subst (λ (host : HostView). IsCounted (status_of fault) (failures_of old) (failures_of host)) (sym same) counted);
 }
 
--- words that ask for a job name a job
+-- if there are words and `IsAsked` holds, the words name a job
 names_one : (words : List Text) (input : Bytes) (Holds : JobView → Bytes → Type 0) → words ≢ [] → IsAsked words input Holds → ¬ NameNoJob words
 names_one [] input Holds some asked = absurd (some refl)
 names_one (word ∷ words) input Holds some asked = λ none. none asked.job asked.asks.0
 
--- words that ask for no job name no job
+-- if there are words and `AskForNone` holds, the words name no job
 names_none : (words : List Text) (input : Bytes) → words ≢ [] → AskForNone words input → NameNoJob words
 names_none [] input some none = absurd (some refl)
 names_none (word ∷ words) input some none = none
 
--- words that ask for some job name a job
+-- if there are words and `AskForSome` holds, the words name a job
 names_some : (words : List Text) (input : Bytes) → words ≢ [] → AskForSome words input → ¬ NameNoJob words
 names_some [] input some one = absurd (some refl)
 names_some (word ∷ words) input some one = one

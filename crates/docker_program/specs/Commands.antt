@@ -30,7 +30,8 @@ abbrev pub history_read : List Event → JobView → SourcesRead → List Event
 history_read before job read =
     with_files_read (names_of job) read (with_look_at (stored_by job) before)
 
--- a run of a command: its words, and its devices before and after. `names_bytes` says whether contracts know which bytes the folder's drafts have taken
+-- a run of a command: its words, and its devices before and after. `names_bytes` says whether
+-- contracts know which bytes the folder's drafts have taken
 pub record Run : Type 0 where
   pub words : List Text
   pub names_bytes : Bool
@@ -129,8 +130,8 @@ abbrev pub HoldsKnown : Format → Bytes → Known → Type 0
 HoldsKnown format bytes known =
     (text : List ℕ) × (bytes ≡ Some text) × IsKnownText format known text
 
--- a command has this knowledge, given what its sources held. It knows the files and the horizons of the states that it read, the file that it took or printed,
--- and the horizon that it set
+-- a command has this knowledge, given what its sources held. It knows the files and the horizons of
+-- the states that it read, the file that it took or printed, and the horizon that it set
 abbrev pub Knows : TaskView → Bytes → Bytes → Known → Type 0
 Knows new_task first second known = known ≡ nothing
 Knows check_task first second known = ⊥
@@ -155,7 +156,8 @@ pub record PrintsKnown (known : Known) (place : List ℕ) (day : ℕ) (text : Li
   pub is : IsStateOf known state
   pub docker : IsDockerText (live_table state) place day text
 
--- a command with this knowledge may write this text: the text of the summary of what it knows, a docker of that summary, or the list of the known files
+-- a command with this knowledge may write this text: the text of the summary of what it knows, a
+-- docker of that summary, or the list of the known files
 abbrev pub WritesKnown : TaskView → Known → List ℕ → Type 0
 WritesKnown new_task known text = IsKnownText dks_2 known text
 WritesKnown check_task known text = ⊤
@@ -187,7 +189,8 @@ pub record Version : Type 0 where
   pub text : List ℕ
   pub origin : Origin
 
--- a command with this task stored this text, or may have stored it, and the bytes that its sources held have this property
+-- a command with this task stored this text, or may have stored it, and the bytes that its sources
+-- held have this property
 pub record ByCommand (task : TaskView) (Held : Bytes → Bytes → Type 0) (text : List ℕ)
     : Type 0 where
   pub run : Run

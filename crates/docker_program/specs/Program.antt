@@ -32,7 +32,8 @@ abbrev pub AskForSome : List Text → Bytes → Type 0
 AskForSome [] input = HasJob input
 AskForSome (word ∷ words) input = ¬ NameNoJob (word ∷ words)
 
--- if there are words, the search for a job read nothing from standard input; otherwise it read at most 256 bytes
+-- if there are words, the search for a job read nothing from standard input; otherwise it read at
+-- most 256 bytes
 abbrev pub AsksAtMost : List Text → Bytes → Bytes → Type 0
 AsksAtMost [] input rest = ReadsAtMost 256 input rest
 AsksAtMost (word ∷ words) input rest = rest ≡ input
@@ -84,7 +85,8 @@ pub record HasRead (old new : HostView) (Holds : Written → PreparedView → Ty
   pub is : IsPrepared (reading old new job rest read) job prepared
   pub holds : Holds (writing old new read) prepared
 
--- the job couldn't read its sources: a file couldn't be opened, or a device failed while it was read
+-- the job couldn't read its sources: a file couldn't be opened, or a device failed while it was
+-- read
 abbrev pub FailsToRead : Asking → JobView → Type 0
 FailsToRead asked job = IsNotOpened asked job ⊎ IsOpened asked job
 
@@ -132,7 +134,8 @@ abbrev pub ending_status : Option Fault → ℕ
 ending_status None = 0
 ending_status (Some fault) = status_of fault
 
--- without a fault, the sink of faults gained nothing. Otherwise it gained the line that reports the fault, or a proper prefix of this line if the sink failed
+-- without a fault, the sink of faults gained nothing. Otherwise it gained the line that reports the
+-- fault, or a proper prefix of this line if the sink failed
 abbrev pub Tells : Option Fault → (old new : FaultsView) → Type 0
 Tells None old new = (new.taken ≡ old.taken) × (new.failures ≡ old.failures)
 Tells (Some fault) old new = TellsText (fault_line fault) old new

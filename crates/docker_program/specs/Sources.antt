@@ -121,7 +121,8 @@ ReadsNamed asked job (Err office.Memory) = IsNotOpened asked job ⊎ WantsForSou
 ReadsNamed asked job (Err office.Lapsed) = ⊥
 ReadsNamed asked job (Err office.Sink) = ⊥
 
--- a file among these sources couldn't be opened, nothing was read, and the result is the fault of the opening
+-- a file among these sources couldn't be opened, nothing was read, and the result is the fault of
+-- the opening
 pub record AreNotOpened (names : SourceNames) (asked : Asking)
     (result : Result PreparedView OfficeFault) : Type 0 where
   pub cause : OpenFault
@@ -129,7 +130,8 @@ pub record AreNotOpened (names : SourceNames) (asked : Asking)
   pub fails : FailsToOpen names asked.before asked.now
   pub unread : asked.left ≡ asked.rest
 
--- the files among these sources were opened, and closed after the sources of the job were read with this result
+-- the files among these sources were opened, and closed after the sources of the job were read with
+-- this result
 pub record AreRead (names : SourceNames) (asked : Asking) (job : JobView)
     (result : Result PreparedView OfficeFault) : Type 0 where
   pub read : SourcesRead
@@ -137,7 +139,7 @@ pub record AreRead (names : SourceNames) (asked : Asking) (job : JobView)
   pub others : AreOthers names read asked.rest asked.left
   pub reads : ReadsInOrder job read.first read.first_left read.second read.second_left result
 
--- opening and reading these sources ended with this result. Either a file couldn't be opened; or all files were opened, and were closed after the sources were
--- read
+-- opening and reading these sources ended with this result. Either a file couldn't be opened; or
+-- all files were opened, and were closed after the sources were read
 abbrev pub ReadsBy : SourceNames → Asking → JobView → Result PreparedView OfficeFault → Type 0
 ReadsBy names asked job result = AreNotOpened names asked result ⊎ AreRead names asked job result

@@ -22,8 +22,9 @@ abbrev pub written : (output output_now : Bytes) (before now : List Event) → W
 written output output_now before now =
     record { output = output; output_now = output_now; before = before; now = now }
 
--- how a file is replaced. `look` is the number of the look from which the draft is made, counted from 0 among the events. `names_bytes` says whether contracts
--- know which bytes the folder's drafts have taken
+-- how a file is replaced. `look` is the number of the look from which the draft is made, counted
+-- from 0 among the events. `names_bytes` says whether contracts know which bytes the folder's
+-- drafts have taken
 pub record Drafting : Type 0 where
   pub look : ℕ
   pub names_bytes : Bool
@@ -63,7 +64,7 @@ WritesTo (Some name) by written prepared =
 
 -- the job's output wasn't written whole, because a device failed. If the job prints, the output
 -- device gained a proper prefix of the output. If the job writes a file, no draft was made, or the
--- draft was given up, or replacing the file by the draft failed. Nothing else changed
+-- draft was discarded, or replacing the file by the draft failed. Nothing else changed
 abbrev pub WritesPartTo : Option Text → Drafting → Written → PreparedView → Type 0
 WritesPartTo None by written prepared =
     GainsPart prepared written.output written.output_now × (written.now ≡ written.before)
@@ -72,8 +73,8 @@ WritesPartTo (Some name) by written prepared =
     ⊎ IsDropped name by.look written.before written.now
     ⊎ MayStoreOutput by written prepared name) × (written.output_now ≡ written.output)
 
--- memory ran out before anything was written. If the job prints, there was no memory for the docker. If the job writes a file, there was no memory for a draft,
--- and no draft was made
+-- memory ran out before anything was written. If the job prints, there was no memory for the
+-- docker. If the job writes a file, there was no memory for a draft, and no draft was made
 abbrev pub WantsToWriteTo : Option Text → Drafting → Written → PreparedView → Type 0
 WantsToWriteTo None by written prepared = PrintsDocker prepared × (written.now ≡ written.before)
 WantsToWriteTo (Some name) by written prepared =
@@ -92,7 +93,8 @@ WritesPart by written prepared = WritesPartTo (stored_by prepared.job) by writte
 abbrev pub WantsToWrite : Drafting → Written → PreparedView → Type 0
 WantsToWrite by written prepared = WantsToWriteTo (stored_by prepared.job) by written prepared
 
--- the job would print a docker of a day that the horizon refuses, and the folder's history is unchanged
+-- the job would print a docker of a day that the horizon refuses, and the folder's history is
+-- unchanged
 abbrev pub RefusesDay : Written → PreparedView → Type 0
 RefusesDay written prepared = IsRefused prepared × (written.now ≡ written.before)
 

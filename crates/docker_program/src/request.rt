@@ -1,4 +1,4 @@
-//! Finds the job that the program is asked to do.
+//! Finds the job that the words, or the first line of standard input, name.
 ghost use Rattle.std.specs.Prelude.{◌≡◌, ◌-◌, ◌^◌, ◌<◌, [], IfOk, Err};
 ghost use Rattle.cif_device.specs.Device.{CountsFailure};
 ghost use Rattle.docker_cmd.specs.Words.{texts};

@@ -88,7 +88,7 @@ fn changed(rt: &impl Abort, alloc: Global, text: &[u8], at: usize, bytes: &[u8])
 }
 
 /// A change to a text, and the fault that it causes. The columns are an offset in the text, the
-/// bytes that replace the text's bytes there, and the offset and the cause of the fault.
+/// bytes that replace the text's bytes at this offset, and the offset and the cause of the fault.
 type Change = (usize, &'static [u8], u64, StateCause);
 
 /// Changes to the text of one file's state. The first four replace bytes of its mark, of its
