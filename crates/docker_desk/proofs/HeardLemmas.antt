@@ -19,7 +19,7 @@ use Rattle.docker_desk.specs.Learning.{AllHearKnown, AreLearned, Hears, HearsFil
 use Rattle.docker_desk.specs.Learning.{HoldsKnown, IsKnown, Learns, PlacesKnown, ReceivesKnown, renewing}
 use Rattle.docker_desk.proofs.KnownLemmas.{known_read}
 
--- ---- the bytes of an event
+-- ---- events determine bytes
 
 -- if a history with one addition equals the same history with another addition, the two additions
 -- are equal
@@ -38,7 +38,7 @@ pub held_after_look : (name : Text) (old new : List Event) (first second : Readi
 held_after_look name old new first second one two =
     let same = one_more old (looked name ∷ events_of name first) (looked name ∷ events_of name second) (sym one ∙ two) in cc
 
--- ---- a state
+-- ---- a state is received or saved
 
 module _ (before after : SessionView) (known : Known) where
   -- if a file held the text of a summary and its state was received, the session learns that

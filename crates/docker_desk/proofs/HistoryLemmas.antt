@@ -21,7 +21,8 @@ pub draft_took : (names_bytes : Bool) (text : List ℕ) (before after : Bytes) �
 draft_took true text before after empty takes = rw empty at takes
 draft_took false text before after empty takes = rw empty at takes
 
--- making a draft and then failing to replace the file by it adds these two events to the history
+-- making a draft, and then failing to replace the file by it, adds the events `drafted` and
+-- `unplaced` to the history
 pub then_unplaced : (name made_for : Text) (look : ℕ) (old middle new : List Event) (took bytes : Bytes)
     → middle ≡ old ++ drafted name look ∷ [] → new ≡ middle ++ unplaced made_for took ∷ [] → made_for ≡ name → took ≡ bytes
     → new ≡ old ++ drafted name look ∷ unplaced name bytes ∷ []
@@ -43,7 +44,7 @@ opens_as name Stops Ends own now old new result before after is same opens = rec
       subst (λ (state : State). Ends state new result opens.read) is (subst (λ (state : State). Ends own state result opens.read) same opens.ends);
 }
 
--- opening a file and closing it adds these two events to the history
+-- opening a file and closing it adds the events `opened` and `closed` to the history
 pub then_closed : (name : Text) (held left : Bytes) (old opened_now new : List Event) → opened_now ≡ old ++ opened name held ∷ []
     → new ≡ opened_now ++ closed left ∷ [] → new ≡ old ++ events_of name (record { held = held; left = left })
 then_closed name held left old opened_now new opens closes = then old opened_now new (opened name held ∷ []) (closed left ∷ []) opens closes

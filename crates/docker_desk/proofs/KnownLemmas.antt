@@ -62,7 +62,8 @@ known_raised old heard day state is_day heard_is known =
           (raised_summary old.files old.horizon day state known.is);
     })
 
--- the summary of one file is the summary of the knowledge of that file
+-- if a state is the summary of one file without a horizon, `IsKnown` holds for this file and no
+-- horizon
 known_file : (file : List (List ℕ)) (state : State) → IsFile file → length file ≤ most_records → IsSummary (file ∷ []) 0 state
     → IsKnown (record { files = file ∷ []; horizon = 0 }) state
 known_file file state is few summary = record {

@@ -1,4 +1,4 @@
--- The look from which a session makes its next draft is good at every point of the session.
+-- At every point of a session, the look from which the next draft is made is good (`IsGoodLook`).
 use Rattle.std.proofs.Common.{◌≡◌, ℕ, ◌+◌, List, [], ◌∷◌, ◌++◌, length, sym, ◌∙◌, ap, subst, arith, append_assoc, length-append, Some, None, Ok, Err, inl, inr}
 use Rattle.std.specs.Prelude.{Option, Result, ⊤, Bool}
 use Rattle.docker_cmd.specs.OfficeFault.{OfficeFault}

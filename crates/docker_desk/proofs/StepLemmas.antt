@@ -204,7 +204,7 @@ module _ (setting : Setting) where
       → IsStep setting (step_of line before answer after does)
   is_step line before answer after does = record { asks = does.asks; does = does.does; counted = does.counted }
 
-  -- a line that is answered is one step
+  -- an answered line is a list of one step
   pub one_step : (line : LineView) (before : SessionView) (answer : AnswerView) (after : SessionView) → (does : DoesLine setting line before answer after)
       → AreSteps setting before (step_of line before answer after does ∷ []) after
   one_step line before answer after does = (refl, (is_step line before answer after does, refl))

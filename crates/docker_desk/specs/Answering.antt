@@ -56,9 +56,9 @@ pub record BreaksOff (steps : List Step)
   pub told : Takes output (answers_text earlier) between
   pub part : TakesPart between (answer_bytes last.answer) output_now
 
--- which lines were answered and what the output gained in a session that ended in this way. If the
--- input ended, every line of the input was answered; otherwise the input begins with the lines that
--- were answered
+-- these steps were done in a session that ended in this way. If the input ended, their lines are
+-- all lines of the input; otherwise the input begins with their lines. The output gained their
+-- answers; if it failed, it gained only a proper prefix of the last answer
 abbrev pub EndsSession : Ending → DeviceBytes → List Step → DeviceBytes
     → DeviceBytes → Type 0
 EndsSession Ended input steps output output_now =
@@ -79,7 +79,7 @@ pub record AnswersLines (setting : Setting) (before after : SessionView)
   pub are : AreSteps setting before steps after
   pub ends : EndsSession ending input steps output output_now
 
--- how the failure counts of input and output changed in a session that ended in this way
+-- the failure counts of input and output changed as they do in a session that ends in this way
 abbrev pub CountsStreams : Ending → ℕ → ℕ → ℕ → ℕ → Type 0
 CountsStreams Ended input input_now output output_now = (input_now ≡ input) × (output_now ≡ output)
 CountsStreams InputFailed input input_now output output_now =
@@ -106,7 +106,8 @@ ServesNext setting before after input input_now output output_now None =
 ServesNext setting before after input input_now output output_now (Some ending) =
     AnswersLines setting before after input output output_now ending
 
--- how the failure counts of input and output changed while one line was answered, with this outcome
+-- the failure counts of input and output changed as they do when one line is answered with this
+-- outcome
 abbrev pub CountsNext : Option Ending → ℕ → ℕ → ℕ → ℕ → Type 0
 CountsNext None input input_now output output_now = (input_now ≡ input) × (output_now ≡ output)
 CountsNext (Some ending) input input_now output output_now =

@@ -109,7 +109,7 @@ IsWhyUnopened office.Lapsed = ⊥
 IsWhyUnopened office.Sink = ⊥
 
 -- this is the fault for which a file isn't taken: its text is refused, its device failed, or memory
--- ran out. If memory ran out, no record read before is at fault
+-- ran out. If memory ran out, no record that was read before has a fault
 abbrev pub RefusesToTake : Reading → OfficeFault → Type 0
 RefusesToTake read (office.File fault) = RefusesText most_records read.held fault
 RefusesToTake read office.Source = ⊤
@@ -119,7 +119,7 @@ RefusesToTake read office.Lapsed = ⊥
 RefusesToTake read office.Sink = ⊥
 
 -- this is the fault for which no state is received from a file: its text is refused, its device
--- failed, or memory ran out. If memory ran out, no part read before is bad
+-- failed, or memory ran out. If memory ran out, no part that was read before has a fault
 abbrev pub RefusesToReceive : Reading → OfficeFault → Type 0
 RefusesToReceive read (office.State fault) = RefusesState dks_2 most_bytes read.held fault
 RefusesToReceive read office.Source = ⊤

@@ -16,14 +16,15 @@ use Rattle.docker_desk.specs.declared.compared.Compared.{Compared}
 use Rattle.docker_desk.specs.Replies.{AnswerView, done_with, no_request, refused_for, answer_status}
 use Rattle.docker_desk.specs.SessionViews.{SessionView, Setting, Step}
 
--- the answer to a request without a text, given its result: done, or refused for a fault
+-- the answer to a request whose answer has no text, given the request's result: done, or refused
+-- for a fault
 abbrev pub answer_of : {A : Type 0} → Result A OfficeFault → AnswerView
 answer_of (Ok done) = done_with []
 answer_of (Err fault) = refused_for fault
 
 -- `take` or `merge`, done at the point `before`, has this answer and ends at the point `after`. The
--- named file is opened once, and the bytes that it then held decide the outcome. `Stops` limits how
--- far the file is read, and `Ends` gives the outcome
+-- named file is opened once, and the bytes that it held at that moment determine the outcome.
+-- `Stops` limits how far the file is read, and `Ends` gives the outcome
 pub record Joins (name : Text) (Stops : Reading → Type 0)
     (Ends : State → State → Result ⊤ OfficeFault → Option Reading → Type 0)
     (before : SessionView) (answer : AnswerView) (after : SessionView) : Type 0 where
@@ -104,16 +105,16 @@ DoesAsked setting (Some request) before answer after =
     DoesRequest setting request before answer after
 DoesAsked setting None before answer after = (answer ≡ no_request) × (after ≡ before)
 
--- this step is one that a session can do. Its line has its request, and doing the request at the
--- step's first point gives its answer and its second point. The folder failed once in the step if
--- the answer has status 4, and otherwise not
+-- this step is one that a session can do. The step's line has the step's request. The request, done
+-- at the step's first point, has the step's answer and ends at the step's second point. The folder
+-- failed once in the step if the answer has status 4, and otherwise didn't fail
 pub record IsStep (setting : Setting) (step : Step) : Type 0 where
   pub asks : AsksOf setting.may_write step.line step.request
   pub does : DoesAsked setting step.request step.before step.answer step.after
   pub counted : IsCounted (answer_status step.answer) step.before.failures step.after.failures
 
 -- this line, done at the point `before`, has this answer and ends at the point `after`. The folder
--- failed once if the answer has status 4, and otherwise not
+-- failed once if the answer has status 4, and otherwise didn't fail
 pub record DoesLine (setting : Setting) (line : LineView) (before : SessionView) (answer : AnswerView)
     (after : SessionView) : Type 0 where
   pub request : Option RequestView

@@ -96,7 +96,8 @@ known_raised old day state is_day known = record {
       (raised_summary old.files old.horizon day state known.is);
 }
 
--- the summary of one file is the summary of the knowledge of that file
+-- if a state is the summary of one file without a horizon, `IsKnown` holds for this file and no
+-- horizon
 pub known_file : (file : List (List ℕ)) (state : State) → IsFile file → length file ≤ most_records → IsSummary (file ∷ []) 0 state
     → IsKnown (of_file file) state
 known_file file state is few summary = record {
@@ -107,7 +108,7 @@ known_file file state is few summary = record {
   is = summary;
 }
 
--- the state of no files is the summary of no knowledge
+-- for no knowledge and the state of no files, `IsKnown` holds
 pub known_nothing : IsKnown nothing no_state
 known_nothing = record {
   good = nothing_good dks_2;

@@ -116,7 +116,7 @@ ends_unplaced by written prepared name middle empty taken is none gains made put
       kept,
     )
 
--- making a draft and then discarding it adds these two events to the history
+-- making a draft and then discarding it adds the events `drafted` and `dropped` to the history
 pub then_dropped : (before middle now : List Event) (name : Text) (look : ℕ) → middle ≡ before ++ drafted name look ∷ []
     → now ≡ middle ++ dropped name ∷ [] → now ≡ before ++ drafted name look ∷ dropped name ∷ []
 then_dropped before middle now name look made given_up =

@@ -179,7 +179,7 @@ names_some (word ∷ words) input some one = one
 other_status : (words : List Text) (status : ℕ) → status ≢ 2 → ¬ NameNoJob words → (status ≡ 2) ↔ NameNoJob words
 other_status words status differs one = (λ is. absurd (differs is), λ none. absurd (one none))
 
--- for each ending, the status is 2 if and only if the words name no job
+-- if there are words, the status of an ending is 2 if and only if the words name no job
 usage_of : (words : List Text) (names_bytes : Bool) (old new : HostView) (ending : Option Fault) → words ≢ [] → EndsBy words names_bytes old new ending →
     (ending_status ending ≡ 2) ↔ NameNoJob words
 usage_of words names_bytes old new None some ends = other_status words 0 (λ is. omega arith) (names_one words old.input _ some ends)
@@ -200,7 +200,7 @@ usage_of words names_bytes old new (Some (Office office.Memory)) some ends =
 usage_of words names_bytes old new (Some (Office office.Sink)) some ends =
     other_status words 4 (λ is. omega arith) (names_one words old.input _ some ends)
 
--- the program's status is 2 if and only if the words name no job
+-- if there are words, the program's status is 2 if and only if the words name no job
 pub usage_status : (words : List Text) (names_bytes : Bool) (old new : HostView) (status : ℕ) →
     Performs words names_bytes old new status → IsUsageStatus words status
 usage_status words names_bytes old new status performs =

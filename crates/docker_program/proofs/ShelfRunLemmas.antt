@@ -38,7 +38,7 @@ first_byte (byte ∷ bytes) = byte
 abbrev first_of : List Text → ℕ
 first_of words = first_byte (first_word words)
 
--- the words after the first
+-- all words except the first
 abbrev behind : List Text → List Text
 behind [] = []
 behind (word ∷ words) = words

@@ -79,18 +79,18 @@ pub record Prints (run : Run) (job : JobView) (read : SourcesRead) (text : List 
   pub history : run.new.history ≡ history_read run.old.history job read
   pub printed : Takes run.old.output text run.new.output
 
--- this event isn't the storing of a draft: no draft replaced a file, or may have replaced one
+-- this event isn't `placed` or `unplaced`: no draft replaced a file, and none may have replaced one
 abbrev pub IsNoStoring : Event → Type 0
 IsNoStoring (placed name bytes) = ⊥
 IsNoStoring (unplaced name bytes) = ⊥
 IsNoStoring _ = ⊤
 
--- no event in this list is the storing of a draft
+-- no event in this list is `placed` or `unplaced`
 abbrev pub AreNoStorings : List Event → Type 0
 AreNoStorings [] = ⊤
 AreNoStorings (event ∷ events) = IsNoStoring event × AreNoStorings events
 
--- no event of the command is the storing of a draft
+-- no event of the command is `placed` or `unplaced`, so the command stored nothing
 pub record StoresNothing (run : Run) : Type 0 where
   pub events : List Event
   pub history : run.new.history ≡ run.old.history ++ events

@@ -85,8 +85,8 @@ pub record HasRead (old new : HostView) (Holds : Written → PreparedView → Ty
   pub is : IsPrepared (reading old new job rest read) job prepared
   pub holds : Holds (writing old new read) prepared
 
--- the job couldn't read its sources: a file couldn't be opened, or a device failed while it was
--- read
+-- the job couldn't read its sources: a file couldn't be opened, or a device failed while the
+-- sources were read
 abbrev pub FailsToRead : Asking → JobView → Type 0
 FailsToRead asked job = IsNotOpened asked job ⊎ IsOpened asked job
 
