@@ -144,7 +144,7 @@ task_read task sources horizon first left second second_left own made same_sourc
       ends = (subst (λ read. IsReadOf task first second read) (sym is) (read_of task first second own moved.ends.0), moved.ends.1);
     }
 
--- replacing the sources by equal ones preserves the fault for which they may be refused
+-- replacing the sources with equal ones preserves the fault for which they may be refused
 pub refused_for : (sources others : Sources) (first left second second_left : DeviceBytes) (fault : OfficeFault) → sources ≡ others
     → ReadsFew sources first left second second_left (IsWhyRefused sources first left second second_left fault)
     → ReadsFew others first left second second_left (IsWhyRefused others first left second second_left fault)
@@ -161,7 +161,7 @@ prepared_read job first left second second_left read reads =
 
 -- ---- tasks that keep only a part of what they have read
 
--- replacing a task by an equal one preserves what it has read
+-- replacing a task with an equal one preserves what it has read
 pub read_of_task : (asked task : TaskView) (first left second second_left : DeviceBytes) (read : ReadView) → asked ≡ task
     → ReadsFew (sources_of task) first left second second_left (IsReadOf task first second read × HasReadToEnd (sources_of task) left second_left)
     → ReadsFew (sources_of asked) first left second second_left (IsReadOf asked first second read × HasReadToEnd (sources_of asked) left second_left)
@@ -173,7 +173,7 @@ read_of_task asked task first left second second_left read is reads =
 pub some_of_task : (P : Type 0) (asked task : TaskView) → asked ≡ task → ¬ HasNoSource (sources_of task) → HasNoSource (sources_of asked) → P
 some_of_task P asked task is some none = absurd (some (subst (λ t. HasNoSource (sources_of t)) is none))
 
--- replacing the sources by equal ones preserves that the second was read only after a good first
+-- replacing the sources with equal ones preserves that the second was read only after a good first
 -- one
 pub second_for : {First Good Kept : Type 0} (sources others : Sources) → sources ≡ others → First ⊎ (HasSecondSource sources × Good × Kept)
     → First ⊎ (HasSecondSource others × Good × Kept)

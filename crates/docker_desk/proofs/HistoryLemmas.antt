@@ -21,7 +21,7 @@ pub draft_took : (names_bytes : Bool) (text : List ℕ) (before after : Bytes) �
 draft_took true text before after empty takes = rw empty at takes
 draft_took false text before after empty takes = rw empty at takes
 
--- making a draft, and then failing to replace the file by it, adds the events `drafted` and
+-- making a draft, and then failing to replace the file with it, adds the events `drafted` and
 -- `unplaced` to the history
 pub then_unplaced : (name made_for : Text) (look : ℕ) (old middle new : List Event) (took bytes : Bytes)
     → middle ≡ old ++ drafted name look ∷ [] → new ≡ middle ++ unplaced made_for took ∷ [] → made_for ≡ name → took ≡ bytes

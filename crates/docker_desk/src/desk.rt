@@ -25,9 +25,9 @@ use state_lists::{KnownText, known_text, print_places};
 use std::alloc::Global;
 use std::marker::Model;
 
-/// A desk: an office, and whether its state may differ from the state that the state's file was
-/// last seen to hold. The desk also keeps the text of its last answer to `known`, until its state
-/// may change.
+/// A desk: an office, and whether its state may differ from the state that STATE's file was last
+/// seen to hold. The desk also keeps the text of its last answer to `known`, until its state may
+/// change.
 #[derive(Debug, Drop)]
 pub struct Desk {
     alloc: Global,
@@ -61,9 +61,9 @@ impl Desk {
         }
     }
 
-    /// Whether the state may differ from the state that its file was last seen to hold. If it may,
-    /// the desk has taken, received or renewed something, or set a horizon, since the file was read
-    /// or saved.
+    /// Whether the desk's state may differ from the state that STATE's file was last seen to hold.
+    /// If so, the desk has taken, received or renewed something, or set a horizon, since the file
+    /// was read or saved.
     pub fn is_unsaved(&self) -> bool
         ensures { result ≡ self.now.unsaved }
     {

@@ -51,9 +51,9 @@ pub fn known_files_fix_sessions()
 
 /// Each point of a session has a look, from which the next draft is made. The look comes right
 /// before an opening of the state's file, whose text was then read, or right after the desk
-/// replaced the file by its own text. So a text that arrived between the look and the reading is
-/// never overwritten unread. Either the desk read it, or the file was replaced after the look, and
-/// the draft is refused.
+/// replaced the file with its own text. So a text that arrived between the look and the reading is
+/// never overwritten unread. Either the desk has read that text, or the file was replaced after the
+/// look and the draft is refused.
 pub fn looks_come_before_readings()
     ensures { (setting : Setting) (old : List Event) (first last : SessionView) (steps : List Step)
         → BeginsAt setting.name old first → AreSteps setting first steps last

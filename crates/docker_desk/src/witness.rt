@@ -39,7 +39,8 @@ pub fn files_of_none(alloc: Global) -> Result<Kept, Memory>
         faults: Kept::new(alloc, ROOM)?,
     };
     let status = serve(alloc, &["S"], &mut host);
-    // This call is made only for its contract: each file held what was last placed under its name.
+    // This call is made only for its contract: each file held the text that was last placed under
+    // its name.
     host.folder.tell();
     let Host { output, .. } = host;
     if status != 0 {

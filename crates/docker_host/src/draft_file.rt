@@ -60,7 +60,7 @@ impl DraftFile {
         })
     }
 
-    /// Replaces the file by the draft. Returns the version that the next look will see, or `None`
+    /// Replaces the file with the draft. Returns the version that the next look will see, or `None`
     /// if that can't be known, as for a file that was written directly. If the file can't be
     /// replaced, removes the draft if possible and returns `Failed`.
     pub(crate) fn place(self, rt: &HostRuntime) -> Result<Option<Placed>, Failed> {

@@ -141,7 +141,7 @@ pub trait Folder {
         ensures failures { CountsFailure (result ≡ Err OpenFault.Failed)
             (failures self.old) (failures self.new) };
 
-    /// Replaces the file by its draft. The file then holds the bytes that the draft took. If the
+    /// Replaces the file with its draft. The file then holds the bytes that the draft took. If the
     /// call fails, the file holds these bytes or the bytes that it held before.
     fn complete(&mut self, made: Drafted<'_, Self::Draft>) -> Result<(), Failed>
         requires { failures self.old + Self.Draft.failures made.draft < 2 ^ 64 - 1 }

@@ -201,7 +201,7 @@ impl Shelf {
         }
     }
 
-    /// Replaces the text of the named file by the text of a draft. Returns `false` if that fails.
+    /// Replaces the text of the named file with the text of a draft. Returns `false` if that fails.
     fn put_draft(&mut self, name: &str, text: &[u8]) -> bool
         ensures placed { result ≡ true
             → self.new.events ≡ self.old.events ++ placed name.now (Some text.now) ∷ [] }

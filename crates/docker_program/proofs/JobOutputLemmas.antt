@@ -99,7 +99,7 @@ ends_stored by written prepared name middle empty taken is none gains made put k
       kept,
     )
 
--- if replacing the file by the complete draft failed, `WritesPart` holds
+-- if replacing the file with the complete draft failed, `WritesPart` holds
 pub ends_unplaced : (by : Drafting) (written : Written) (prepared : PreparedView) (name : Text) (middle : List Event) (empty taken : Bytes)
     → stored_by prepared.job ≡ Some name → empty ≡ named_if by.names_bytes [] → GainsOutput prepared empty taken
     → middle ≡ written.before ++ drafted name by.look ∷ [] → written.now ≡ middle ++ unplaced name taken ∷ []

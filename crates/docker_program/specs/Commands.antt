@@ -61,8 +61,8 @@ pub record Stores (run : Run) (job : JobView) (read : SourcesRead) (text : List 
       (history_read run.old.history job read) run.new.history
   pub unprinted : run.new.output ≡ run.old.output
 
--- a command may have stored this text: replacing the file that the job writes by a draft with this
--- text failed. The file now holds either this text or what it held before
+-- a command may have stored this text: replacing the file that the job writes with a draft with
+-- this text failed. The file now holds either this text or what it held before
 pub record MayStore (run : Run) (job : JobView) (read : SourcesRead) (text : List ℕ) : Type 0 where
   pub reads : Reads run job read text
   pub name : Text

@@ -44,8 +44,8 @@ pub record StoresOutput (by : Drafting) (written : Written) (prepared : Prepared
   pub is : IsOutputText (output_of prepared.job.task) prepared.read text
   pub history : IsStored by.names_bytes name by.look text written.before written.now
 
--- replacing the file with this name by a draft of the job's output failed. The file now holds
--- either the output or what it held before
+-- a draft of the job's output failed to replace the file with this name. The file now holds either
+-- the output or what it held before
 pub record MayStoreOutput (by : Drafting) (written : Written) (prepared : PreparedView)
     (name : Text) : Type 0 where
   pub text : List ℕ
@@ -64,7 +64,7 @@ WritesTo (Some name) by written prepared =
 
 -- the job's output wasn't written whole, because a device failed. If the job prints, the output
 -- device gained a proper prefix of the output. If the job writes a file, no draft was made, or the
--- draft was discarded, or replacing the file by the draft failed. Nothing else changed
+-- draft was discarded, or replacing the file with the draft failed. Nothing else changed
 abbrev pub WritesPartTo : Option Text → Drafting → Written → PreparedView → Type 0
 WritesPartTo None by written prepared =
     GainsPart prepared written.output written.output_now × (written.now ≡ written.before)

@@ -14,7 +14,7 @@ use std::alloc::Global;
 
 /// Opens the files that a job reads, each once, in the order of its words. Then reads the job's
 /// sources, and closes the files in the same order. If standard input is a source, the bytes that
-/// the job line left in it are read.
+/// are left in it are read.
 pub(crate) fn read_sources<'a, S: Source, D: Folder>(
     alloc: Global,
     job: &'a Job,
