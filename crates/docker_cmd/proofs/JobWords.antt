@@ -117,7 +117,8 @@ none_found : (word : Text) (ss : List Subcommand) → IsNoneOf word ss → find 
 none_found word [] none = refl
 none_found word (s ∷ ss) none = ap (λ b. cond b (Some s) (find (λ t. bytes_eq (name_of t) word) ss)) none.0 ∙ none_found word ss none.1
 
--- if a word isn't the name of any subcommand in the table, it isn't the name of any subcommand
+-- the table has every subcommand: a word that isn't the name of any subcommand in the table isn't
+-- the name of `s`
 no_name : (word : Text) (s : Subcommand) → IsNoneOf word subcommands → word ≡ name_of s → ⊥
 unfolding subcommand_named
 no_name word s none is =

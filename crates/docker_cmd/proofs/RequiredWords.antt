@@ -59,7 +59,7 @@ paired (id ∷ ids) (word ∷ words) = row id word ∷ paired ids words
 
 -- ---- one required word
 
--- if neither of two tests passes, each fails
+-- if the disjunction of two tests is false, both tests are false
 neither : (a b : Bool) → (a || b) ≡ false → (a ≡ false) × (b ≡ false)
 neither true b e = absurd (true≢false e)
 neither false b e = (refl, e)
