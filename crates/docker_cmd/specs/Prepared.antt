@@ -119,7 +119,7 @@ pub record IsOfOneFile (left : DeviceBytes) (read : ReadView) : Type 0 where
   pub summary : IsSummary (file ∷ []) 0 state
   pub plain : IsPlainTable (file ∷ []) (live_table state)
 
--- this is a fault of the file that a source should have held. If that is the second source, the
+-- a source should have held a file, but its text has this fault. If that is the second source, the
 -- first source held a state
 abbrev pub RefusesFileOf : Sources → DeviceBytes → DeviceBytes → FileFault → Type 0
 RefusesFileOf no_source first second fault = ⊥
@@ -129,8 +129,8 @@ RefusesFileOf (one_state format) first second fault = ⊥
 RefusesFileOf state_and_file first second fault = HoldsSomeState first × RefusesText most_records second fault
 RefusesFileOf two_states first second fault = ⊥
 
--- this is a fault of a state that a source should have held. If that is the second of two states,
--- the first source held a state
+-- a source should have held a state, but its text has this fault. If that is the second source, the
+-- first source held a state
 abbrev pub RefusesStateOf : Sources → DeviceBytes → DeviceBytes → StateFault → Type 0
 RefusesStateOf no_source first second fault = ⊥
 RefusesStateOf checked_file first second fault = ⊥

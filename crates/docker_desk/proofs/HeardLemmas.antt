@@ -21,8 +21,8 @@ use Rattle.docker_desk.proofs.KnownLemmas.{known_read}
 
 -- ---- events determine bytes
 
--- if a history with one addition equals the same history with another addition, the two additions
--- are equal
+-- appending to a history is injective: if `old ++ first` equals `old ++ second`, then `first`
+-- equals `second`
 one_more : (old first second : List Event) → old ++ first ≡ old ++ second → first ≡ second
 one_more [] first second same = same
 one_more (event ∷ old) first second same = let rest : old ++ first ≡ old ++ second = cc in one_more old first second rest

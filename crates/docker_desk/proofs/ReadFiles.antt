@@ -30,7 +30,8 @@ not_failed status before after other same =
 failed_once : (before after : ℕ) → after ≡ before + 1 → IsCounted 4 before after
 failed_once before after rose = ((λ is. rose, λ is. refl), λ differs. absurd (differs refl))
 
--- a folder that closes a file adds the file's failures to its own count
+-- if `IsCounted` holds for a file's failures and the folder adds them to its own count, `IsCounted`
+-- holds for the folder
 pub counted_back : (status first opened start read after : ℕ) → opened ≡ first → start ≡ 0 → IsCounted status start read → after ≡ opened + read
     → IsCounted status first after
 counted_back status first opened start read after same none counted back = (

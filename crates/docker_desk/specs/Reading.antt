@@ -42,8 +42,8 @@ pub record OpensOnce (name : Text) (Stops : Reading → Type 0) (Ends : Option R
   pub ends : Ends read
 
 -- the named file was looked at. Then it was opened once, read no further than the result needs, and
--- closed, and `Ends` holds for the reading. Or it couldn't be opened, and `Ends` holds for `None`.
--- The folder's history has no other new events
+-- closed, and `Ends` holds for the reading. Or the file couldn't be opened, and `Ends` holds for
+-- `None`. The folder's history has no other new events
 pub record LooksAndOpens (name : Text) (Ends : Option Reading → Type 0) (old new : List Event)
     : Type 0 where
   pub read : Option Reading

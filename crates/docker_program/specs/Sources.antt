@@ -88,12 +88,12 @@ pub record IsOpened (asked : Asking) (job : JobView) : Type 0 where
   pub first_few : ReadsFewOfFirst (sources_of job.task) read.first read.first_left
   pub second_few : ReadsFewOfSecond (sources_of job.task) read.first read.second read.second_left
 
--- this is the fault of a file that a source of the job should have held
+-- a source of the job should have held a file, but its text has this fault
 abbrev pub RefusesFile : FileFault → Asking → JobView → Type 0
 RefusesFile fault asked job = (opened : IsOpened asked job)
     × RefusesFileOf (sources_of job.task) opened.read.first opened.read.second fault
 
--- this is the fault of a state that a source of the job should have held
+-- a source of the job should have held a state, but its text has this fault
 abbrev pub RefusesState : StateFault → Asking → JobView → Type 0
 RefusesState fault asked job = (opened : IsOpened asked job)
     × RefusesStateOf (sources_of job.task) opened.read.first opened.read.second fault
