@@ -1,4 +1,4 @@
--- Sequences of writes or reads, and the number of failures of a device.
+-- Consecutive writes or reads, and the failure count of a device.
 use Rattle.std.proofs.Common.{◌≡◌, ℕ, ◌+◌, ◌-◌, List, ◌++◌, arith, length, take, drop, replicate, Option, None, Some, refl, ap, sym, subst, ◌∙◌, append_assoc}
 use Rattle.std.proofs.lemmas.Grind.{common_steps}
 use Rattle.std.specs.Prelude.{◌≢◌, true, false, Result, Ok, Err, IsErr, OnOk, OnErr}
@@ -8,15 +8,15 @@ use Rattle.std.proofs.lemmas.List.Folds.{concat-append}
 use Rattle.std.proofs.Math.Seq.{take-add}
 use Rattle.cif_device.specs.Device.{CountsFailure, Takes, Round, Goes}
 
--- if a sink takes one piece and then another, it takes the concatenation of both
+-- writing one piece and then another writes their concatenation
 pub Takes-append : (old middle new : Option (List ℕ)) (front back : List ℕ) →
     Takes old front middle → Takes middle back new → Takes old (front ++ back) new
 Takes-append None middle new front back first second = rw first at second
 Takes-append (Some taken) middle new front back first second =
     (rw first at second) ∙ ap Some (append_assoc taken front back)
 
--- if a sink takes the first `done` bytes of a piece and then the next `n` bytes, it takes the first
--- `done + n` bytes
+-- writing the first `done` bytes of a piece and then the next `n` bytes writes the first `done + n`
+-- bytes
 pub Takes-take : (old middle new : Option (List ℕ)) (piece : List ℕ) (done n : ℕ) →
     Takes old (take done piece) middle → Takes middle (take n (drop done piece)) new →
     Takes old (take (done + n) piece) new
@@ -35,8 +35,7 @@ concat-replicate_add : (m n : ℕ) (text : List ℕ) →
 concat-replicate_add m n text =
     ap concat (sym (replicate-append-replicate m n text)) ∙ concat-append (replicate m text) (replicate n text)
 
--- if an endless source returns one list of bytes and then another, it returns the concatenation of
--- both
+-- if an endless source returns one list of bytes and then another, it returns their concatenation
 pub Goes-append : (old middle new : Round) (front back : List ℕ) →
     Goes old front middle → Goes middle back new → Goes old (front ++ back) new
 Goes-append old middle new front back (again, step, m, first) (again', step', n, second) =
@@ -53,7 +52,7 @@ Goes-append old middle new front back (again, step, m, first) (again', step', n,
         ∙ ap (λ more. front ++ more) then
         ∙ sym (append_assoc front back new.left)
 
--- ---- the number of failures of a device
+-- ---- the failure count of a device
 
 one_more_is_other : (before after : ℕ) → after ≡ before → after ≢ before + 1
 one_more_is_other before after same more = grind (arith, common_steps)
@@ -61,19 +60,19 @@ one_more_is_other before after same more = grind (arith, common_steps)
 false_is_not_true : false ≢ true
 false_is_not_true is = cc
 
--- a number counts failures if it is unchanged without an error and rises by one with an error
+-- if a failure count is unchanged on success and rises by one with an error, `CountsFailure` holds
 pub counts_error : {A E : Type 0} (result : Result A E) (before after : ℕ) →
     OnOk result (after ≡ before) → OnErr result (after ≡ before + 1) → CountsFailure (IsErr result) before after
 counts_error (Ok value) before after same more =
     ((λ error. absurd (false_is_not_true error), λ one_more. absurd (one_more_is_other before after same one_more)), λ no_error. same)
 counts_error (Err fault) before after same more = ((λ error. more, λ one_more. refl), λ no_error. absurd (no_error refl))
 
--- without an error the number of failures is unchanged
+-- if `CountsFailure` holds, the failure count is unchanged on success
 pub same_if_ok : {A E : Type 0} (result : Result A E) (before after : ℕ) → CountsFailure (IsErr result) before after → OnOk result (after ≡ before)
 same_if_ok (Ok value) before after counted = counted.1 false_is_not_true
 same_if_ok (Err fault) before after counted = tt
 
--- with an error the number of failures rises by one
+-- if `CountsFailure` holds, the failure count rises by one with an error
 pub one_more_if_err : {A E : Type 0} (result : Result A E) (before after : ℕ) → CountsFailure (IsErr result) before after → OnErr result (after ≡ before + 1)
 one_more_if_err (Ok value) before after counted = tt
 one_more_if_err (Err fault) before after counted = counted.0.0 refl

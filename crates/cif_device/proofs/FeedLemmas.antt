@@ -1,4 +1,4 @@
--- Feeding a taker from a source: the taker takes the bytes that the source returns.
+-- How feeding a taker from a source continues with each read.
 use Rattle.std.proofs.Common.{◌≡◌, ℕ, ◌+◌, ◌<◌, ◌≤◌, List, [], ◌∷◌, ◌++◌, length, take, drop, Some, None, refl, sym, ◌∙◌}
 use Rattle.std.proofs.Common.{ap, subst, arith, append_assoc, append-nil, length-append, ◌^◌, Err, Result, Fits, w64, Ok}
 use Rattle.std.specs.Prelude.{Option, option_map, Bool, true, false}
@@ -13,7 +13,7 @@ pub lost_nothing : (left : Option (List ℕ)) → Reads left [] left
 lost_nothing None = refl
 lost_nothing (Some bytes) = refl
 
--- if a source returns a text and then a piece, it returns the concatenation of both
+-- if a source returns a text and then a piece, it returns their concatenation
 pub lost_more : (initial now next : Option (List ℕ)) (text piece : List ℕ) → Reads initial text now → Reads now piece next → Reads initial (text ++ piece) next
 lost_more initial now None text piece first more = first ∙ ap (option_map (λ rest. text ++ rest)) more
 lost_more initial now (Some rest) text piece first more =
@@ -56,27 +56,28 @@ pub fed_where_failed : {T Terms : Type 0} (takes : Taking T Terms) (fed : ℕ) (
 fed_where_failed takes fed terms text initial now next taker at same =
     (fed, subst (λ left. HasFed takes fed terms text initial left taker) (sym same) at)
 
--- if the source returns one more piece of at most 65,536 bytes, it has returned at most this piece
--- beyond what the taker has taken
+-- if a source returns one more piece of at most 65,536 bytes, it has returned at most this piece
+-- beyond the bytes that the taker has taken
 pub one_more : {T Terms : Type 0} (takes : Taking T Terms) (fed : ℕ) (terms : Terms) (text : List ℕ) (initial now next : Option (List ℕ)) (taker : T)
     (piece : List ℕ) → HasFed takes fed terms text initial now taker → Reads now piece next → length piece ≤ 65536
     → LosesOnePieceMore takes 65536 terms text initial next
 one_more takes fed terms text initial now next taker piece at more few =
     record { bytes = at.bytes; piece = piece; lost = lost_more initial now next at.bytes piece at.lost more; few = few; taker = taker; taken = at.taken }
 
--- a source that returned only fed bytes has returned at most one piece beyond what the taker has
--- taken
+-- a source whose bytes the taker has all taken has returned at most one piece beyond the bytes that
+-- the taker has taken
 pub no_more : {T Terms : Type 0} (takes : Taking T Terms) (fed : ℕ) (terms : Terms) (text : List ℕ) (initial now next : Option (List ℕ)) (taker : T)
     → HasFed takes fed terms text initial now taker → next ≡ now → LosesOnePieceMore takes 65536 terms text initial next
 no_more takes fed terms text initial now next taker at same =
     one_more takes fed terms text initial now next taker [] at (subst (Reads now []) (sym same) (lost_nothing now)) (omega arith)
 
--- a source that returned nothing has returned at most one piece beyond what the taker has taken
+-- a source that returned nothing has returned at most one piece beyond the bytes that the taker has
+-- taken
 pub nothing_read : {T Terms : Type 0} (takes : Taking T Terms) (terms : Terms) (text : List ℕ) (left : Option (List ℕ)) (taker : T) → takes taker terms text
     → LosesOnePieceMore takes 65536 terms text left left
 nothing_read takes terms text left taker taken = no_more takes 0 terms text left left left taker (at_start takes terms text left taker taken) refl
 
--- if the taker refuses the next piece, it has taken its first text and the fed bytes, and then
+-- if the taker refuses the next piece, it has taken its earlier text and the fed bytes, and then
 -- refused this piece
 pub refused_behind : {T Terms Fault : Type 0} (takes : Taking T Terms) (refuses : Refusing T Terms Fault) (fed : ℕ) (terms : Terms) (text : List ℕ)
     (initial now next : Option (List ℕ)) (before after : T) (piece : List ℕ) (fault : Fault) → (at : HasFed takes fed terms text initial now before)

@@ -1,29 +1,31 @@
 -- How a read changes the bytes left in a source, and how a write changes the bytes that a sink has
--- taken. If contracts don't know the bytes of a device, `None` is used in their place.
+-- taken. Bytes are `None` if contracts don't know them.
 use Rattle.std.specs.Prelude.{◌≡◌, ℕ, ◌+◌, ◌-◌, ◌<◌, ◌↔◌, min, Bool, true, false, List, [], ◌++◌, length, take, replicate, ⊤, Option, None, Some, option_map}
 use Rattle.std.specs.List.{concat}
 
--- a read returned these bytes: what was left before the read is these bytes followed by what is
--- left now. If contracts don't know the bytes of the source, both are `None`
+-- a read returned these bytes: the bytes left before the read are these bytes, followed by the
+-- bytes left after it. If contracts don't know the bytes of the source, both are `None`
 abbrev pub Reads : Option (List ℕ) → List ℕ → Option (List ℕ) → Type 0
 Reads old bytes new = old ≡ option_map (λ rest. bytes ++ rest) new
 
--- the source has nothing left, or contracts don't know its bytes
+-- no bytes are left in the source, or contracts don't know its bytes
 abbrev pub IsEnd : Option (List ℕ) → Type 0
 IsEnd None = ⊤
 IsEnd (Some left) = left ≡ []
 
--- how a successful read of `n` bytes into `room` bytes changes two flags. The flag `ended` says
--- that the end was reported. A read of no bytes into a buffer with room sets `ended`, and a read of
--- some bytes leaves it unchanged. The flag `passed` says that the source was read after its end was
--- reported. A read after the end was reported sets `passed`, and any other read leaves it unchanged
+-- a successful read of `n` bytes into a buffer of `room` bytes changed two flags. The flag `ended`
+-- says that the source has reported its end. A read of no bytes into a buffer with room sets
+-- `ended`, and a read of some bytes leaves it unchanged. The flag `passed` says that the source was
+-- read after it had reported its end. A read after the end was reported sets `passed`, and any
+-- other read leaves it unchanged
 abbrev pub Ends : ℕ → ℕ → Bool → Bool → Bool → Bool → Type 0
 Ends n room ended now_ended passed now_passed = (n ≡ 0 → 0 < room → now_ended ≡ true)
     × (0 < n → now_ended ≡ ended)
     × (ended ≡ true → now_passed ≡ true)
     × (ended ≡ false → now_passed ≡ passed)
 
--- the sink took these bytes: what it has taken is what it had taken before, followed by these bytes
+-- the sink took these bytes: the bytes that it has now taken are the bytes that it had taken
+-- before, followed by these bytes
 abbrev pub Takes : Option (List ℕ) → List ℕ → Option (List ℕ) → Type 0
 Takes old bytes new = new ≡ option_map (λ taken. taken ++ bytes) old
 
@@ -31,8 +33,8 @@ Takes old bytes new = new ≡ option_map (λ taken. taken ++ bytes) old
 abbrev pub TakesPart : Option (List ℕ) → List ℕ → Option (List ℕ) → Type 0
 TakesPart old piece new = (n : ℕ) × (n < length piece) × Takes old (take n piece) new
 
--- the number of failures rises by one, from `before` to `after`, if `failed` holds, and otherwise
--- is unchanged
+-- the failure count rises by one, from `before` to `after`, if `failed` holds, and otherwise is
+-- unchanged
 abbrev pub CountsFailure : Type 0 → ℕ → ℕ → Type 0
 CountsFailure failed before after = (failed ↔ (after ≡ before + 1)) × (¬ failed → after ≡ before)
 
@@ -48,19 +50,19 @@ pub record Feed : Type 0 where
 abbrev pub read_count : Feed → ℕ → ℕ
 read_count feed room = min (min feed.step room) (length feed.left)
 
--- a sink in memory: the bytes that it has taken, the size of its whole room in bytes, and the
--- number of its failures
+-- a sink in memory: the bytes that it has taken, the size of its whole room in bytes, and its
+-- failure count
 pub record Store : Type 0 where
   pub taken : List ℕ
   pub room : ℕ
   pub failures : ℕ
 
--- the number of bytes that the sink still has room for
+-- the number of bytes for which the sink still has room
 abbrev pub room_left : Store → ℕ
 room_left store = store.room - length store.taken
 
--- a device that fails at one call: the device within it, the number of calls up to and including
--- the failing call, and the number of its failures. After the failing call the number of calls is 0
+-- a device that fails at one call: its inner device, the number of calls up to and including the
+-- failing call, and its failure count. After the failing call the number of calls is 0
 pub record Fused (D : Type 0) : Type 0 where
   pub device : D
   pub calls : ℕ
@@ -73,9 +75,9 @@ pub record Round : Type 0 where
   pub again : List ℕ
   pub step : ℕ
 
--- the endless source returned these bytes. The bytes are a prefix of the text that was left,
--- followed by enough repetitions of the repeated text. The rest of that concatenation is left now.
--- For example, with `a` left and `bc` repeated, a read of `abcb` leaves `c`
+-- an endless source returned these bytes. They are the beginning of the text that was left,
+-- followed by enough repetitions of the repeated text. The rest is left now. For example, if `a`
+-- was left and `bc` is repeated, a read of `abcb` leaves `c`
 abbrev pub Goes : Round → List ℕ → Round → Type 0
 Goes old bytes new = (new.again ≡ old.again) × (new.step ≡ old.step)
     × (times : ℕ) × (old.left ++ concat (replicate times old.again) ≡ bytes ++ new.left)

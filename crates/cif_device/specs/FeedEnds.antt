@@ -1,4 +1,4 @@
--- How feeding a taker from a source ends.
+-- How the feeding of a taker from a source ends.
 use Rattle.std.specs.Prelude.{◌≡◌, ℕ, List, Option, Result, Ok, Err}
 use Rattle.cif_device.specs.Device.{IsEnd}
 use Rattle.cif_device.specs.Taken.{AfterEach, HasFed, HasRefused, Refusing, Taking}
@@ -9,10 +9,10 @@ use Rattle.cif_device.specs.declared.feed.FeedFault.TheVariants as feed
 abbrev pub most_at_once : ℕ
 most_at_once = 65536
 
--- how feeding ends, for each result. `Ok`: the taker has taken this number of bytes, up to the end
--- of the source. `Source`: the source failed, and the taker has taken all bytes that were read
--- before the failure. `Refused`: the taker has taken all bytes before a piece, and refused the
--- piece. `Memory`: nothing was read
+-- feeding ended with this result. `Ok`: the taker has taken this number of bytes, and the source is
+-- at its end. `Source`: the source failed, and the taker has taken all bytes that were read before.
+-- `Refused`: the taker has taken all bytes before a piece, and refused the piece. `Memory`: nothing
+-- was read
 abbrev pub EndsFeeding : {T Terms Fault : Type 0} → Taking T Terms → Refusing T Terms Fault → T → T → Option (List ℕ) → Option (List ℕ)
     → Result ℕ (FeedFault Fault) → Type 0
 EndsFeeding takes refuses taker after left left_now (Ok count) =

@@ -29,8 +29,7 @@ impl<T: Drop> From<AllocFailed<T>> for Memory {
 
 /// A device from which bytes are read.
 pub trait Source {
-    // The bytes that are left, or `None` if contracts don't know which bytes they are, as for a
-    // real file.
+    // The bytes that are left, or `None` if contracts don't know them, as for a real file.
     ghost left: { Self → Option (List ℕ) };
 
     // The number of failures of the device.
@@ -43,7 +42,7 @@ pub trait Source {
     ghost passed: { Self → Bool };
 
     /// Reads the next bytes into the beginning of the buffer and returns their number. If the
-    /// buffer has room, 0 means the end. The rest of the buffer may hold anything.
+    /// buffer has room, 0 means the end. The other bytes of the buffer may have any value.
     fn read(&mut self, into: &mut [u8]) -> Result<usize, Failed>
         requires { failures self.old < 2 ^ 64 - 1 }
         ensures within { IfOk result (λ n. n ≤ length into.new) }
@@ -58,15 +57,15 @@ pub trait Source {
         ensures still { OnErr result
             ((ended self.new ≡ ended self.old) × (passed self.new ≡ passed self.old)) };
 
-    /// The number of failures of the device.
+    /// Returns the number of failures of the device.
     fn failures(&self) -> u64
         ensures { result ≡ failures self.now };
 }
 
 /// A device to which bytes are written.
 pub trait Sink {
-    // The bytes that the sink has taken, or `None` if contracts don't know which bytes they are, as
-    // for a real file.
+    // The bytes that the sink has taken, or `None` if contracts don't know them, as for a real
+    // file.
     ghost taken: { Self → Option (List ℕ) };
 
     // The number of failures of the device.
@@ -85,13 +84,13 @@ pub trait Sink {
         ensures counted { OnErr result (failures self.new ≡ failures self.old + 1) }
         ensures unmoved { OnErr result (taken self.new ≡ taken self.old) };
 
-    /// The number of failures of the device.
+    /// Returns the number of failures of the device.
     fn failures(&self) -> u64
         ensures { result ≡ failures self.now };
 }
 
-/// Writes the whole piece, in as many writes as that needs. Stops at the first write that fails;
-/// the sink has then taken a proper prefix of the piece.
+/// Writes the whole piece, in as many writes as necessary. Stops at the first write that fails; the
+/// sink has then taken a proper prefix of the piece.
 pub fn write_all<K: Sink>(sink: &mut K, piece: &[u8]) -> Result<(), Failed>
     requires { K.failures sink.old < 2 ^ 64 - 1 }
     ensures whole { OnOk result (Takes (K.taken sink.old) piece.now (K.taken sink.new)) }

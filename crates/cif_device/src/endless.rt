@@ -6,8 +6,8 @@ use crate::device::{Failed, Source};
 use std::marker::Model;
 
 /// A source that returns the bytes of one text, and then the bytes of another text over and over.
-/// It never ends and never fails. Since the bytes that are left have no end, contracts see `None`
-/// in their place.
+/// It never ends and never fails. The bytes left have no end, so contracts see `None` in their
+/// place.
 #[derive(Clone, Debug, Drop)]
 pub struct Endless<'a> {
     rest: &'a [u8],
@@ -31,7 +31,7 @@ impl<'a> Model for Endless<'a> {
 }
 
 impl<'a> Endless<'a> {
-    /// A source that returns the text `first`, and then the text `again` over and over. One read
+    /// Returns a source of the text `first`, and then of the text `again` over and over. One read
     /// returns at most `step` bytes.
     pub fn new(first: &'a [u8], again: &'a [u8], step: usize) -> Self
         requires again { 0 < length again.now }
@@ -47,7 +47,7 @@ impl<'a> Endless<'a> {
         }
     }
 
-    /// The next byte.
+    /// Returns the next byte.
     fn next_byte(&mut self) -> u8
         ensures goes { Goes self.old (result ∷ []) self.new }
     {
@@ -73,7 +73,7 @@ impl Source for Endless<'_> {
         ensures within { IfOk result (λ n. n ≤ length into.new) }
         ensures ending { IfOk result (λ n. Ends n (length into.new) false false false false) }
 
-        // A source promises the clauses above. This source promises the following clauses too.
+        // Every source promises the clauses above. Only this source promises the clauses below.
         ensures count { result ≡ Ok (min self.old.step (length into.old)) }
         ensures goes { IfOk result (λ n. Goes self.old (take n into.new) self.new) }
     {

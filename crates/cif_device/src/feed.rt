@@ -7,10 +7,10 @@ ghost use Rattle.cif_device.specs.Taken.{AfterEach, IsTaking, LosesOnePieceMore}
 use crate::device::Source;
 use std::alloc::Global;
 
-/// The number of bytes that are read from a source at once.
+/// The most bytes that are read from a source at once.
 pub const PIECE: usize = 65_536;
 
-/// Why a taker wasn't fed all of a source.
+/// The reason why a taker wasn't fed all bytes of a source.
 #[derive(Clone, Copy, Debug, PartialEq, Eq)]
 pub enum FeedFault<F> {
     /// The source failed.
@@ -23,16 +23,17 @@ pub enum FeedFault<F> {
 
 /// Takes a text piece by piece, up to the first piece that it refuses.
 pub trait Taker {
-    /// Why the taker refuses a piece.
+    /// The reason why the taker refuses a piece.
     type Fault: Drop;
 
     // The terms of a taker, such as a limit on the text. They stay the same while the taker takes.
     ghost Terms: { Type 0 };
 
-    // This taker has taken this text under these terms, and refused no piece of it.
+    // Whether this taker has taken this text under these terms, and refused no piece of it.
     ghost takes: { Self → Terms → List ℕ → Type 0 };
 
-    // This taker took this text under these terms, and then refused this piece with this fault.
+    // Whether this taker took this text under these terms, and then refused this piece with this
+    // fault.
     ghost refuses: { Self → Terms → List ℕ → List ℕ → Self.Fault → Type 0 };
 
     /// Takes the next bytes of the text.
@@ -48,7 +49,7 @@ pub trait Taker {
         → length text < 2 ^ 64 };
 }
 
-/// Feeds a taker all that is left in a source, in pieces of at most 65,536 bytes, and returns the
+/// Feeds a taker all bytes left in a source, in pieces of at most 65,536 bytes, and returns the
 /// number of bytes. Reads nothing more after the source reports its end or the taker refuses a
 /// piece. Terminates for every source: a taker can only take a bounded text, so it refuses a piece
 /// of an endless source.

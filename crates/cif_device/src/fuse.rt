@@ -6,7 +6,7 @@ use crate::device::{Failed, Sink, Source};
 use crate::memory::{Bytes, Kept};
 use std::marker::Model;
 
-/// A device in memory that transfers at most one byte in a call, and fails at one given call.
+/// A device in memory that transfers at most one byte per call, and fails at one given call.
 #[derive(Debug, Drop)]
 pub struct Fuse<D> {
     device: D,
@@ -27,8 +27,8 @@ impl<D> Model for Fuse<D> {
 }
 
 impl<D> Fuse<D> {
-    /// Transfers the bytes of this device, one in each call. Only the call with this number fails,
-    /// counted from 1.
+    /// Returns a device that transfers the bytes of this device, one per call. Only the call with
+    /// this number fails, counted from 1.
     pub fn new(device: D, call: u64) -> Self
         requires { 0 < call }
         ensures device { result.device ≡ device }
@@ -42,14 +42,14 @@ impl<D> Fuse<D> {
         }
     }
 
-    /// The device within the fuse.
+    /// Returns the inner device.
     pub fn device(&self) -> &D
         ensures { result.now ≡ self.now.device }
     {
         &self.device
     }
 
-    /// Counts a call, and returns whether this call is the one that fails.
+    /// Counts a call, and returns whether this call fails.
     fn blows(&mut self) -> bool
         ensures blows { IsTrue result ↔ (self.old.calls ≡ 1) }
         ensures counted { self.new ≡ record self.old { calls = self.old.calls - 1 } }
@@ -84,7 +84,7 @@ impl Source for Fuse<Bytes<'_>> {
         ensures still { OnErr result ((self.new.device.ended ≡ self.old.device.ended)
             × (self.new.device.passed ≡ self.old.device.passed)) }
 
-        // A source promises the clauses above. This source promises the following clauses too.
+        // Every source promises the clauses above. Only this source promises the clauses below.
         ensures count { IfOk result (λ n.
             n ≡ min (min 1 (length into.old)) (length self.old.device.left)) }
         ensures blows { IsErr result ↔ (self.old.calls ≡ 1) }
@@ -119,7 +119,7 @@ impl Sink for Fuse<Kept> {
         ensures counted { OnErr result (self.new.failures ≡ self.old.failures + 1) }
         ensures unmoved { OnErr result (self.new.device.taken ≡ self.old.device.taken) }
 
-        // A sink promises the clauses above. This sink promises the following clauses too.
+        // Every sink promises the clauses above. Only this sink promises the clauses below.
         ensures count { IfOk result (λ n. n ≡ 1) }
         ensures fails { IsErr result ↔ ((self.old.calls ≡ 1) ⊎ (room_left self.old.device ≡ 0)) }
         ensures calls { self.new.calls ≡ self.old.calls - 1 }

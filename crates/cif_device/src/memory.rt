@@ -33,7 +33,7 @@ impl<'a> Model for Bytes<'a> {
 }
 
 impl<'a> Bytes<'a> {
-    /// A source of these bytes. One read returns at most `step` bytes.
+    /// Returns a source of these bytes. One read returns at most `step` bytes.
     pub fn new(bytes: &'a [u8], step: usize) -> Self
         requires { 0 < step }
         ensures left { result.left ≡ bytes.now }
@@ -49,7 +49,7 @@ impl<'a> Bytes<'a> {
         }
     }
 
-    /// The bytes that are left.
+    /// Returns the bytes that are left.
     pub fn left(&self) -> &[u8]
         ensures { result.now ≡ self.now.left }
     {
@@ -73,7 +73,7 @@ impl Source for Bytes<'_> {
         ensures ending { IfOk result (λ n. Ends n (length into.new)
             self.old.ended self.new.ended self.old.passed self.new.passed) }
 
-        // A source promises the clauses above. This source promises the following clauses too.
+        // Every source promises the clauses above. Only this source promises the clauses below.
         ensures count { result ≡ Ok (read_count self.old (length into.old)) }
         ensures step { self.new.step ≡ self.old.step }
     {
@@ -116,8 +116,8 @@ impl Model for Kept {
 }
 
 impl Kept {
-    /// An empty sink with room for `room` bytes. Returns `Memory` if the allocator refuses the
-    /// room.
+    /// Returns an empty sink with room for `room` bytes. Returns `Memory` if the allocator refuses
+    /// the room.
     pub fn new(alloc: Global, room: usize) -> Result<Kept, Memory>
         ensures empty { IfOk result (λ kept. kept.taken ≡ []) }
         ensures room { IfOk result (λ kept. kept.room ≡ room) }
@@ -132,7 +132,7 @@ impl Kept {
         })
     }
 
-    /// The bytes that the sink has taken.
+    /// Returns the bytes that the sink has taken.
     pub fn bytes(&self) -> &[u8]
         ensures bytes { result.now ≡ self.now.taken }
         ensures within { length self.now.taken ≤ self.now.room }
@@ -171,7 +171,7 @@ impl Sink for Kept {
         ensures counted { OnErr result (self.new.failures ≡ self.old.failures + 1) }
         ensures unmoved { OnErr result (self.new.taken ≡ self.old.taken) }
 
-        // A sink promises the clauses above. This sink promises the following clauses too.
+        // Every sink promises the clauses above. Only this sink promises the clauses below.
         ensures count { IfOk result (λ n. n ≡ min (length piece.now) (room_left self.old)) }
         ensures full { IsErr result ↔ (room_left self.old ≡ 0) }
         ensures room { self.new.room ≡ self.old.room }

@@ -12,7 +12,7 @@ pub fn run(rt: &HostRuntime) -> ExitCode {
 }
 
 /// Serves a session with the words that the system gives the program. If a word isn't valid UTF-8,
-/// it serves a session without words, which ends with the usage line.
+/// serves a session without words, which ends with the usage line.
 fn serve_own_words(rt: &HostRuntime) -> u8 {
     match own_words(rt).and_then(|words| serve_strings(rt, words.as_slice())) {
         Ok(status) => status,

@@ -11,7 +11,7 @@ use docker_office::{StateCause, StateFault};
 use std::alloc::Global;
 use std::process::Abort;
 
-/// More bytes than any answer here has.
+/// A size that is larger than any answer in these tests.
 const ROOM: usize = 1000;
 
 /// A row: a status, a text, and the bytes of the answer.
@@ -51,7 +51,7 @@ fn headers(rt: HostRuntime) {
     }
 }
 
-/// The bytes of an answer.
+/// Returns the bytes of an answer.
 fn bytes_of(rt: &impl Abort, alloc: Global, answer: &Answer) -> Kept {
     let mut kept = Kept::new(alloc, ROOM).expect(rt, "room");
     write_reply(answer, &mut kept).expect(rt, "an answer");
@@ -69,12 +69,12 @@ fn refuses(rt: &impl Abort, alloc: Global, fault: OfficeFault, wanted: &str) {
     answers(rt, alloc, &Answer::Refused(fault), wanted);
 }
 
-/// The fault of a file that is refused at this record.
+/// Returns the fault of a file that is refused at this record.
 fn file_fault(number: u32, cause: FileCause) -> OfficeFault {
     OfficeFault::File(FileFault { number, cause })
 }
 
-/// The fault of a state that is refused at this offset.
+/// Returns the fault of a state that is refused at this offset.
 fn state_fault(at: u64, cause: StateCause) -> OfficeFault {
     OfficeFault::State(StateFault { at, cause })
 }
@@ -127,8 +127,8 @@ fn broken_at(rt: &impl Abort, alloc: Global, write: u64) -> (Result<(), Failed>,
     (done, sink)
 }
 
-/// Asserts that a sink whose write with this number fails has the bytes before it, and that the
-/// failure is reported.
+/// Asserts that a sink whose write with this number fails has the bytes of the earlier writes, and
+/// that the failure is reported.
 fn stops_at(rt: &impl Abort, alloc: Global, write: u64, bytes: &str)
     requires { 0 < write }
 {

@@ -23,8 +23,8 @@ desk: usage: [--write] STATE, and then a line for each request: print TIPLOC DAT
 | with --write take FILE | merge OTHER | horizon DATE | save
 ";
 
-/// Asserts the status and the reported line of a session over this folder that can't begin. It must
-/// read no input, write no answer, and leave this text in the file `S`.
+/// Asserts the status and the reported line of a session that can't begin with this folder. The
+/// session must read no input, write no answer, and leave this text in the file `S`.
 fn can_t_begin(
     rt: &impl Abort,
     alloc: Global,

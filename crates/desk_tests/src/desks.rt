@@ -1,4 +1,4 @@
-//! Tests of what a desk prints, and the desks with which tests start.
+//! Tests of the dockers that a desk prints, and the desks with which tests start.
 
 use crate::answers::answers;
 use crate::compare::same;
@@ -12,7 +12,7 @@ use docker_office::Office;
 use std::alloc::Global;
 use std::process::Abort;
 
-/// A desk whose office has read this state.
+/// Returns a desk whose office has read this state.
 pub(crate) fn desk_of(rt: &impl Abort, alloc: Global, state: Parts) -> Desk {
     let text = state_text(rt, alloc, state);
     let mut office = Office::new(alloc);
@@ -21,7 +21,7 @@ pub(crate) fn desk_of(rt: &impl Abort, alloc: Global, state: Parts) -> Desk {
     Desk::new(alloc, office)
 }
 
-/// The day with this date.
+/// Returns the day with this date.
 pub(crate) fn day_of(rt: &impl Abort, date: &str) -> Day {
     Day::from_iso(date).expect(rt, "a day")
 }

@@ -32,7 +32,7 @@ DOCKER ASHFELD 2024-06-10
 END                                                     
 ";
 
-/// The docker of Ashfeld on 18 June, when no train calls there.
+/// The docker of Ashfeld on 18 June, a day on which no train calls at Ashfeld.
 pub(crate) const ANSWER_18_JUNE: &str = "\
 0 2 114
 DOCKER ASHFELD 2024-06-18                               

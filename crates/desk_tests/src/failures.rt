@@ -15,7 +15,7 @@ use std::alloc::Global;
 use std::process::Abort;
 
 /// Asserts that an output with room for this many bytes gains exactly these first bytes of the
-/// answers to two requests, and that nothing more is read after that.
+/// answers to two requests, and that the session then reads nothing more.
 fn output_has_room_for(rt: &impl Abort, alloc: Global, bytes: usize) {
     let mut host = Host {
         input: Bytes::new(b"files\nprint ASHFELD 2024-06-10\nfiles\n", 1),
@@ -40,8 +40,8 @@ fn an_output_that_fails(rt: HostRuntime) {
     output_has_room_for(&rt, rt.alloc(), 219);
 }
 
-/// Asserts the status, the answers and the reported lines of a session that may write. Its input
-/// gives one byte per read, and only the read with this number fails.
+/// Asserts the status, the answers and the reported lines of a session in which the desk may write.
+/// Its input gives one byte per read, and only the read with this number fails.
 fn input_fails_at(rt: &impl Abort, alloc: Global, read: u64, answers: &[&str], end: (u8, &str))
     requires { 0 < read }
 {
@@ -68,7 +68,8 @@ fn an_input_that_fails(rt: HostRuntime) {
     input_fails_at(&rt, rt.alloc(), 16, &[DONE, both], (1, UNSAVED));
 }
 
-/// Asserts that a session continues if its folder fails at this call of each save.
+/// Asserts that a session continues if each of its saves fails because the folder fails at this
+/// call.
 fn store_fails(rt: &impl Abort, alloc: Global, fails: Fails) {
     let mut folder = shelf_of_morning(rt, alloc);
     folder.fail(fails);

@@ -22,7 +22,7 @@ const CUT: Told<'static> = ("cut", b"");
 /// The end of the input.
 const END: Told<'static> = ("end", b"");
 
-/// A row: a text, and its lines in their order.
+/// A row: a text, and its lines in order.
 type Row = (&'static [u8], &'static [Told<'static>]);
 
 /// Asserts that the next line of a source is this one.
@@ -36,7 +36,7 @@ fn is_next(rt: &impl Abort, ahead: &mut Ahead, source: &mut Bytes<'_>, wanted: T
     }
 }
 
-/// Asserts that a text in pieces of at most `step` bytes has exactly these lines.
+/// Asserts that a text has exactly these lines if it is read in pieces of at most `step` bytes.
 fn are_lines(rt: &impl Abort, text: &[u8], step: usize, lines: &[Told<'_>])
     requires { 0 < step }
 {
@@ -104,7 +104,7 @@ fn lines_of_texts(rt: HostRuntime) {
     have_lines(&rt, CUTS);
 }
 
-/// A text of this many letters.
+/// Returns a text of this many letters.
 fn letters(rt: &impl Abort, alloc: Global, many: usize) -> Vec<u8> {
     let mut text = Vec::new(alloc);
     for _ in 0..many {
@@ -147,7 +147,7 @@ fn lines_of_many_bytes(rt: HostRuntime) {
     is_cut_of(&rt, alloc, 5000);
 }
 
-/// A text of a thousand lines. Some lines cross the end of a piece.
+/// Returns a text of a thousand lines. Some lines extend over the end of a piece.
 fn many_lines(rt: &impl Abort, alloc: Global) -> Vec<u8> {
     let mut text = Vec::new(alloc);
     for _ in 0..1000 {

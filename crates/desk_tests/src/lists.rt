@@ -22,7 +22,7 @@ ASHFELD ASF 87701 ASHFELD JUNCTION                    0
 CORHAM            CORHAM EXCHANGE                     0
 ";
 
-/// What is known in the state `PLACES_STATE`, before and after a horizon is set.
+/// The answers to `known` for the state `PLACES_STATE`, before and after a horizon is set.
 const KNOWN: &str = "\
 0 6 124
 HORIZON      NONE
@@ -42,7 +42,7 @@ ASSOCIATIONS 0
 PLACES       2
 ";
 
-/// What is known of an update that has no timing points.
+/// The answer to `known` for an update that has no timing points.
 const KNOWN_MORNING: &str = "\
 0 5 87
 HORIZON      NONE
@@ -52,7 +52,7 @@ ASSOCIATIONS 0
 PLACES       0
 ";
 
-/// What is known of no files.
+/// The answer to `known` for no files.
 const KNOWN_NOTHING: &str = "\
 0 4 63
 HORIZON      NONE

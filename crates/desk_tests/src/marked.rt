@@ -13,7 +13,7 @@ pub(crate) struct Marked<'a> {
 }
 
 impl<'a> Marked<'a> {
-    /// Makes a source of this text.
+    /// Returns a source of this text.
     pub(crate) fn new(text: &'a [u8]) -> Marked<'a> {
         Marked {
             rest: text,
@@ -22,7 +22,7 @@ impl<'a> Marked<'a> {
         }
     }
 
-    /// Whether the source has reported its end, and whether it was read after that.
+    /// Returns whether the source has reported its end, and whether it was read after that.
     pub(crate) fn is_read_past(&self) -> (bool, bool) {
         (self.ended, self.passed)
     }

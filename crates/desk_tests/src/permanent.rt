@@ -16,7 +16,7 @@ fn keeps(rt: &impl Abort, alloc: Global, desk: &Desk, date: &str, wanted: &str) 
 }
 
 /// The docker has the overlay, and the permanent docker has the schedule that the overlay replaces.
-/// Both dockers are refused on the same days.
+/// Both dockers are refused for the same days.
 #[test]
 fn answers_without_the_short_term_plan(rt: HostRuntime) {
     let alloc = rt.alloc();

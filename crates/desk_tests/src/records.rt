@@ -1,4 +1,4 @@
-//! The files and the states' texts that the tests use, worked out by hand.
+//! The files and the texts of states that the tests use, worked out by hand.
 
 use std::alloc::Global;
 use std::process::Abort;
@@ -44,8 +44,7 @@ const ENTRY_OVERLAY: &[u8] = b"\x03C10001\x5b\xf1O\x5b\xf0\x04\xecDFROC1A\0\0\0\
 
 const ENTRY_LATER: &[u8] = b"\x03C10001\x5b\xf1P\x5b\xf1\x04\xecDFROC1B\0\0\0\x02";
 
-/// The op and the line count of a schedule with three lines that is put. Then the op of a lapsed
-/// entry.
+/// The op and the line count of a put schedule with three lines, and the op of a lapsed entry.
 const THREE_LINES: &[u8] = b"\x01\0\0\0\x03";
 
 const LAPSED: &[u8] = b"\x02";
@@ -74,8 +73,8 @@ pub(crate) const OVERLAID_STATE: Parts = &[
     LT,
 ];
 
-/// The state that knows only the revision of the morning train: 311 bytes. A state has the
-/// transaction `N` in each basic schedule.
+/// The state that knows only the revision of the morning train: 311 bytes. In a state, each basic
+/// schedule has the transaction `N`.
 pub(crate) const REVISION_STATE: Parts = &[
     MARK,
     ONE,
@@ -115,8 +114,8 @@ const BRAYTON: &[u8] = b"\x01BRAYTON\x5b\xf0\x04\xecDFROC1A\0\0\0\x03";
 
 const CORHAM: &[u8] = b"\x01CORHAM \x5b\xf0\x04\xecDFROC1A\0\0\0\x04";
 
-/// The op and the body of a timing point that is put, with CRS code and STANOX and without. The
-/// body is columns 10 to 72 of its record. Then the op of a deleted entry.
+/// The op and the body of a put timing point with a CRS code and a STANOX, the same without them,
+/// and the op of a deleted entry. The body is columns 10 to 72 of the timing point's record.
 const WITH_CODES: &[u8] = b"\x0100123400AASHFELD JUNCTION          877010000ASFASHFELD         ";
 
 const WITHOUT_CODES: &[u8] = b"\x01         CORHAM EXCHANGE                                       ";
@@ -142,7 +141,7 @@ pub(crate) const PLACES_STATE: Parts = &[
     LT,
 ];
 
-/// These lines as one text, each with a line feed.
+/// Returns these lines as one text, each with a line feed.
 pub(crate) fn file_text(rt: &impl Abort, alloc: Global, file: Parts) -> Vec<u8> {
     let mut text = Vec::new(alloc);
     for line in file {
@@ -152,7 +151,7 @@ pub(crate) fn file_text(rt: &impl Abort, alloc: Global, file: Parts) -> Vec<u8> 
     text
 }
 
-/// These parts of a state's text, joined.
+/// Returns the concatenation of these parts of a state's text.
 pub(crate) fn state_text(rt: &impl Abort, alloc: Global, parts: Parts) -> Vec<u8> {
     let mut text = Vec::new(alloc);
     for part in parts {

@@ -42,7 +42,7 @@ fn add_dated(rt: &impl Abort, text: &mut Vec<u8>, request: &Request<'_>) {
     }
 }
 
-/// The verb of a request that names no day, and the name of the file if the request has one. For a
+/// Returns the verb of a request that names no day, and the name of its file if it has one. For a
 /// request that names a day, the verb is empty.
 fn file_words<'a>(request: &Request<'a>) -> (&'static str, Option<&'a str>) {
     match request {
@@ -57,7 +57,7 @@ fn file_words<'a>(request: &Request<'a>) -> (&'static str, Option<&'a str>) {
     }
 }
 
-/// The words of a request, separated by one space.
+/// Returns the words of a request, separated by one space.
 fn words_of(rt: &impl Abort, alloc: Global, request: &Request<'_>) -> Vec<u8> {
     let mut text = Vec::new(alloc);
     add_dated(rt, &mut text, request);
@@ -69,7 +69,8 @@ fn words_of(rt: &impl Abort, alloc: Global, request: &Request<'_>) -> Vec<u8> {
     text
 }
 
-/// The words of the request in the first line of a text; empty if the line isn't a request.
+/// Returns the words of the request in the first line of a text, or an empty text if the line isn't
+/// a request.
 fn asked_by(rt: &impl Abort, alloc: Global, text: &[u8], may_write: bool) -> Vec<u8> {
     let mut source = Bytes::new(text, 4096);
     match next_line(&mut Ahead::new(), &mut source) {
@@ -82,7 +83,7 @@ fn asked_by(rt: &impl Abort, alloc: Global, text: &[u8], may_write: bool) -> Vec
     }
 }
 
-/// Asserts that a line is the request with these words. If there are no words, asserts that the
+/// Asserts that a line makes the request with these words. If there are no words, asserts that the
 /// line isn't a request.
 fn asks(rt: &impl Abort, alloc: Global, line: &str, may_write: bool, words: &str) {
     let mut text = Vec::new(alloc);
@@ -184,7 +185,7 @@ const NOTHING: &[&str] = &[
     "print\u{7e}ASHFELD 2024-06-10",
 ];
 
-/// Asserts the request of each row's line.
+/// Asserts that the line of each row makes the row's request.
 fn ask(rt: &impl Abort, alloc: Global, rows: &[Row], may_write: bool) {
     for (line, words) in rows {
         asks(rt, alloc, line, may_write, words);

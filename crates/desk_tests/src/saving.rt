@@ -14,7 +14,7 @@ use docker_office::{StateCause, StateFault};
 use std::alloc::Global;
 use std::process::Abort;
 
-/// A desk that has read the morning train and taken its revision, and hasn't saved.
+/// Returns a desk that has read the morning train and taken its revision, and hasn't saved.
 fn desk_with_revision(rt: &impl Abort, alloc: Global) -> Desk {
     let mut desk = desk_of(rt, alloc, MORNING_STATE);
     let file = file_text(rt, alloc, REVISION);
@@ -58,7 +58,7 @@ fn a_desk_takes_prints_saves_and_goes_on(rt: HostRuntime) {
     ends(&rt, alloc, desk, false, BOTH_STATE);
 }
 
-/// Puts this state in the file `S`, as another command would.
+/// Writes this state to the file `S`, as another command would.
 fn puts(rt: &impl Abort, alloc: Global, folder: &mut Shelf, state: Parts) {
     let text = state_text(rt, alloc, state);
     put(rt, folder, "S", text.as_slice());
@@ -78,8 +78,8 @@ fn renews(
     same(rt, desk.is_unsaved(), unsaved);
 }
 
-/// The results of renewing from a file that holds the desk's state, and from one that holds another
-/// state.
+/// The result of renewing from a file that holds the desk's state, and the result of renewing from
+/// a file that holds another state.
 const SAME: Result<Compared, OfficeFault> = Ok(Compared::Same);
 
 const OTHER: Result<Compared, OfficeFault> = Ok(Compared::Other);
@@ -148,8 +148,8 @@ fn a_file_that_is_no_state_any_more(rt: HostRuntime) {
     ends(&rt, alloc, desk, false, MORNING_STATE);
 }
 
-/// Asserts that a save with a folder that fails at this call leaves the file and the desk
-/// unchanged, and that the next save succeeds.
+/// Asserts that a save leaves the file and the desk unchanged if the folder fails at this call, and
+/// that the next save succeeds.
 fn fails_once(rt: &impl Abort, alloc: Global, fails: Fails) {
     let mut folder = shelf_of(rt, alloc, MORNING_STATE);
     let mut seen = folder.look("S");

@@ -11,14 +11,14 @@ pub(crate) const WRITING: &[&str] = &["--write", "S"];
 /// The words of a session in which the desk may not write.
 pub(crate) const READING: &[&str] = &["S"];
 
-/// A sink with room for this many bytes.
+/// Returns a sink with room for this many bytes.
 pub(crate) fn room(rt: &impl Abort, alloc: Global, bytes: usize) -> Kept
     ensures { result.failures ≡ 0 }
 {
     Kept::new(alloc, bytes).expect(rt, "room")
 }
 
-/// These texts, joined.
+/// Returns the concatenation of these texts.
 pub(crate) fn joined(rt: &impl Abort, alloc: Global, texts: &[&str]) -> Vec<u8> {
     let mut all = Vec::new(alloc);
     for text in texts {

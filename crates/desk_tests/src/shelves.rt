@@ -6,14 +6,14 @@ use docker_host::Shelf;
 use std::alloc::Global;
 use std::process::Abort;
 
-/// Puts a text in a file, as another command would.
+/// Writes a text to a file, as another command would.
 pub(crate) fn put(rt: &impl Abort, shelf: &mut Shelf, name: &str, text: &[u8])
     ensures { shelf.new.failures ≡ shelf.old.failures }
 {
     shelf.put(name, text).expect(rt, "room");
 }
 
-/// A shelf with one file.
+/// Returns a shelf with one file.
 pub(crate) fn shelf_with(rt: &impl Abort, alloc: Global, name: &str, text: &[u8]) -> Shelf
     ensures { result.failures ≡ 0 }
 {
@@ -22,7 +22,7 @@ pub(crate) fn shelf_with(rt: &impl Abort, alloc: Global, name: &str, text: &[u8]
     shelf
 }
 
-/// A shelf with the file `S`, which holds this state.
+/// Returns a shelf with the file `S`, which holds this state.
 pub(crate) fn shelf_of(rt: &impl Abort, alloc: Global, state: Parts) -> Shelf
     ensures { result.failures ≡ 0 }
 {
@@ -30,8 +30,8 @@ pub(crate) fn shelf_of(rt: &impl Abort, alloc: Global, state: Parts) -> Shelf
     shelf_with(rt, alloc, "S", text.as_slice())
 }
 
-/// The shelf of most sessions. Its files have the state of the morning train, the revision of the
-/// morning train, this revision without its trailer, and the state of the revision.
+/// Returns the shelf of most sessions. Its files have the state of the morning train, the revision
+/// of the morning train, this revision without its trailer, and the state of the revision.
 pub(crate) fn shelf_of_morning(rt: &impl Abort, alloc: Global) -> Shelf
     ensures { result.failures ≡ 0 }
 {
@@ -45,7 +45,7 @@ pub(crate) fn shelf_of_morning(rt: &impl Abort, alloc: Global) -> Shelf
     shelf
 }
 
-/// The text of the file `S`; empty if there is no such file.
+/// Returns the text of the file `S`, or an empty text if there is no such file.
 pub(crate) fn text_of(shelf: &Shelf) -> &[u8] {
     match shelf.text("S") {
         Some(text) => text,

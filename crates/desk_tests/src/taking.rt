@@ -1,4 +1,4 @@
-//! Tests of what a desk takes and receives, and what it then knows.
+//! Tests of the files that a desk takes, the states that it receives, and what it then knows.
 
 ghost use Rattle.std.specs.Prelude.{◌≡◌};
 
@@ -15,14 +15,14 @@ use docker_office::{StateCause, StateFault};
 use std::alloc::Global;
 use std::process::Abort;
 
-/// The result when a desk takes the file `F2` of a shelf.
+/// Returns the result when a desk takes the file `F2` of a shelf.
 fn take(desk: &mut Desk, shelf: &mut Shelf) -> Result<(), OfficeFault>
     requires { shelf.old.failures ≡ 0 }
 {
     desk.take("F2", shelf)
 }
 
-/// The result when a desk takes a file with this text.
+/// Returns the result when a desk takes a file with this text.
 pub(crate) fn taken(
     rt: &impl Abort,
     alloc: Global,
@@ -32,7 +32,7 @@ pub(crate) fn taken(
     take(desk, &mut shelf_with(rt, alloc, "F2", text))
 }
 
-/// The result when a desk receives the state in a file with this text.
+/// Returns the result when a desk receives the state in a file with this text.
 fn received(
     rt: &impl Abort,
     alloc: Global,
@@ -91,7 +91,7 @@ fn refuses_state(rt: &impl Abort, alloc: Global, desk: &mut Desk, text: &[u8], f
     same(rt, received(rt, alloc, desk, "S2", text), Err(fault));
 }
 
-/// A fault at this offset.
+/// Returns a fault at this offset.
 fn fault_at(at: u64, cause: StateCause) -> StateFault {
     StateFault { at, cause }
 }

@@ -1,5 +1,5 @@
 //! The program `docker`: prints the docker of a timing point from CIF extracts, and keeps what is
-//! known of them in a state.
+//! known from them in a state.
 #![tactic(auto)]
 
 use docker_program::run;

@@ -1,4 +1,5 @@
--- How `clap` reads a command whose first word names a subcommand. The definitions of `clap` walk over the words; the walk stops at the subcommand's name.
+-- How `clap` reads a command whose first word is the name of a subcommand. The definitions of
+-- `clap` walk over the words. The walk stops at the subcommand's name.
 use Rattle.std.proofs.Common.{◌≡◌, ◌∙◌, ◌++◌, cond, true, false, refl, sym, ap, ap₂, List, [], ◌∷◌, Some, None, is_some, codes, option_map}
 use Rattle.std.specs.List.{find, fold}
 use Rattle.std.specs.Option.{option_map_or}
@@ -20,11 +21,13 @@ use Rattle.docker_cmd.proofs.RequiredWords.{built_top}
 abbrev pub built_with : List Shape → App
 built_with subs = record { top = built_top; subs = subs }
 
--- the walk's state after the walk stopped at a subcommand's name and left these words to the subcommand
+-- the walk's state after the walk stopped at a subcommand's name and left these words to the
+-- subcommand
 abbrev after_name : Text → List Text → Walk
 after_name name words = record (walk_from nothing_held) { stopped = Some (name, words) }
 
--- once the walk has stopped at a subcommand's name, later words add no fault at the program's own level
+-- once the walk has stopped at a subcommand's name, later words add no fault to the faults of the
+-- program itself
 no_later_fault : (names : Names) (name : Text) (seen words : List Text) → walk_fault built_top names (after_name name seen) words ≡ []
 unfolding walk_fault walked
 no_later_fault names name seen [] = refl
@@ -48,7 +51,8 @@ pub no_word : (subs : List Shape) → built_fault (built_with subs) nothing_held
 unfolding walk_fault defaults_fault
 no_word subs = refl
 
--- if the first word is plain and names no subcommand, there are two faults: an unknown argument and an invalid subcommand
+-- if the first word is plain and isn't a subcommand's name, there are two faults: an unknown
+-- argument and an invalid subcommand
 pub unnamed_fault : (subs : List Shape) (word : Text) (words : List Text) → is_plain_word word ≡ true
     → subcommand_met (names_of (built_with subs)) idle word ≡ None
     → built_fault (built_with subs) nothing_held (word ∷ words) ≡ kind.UnknownArgument ∷ kind.InvalidSubcommand ∷ []
@@ -62,20 +66,20 @@ module _ (subs : List Shape) (s : Shape) (name : Text) (words : List Text)
   abbrev names : Names
   names = names_of (built_with subs)
 
-  -- the first word is recognised as a subcommand's name
+  -- the walk recognises the first word as a subcommand's name
   named_met : word_met [] names false idle 1 name nothing_held ≡ (nothing_held, subcommand name)
   named_met = ap (λ o. subcommand_or_other [] o idle 1 name nothing_held) met
 
-  -- the walk stops at the name
+  -- the walk stops at the subcommand's name
   named_walked : walked [] names (walk_from nothing_held) name ≡ after_name name []
   unfolding walked
   named_walked = ap (λ (p : Held × Step). after_step [] name (walk_from nothing_held) p.0 p.1) named_met
 
-  -- the words after the name are left to the subcommand
+  -- the walk leaves the words after the name to the subcommand
   named_walk : walk [] names nothing_held (name ∷ words) ≡ after_name name words
   named_walk = ap (λ w. fold (walked [] names) w words) named_walked ∙ sym (walk_stopped [] names (walk_from nothing_held) name [] words)
 
-  -- the name itself has no fault
+  -- the subcommand's name has no fault
   named_turn : turn_fault built_top names (walk_from nothing_held) name ≡ []
   named_turn =
       let word_part = ap (λ o. other_fault built_top o name nothing_held) met
@@ -87,7 +91,7 @@ module _ (subs : List Shape) (s : Shape) (name : Text) (words : List Text)
   unfolding walk_fault
   named_walk_fault = ap₂ or_else named_turn (ap (λ w. walk_fault built_top names w words) named_walked ∙ no_later_fault names name [] words)
 
-  -- the faults of the command are the faults that the subcommand finds in the words after its name
+  -- the faults of the command are those that the subcommand has for the words after its name
   pub named_fault : built_fault (built_with subs) nothing_held (name ∷ words) ≡ level_fault s [] nothing_held words false []
   unfolding defaults_fault
   named_fault =
@@ -96,7 +100,7 @@ module _ (subs : List Shape) (s : Shape) (name : Text) (words : List Text)
       (check_fault built_top [] (is_some (option_map (λ x. rows_at x words) found)))) under
       ∙ or_else_none (level_fault s [] nothing_held words false [])
 
-  -- the matches of the command are the subcommand's matches for the words after its name
+  -- the matches of the command are those that the subcommand has for the words after its name
   pub named_rows : entered (built_with subs) (walk [] names nothing_held (name ∷ words)).stopped ≡ Some (rows_at s words)
   named_rows =
       ap (λ (w : Walk). entered (built_with subs) w.stopped) named_walk ∙ ap (option_map (λ x. rows_at x words)) under

@@ -7,12 +7,12 @@ use Rattle.clap.specs.Walk.{Row, first_of}
 use Rattle.docker_cmd.specs.Words.{Text, texts}
 use Rattle.docker_cmd.specs.Grammar.{found_words}
 
--- looking up all ids returns `found`, the words of the ids before `i`, followed by the words of the ids from `i` on. It returns None if one of the ids from `i`
--- on has no word
+-- looking up all ids returns `found`, the words of the ids before `i`, followed by the words of the
+-- ids from `i` on. It returns None if one of the ids from `i` on has no word
 abbrev pub HasFound : List (Bor Text) → List Row → ℕ → List Text → Type 0
 HasFound ids rows i found = found_words (texts ids) rows ≡ option_map (λ rest. found ++ rest) (found_words (texts (drop i ids)) rows)
 
--- before the first id, no words have been found
+-- looking up no ids returns no words
 pub none_yet : (ids : List (Bor Text)) (rows : List Row) → HasFound ids rows 0 []
 none_yet ids rows = by (found_words (texts ids) rows)
   where
@@ -20,18 +20,21 @@ none_yet ids rows = by (found_words (texts ids) rows)
     by None = refl
     by (Some words) = refl
 
--- the words found before id `i`, then this word of id `i`, then the words of later ids; None if any of these is missing
+-- the words found before id `i`, then this word of id `i`, then the words of later ids; None if any
+-- of these is missing
 abbrev with_word : List (Bor Text) → List Row → ℕ → List Text → Option Text → Option (List Text)
 with_word ids rows i found here = option_map (λ rest. found ++ rest)
     (option_and_then (λ word. option_map (λ words. word ∷ words) (found_words (texts (drop (i + 1) ids)) rows)) here)
 
--- the words of all ids are the words found before id `i`, the word of id `i`, and the words of later ids
+-- the result of looking up all ids is made of the words found before id `i`, the word of id `i`,
+-- and the words of later ids
 one_on : (ids : List (Bor Text)) (rows : List Row) (i : ℕ) (d : Bor Text) (found : List Text) → i < length ids → HasFound ids rows i found
     → found_words (texts ids) rows ≡ with_word ids rows i found (first_of (slice_index_or ids i d).now rows)
 one_on ids rows i d found within has =
     has ∙ ap (λ left. option_map (λ rest. found ++ rest) (found_words (texts left) rows)) (drop_more ids i d within)
 
--- if id `i` has a word, this word is appended to the words found before
+-- if id `i` has a word, appending this word to the words found before gives the words found up to
+-- and including id `i`
 pub one_more : (ids : List (Bor Text)) (rows : List Row) (i : ℕ) (d : Bor Text) (found : List Text) (word : Text) → i < length ids
     → first_of (slice_index_or ids i d).now rows ≡ Some word → HasFound ids rows i found → HasFound ids rows (i + 1) (found ++ word ∷ [])
 one_more ids rows i d found word within here has =

@@ -11,15 +11,15 @@ use Rattle.docker_cmd.specs.Job.{AskNothing, IsJobOf, IsTaskOf, JobView, NameNoJ
 use Rattle.docker_cmd.proofs.Rows.{named_back, words_counted}
 use Rattle.docker_cmd.proofs.TaskWords.{first_word, name_back, other_words, same_subcommand}
 
--- words that name a job name its subcommand
+-- if words name a job, they name the job's subcommand
 pub job_subcommand : (words : List Text) (job : JobView) → IsJobOf words job → NamesSubcommand words (subcommand_of job.task) job.words
 job_subcommand words job is = record { plain = is.plain; whole = is.whole; count = words_counted job.task job.words is.required }
 
--- words that name no subcommand name no job
+-- if words name no subcommand, they name no job
 pub no_subcommand : (words : List Text) → NameNoSubcommand words → NameNoJob words
 no_subcommand words none = λ job is. none (subcommand_of job.task) job.words (job_subcommand words job is)
 
--- words that name a subcommand, but no task of it, name no job
+-- if words name a subcommand, but no task of this subcommand, they name no job
 pub asks_nothing : (words : List Text) (s : Subcommand) (behind : List Text) → NamesSubcommand words s behind → IsTaskOf s behind None → NameNoJob words
 asks_nothing words s behind names nothing = λ job is.
     let same = sym names.whole ∙ is.whole in
@@ -32,20 +32,22 @@ asks_nothing words s behind names nothing = λ job is.
 pub no_plain_job : (words : List Text) → list_all is_plain_word words ≡ false → NameNoJob words
 no_plain_job words never = λ job is. true≢false (sym is.plain ∙ never)
 
--- if the number of words is wrong, the words name no task of the subcommand
+-- if the number of words isn't the number that a subcommand requires, the words name no task of the
+-- subcommand
 pub miscounted : (s : Subcommand) (words ids : List (Bor Text)) → texts ids ≡ ids_of s → (length words ≡ length ids → ⊥) → AskNothing s (texts words)
 miscounted s words ids are never = λ task same is.
     let required = words_counted task (texts words) is ∙ ap (λ (t : Subcommand). length (ids_of t)) same in
     never (sym (length-map words (λ word. word.now)) ∙ required ∙ ap length (sym are) ∙ length-map ids (λ id. id.now))
 
--- if the first word names no subcommand, the words name no job
+-- if the first word isn't a subcommand's name, the words name no job
 pub unnamed_job : (words : List (Bor Text)) (d : Bor Text) → 1 ≤ length words → None ≡ subcommand_named (slice_index_or words 0 d).now → NameNoJob (texts words)
 unnamed_job [] d some none = absurd (omega (arith, some))
 unnamed_job (word ∷ words) d some none = λ job is.
     let never : None ≡ Some (subcommand_of job.task) = none ∙ ap subcommand_named (ap first_word is.whole) ∙ named_back (subcommand_of job.task) in
     cc
 
--- if plain words begin with a subcommand's name, they name a job if and only if the words after the name name a task of it
+-- if plain words begin with a subcommand's name, they name no job if and only if the words after
+-- the name name no task of the subcommand
 pub behind_asks : (words : List (Bor Text)) (d : Bor Text) (s : Subcommand) (test : Bool) → 1 ≤ length words
     → Some s ≡ subcommand_named (slice_index_or words 0 d).now → list_all is_plain_word (texts words) ≡ true
     → ((test ≡ false) ↔ AskNothing s (texts (take (length words - 1) (drop 1 words)))) → (test ≡ false) ↔ NameNoJob (texts words)

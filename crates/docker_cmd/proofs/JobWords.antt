@@ -1,4 +1,5 @@
--- `clap` accepts words if and only if they name a subcommand. If `clap` accepts the words, it finds that subcommand and the words after it.
+-- `clap` accepts words if and only if they name a subcommand. If `clap` accepts the words, it finds
+-- that subcommand and the words after it.
 use Rattle.std.proofs.Common.{◌≡◌, ◌∙◌, ◌⊎◌, ◌||◌, inl, inr, Bool, cond, true, false, refl, sym, ap, subst}
 use Rattle.std.proofs.Common.{List, [], ◌∷◌, length, map, Some, None, option_map, true≢false, arith}
 use Rattle.std.specs.Prelude.{option_and_then}
@@ -42,12 +43,12 @@ Judged words = Takes words ⊎ Refuses words
 
 -- ---- the number of words
 
--- there are as many words as ids, or there is a fault for the number of words
+-- either there are as many words as ids and no fault, or the numbers differ and there is a fault
 abbrev IsCounted : List Text → List Text → Type 0
 IsCounted ids words = ((length words ≡ length ids) × (count_fault ids words ≡ []))
     ⊎ ((length words ≡ length ids → ⊥) × (is_empty (count_fault ids words) ≡ false))
 
--- the number of words is right, or there is a fault for it
+-- for any ids and words, `IsCounted` holds
 counted : (ids words : List Text) → IsCounted ids words
 counted [] [] = inl (refl, refl)
 counted [] (word ∷ words) = inr ((λ same. omega (arith, same)), refl)
@@ -59,26 +60,26 @@ counted (id ∷ ids) (word ∷ words) = by (counted ids words)
     by (inr never) = inr ((λ same. never.0 (omega (arith, same))), never.1)
 
 module _ (s : Subcommand) (words : List Text) (plain : list_all is_plain_word words ≡ true) where
-  -- after a subcommand's name, the only faults are for the number of words
+  -- after a subcommand's name, the only faults are those for a wrong number of words
   fault_at_name : fault_of docker_app (name_of s ∷ words) ≡ count_fault (ids_of s) words
   fault_at_name =
       let k = known s in
       named_fault leaves (leaf_of s) (name_of s) words k.met k.under ∙ leaf_fault (name_of s) (ids_of s) words k.fits k.fresh plain
 
-  -- after a subcommand's name, each word is looked up at its id
+  -- after a subcommand's name, the words are looked up at the subcommand's ids, in order
   found_at_name : found_in (subcommand_of docker_app (name_of s ∷ words)) ≡ found_at (name_of s) (paired (ids_of s) words)
   found_at_name =
       let k = known s in
       ap found_in (named_rows leaves (leaf_of s) (name_of s) words k.met k.under)
       ∙ ap (found_at (name_of s)) (rows_found (name_of s) (ids_of s) words k.fits k.fresh plain)
 
-  -- if there are as many words as required, each is found
+  -- if there are as many words as the subcommand requires, looking them up finds all of them
   words_at_name : length words ≡ length (ids_of s) → found_at (name_of s) (paired (ids_of s) words) ≡ Some (pair_of s words)
   words_at_name count =
       ap (option_and_then (λ t. option_map (pair_of t) (found_words (ids_of t) (paired (ids_of s) words)))) (named_back s)
       ∙ ap (option_map (pair_of s)) ((known s).found words count)
 
-  -- words after a subcommand's name are accepted or refused by their number
+  -- after a subcommand's name, `clap` accepts or refuses the words, depending on their number
   named_judged : Judged (name_of s ∷ words)
   named_judged = elim (counted (ids_of s) words) [
     | inl is ↦ inl (record {
@@ -98,31 +99,33 @@ module _ (s : Subcommand) (words : List Text) (plain : list_all is_plain_word wo
 
 -- ---- words of any kind
 
--- the word is the name of none of these subcommands
+-- the word isn't the name of any subcommand in this list
 abbrev IsNoneOf : Text → List Subcommand → Type 0
 IsNoneOf word [] = Unit {0}
 IsNoneOf word (s ∷ ss) = (bytes_eq (name_of s) word ≡ false) × IsNoneOf word ss
 
--- if the word is the name of none of these subcommands, `clap` finds none of them for it
+-- if the word isn't the name of any subcommand in a list, `clap` doesn't recognise the word
 none_answers : (word : Text) (ss : List Subcommand) → IsNoneOf word ss → find (answers_to word) (map label_of (map leaf_of ss)) ≡ None
 none_answers word [] none = refl
 none_answers word (s ∷ ss) none =
     ap (λ b. cond (b || false) (Some (name_of s, [])) (find (answers_to word) (map label_of (map leaf_of ss)))) none.0
     ∙ none_answers word ss none.1
 
--- if the word is the name of none of these subcommands, a search by name finds none of them
+-- if the word isn't the name of any subcommand in a list, a search of the list by name returns
+-- `None`
 none_found : (word : Text) (ss : List Subcommand) → IsNoneOf word ss → find (λ s. bytes_eq (name_of s) word) ss ≡ None
 none_found word [] none = refl
 none_found word (s ∷ ss) none = ap (λ b. cond b (Some s) (find (λ t. bytes_eq (name_of t) word) ss)) none.0 ∙ none_found word ss none.1
 
--- if the word is the name of no subcommand in the table, it isn't any subcommand's name
+-- the table has every subcommand: a word that isn't the name of any subcommand in the table isn't
+-- the name of `s`
 no_name : (word : Text) (s : Subcommand) → IsNoneOf word subcommands → word ≡ name_of s → ⊥
 unfolding subcommand_named
 no_name word s none is =
     let never : None ≡ Some s = sym (none_found word subcommands none) ∙ ap subcommand_named is ∙ named_back s in
     cc
 
--- plain words are refused if the first one names no subcommand
+-- `clap` refuses plain words whose first word isn't a subcommand's name
 unnamed_judged : (word : Text) (words : List Text) → list_all is_plain_word (word ∷ words) ≡ true → IsNoneOf word subcommands → Judged (word ∷ words)
 unnamed_judged word words plain none =
     let fault = unnamed_fault leaves word words (both _ _ plain).0 (ap (option_map (λ (s : Text × List Text). s.0)) (none_answers word subcommands none)) in
@@ -131,7 +134,8 @@ unnamed_judged word words plain none =
       names_none = λ s behind are. no_name word s none (ap first_word are.whole);
     })
 
--- to show that plain words are accepted or refused, it is enough to show it under the assumption that the first word names none of these subcommands
+-- to show that `clap` accepts or refuses plain words, it is enough to show this for a first word
+-- that isn't the name of any subcommand in a list
 by_name : (word : Text) (words : List Text) → list_all is_plain_word words ≡ true → (ss : List Subcommand) → (IsNoneOf word ss → Judged (word ∷ words))
     → Judged (word ∷ words)
 by_name word words plain [] unnamed = unnamed tt

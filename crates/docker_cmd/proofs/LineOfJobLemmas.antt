@@ -1,4 +1,4 @@
--- Reading the job line byte by byte: what the bytes that were read imply about the source's text.
+-- Reading the job line byte by byte, and what each byte means for the text of the source.
 use Rattle.std.proofs.Common.{◌≡◌, ℕ, ◌<◌, ◌≤◌, ◌≢◌, List, [], ◌∷◌, ◌++◌, length, Bool, true, false, refl, sym, ◌∙◌, ap}
 use Rattle.std.proofs.Common.{subst, arith, append_assoc, length-append, append-nil, Some, None, inl, inr, get_or}
 use Rattle.std.specs.Prelude.{Option, option_map, ◌&&◌, ◌⊎◌, nat_le}
@@ -16,7 +16,8 @@ use Rattle.docker_cmd.specs.JobLine.{ReadsLine, HasNoLine, HasNoJob, HasJob, Rea
 abbrev pub ArePrintable : List ℕ → Type 0
 ArePrintable = AllByRecursion (λ b. is_printable b ≡ true)
 
--- a text doesn't begin with a line of printable bytes if some byte before its first line feed isn't printable
+-- if a byte before the first line feed of a text isn't printable, the text doesn't begin with a
+-- line of printable bytes and a line feed
 clash : (a b : List ℕ) (x : ℕ) (r s : List ℕ) → ArePrintable a → ArePrintable b → is_printable x ≡ false → x ≢ 10 → a ++ x ∷ r ≡ b ++ 10 ∷ s → ⊥
 clash [] [] x r s a_good b_good bad other same = other (cc)
 clash [] (z ∷ b) x r s a_good b_good bad other same =
@@ -29,7 +30,7 @@ clash (y ∷ a) [] x r s a_good b_good bad other same =
     cc
 clash (y ∷ a) (z ∷ b) x r s a_good b_good bad other same = clash a b x r s a_good.1 b_good.1 bad other (cc)
 
--- printable bytes include no line feed
+-- printable bytes contain no line feed
 ended : (a b s : List ℕ) → ArePrintable a → a ≡ b ++ 10 ∷ s → ⊥
 ended [] [] s good same = cc
 ended [] (z ∷ b) s good same = cc
@@ -39,7 +40,7 @@ ended (y ∷ a) [] s good same =
     cc
 ended (y ∷ a) (z ∷ b) s good same = ended a b s good.1 (cc)
 
--- if a text begins with `a`, all of it printable, its first line is at least as long as `a`
+-- if a text begins with printable bytes, its first line is at least as long as these bytes
 long : (a b r s : List ℕ) → ArePrintable a → length b < length a → a ++ r ≡ b ++ 10 ∷ s → ⊥
 long [] b r s good short same = absurd (omega arith)
 long (y ∷ a) [] r s good short same =
@@ -48,12 +49,12 @@ long (y ∷ a) [] r s good short same =
     cc
 long (y ∷ a) (z ∷ b) r s good short same = long a b r s good.1 (omega arith) (cc)
 
--- if a printable byte is appended to printable bytes, all bytes of the result are printable
+-- appending a printable byte to printable bytes gives printable bytes
 pub printable_more : (line : List ℕ) (b : ℕ) → ArePrintable line → is_printable b ≡ true → ArePrintable (line ++ b ∷ [])
 printable_more [] b good here = (here, tt)
 printable_more (y ∷ line) b good here = (good.0, printable_more line b good.1 here)
 
--- if the bytes of a line were read and then one more byte, the line with this byte appended was read
+-- reading the bytes of a line and then one more byte is reading the line with this byte appended
 pub reads_on : (old now new : Option (List ℕ)) (line : List ℕ) (b : ℕ) → Reads old line now → Reads now (b ∷ []) new → Reads old (line ++ b ∷ []) new
 reads_on old now None line b first then_one = first ∙ ap (option_map (λ rest. line ++ rest)) then_one
 reads_on old now (Some rest) line b first then_one = first ∙ ap (option_map (λ rest. line ++ rest)) then_one ∙ ap Some (sym (append_assoc line (b ∷ []) rest))
@@ -67,7 +68,7 @@ no_line_at_end (Some text) (Some rest) line read end good = λ other behind is.
     let whole : text ≡ line = same ∙ ap (λ r. line ++ r) end ∙ append-nil line in
     ended line other behind good (sym whole ∙ is.whole)
 
--- a text has no job line if its first byte that isn't printable isn't a line feed
+-- if the first byte of a text that isn't printable isn't a line feed, the text has no job line
 pub no_line_at : (old now new : Option (List ℕ)) (line : List ℕ) (b : ℕ) → Reads old line now → Reads now (b ∷ []) new → ArePrintable line
     → is_printable b ≡ false → b ≢ 10 → HasNoLine old
 no_line_at old now new line b first feed good bad other = by old new (reads_on old now new line b first feed)
@@ -89,7 +90,7 @@ no_line_behind (Some text) (Some rest) line read good long_line = λ found behin
     let short : length found ≤ 255 = is.line_text.short in
     long line found rest behind good (omega arith) (sym same ∙ is.whole)
 
--- a text has no job line if it begins with 255 printable bytes and no line feed follows them
+-- if 255 printable bytes begin a text and the next byte isn't a line feed, the text has no job line
 pub no_line_full : (old now new : Option (List ℕ)) (line : List ℕ) (b : ℕ) → Reads old line now → Reads now (b ∷ []) new → ArePrintable line
     → length line ≡ 255 → b ≢ 10 → HasNoLine old
 no_line_full old now new line b first feed good full other = by (is_printable b) refl
@@ -99,7 +100,7 @@ no_line_full old now new line b first feed good full other = by (is_printable b)
         (omega (arith, length-append line (b ∷ [])))
     by false here = no_line_at old now new line b first feed good here other
 
--- a text has at most one first line: two lines that it begins with, each followed by a line feed, are equal
+-- a text determines the line before its first line feed
 one_line : (a b r s : List ℕ) → ArePrintable a → ArePrintable b → a ++ 10 ∷ r ≡ b ++ 10 ∷ s → a ≡ b
 one_line [] [] r s a_good b_good same = refl
 one_line [] (z ∷ b) r s a_good b_good same =
@@ -115,7 +116,7 @@ one_line (y ∷ a) (z ∷ b) r s a_good b_good same =
     let rest : a ≡ b = one_line a b r s a_good.1 b_good.1 (cc) in
     cc
 
--- if the words of a source's job line name no job, the source's text names no job
+-- if a job line was read and its words name no job, the source names no job
 pub no_job_on_line : (old new : Option (List ℕ)) (line : List ℕ) → ReadsLine old line new → NameNoJob (words_in line) → HasNoJob old
 no_job_on_line None new line read none = tt
 no_job_on_line (Some text) new line read none = λ other behind is.
@@ -136,20 +137,20 @@ printable_small b good = by (leb_tells b 126) good
         under true two false_ both = cc
         under false two false_ both = cc
 
--- a job line is ASCII
+-- the bytes of a job line are ASCII
 pub line_ascii : (line : List ℕ) → AllPass is_printable line → IsAscii line
 line_ascii line good = IsAscii-from_all line (λ k d within. printable_small (get_or line k d) (good k d within))
 
--- if the words of a source's job line name a job, the source's text names a job
+-- if a job line was read and its words name a job, the source names a job
 pub job_on_line : (old new : Option (List ℕ)) (line : List ℕ) → ReadsLine old line new → ¬ NameNoJob (words_in line) → HasJob old
 job_on_line None new line read some = tt
 job_on_line (Some text) new line read some = (line, (read.0, (read.1, some)))
 
--- if the bytes read are a line of at most 256 bytes, at most 256 bytes were read
+-- reading a line of at most 256 bytes is reading at most 256 bytes
 pub reads_few : (old now new : Option (List ℕ)) (line : List ℕ) → Reads old line now → new ≡ now → length line ≤ 256 → ReadsAtMost 256 old new
 reads_few old now new line read same few = record { lost = line; few = few; read = subst (Reads old line) (sym same) read }
 
--- if the bytes read are a line of at most 255 bytes and one more byte, at most 256 bytes were read
+-- reading a line of at most 255 bytes and one more byte is reading at most 256 bytes
 pub reads_one_more : (old now new : Option (List ℕ)) (line : List ℕ) (b : ℕ) → Reads old line now → Reads now (b ∷ []) new → length line ≤ 255
     → ReadsAtMost 256 old new
 reads_one_more old now new line b first then_one few =

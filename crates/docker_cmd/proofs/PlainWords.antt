@@ -1,4 +1,5 @@
--- How `clap` reads a plain word, one that isn't empty and has no leading hyphen: as a value, or as a subcommand's name.
+-- How `clap` reads a plain word: as a value, or as a subcommand's name. A plain word isn't empty
+-- and doesn't begin with a hyphen.
 use Rattle.std.proofs.Common.{◌≡◌, ◌∙◌, ℕ, cond, true, false, refl, ap, List, [], ◌∷◌, Some, None}
 use Rattle.std.specs.List.{fold}
 use Rattle.std.specs.Option.{option_and_then}
@@ -12,7 +13,7 @@ use Rattle.clap.specs.Kinds.{or_else}
 use Rattle.clap.proofs.SimpleLemmas.{is_false}
 use Rattle.docker_cmd.specs.Words.{is_plain_word}
 
--- the walk's state between two words, at this position among the values
+-- the walk's state between two words, where the next value has this position
 abbrev pub at : Held → ℕ → Walk
 at h position = record (walk_from h) { position = position }
 
@@ -34,7 +35,7 @@ no_double_hyphen : (word : Text) → is_plain_word word ≡ true → bytes_eq wo
 no_double_hyphen [] plain = refl
 no_double_hyphen (byte ∷ bytes) plain = rw (is_false _ plain) refl
 
--- a plain word that names no subcommand is read as a value
+-- `clap` reads a plain word that isn't a subcommand's name as a value
 pub plain_met : (c : List Rule) (names : Names) (position : ℕ) (word : Text) (h : Held) → is_plain_word word ≡ true → subcommand_met names idle word ≡ None
     → word_met c names false idle position word h ≡ (h, value)
 plain_met c names position word h plain none =
@@ -43,7 +44,7 @@ plain_met c names position word h plain none =
     ∙ ap (λ long. long_or_other c idle word long h) (no_long word plain)
     ∙ ap (λ flags. short_or_plain c idle word flags h) (no_short word plain)
 
--- a plain word that names no subcommand is no fault by itself
+-- a plain word that isn't a subcommand's name has no fault by itself
 pub plain_fault : (s : Shape) (names : Names) (word : Text) (h : Held) → is_plain_word word ≡ true → subcommand_met names idle word ≡ None
     → word_fault s names false idle word h ≡ []
 plain_fault s names word h plain none =
@@ -53,14 +54,14 @@ plain_fault s names word h plain none =
     ∙ ap (λ flags. Rattle.std.specs.Option.option_map_or (λ fs. Rattle.clap.specs.Faults.bundle_fault s.rules s.args_override_self fs h) flags [])
     (no_short word plain)
 
--- the walk takes a plain word that names no subcommand as the value of its position
+-- the walk takes a plain word that isn't a subcommand's name as the value at its position
 pub plain_walked : (c : List Rule) (names : Names) (position : ℕ) (word : Text) (h : Held) → is_plain_word word ≡ true → subcommand_met names idle word ≡ None
     → walked c names (at h position) word ≡ to_positional c (arg_by_index c position) word (at h position) h
 unfolding walked
 plain_walked c names position word h plain none =
     ap (λ (met : Held × Step). after_step c word (at h position) met.0 met.1) (plain_met c names position word h plain none)
 
--- the only fault of a plain word that names no subcommand is the fault of its position
+-- the only fault of a plain word that isn't a subcommand's name is the fault of its position
 pub plain_turn : (s : Shape) (names : Names) (position : ℕ) (word : Text) (h : Held) → is_plain_word word ≡ true → subcommand_met names idle word ≡ None
     → turn_fault s names (at h position) word ≡ step_fault s position h value
 plain_turn s names position word h plain none =
@@ -68,7 +69,8 @@ plain_turn s names position word h plain none =
     let fault = plain_fault s names word h plain none in
     λ i. or_else (fault i) (step_fault s position (met i).0 (met i).1)
 
--- the faults of a walk that starts with a plain word are the faults of this word, followed by the faults of the other words
+-- the faults of a walk over a plain word and other words are the word's faults, followed by the
+-- other words' faults
 pub plain_walk_fault : (s : Shape) (names : Names) (position : ℕ) (word : Text) (rest : List Text) (h : Held) → is_plain_word word ≡ true
     → subcommand_met names idle word ≡ None
     → walk_fault s names (at h position) (word ∷ rest)

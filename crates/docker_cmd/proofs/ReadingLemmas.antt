@@ -1,4 +1,4 @@
--- The result of reading two sources, derived from the results of reading each.
+-- The result of reading two sources follows from the results of reading each.
 use Rattle.std.proofs.Common.{◌≡◌, ◌⊎◌, ℕ, arith, refl, sym, subst, inl, inr, Err}
 use Rattle.docker_model.specs.file.File.{most_records}
 use Rattle.docker_model.specs.state.StateText.{Format, dks_2}
@@ -14,7 +14,8 @@ use Rattle.docker_cmd.specs.Prepared.{ReadsFew, ReadsFewOfFile, ReadsFewOfState,
 
 -- ---- one source
 
--- if the only source should hold a state, the fault with which reading it ends is a valid reason
+-- if reading a state from the only source ends with a fault, this fault is one for which the source
+-- may be refused
 pub state_refused_alone : (format : Format) (first left second : DeviceBytes) (failed failed_now : ℕ) (fault : OfficeFault)
     → StopsReading format most_bytes first left (IsWhyUnread WantsMemory format most_bytes first left (why_unread fault))
     (CountsWhy (why_unread fault) failed failed_now)
@@ -30,7 +31,8 @@ state_refused_alone format first left second failed failed_now fault ends = reco
     by office.Lapsed why = why
     by office.Sink why = why
 
--- if reading the only source's state ends with a fault, the source has failed if and only if the fault is `Source`
+-- if reading a state from the only source ends with a fault, the source has failed if and only if
+-- the fault is `Source`
 pub state_failed_alone : (one one_now two : ℕ) (fault : OfficeFault) → CountsWhy (why_unread fault) one one_now → FailsBy one one_now two two fault
 state_failed_alone one one_now two (office.File fault) counted = elim counted [ ]
 state_failed_alone one one_now two (office.State fault) counted = (counted, refl)
@@ -39,7 +41,8 @@ state_failed_alone one one_now two office.Memory counted = (counted, refl)
 state_failed_alone one one_now two office.Lapsed counted = counted
 state_failed_alone one one_now two office.Sink counted = counted
 
--- if the only source should hold a file, the fault with which taking it ends is a valid reason
+-- if taking a file from the only source ends with a fault, this fault is one for which the source
+-- may be refused
 pub file_refused_alone : {A : Type 0} (IsMade : A → Type 0) (first left second : DeviceBytes) (fault : OfficeFault) → ReadsFewOfFile first left
     → IsTakingOutcome most_records IsMade first left (Err fault)
     → ReadsFew taken_file first left second second (IsWhyRefused taken_file first left second second fault)
@@ -53,7 +56,8 @@ file_refused_alone IsMade first left second fault few outcome = record { first_f
     by office.Lapsed why = why
     by office.Sink why = why
 
--- if taking the only source's file ends with a fault, the source has failed if and only if the fault is `Source`
+-- if taking a file from the only source ends with a fault, the source has failed if and only if the
+-- fault is `Source`
 pub file_failed_alone : (A : Type 0) (one one_now two : ℕ) (fault : OfficeFault) → CountsTaking {A = A} one one_now (Err fault)
     → FailsBy one one_now two two fault
 file_failed_alone A one one_now two (office.File fault) counted = (counted, refl)
@@ -65,7 +69,8 @@ file_failed_alone A one one_now two office.Sink counted = counted
 
 -- ---- two sources
 
--- if reading the state in the first source ends with a fault, the file in the second isn't read, and the fault is a valid reason
+-- suppose that reading a state from the first source ends with a fault, so that the file in the
+-- second source isn't read. Then this fault is one for which the sources may be refused
 pub file_unread : (first left second : DeviceBytes) (fault : OfficeFault)
     → ReadsFew (one_state dks_2) first left second second (IsWhyRefused (one_state dks_2) first left second second fault)
     → ReadsFew state_and_file first left second second (IsWhyRefused state_and_file first left second second fault)
@@ -79,7 +84,8 @@ file_unread first left second fault reads = record { first_few = reads.first_few
     by office.Lapsed why = why
     by office.Sink why = why
 
--- if reading the state in the first source ends with a fault, the state in the second isn't read, and the fault is a valid reason
+-- suppose that reading a state from the first source ends with a fault, so that the state in the
+-- second source isn't read. Then this fault is one for which the sources may be refused
 pub state_unread : (first left second : DeviceBytes) (fault : OfficeFault)
     → ReadsFew (one_state dks_2) first left second second (IsWhyRefused (one_state dks_2) first left second second fault)
     → ReadsFew two_states first left second second (IsWhyRefused two_states first left second second fault)
@@ -93,7 +99,8 @@ state_unread first left second fault reads = record { first_few = reads.first_fe
     by office.Lapsed why = why
     by office.Sink why = why
 
--- if the first source's state is good and taking the second source's file ends with a fault, this fault is a valid reason
+-- if the first source held a state and taking a file from the second ends with a fault, this fault
+-- is one for which the sources may be refused
 pub file_refused : {A : Type 0} (IsMade : A → Type 0) (first left second second_left : DeviceBytes) (fault : OfficeFault) → HoldsSomeState first
     → ReadsFewOfState dks_2 first left → ReadsFewOfFile second second_left → IsTakingOutcome most_records IsMade second second_left (Err fault)
     → ReadsFew state_and_file first left second second_left (IsWhyRefused state_and_file first left second second_left fault)
@@ -112,7 +119,8 @@ file_refused IsMade first left second second_left fault holds few second_few out
     by office.Lapsed why = why
     by office.Sink why = why
 
--- if the first source's state is good and reading the second source's state ends with a fault, this fault is a valid reason
+-- if the first source held a state and reading a state from the second ends with a fault, this
+-- fault is one for which the sources may be refused
 pub state_refused : (first left second second_left : DeviceBytes) (failed failed_now : ℕ) (fault : OfficeFault) → HoldsSomeState first
     → ReadsFewOfState dks_2 first left
     → StopsReading dks_2 most_bytes second second_left (IsWhyUnread WantsMemory dks_2 most_bytes second second_left (why_unread fault))
@@ -133,9 +141,8 @@ state_refused first left second second_left failed failed_now fault holds few re
     by office.Lapsed why = why
     by office.Sink why = why
 
--- suppose that the first source hasn't failed, and taking the second source's file ends with a fault. Then one of the two sources has failed if and only if the
--- fault is `Source`
--- `Source`
+-- suppose that the first source hasn't failed, and taking a file from the second ends with a fault.
+-- Then one of the two sources has failed if and only if the fault is `Source`
 pub file_failed : (A : Type 0) (one one_now two two_now : ℕ) (fault : OfficeFault) → one_now ≡ one → CountsTaking {A = A} two two_now (Err fault)
     → FailsBy one one_now two two_now fault
 file_failed A one one_now two two_now (office.File fault) same counted = (same, counted)
@@ -145,9 +152,8 @@ file_failed A one one_now two two_now office.Memory same counted = (same, counte
 file_failed A one one_now two two_now office.Lapsed same counted = counted
 file_failed A one one_now two two_now office.Sink same counted = counted
 
--- suppose that the first source hasn't failed, and reading the second source's state ends with a fault. Then one of the two sources has failed if and only if
--- the fault is `Source`
--- `Source`
+-- suppose that the first source hasn't failed, and reading a state from the second ends with a
+-- fault. Then one of the two sources has failed if and only if the fault is `Source`
 pub state_failed : (one one_now two two_now : ℕ) (fault : OfficeFault) → one_now ≡ one → CountsWhy (why_unread fault) two two_now
     → FailsBy one one_now two two_now fault
 state_failed one one_now two two_now (office.File fault) same counted = elim counted [ ]
@@ -159,7 +165,7 @@ state_failed one one_now two two_now office.Sink same counted = counted
 
 -- ---- the sources of a task
 
--- what was read from some sources was also read from sources equal to them
+-- replacing the sources with equal ones preserves what was read from them
 pub read_at : (asked sources : Sources) (first left second second_left : DeviceBytes) (read : ReadView) → asked ≡ sources
     → ReadsFew (sources_meant sources) first left second second_left
     (IsContentOf (sources_meant sources) first second read × HasReadToEnd (sources_meant sources) left second_left)
@@ -169,7 +175,7 @@ read_at asked sources first left second second_left read is reads =
     subst (λ (s : Sources). ReadsFew (sources_meant s) first left second second_left
     (IsContentOf (sources_meant s) first second read × HasReadToEnd (sources_meant s) left second_left)) (sym is) reads
 
--- a fault for which some sources were refused is also a reason for sources equal to them
+-- replacing the sources with equal ones preserves the fault for which they may be refused
 pub refused_at : (asked sources : Sources) (first left second second_left : DeviceBytes) (fault : OfficeFault) → asked ≡ sources
     → ReadsFew (sources_meant sources) first left second second_left (IsWhyRefused (sources_meant sources) first left second second_left fault)
     → ReadsFew (sources_meant asked) first left second second_left (IsWhyRefused (sources_meant asked) first left second second_left fault)
@@ -177,11 +183,12 @@ refused_at asked sources first left second second_left fault is reads =
     subst (λ (s : Sources). ReadsFew (sources_meant s) first left second second_left
     (IsWhyRefused (sources_meant s) first left second second_left fault)) (sym is) reads
 
--- if some sources aren't `no_source`, neither are sources equal to them
+-- replacing the sources with equal ones preserves that they aren't `no_source`
 pub some_at : (P : Type 0) (asked sources : Sources) → asked ≡ sources → ¬ HasNoSource (sources_meant sources) → HasNoSource (sources_meant asked) → P
 some_at P asked sources is some none = absurd (some (subst (λ (s : Sources). HasNoSource (sources_meant s)) is none))
 
--- the second source was read only after the first held a good state
+-- if there is a second source, either the reading stopped at the first, or the first was good and
+-- the second was read
 pub read_second : {First Second Good Kept : Type 0} → Second → First ⊎ (Good × Kept) → First ⊎ (Second × Good × Kept)
 read_second has (inl left) = inl left
 read_second has (inr both) = inr (has, both.0, both.1)

@@ -1,4 +1,4 @@
--- How `clap` reads the words after a subcommand's name, if the subcommand requires some.
+-- How `clap` reads the words after a subcommand's name, if the subcommand requires words.
 use Rattle.std.proofs.Common.{◌≡◌, ◌∙◌, ◌+◌, ◌&&◌, ◌||◌, ℕ, Bool, cond, true, false, not, min, map, refl, sym, ap}
 use Rattle.std.proofs.Common.{subst, true≢false, List, [], ◌∷◌, ◌++◌, Some, None, append_assoc, append-nil}
 use Rattle.std.specs.List.{find, fold, list_all, list_any}
@@ -33,16 +33,16 @@ leaf name ids = built_leaf (inherited built_top (words_shape name ids))
 abbrev pub placed : ℕ → Text → Rule
 placed position id = with_index position (filled (required_rule id))
 
--- the position after this one; it stops at the greatest `usize`
+-- the next position, which is at most the greatest `usize`
 abbrev pub next : ℕ → ℕ
 next position = min (position + 1) usize_max
 
--- the rules at the positions from this one on are the rules of exactly these ids
+-- the rules at the positions from this one on are exactly the rules of these ids
 abbrev pub Fits : List Rule → ℕ → List Text → Type 0
 Fits c position [] = arg_by_index c position ≡ None
 Fits c position (id ∷ ids) = (arg_by_index c position ≡ Some (placed position id)) × (arg_by_id c id ≡ Some (placed position id)) × Fits c (next position) ids
 
--- the row of a required word, after the word was found on the command line
+-- the row that `clap` stores for a required word that it found on the command line
 abbrev pub row : Text → Text → Row
 row id word = record { id = id; values = word ∷ []; count = None; source = Some CommandLine; reading = reading_by (new_rule id) }
 
@@ -51,7 +51,7 @@ abbrev pub Fresh : List Row → List Text → Type 0
 Fresh rows [] = Unit {0}
 Fresh rows (id ∷ ids) = (has_row id rows ≡ false) × ((word : Text) → Fresh (rows ++ row id word ∷ []) ids)
 
--- the rows of these words, each with its id
+-- the row of each word with its id, in order
 abbrev pub paired : List Text → List Text → List Row
 paired [] words = []
 paired (id ∷ ids) [] = []
@@ -59,34 +59,35 @@ paired (id ∷ ids) (word ∷ words) = row id word ∷ paired ids words
 
 -- ---- one required word
 
--- if neither of two tests passes, each fails
+-- if the disjunction of two tests is false, both tests are false
 neither : (a b : Bool) → (a || b) ≡ false → (a ≡ false) × (b ≡ false)
 neither true b e = absurd (true≢false e)
 neither false b e = (refl, e)
 
--- if no row has this id, a change at the id appends the rows that are given for that case
+-- if there is no row with this id, changing the rows at the id appends the rows that are given for
+-- this case
 at_new : (id : Text) (change : Row → List Row) (missing rows : List Row) → has_row id rows ≡ false → at_row id change missing rows ≡ rows ++ missing
 at_new id change missing [] fresh = refl
 at_new id change missing (r ∷ rows) fresh =
     let parts = neither _ _ fresh in
     ap (λ b. cond b (change r ++ rows) (r ∷ at_row id change missing rows)) parts.0 ∙ ap (λ rest. r ∷ rest) (at_new id change missing rows parts.1)
 
--- the first use of a required word adds its row
+-- the first use of a required word appends its row
 used_new : (position : ℕ) (id word : Text) (rows : List Row) → has_row id rows ≡ false → used (placed position id) (word ∷ []) rows ≡ rows ++ row id word ∷ []
 used_new position id word rows fresh =
     ap (with_values id (reading_by (new_rule id)) CommandLine (word ∷ [])) (at_new id (λ _. []) [] rows fresh ∙ append-nil rows)
     ∙ at_new id (more_values CommandLine (word ∷ [])) (row id word ∷ []) rows fresh
 
--- at the end of the walk, what the walk holds becomes these rows without a fault
+-- at the end of the walk, what the walk holds becomes these rows, without a fault
 record Settles (s : Shape) (h : Held) (rows : List Row) : Type 0 where
   rows_are : settled_rows s.rules h.pending h.rows ≡ rows
   no_fault : settle_fault s.rules s.args_override_self h ≡ []
 
--- the walk holds these rows, and a required word that has no row yet
+-- what the walk holds: these rows, and a required word that has no row yet
 abbrev holding : List Row → Text → Text → ℕ → Held
 holding rows id word skip = record { rows = rows; pending = Some (id, word ∷ []); skip = skip }
 
--- at the end of the walk, the required word that the walk holds gets its own row
+-- at the end of the walk, a required word without a row gets its row
 settles_new : (s : Shape) (position : ℕ) (id word : Text) (rows : List Row) (skip : ℕ) → arg_by_id s.rules id ≡ Some (placed position id)
     → has_row id rows ≡ false
     → Settles s (holding rows id word skip) (rows ++ row id word ∷ [])
@@ -96,7 +97,7 @@ settles_new s position id word rows skip found fresh = record {
       ∙ ap (λ b. or_else (cond (b && not s.args_override_self) (kind.ArgumentConflict ∷ []) []) []) fresh;
 }
 
--- the walk takes a required word as the value of its position
+-- the walk takes a required word as the value at its position
 at_positional : (c : List Rule) (position : ℕ) (id word : Text) (h : Held)
     → to_positional c (Some (placed position id)) word (at h position) h ≡ at (holding (settled_rows c h.pending h.rows) id word h.skip) (next position)
 at_positional c position id word h =
@@ -111,7 +112,7 @@ placed_walked s position id word h rows found settles plain =
     ∙ at_positional s.rules position id word h
     ∙ ap (λ rs. at (holding rs id word h.skip) (next position)) settles.rows_are
 
--- a required word in its position is no fault
+-- a required word at its position has no fault
 placed_fault : (s : Shape) (position : ℕ) (id word : Text) (rest : List Text) (h : Held) (rows : List Row)
     → arg_by_index s.rules position ≡ Some (placed position id)
     → Settles s h rows → is_plain_word word ≡ true
@@ -126,20 +127,20 @@ placed_fault s position id word rest h rows found settles plain =
 
 -- ---- all words of a subcommand
 
--- the fault for more words than are required
+-- the fault if there are more words than ids, otherwise none
 abbrev surplus_fault : List Text → List Text → Kinds
 surplus_fault [] [] = []
 surplus_fault [] (word ∷ words) = kind.UnknownArgument ∷ []
 surplus_fault (id ∷ ids) [] = []
 surplus_fault (id ∷ ids) (word ∷ words) = surplus_fault ids words
 
--- whether fewer words are given than are required
+-- whether there are fewer words than ids
 abbrev is_short : List Text → List Text → Bool
 is_short [] words = false
 is_short (id ∷ ids) [] = true
 is_short (id ∷ ids) (word ∷ words) = is_short ids words
 
--- the walk over the words finds a fault only if there are too many
+-- the faults of the walk over the words are the fault for more words than ids, if there are more
 words_fault : (s : Shape) (position : ℕ) (ids words : List Text) (h : Held) (rows : List Row) → stray_fault s ≡ kind.UnknownArgument ∷ []
     → Fits s.rules position ids → Fresh rows ids
     → Settles s h rows → list_all is_plain_word words ≡ true → walk_fault s [] (at h position) words ≡ surplus_fault ids words
@@ -155,7 +156,8 @@ words_fault s position (id ∷ ids) (word ∷ words) h rows stray fits fresh set
     ∙ words_fault s (next position) ids words (holding rows id word h.skip) (rows ++ row id word ∷ []) stray fits.2 (fresh.1 word)
     (settles_new s position id word rows h.skip fits.1 fresh.0) (both _ _ plain).1
 
--- at the end of the walk over the words, what the walk holds becomes one row for each word, with the word's id
+-- at the end of the walk over the words, what the walk holds becomes the row of each word with its
+-- id
 words_held : (s : Shape) (position : ℕ) (ids words : List Text) (h : Held) (rows : List Row) → Fits s.rules position ids → Fresh rows ids
     → Settles s h rows → list_all is_plain_word words ≡ true → Settles s (fold (walked s.rules []) (at h position) words).held (rows ++ paired ids words)
 words_held s position [] [] h rows fits fresh settles plain = subst (Settles s h) (sym (append-nil rows)) settles
@@ -183,7 +185,7 @@ same_rows id rows = go (has_row id rows)
     go true = refl
     go false = refl
 
--- a required word has no default
+-- required words have no default values
 no_defaults : (position : ℕ) (ids : List Text) (rows : List Row) → fold with_default rows (filled_from position (map required_rule ids)) ≡ rows
 no_defaults position [] rows = refl
 no_defaults position (id ∷ ids) rows =
@@ -197,7 +199,8 @@ no_default_fault position (id ∷ ids) rows =
     ap (λ b. or_else (cond b [] []) (defaults_fault (with_default rows (placed position id)) rest)) (or-true (has_row id rows))
     ∙ ap (λ rs. defaults_fault rs rest) (same_rows id rows) ∙ no_default_fault (next position) ids rows
 
--- if the first rows have no row of an id, the id is given in all rows if and only if it is given in the other rows
+-- if there is no row with an id among the first rows, the id is given in all rows if and only if it
+-- is given in the other rows
 not_given : (id : Text) (rows rest : List Row) → has_row id rows ≡ false → is_given id (rows ++ rest) ≡ is_given id rest
 not_given id [] rest fresh = refl
 not_given id (r ∷ rows) rest fresh =
@@ -211,7 +214,7 @@ given_here id word rest =
     ap (λ b. option_map_or (λ (x : Row). explicit_source x.source) (cond b (Some (row id word)) (find (λ x. bytes_eq x.id id) rest)) false)
     ((bytes_eq-Decides id id).1 refl)
 
--- a required word is missing if and only if there are fewer words than are required
+-- a required word is missing if and only if there are fewer words than ids
 missing : (position : ℕ) (ids words : List Text) (rows : List Row) → Fresh rows ids
     → list_any (λ a. a.required && not (is_given a.id (rows ++ paired ids words))) (filled_from position (map required_rule ids)) ≡ is_short ids words
 missing position [] words rows fresh = refl
@@ -228,27 +231,27 @@ missing position (id ∷ ids) (word ∷ words) rows fresh =
 
 -- ---- a whole subcommand
 
--- the faults for a wrong number of words
+-- the faults if the number of words differs from the number of ids
 abbrev pub count_fault : List Text → List Text → Kinds
 count_fault ids words = or_else (surplus_fault ids words) (cond (is_short ids words) (kind.MissingRequiredArgument ∷ []) [])
 
 module _ (name : Text) (ids words : List Text) (fits : Fits (leaf name ids).rules 1 ids) (fresh : Fresh [] ids)
     (plain : list_all is_plain_word words ≡ true) where
-  -- what the walk holds after the last word
+  -- what the walk holds after its last word
   end : Held
   end = (walk (leaf name ids).rules [] nothing_held words).held
 
-  -- after the last word, what the walk holds becomes one row for each word, with the word's id
+  -- after the last word, what the walk holds becomes the row of each word with its id
   settles_end : Settles (leaf name ids) end (paired ids words)
   unfolding end
   settles_end = words_held (leaf name ids) 1 ids words nothing_held [] fits fresh (record { rows_are = refl; no_fault = refl }) plain
 
-  -- the subcommand's matches are one row for each word, with the word's id
+  -- the subcommand's matches are the rows of the words with their ids
   pub rows_found : rows_after (leaf name ids).rules [] words ≡ paired ids words
   unfolding end
   rows_found = ap (λ rows. fold with_default rows (leaf name ids).rules) settles_end.rows_are ∙ no_defaults 1 ids (paired ids words)
 
-  -- the subcommand's only faults are for the number of words
+  -- the faults of the subcommand are the faults for a wrong number of words
   pub leaf_fault : level_fault (leaf name ids) [] nothing_held words false [] ≡ count_fault ids words
   unfolding end
   leaf_fault =

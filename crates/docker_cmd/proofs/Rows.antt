@@ -1,4 +1,4 @@
--- The facts about the table of subcommands that hold for each of its rows.
+-- Facts about every row of the table of subcommands.
 use Rattle.std.proofs.Common.{◌≡◌, ℕ, List, [], ◌∷◌, length, map, Some, refl, codes, arith}
 use Rattle.std.specs.Prelude.{⊤}
 use Rattle.std.specs.List.{find}
@@ -49,7 +49,7 @@ three_counted Holds (a ∷ b ∷ []) is = absurd is
 three_counted Holds (a ∷ b ∷ c ∷ []) is = refl
 three_counted Holds (a ∷ b ∷ c ∷ d ∷ words) is = absurd is
 
--- a task has as many words as its subcommand requires
+-- the words of a task are as many as its subcommand requires
 pub words_counted : (task : TaskView) (words : List Text) → AreWordsOf task words → length words ≡ length (ids_of (subcommand_of task))
 words_counted new_task words is = one_counted _ words is
 words_counted check_task words is = one_counted _ words is
@@ -61,7 +61,7 @@ words_counted files_task words is = one_counted _ words is
 words_counted (horizon_task day) words is = two_counted _ words is
 words_counted migrate_task words is = one_counted _ words is
 
--- ---- what the words after a subcommand have to be
+-- ---- the form of the words after a subcommand
 
 -- these two words name a timing point and a day
 pub record NameBoth (tiploc date : Text) : Type 0 where
@@ -88,14 +88,15 @@ Suit Files = OfOne (λ state. ⊤)
 Suit Horizon = OfTwo (λ state date. NameHorizon state date)
 Suit Migrate = OfOne (λ state. NamesStored state)
 
--- if two words have a property, they have any weaker property
+-- if one property of two words implies another, `OfTwo` of the first implies `OfTwo` of the second
 two_weaker : (P Q : Text → Text → Type 0) → ((a b : Text) → P a b → Q a b) → (words : List Text) → OfTwo P words → OfTwo Q words
 two_weaker P Q so [] is = is
 two_weaker P Q so (a ∷ []) is = is
 two_weaker P Q so (a ∷ b ∷ []) is = so a b is
 two_weaker P Q so (a ∷ b ∷ c ∷ words) is = is
 
--- if three words have a property, they have any weaker property
+-- if one property of three words implies another, `OfThree` of the first implies `OfThree` of the
+-- second
 three_weaker : (P Q : Text → Text → Text → Type 0) → ((a b c : Text) → P a b c → Q a b c) → (words : List Text) → OfThree P words → OfThree Q words
 three_weaker P Q so [] is = is
 three_weaker P Q so (a ∷ []) is = is
@@ -117,16 +118,16 @@ suit files_task words is = is
 suit (horizon_task day) words is = two_weaker _ _ (λ a b named. record { stored = named.0; day = day; day_is = named.1 }) words is
 suit migrate_task words is = is
 
--- ---- the words that are found at ids
+-- ---- looking up words at ids
 
--- one word is found at its id
+-- looking up one word at its id finds it
 one_found : (a : Text) → ((x : Text) → found_words (a ∷ []) (paired (a ∷ []) (x ∷ [])) ≡ Some (x ∷ []))
     → (words : List Text) → length words ≡ 1 → found_words (a ∷ []) (paired (a ∷ []) words) ≡ Some words
 one_found a found [] one = absurd (omega (arith, one))
 one_found a found (x ∷ []) one = found x
 one_found a found (x ∷ y ∷ words) one = absurd (omega (arith, one))
 
--- two words are found at their ids
+-- looking up two words at their ids finds them
 two_found : (a b : Text) → ((x y : Text) → found_words (a ∷ b ∷ []) (paired (a ∷ b ∷ []) (x ∷ y ∷ [])) ≡ Some (x ∷ y ∷ []))
     → (words : List Text) → length words ≡ 2 → found_words (a ∷ b ∷ []) (paired (a ∷ b ∷ []) words) ≡ Some words
 two_found a b found [] two = absurd (omega (arith, two))
@@ -134,7 +135,7 @@ two_found a b found (x ∷ []) two = absurd (omega (arith, two))
 two_found a b found (x ∷ y ∷ []) two = found x y
 two_found a b found (x ∷ y ∷ z ∷ words) two = absurd (omega (arith, two))
 
--- three words are found at their ids
+-- looking up three words at their ids finds them
 three_found : (a b c : Text) → ((x y z : Text) → found_words (a ∷ b ∷ c ∷ []) (paired (a ∷ b ∷ c ∷ []) (x ∷ y ∷ z ∷ [])) ≡ Some (x ∷ y ∷ z ∷ []))
     → (words : List Text) → length words ≡ 3 → found_words (a ∷ b ∷ c ∷ []) (paired (a ∷ b ∷ c ∷ []) words) ≡ Some words
 three_found a b c found [] three = absurd (omega (arith, three))
@@ -152,7 +153,8 @@ leaf_of s = leaf (name_of s) (ids_of s)
 abbrev pub leaves : List Shape
 leaves = map leaf_of subcommands
 
--- what is known of each subcommand: its ids differ and have their positions, `clap` recognises its name, and its words are found at their ids
+-- the facts about one subcommand: its ids differ and have their positions, `clap` recognises its
+-- name, and looking up its words at their ids finds them
 pub record IsKnown (s : Subcommand) : Type 0 where
   pub fits : Fits (leaf_of s).rules 1 (ids_of s)
   pub fresh : Fresh [] (ids_of s)
@@ -160,7 +162,7 @@ pub record IsKnown (s : Subcommand) : Type 0 where
   pub under : find (λ x. answers_to (name_of s) (label_of x)) leaves ≡ Some (leaf_of s)
   pub found : (words : List Text) → length words ≡ length (ids_of s) → found_words (ids_of s) (paired (ids_of s) words) ≡ Some words
 
--- this is known of every subcommand
+-- `IsKnown` holds for every subcommand
 pub known : (s : Subcommand) → IsKnown s
 known New = record { fits = (refl, refl, refl); fresh = (refl, λ a. tt); met = refl; under = refl; found = one_found (codes "STATE") (λ x. refl) }
 known Check = record { fits = (refl, refl, refl); fresh = (refl, λ a. tt); met = refl; under = refl; found = one_found (codes "FILE") (λ x. refl) }

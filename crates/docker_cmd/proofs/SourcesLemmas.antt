@@ -1,4 +1,4 @@
--- What a task has made of its sources, derived from what was read from the sources.
+-- What a task makes of its sources follows from what was read from them.
 use Rattle.std.proofs.Common.{◌≡◌, ℕ, [], ◌∷◌, ◌⊎◌, Option, None, refl, sym, ◌∙◌, ap, subst, Some}
 use Rattle.cif_laws.proofs.lists.Membership.{Contains-single, nil-Contains}
 use Rattle.docker_model.specs.file.File.{most_records}
@@ -28,7 +28,8 @@ no_files = record {
   entries = λ key entry. (λ among. absurd (nil-Contains (key, entry) among), λ told. absurd (nil-Contains told.1.is.file told.1.is.kept.among));
 }
 
--- if an office that knew nothing takes one file, its state is the summary of this file, and the live table is the file's plain table
+-- if a new office takes one file, its state is the summary of this file, and its live table is the
+-- file's plain table
 of_one_file : (left : DeviceBytes) (state : State) → TakesFile most_records left no_state state → IsOfOneFile left (office_read state)
 of_one_file left state takes =
     let summary : IsSummary (takes.file ∷ []) 0 state =
@@ -45,7 +46,7 @@ of_one_file left state takes =
           (λ one two is_one is_two same. sym (Contains-single takes.file one is_one) ∙ Contains-single takes.file two is_two);
     }
 
--- if a task's source is a file that an office takes, what the task has read is the state of this one file
+-- if a task's source is a file that an office takes, the task has read the state of this one file
 pub read_one_file : (task : TaskView) (first second : DeviceBytes) (read : ReadView) → sources_of task ≡ taken_file → IsReadOf task first second read
     → IsOfOneFile first read
 read_one_file new_task first second read is reads = let never : ⊥ = cc in absurd never
@@ -61,7 +62,7 @@ read_one_file files_task first second read is reads = let never : ⊥ = cc in ab
 read_one_file (horizon_task day) first second read is reads = let never : ⊥ = cc in absurd never
 read_one_file migrate_task first second read is reads = let never : ⊥ = cc in absurd never
 
--- `check` is the only task that only checks a file
+-- `check` is the only task that checks a file without taking it
 checked : (task : TaskView) → sources_of task ≡ checked_file → task ≡ check_task
 checked new_task is = let never : ⊥ = cc in absurd never
 checked check_task is = refl
@@ -73,7 +74,8 @@ checked files_task is = let never : ⊥ = cc in absurd never
 checked (horizon_task day) is = let never : ⊥ = cc in absurd never
 checked migrate_task is = let never : ⊥ = cc in absurd never
 
--- a task's state is the state read from its sources, after the task's horizon was set
+-- the state that a task has read is the state read from its sources, after the task's horizon was
+-- set
 state_of : (task : TaskView) (first second : DeviceBytes) (state : State) → IsStateOf (sources_of task) first second state
     → IsReadOf task first second (under (horizon_of task) (office_read state))
 state_of new_task first second state is = is
@@ -93,7 +95,7 @@ read_of task first second (file_read file) is =
     subst (λ task. IsReadOf task first second (under (horizon_of task) (file_read file))) (sym (checked task is.0)) (refl, is.1)
 read_of task first second (office_read state) is = state_of task first second state is
 
--- a task's output can be written from the state of its sources
+-- a task's output can be written from the state that was read from its sources
 state_written_of : (task : TaskView) (first second : DeviceBytes) (state : State) → IsStateOf (sources_of task) first second state
     → IsWrittenOf (output_of task) (office_read state)
 state_written_of new_task first second state is = λ same. cc
@@ -112,7 +114,7 @@ written_of : (task : TaskView) (first second : DeviceBytes) (read : ReadView) �
 written_of task first second (file_read file) is = ap output_of (checked task is.0)
 written_of task first second (office_read state) is = state_written_of task first second state is
 
--- setting a horizon on a content doesn't change which outputs can be written from it
+-- setting a horizon preserves which outputs can be written from a content
 still_written : (output : Output) (horizon : Option ℕ) (read : ReadView) → IsWrittenOf output read → IsWrittenOf output (under horizon read)
 still_written output None read is = is
 still_written output (Some day) (file_read file) is = is
@@ -142,14 +144,14 @@ task_read task sources horizon first left second second_left own made same_sourc
       ends = (subst (λ read. IsReadOf task first second read) (sym is) (read_of task first second own moved.ends.0), moved.ends.1);
     }
 
--- a reason why some sources were refused is a reason for equal sources too
+-- replacing the sources with equal ones preserves the fault for which they may be refused
 pub refused_for : (sources others : Sources) (first left second second_left : DeviceBytes) (fault : OfficeFault) → sources ≡ others
     → ReadsFew sources first left second second_left (IsWhyRefused sources first left second second_left fault)
     → ReadsFew others first left second second_left (IsWhyRefused others first left second second_left fault)
 refused_for sources others first left second second_left fault same reads =
     subst (λ s. ReadsFew s first left second second_left (IsWhyRefused s first left second second_left fault)) same reads
 
--- if a job's task has read something, the job with what it has read is the prepared job
+-- a job, together with what its task has read, is a prepared job
 pub prepared_read : (job : JobView) (first left second second_left : DeviceBytes) (read : ReadView)
     → ReadsFew (sources_of job.task) first left second second_left (IsReadOf job.task first second read × HasReadToEnd (sources_of job.task) left second_left)
     → ReadsFew (sources_of job.task) first left second second_left
@@ -157,9 +159,9 @@ pub prepared_read : (job : JobView) (first left second second_left : DeviceBytes
 prepared_read job first left second second_left read reads =
     record { first_few = reads.first_few; second_few = reads.second_few; ends = ((refl, reads.ends.0), reads.ends.1) }
 
--- ---- a task that keeps only a part of what it has read
+-- ---- tasks that keep only a part of what they have read
 
--- if a task has read something, an equal task has read the same
+-- replacing a task with an equal one preserves what it has read
 pub read_of_task : (asked task : TaskView) (first left second second_left : DeviceBytes) (read : ReadView) → asked ≡ task
     → ReadsFew (sources_of task) first left second second_left (IsReadOf task first second read × HasReadToEnd (sources_of task) left second_left)
     → ReadsFew (sources_of asked) first left second second_left (IsReadOf asked first second read × HasReadToEnd (sources_of asked) left second_left)
@@ -167,11 +169,12 @@ read_of_task asked task first left second second_left read is reads =
     subst (λ t. ReadsFew (sources_of t) first left second second_left (IsReadOf t first second read × HasReadToEnd (sources_of t) left second_left))
     (sym is) reads
 
--- if a task has a source, an equal task has one too
+-- if a task has a source, so has an equal task
 pub some_of_task : (P : Type 0) (asked task : TaskView) → asked ≡ task → ¬ HasNoSource (sources_of task) → HasNoSource (sources_of asked) → P
 some_of_task P asked task is some none = absurd (some (subst (λ t. HasNoSource (sources_of t)) is none))
 
--- if a second source was read only after a good first one, the same holds for equal sources
+-- replacing the sources with equal ones preserves that the second was read only after a good first
+-- one
 pub second_for : {First Good Kept : Type 0} (sources others : Sources) → sources ≡ others → First ⊎ (HasSecondSource sources × Good × Kept)
     → First ⊎ (HasSecondSource others × Good × Kept)
 second_for {First} {Good} {Kept} sources others same order = subst (λ s. First ⊎ (HasSecondSource s × Good × Kept)) same order

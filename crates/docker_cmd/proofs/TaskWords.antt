@@ -1,4 +1,4 @@
--- The words that a subcommand requires, and the task that they name.
+-- The words after a subcommand determine the task.
 use Rattle.std.proofs.Common.{◌≡◌, ◌∙◌, ℕ, List, [], ◌∷◌, length, Bool, true, false, cond, Some, None}
 use Rattle.std.proofs.Common.{refl, sym, ap, subst, codes, arith, slice_index_or, true≢false}
 use Rattle.std.specs.Prelude.{Option, option_map}
@@ -25,13 +25,13 @@ other_words (word ∷ words) = words
 
 -- ---- names
 
--- subcommands with the same name are equal
+-- a subcommand's name determines the subcommand
 pub same_subcommand : (s t : Subcommand) → name_of s ≡ name_of t → s ≡ t
 same_subcommand s t same =
     let found : Some s ≡ Some t = sym (named_back s) ∙ ap subcommand_named same ∙ named_back t in
     cc
 
--- if a search by name finds a subcommand, the subcommand has that name
+-- if a search by name returns a subcommand, the subcommand has that name
 found_name : (word : Text) (s : Subcommand) (ss : List Subcommand) → find (λ t. bytes_eq (name_of t) word) ss ≡ Some s → word ≡ name_of s
 found_name word s [] found = absurd (cc)
 found_name word s (t ∷ ss) found = by (bytes_eq (name_of t) word) refl found (found_name word s ss)
@@ -43,28 +43,29 @@ found_name word s (t ∷ ss) found = by (bytes_eq (name_of t) word) refl found (
         sym ((bytes_eq-Decides (name_of t) word).0 same) ∙ ap name_of this
     by false differ found rest = rest found
 
--- if the table has a subcommand for a word, the word is that subcommand's name
+-- if looking up a word in the table returns a subcommand, the word is that subcommand's name
 pub name_back : (word : Text) (s : Subcommand) → subcommand_named word ≡ Some s → word ≡ name_of s
 unfolding subcommand_named
 name_back word s found = found_name word s subcommands found
 
--- ---- the task that the words name
+-- ---- the words name a task
 
--- words without the form that the subcommand requires name no task of it
+-- if words don't have the form that a subcommand requires, they name no task of the subcommand
 nothing_asked : (s : Subcommand) (words : List Text) → ¬ Suit s words → IsTaskOf s words None
 nothing_asked s words never = λ task same is. never (subst (λ t. Suit t words) same (suit task words is))
 
--- if words name this task for a subcommand, they name it for an equal subcommand too
+-- replacing a subcommand and a task with equal ones preserves that words name the task
 pub asked : (s t : Subcommand) (words : List Text) (r q : Option Task) → t ≡ s → q ≡ r → IsTaskOf s words (option_map task_meant r)
     → IsTaskOf t words (option_map task_meant q)
 asked s t words r q same result is =
     subst (λ o. IsTaskOf t words (option_map task_meant o)) (sym result) (subst (λ u. IsTaskOf u words (option_map task_meant r)) (sym same) is)
 
--- the task, or None if its state is named `stdin`
+-- this task, or None if `stdin` is given as the name of STATE
 abbrev pub unless_stdin : Text → Task → Option Task
 unless_stdin state task = cond (bytes_eq state (codes "stdin")) None (Some task)
 
--- the words name the task, unless its state is named `stdin`; in that case the words name no task
+-- the words name the task, unless they give `stdin` as the name of STATE. In that case they name no
+-- task
 tested : (s : Subcommand) (words : List Text) (state : Text) (task : Task) → subcommand_of (task_meant task) ≡ s
     → (NamesStored state → AreWordsOf (task_meant task) words) → (Suit s words → NamesStored state)
     → IsTaskOf s words (option_map task_meant (unless_stdin state task))
@@ -74,7 +75,7 @@ tested s words state task same holds back = by (bytes_eq state (codes "stdin")) 
     by true is = nothing_asked s words (λ suits. back suits ((bytes_eq-Decides state (codes "stdin")).0 is))
     by false is = (same, holds (λ stdin. true≢false (sym ((bytes_eq-Decides state (codes "stdin")).1 stdin) ∙ is)))
 
--- if the only word names the state, the words name the task unless this word is `stdin`
+-- if the only word is the name of STATE, the words name the task unless this word is `stdin`
 pub state_alone : (s : Subcommand) (task : Task) → subcommand_of (task_meant task) ≡ s
     → ((state : Text) → NamesStored state → AreWordsOf (task_meant task) (state ∷ [])) → ((state : Text) → Suit s (state ∷ []) → NamesStored state)
     → (words : List (Bor Text)) (d : Bor Text) → length words ≡ 1
@@ -83,7 +84,8 @@ state_alone s task same holds back [] d one = absurd (omega (arith, one))
 state_alone s task same holds back (a ∷ []) d one = tested s (a.now ∷ []) a.now task same (holds a.now) (back a.now)
 state_alone s task same holds back (a ∷ b ∷ words) d one = absurd (omega (arith, one))
 
--- if the first of two words names the state, the words name the task unless this word is `stdin`
+-- if the first of two words is the name of STATE, the words name the task unless this word is
+-- `stdin`
 pub state_first : (s : Subcommand) (task : Task) (words : List (Bor Text)) (d e : Bor Text) → subcommand_of (task_meant task) ≡ s
     → ((state : Text) → NamesStored state → AreWordsOf (task_meant task) (state ∷ (slice_index_or words 1 e).now ∷ []))
     → ((state other : Text) → Suit s (state ∷ other ∷ []) → NamesStored state) → length words ≡ 2
@@ -93,7 +95,8 @@ state_first s task (a ∷ []) d e same holds back two = absurd (omega (arith, tw
 state_first s task (a ∷ b ∷ []) d e same holds back two = tested s (a.now ∷ b.now ∷ []) a.now task same (holds a.now) (back a.now b.now)
 state_first s task (a ∷ b ∷ c ∷ words) d e same holds back two = absurd (omega (arith, two))
 
--- if the last two of three words name a timing point and a day, the words name the task for this timing point and day
+-- if the last two of three words name a timing point and a day, the words name the task for this
+-- timing point and day
 pub both_behind : (s : Subcommand) (task : TaskView) (place : List ℕ) (day : ℕ) (words : List (Bor Text)) (d e : Bor Text) → subcommand_of task ≡ s
     → ((first tiploc date : Text) → NamesPlace tiploc place → NamesDay date day → AreWordsOf task (first ∷ tiploc ∷ date ∷ [])) → length words ≡ 3
     → NamesPlace (slice_index_or words 1 d).now place → NamesDay (slice_index_or words 2 e).now day → IsTaskOf s (texts words) (Some task)

@@ -1,4 +1,4 @@
--- What `read_words` returns, derived from what `clap` returns.
+-- What `read_words` returns follows from what `clap` returns.
 use Rattle.std.proofs.Common.{◌≡◌, ◌≢◌, ◌∙◌, ◌⊎◌, inl, inr, Bool, true, sym, ap, subst, List, []}
 use Rattle.std.proofs.Common.{Option, Some, None, Result, Err, IfOk, option_map, false, true≢false}
 use Rattle.std.specs.List.{list_all}
@@ -18,7 +18,7 @@ use Rattle.docker_cmd.specs.Job.{NameNoSubcommand, NamesSubcommand}
 use Rattle.docker_cmd.specs.Grammar.{docker_app, found_in, pair_of}
 use Rattle.docker_cmd.proofs.JobWords.{judged}
 
--- all borrowed words are plain if and only if their bytes are
+-- all words are plain if and only if the texts of all words are plain
 pub plain_texts : (words : List (Bor Text)) (b : Bool) → b ≡ list_all (λ word. is_plain_word word.now) words → list_all is_plain_word (texts words) ≡ b
 plain_texts words b is = list_all-map is_plain_word (λ (word : Bor Text). word.now) words ∙ sym is
 
@@ -26,14 +26,15 @@ plain_texts words b is = list_all-map is_plain_word (λ (word : Bor Text). word.
 pub not_plain : (words : List Text) → list_all is_plain_word words ≡ false → NameNoSubcommand words
 not_plain words never = λ s behind names. absurd (true≢false (sym names.plain ∙ never))
 
--- these words name a subcommand, and `found` is this subcommand with the words after it
+-- these words name a subcommand, and `found` is this subcommand with the words after its name
 pub record IsFound (words : List Text) (found : Option (Subcommand × List Text)) : Type 0 where
   pub subcommand : Subcommand
   pub behind : List Text
   pub is : found ≡ Some (pair_of subcommand behind)
   pub names : NamesSubcommand words subcommand behind
 
--- if `clap` accepts plain words, it finds the subcommand that they name and the words after it
+-- if `clap` accepts plain words, it finds the subcommand that they name and the words after its
+-- name
 pub words_found : (words : List Text) → list_all is_plain_word words ≡ true → fault_of docker_app words ≡ []
     → IsFound words (found_in (subcommand_of docker_app words))
 words_found words plain none = elim (judged words plain) [
@@ -46,7 +47,7 @@ words_found words plain none = elim (judged words plain) [
   | inr refuses ↦ absurd (refuses.fault none)
 ]
 
--- if `clap` refuses plain words for another reason than out of memory, the words name no subcommand
+-- if `clap` refuses plain words and memory hasn't run out, the words name no subcommand
 pub words_refused : (words : List Text) (kind : ErrorKind) → list_all is_plain_word words ≡ true
     → (kind ≡ OutOfMemory) ⊎ IsAmong kind (fault_of docker_app words) → kind ≢ OutOfMemory → NameNoSubcommand words
 words_refused words kind plain (inl memory) other = absurd (other memory)
@@ -55,11 +56,13 @@ words_refused words kind plain (inr among) other = elim (judged words plain) [
   | inr refuses ↦ λ s behind names. refuses.names_none s behind (record { whole = names.whole; count = names.count })
 ]
 
--- what `read_words` may return for these words. `held` returns the bytes of the words after the subcommand
+-- `read_words` may return this result for these words. `held` gives the texts of the words after
+-- the subcommand
 abbrev pub IsRead : {B : Type 0} → (B → List Text) → List Text → Result (Subcommand × B) JobFault → Type 0
 IsRead held words result = IfOk result (λ read. NamesSubcommand words read.0 (held read.1)) × ((result ≡ Err Usage) → NameNoSubcommand words)
 
--- if `clap` found the subcommand that the words name and the words after its name, `read_words` may return them
+-- if `clap` found the subcommand that the words name, and the words after its name, `read_words`
+-- may return them
 pub read_found : {B : Type 0} (held : B → List Text) (words : List Text) (found : Option (Subcommand × B)) (rows : Option (Subcommand × List Text))
     → IsFound words rows → option_map (λ read. pair_of read.0 (held read.1)) found ≡ rows → IsRead held words (ok_or found Usage)
 read_found held words None rows is same = let bad : None ≡ Some (pair_of is.subcommand is.behind) = same ∙ is.is in absurd (cc)

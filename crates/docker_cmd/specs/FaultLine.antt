@@ -12,7 +12,8 @@ use Rattle.docker_office.specs.declared.fault.OfficeFault.TheVariants as office
 use Rattle.docker_cmd.specs.declared.fault.Fault.{Fault}
 use Rattle.docker_cmd.specs.declared.fault.Fault.TheVariants.{Job, Office}
 
--- the exit status for a fault: 1 for refused input, 2 for usage, 3 for out of memory, 4 for a failed device
+-- the exit status for a fault: 1 for refused input, 2 for usage, 3 for out of memory, 4 for a
+-- failed device
 abbrev pub status_of : Fault → ℕ
 status_of (Job job.Usage) = 2
 status_of (Job job.Memory) = 3
@@ -29,7 +30,7 @@ abbrev pub result_status : {A : Type 0} → Result A OfficeFault → ℕ
 result_status (Ok answer) = 0
 result_status (Err fault) = status_of (Office fault)
 
--- the number of device failures grew by one if the exit status is 4, and is unchanged otherwise
+-- the failure count of a device grew by one if the exit status is 4, and is unchanged otherwise
 abbrev pub IsCounted : (status before after : ℕ) → Type 0
 IsCounted status before after = CountsFailure (status ≡ 4) before after
 

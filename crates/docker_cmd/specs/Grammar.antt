@@ -13,7 +13,8 @@ required_rule id = record (new_rule id) { required = true }
 abbrev pub words_shape : Text → List Text → Shape
 words_shape name ids = record (new_shape name) { rules = map required_rule ids }
 
--- the program without its subcommands: a subcommand is required, and there is no `--help`, `help` or `--version`
+-- the program without its subcommands: a subcommand is required, and there is no `--help`, `help`
+-- or `--version`
 abbrev pub docker_shape : Shape
 docker_shape = record (new_shape (codes "docker")) {
   no_binary_name = true;
@@ -34,12 +35,12 @@ docker_app = record {
   subs = map shape_of subcommands;
 }
 
--- the first value at each of these ids, in their order; None if any of the ids has no value
+-- the first value at each of these ids, in order; None if any of the ids has no value
 abbrev pub found_words : List Text → List Row → Option (List Text)
 found_words [] rows = Some []
 found_words (id ∷ ids) rows = option_and_then (λ word. option_map (λ words. word ∷ words) (found_words ids rows)) (first_of id rows)
 
--- a subcommand paired with the words after it
+-- the pair of a subcommand and the words after it
 abbrev pub pair_of : Subcommand → List Text → Subcommand × List Text
 pair_of subcommand words = (subcommand, words)
 
@@ -47,6 +48,7 @@ pair_of subcommand words = (subcommand, words)
 abbrev pub found_at : Text → List Row → Option (Subcommand × List Text)
 found_at name rows = option_and_then (λ subcommand. option_map (pair_of subcommand) (found_words (ids_of subcommand) rows)) (subcommand_named name)
 
--- the subcommand in `clap`'s result, and the words after it; None if there is no subcommand, or a word is missing
+-- the subcommand in `clap`'s result, and the words after it; None if there is no subcommand, or a
+-- word is missing
 abbrev pub found_in : Option (Text × List Row) → Option (Subcommand × List Text)
 found_in = option_and_then (λ found. found_at found.0 found.1)

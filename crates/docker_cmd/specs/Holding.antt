@@ -1,4 +1,4 @@
--- The meaning of what a job keeps in memory, in terms of what it has read.
+-- What a job keeps in memory, as the definitions see it.
 use Rattle.std.specs.Prelude.{◌≡◌}
 use Rattle.docker_office.specs.Values.{Excerpt}
 use Rattle.docker_cmd.specs.Content.{content_meant}
@@ -6,18 +6,18 @@ use Rattle.docker_cmd.specs.Prepared.{IsWrittenOf, Output, ReadView, docker_writ
 use Rattle.docker_cmd.specs.declared.holding.Holding.{Holding}
 use Rattle.docker_cmd.specs.declared.holding.Holding.TheVariants.{Whole, Place, Ledger}
 
--- what was read to make this excerpt: a whole state
+-- the content from which this excerpt was made: a whole state
 abbrev pub place_read : Excerpt → ReadView
 place_read office = office_read office.state
 
--- what a job had read, given what the job keeps in memory
+-- converts what a job keeps in memory to the content that the job had read
 abbrev pub held_meant : Holding → ReadView
 held_meant (Whole content) = content_meant content
 held_meant (Place office) = place_read office
 held_meant (Ledger office) = office_read office
 
--- this output can be written from what the job keeps. From an excerpt only the docker of its own timing point and day can be written, and from a ledger only
--- the list of files
+-- this output can be written from what the job keeps in memory. From an excerpt, only the docker of
+-- its timing point and day can be written. From a ledger, only the list of files can be written
 abbrev pub IsWrittenFrom : Output → Holding → Type 0
 IsWrittenFrom output (Whole content) = IsWrittenOf output (content_meant content)
 IsWrittenFrom output (Place office) = output ≡ docker_written office.place office.day

@@ -10,17 +10,19 @@ pub record IsLineText (line : List ℕ) : Type 0 where
   pub short : length line ≤ 255
   pub printable : AllPass is_printable line
 
--- the text is this job line, its line feed, and then the rest
+-- the text begins with this job line and its line feed, and `rest` are the bytes after them
 pub record IsJobLine (text line rest : List ℕ) : Type 0 where
   pub whole : text ≡ line ++ 10 ∷ rest
   pub line_text : IsLineText line
 
--- a job line was read from a source. If contracts know which bytes the source held, these were the line, its line feed, and the bytes that are now left
+-- a job line was read from a source. If contracts know which bytes the source held, these were the
+-- line, its line feed, and the bytes that are left in it
 abbrev pub ReadsLine : Option (List ℕ) → List ℕ → Option (List ℕ) → Type 0
 ReadsLine None line new = IsLineText line
 ReadsLine (Some text) line new = (rest : List ℕ) × IsJobLine text line rest × (new ≡ Some rest)
 
--- the source's bytes don't begin with a job line. This says nothing if contracts don't know which bytes the source holds
+-- the source's bytes don't begin with a job line. This says nothing if contracts don't know which
+-- bytes the source holds
 abbrev pub HasNoLine : Option (List ℕ) → Type 0
 HasNoLine None = ⊤
 HasNoLine (Some text) = (line rest : List ℕ) → ¬ IsJobLine text line rest
@@ -29,11 +31,12 @@ HasNoLine (Some text) = (line rest : List ℕ) → ¬ IsJobLine text line rest
 abbrev pub is_space : ℕ → Bool
 is_space byte = byte == 32
 
--- the words of one piece of a line: the piece itself, or none if the piece is empty
+-- the piece of a line as a list of words: the piece itself, or no word if the piece is empty
 abbrev pub word_or_none : List ℕ → List (List ℕ)
 word_or_none piece = if length piece == 0 then [] else piece ∷ []
 
--- the words of a line: the pieces between its spaces, without the empty ones. For example, `a  b` has the words `a` and `b`
+-- the words of a line: the pieces between its spaces, without the empty ones. For example, `a  b`
+-- has the words `a` and `b`
 abbrev pub words_in : List ℕ → List (List ℕ)
 words_in line = filter (λ word. not (length word == 0)) (slice_split is_space line)
 
@@ -42,17 +45,19 @@ abbrev pub ReadsByte : Option (List ℕ) → Option ℕ → Option (List ℕ) �
 ReadsByte old None new = IsEnd old × (new ≡ old)
 ReadsByte old (Some byte) new = Reads old (byte ∷ []) new
 
--- a job line that names this job was read from a source. If contracts know which bytes the source held, these were the line, its line feed, and the bytes that
--- are now left
+-- a job line that names this job was read from a source. If contracts know which bytes the source
+-- held, these were the line, its line feed, and the bytes that are left in it
 abbrev pub ReadsJob : Option (List ℕ) → JobView → Option (List ℕ) → Type 0
 ReadsJob old job new = (line : List ℕ) × ReadsLine old line new × IsJobOf (words_in line) job
 
--- the source's bytes don't begin with a job line that names a job. This says nothing if contracts don't know which bytes the source holds
+-- the source's bytes don't begin with a job line that names a job. This says nothing if contracts
+-- don't know which bytes the source holds
 abbrev pub HasNoJob : Option (List ℕ) → Type 0
 HasNoJob None = ⊤
 HasNoJob (Some text) = (line rest : List ℕ) → IsJobLine text line rest → NameNoJob (words_in line)
 
--- the source's bytes begin with a job line that names a job. This says nothing if contracts don't know which bytes the source holds
+-- the source's bytes begin with a job line that names a job. This says nothing if contracts don't
+-- know which bytes the source holds
 abbrev pub HasJob : Option (List ℕ) → Type 0
 HasJob None = ⊤
 HasJob (Some text) = (line : List ℕ) × ((rest : List ℕ) × (IsJobLine text line rest × (¬ NameNoJob (words_in line))))

@@ -28,16 +28,17 @@ use Rattle.docker_cmd.specs.CheckLine.{count_line}
 abbrev pub most_bytes : ℕ
 most_bytes = 1099511627776
 
--- the bytes that a source has left or that a sink has taken; None if contracts don't know which bytes they are
+-- the bytes left in a source, or the bytes that a sink has taken; None if contracts don't know
+-- which bytes they are
 abbrev pub DeviceBytes : Type 0
 DeviceBytes = Option (List ℕ)
 
--- what was read: the counts of a file, or an office's state
+-- the content that a task has read: the counts of a file, or an office's state
 pub data ReadView : Type 0 where
   file_read : (file : FileCounted) → ReadView
   office_read : (state : State) → ReadView
 
--- a job with what it has read
+-- a job with the content that it has read
 pub record PreparedView : Type 0 where
   pub job : JobView
   pub read : ReadView
@@ -54,13 +55,15 @@ HasSecondSource sources = (sources ≡ state_and_file) ⊎ (sources ≡ two_stat
 abbrev pub HoldsSomeState : DeviceBytes → Type 0
 HoldsSomeState left = (state : State) × ReadsState dks_2 most_bytes left state
 
--- this is the state of an office that read the state in the first source and then took the file in the second source
+-- this is the state of an office that read the state in the first source and then took the file in
+-- the second source
 pub record TakesBehind (first second : DeviceBytes) (state : State) : Type 0 where
   pub own : State
   pub reads : ReadsState dks_2 most_bytes first own
   pub takes : TakesFile most_records second own state
 
--- this is the state of an office that read the state in the first source and then received the state in the second source
+-- this is the state of an office that read the state in the first source and then received the
+-- state in the second source
 pub record JoinsBehind (first second : DeviceBytes) (state : State) : Type 0 where
   pub own : State
   pub reads : ReadsState dks_2 most_bytes first own
@@ -72,7 +75,8 @@ pub record RaisesState (day : ℕ) (first : DeviceBytes) (state : State) : Type 
   pub reads : ReadsState dks_2 most_bytes first own
   pub raised : state ≡ raise_horizon day own
 
--- this is the state that an office has after it has read these sources. If a file was only checked, there is no state
+-- this is the state that an office has after it has read these sources. If a file was only checked,
+-- there is no state
 abbrev pub IsStateOf : Sources → DeviceBytes → DeviceBytes → State → Type 0
 IsStateOf no_source first second state = state ≡ no_state
 IsStateOf checked_file first second state = ⊥
@@ -86,23 +90,25 @@ abbrev pub IsContentOf : Sources → DeviceBytes → DeviceBytes → ReadView �
 IsContentOf sources first second (file_read file) = (sources ≡ checked_file) × CountsText most_records first file
 IsContentOf sources first second (office_read state) = IsStateOf sources first second state
 
--- this is the state that a task makes of its sources. `horizon` raises the horizon of the state that it has read, and `check` makes no state
+-- this is the state that a task makes of its sources. `horizon` raises the horizon of the state
+-- that it has read, and `check` makes no state
 abbrev pub IsStateReadBy : TaskView → DeviceBytes → DeviceBytes → State → Type 0
 IsStateReadBy (horizon_task day) first second state = RaisesState day first state
 IsStateReadBy task first second state = IsStateOf (sources_of task) first second state
 
--- this is what a task has made of its sources: `check` the counts of its file, any other task a state
+-- this is what a task makes of its sources: `check` the counts of its file, any other task a state
 abbrev pub IsReadOf : TaskView → DeviceBytes → DeviceBytes → ReadView → Type 0
 IsReadOf task first second (file_read file) = (task ≡ check_task) × CountsText most_records first file
 IsReadOf task first second (office_read state) = IsStateReadBy task first second state
 
--- what was read, after this horizon was set on its state; None sets no horizon
+-- this content, after a horizon was set on its state; None sets no horizon
 abbrev pub under : Option ℕ → ReadView → ReadView
 under None read = read
 under (Some day) (file_read file) = file_read file
 under (Some day) (office_read state) = office_read (raise_horizon day state)
 
--- what was read is the state of the one file whose text the source held. The live table of this state is the plain table of that file
+-- the content is the state of the one file whose text the source held. The live table of this state
+-- is the plain table of that file
 pub record IsOfOneFile (left : DeviceBytes) (read : ReadView) : Type 0 where
   pub text : List ℕ
   pub held : Held left text
@@ -113,7 +119,8 @@ pub record IsOfOneFile (left : DeviceBytes) (read : ReadView) : Type 0 where
   pub summary : IsSummary (file ∷ []) 0 state
   pub plain : IsPlainTable (file ∷ []) (live_table state)
 
--- this is the fault of the file that the sources should have held. If the file is the second source, the state in the first source is good
+-- a source should have held a file, but its text has this fault. If that is the second source, the
+-- first source held a state
 abbrev pub RefusesFileOf : Sources → DeviceBytes → DeviceBytes → FileFault → Type 0
 RefusesFileOf no_source first second fault = ⊥
 RefusesFileOf checked_file first second fault = RefusesText most_records first fault
@@ -122,7 +129,8 @@ RefusesFileOf (one_state format) first second fault = ⊥
 RefusesFileOf state_and_file first second fault = HoldsSomeState first × RefusesText most_records second fault
 RefusesFileOf two_states first second fault = ⊥
 
--- this is the fault of a state that the sources should have held. Of two states it is the fault of the first, or the fault of the second after a good first one
+-- a source should have held a state, but its text has this fault. If that is the second source, the
+-- first source held a state
 abbrev pub RefusesStateOf : Sources → DeviceBytes → DeviceBytes → StateFault → Type 0
 RefusesStateOf no_source first second fault = ⊥
 RefusesStateOf checked_file first second fault = ⊥
@@ -136,8 +144,9 @@ RefusesStateOf two_states first second fault =
 abbrev pub WantsForState : Format → DeviceBytes → DeviceBytes → Type 0
 WantsForState format old new = WantsMemory format most_at_once most_bytes old new
 
--- memory ran out while these sources were read. Either memory ran out for the first source, and nothing of the second was read; or memory ran out for the
--- second, after the first held a good state. A file that is only checked needs memory only before its first byte is read
+-- memory ran out while these sources were read. If it ran out for the first source, nothing of the
+-- second was read. If it ran out for the second, the first held a state. A file that is only
+-- checked needs memory only before its first byte is read
 abbrev pub WantsFor : Sources → DeviceBytes → DeviceBytes → DeviceBytes → DeviceBytes → Type 0
 WantsFor no_source old new second_old second_new = ⊥
 WantsFor checked_file old new second_old second_new = Reads old [] new
@@ -148,15 +157,16 @@ WantsFor state_and_file old new second_old second_new =
 WantsFor two_states old new second_old second_new =
     (WantsForState dks_2 old new × (second_new ≡ second_old)) ⊎ (HoldsSomeState old × WantsForState dks_2 second_old second_new)
 
--- a file is read no further than the piece that decides the answer
+-- the reading of a file stopped no later than the piece that decides the result
 abbrev pub ReadsFewOfFile : DeviceBytes → DeviceBytes → Type 0
 ReadsFewOfFile old new = ReadsNoFurther most_at_once most_records old new
 
--- a state is read no further than the piece that decides the answer
+-- the reading of a state stopped no later than the piece that decides the result
 abbrev pub ReadsFewOfState : Format → DeviceBytes → DeviceBytes → Type 0
 ReadsFewOfState format old new = ReadsOnePieceMore format most_at_once most_bytes old new
 
--- the first source is read no further than the piece that decides the answer; without a source, nothing is read
+-- the reading of the first source stopped no later than the piece that decides the result. Without
+-- a source, nothing was read
 abbrev pub ReadsFewOfFirst : Sources → DeviceBytes → DeviceBytes → Type 0
 ReadsFewOfFirst no_source old new = new ≡ old
 ReadsFewOfFirst checked_file old new = ReadsFewOfFile old new
@@ -165,7 +175,8 @@ ReadsFewOfFirst (one_state format) old new = ReadsFewOfState format old new
 ReadsFewOfFirst state_and_file old new = ReadsFewOfState dks_2 old new
 ReadsFewOfFirst two_states old new = ReadsFewOfState dks_2 old new
 
--- the second source is read no further than the piece that decides the answer, and not at all if the first held no state
+-- the reading of the second source stopped no later than the piece that decides the result. If the
+-- first source held no state, nothing of the second was read
 abbrev pub ReadsFewOfSecond : Sources → DeviceBytes → DeviceBytes → DeviceBytes → Type 0
 ReadsFewOfSecond no_source first old new = new ≡ old
 ReadsFewOfSecond checked_file first old new = new ≡ old
@@ -174,7 +185,7 @@ ReadsFewOfSecond (one_state format) first old new = new ≡ old
 ReadsFewOfSecond state_and_file first old new = (new ≡ old) ⊎ (HoldsSomeState first × ReadsFewOfFile old new)
 ReadsFewOfSecond two_states first old new = (new ≡ old) ⊎ (HoldsSomeState first × ReadsFewOfState dks_2 old new)
 
--- if there is a file among these sources, it was read to its end
+-- each file among these sources was read to its end
 abbrev pub HasReadToEnd : Sources → DeviceBytes → DeviceBytes → Type 0
 HasReadToEnd no_source first second = ⊤
 HasReadToEnd checked_file first second = IsEnd first
@@ -183,7 +194,8 @@ HasReadToEnd (one_state format) first second = ⊤
 HasReadToEnd state_and_file first second = IsEnd second
 HasReadToEnd two_states first second = ⊤
 
--- this fault is a reason to refuse these sources, given what they held and what is left of them. `Sink` and `Lapsed` can't occur
+-- this is a fault for which these sources may be refused, given what they held and what is left in
+-- them. `Sink` and `Lapsed` can't occur
 abbrev pub IsWhyRefused : Sources → DeviceBytes → DeviceBytes → DeviceBytes → DeviceBytes → OfficeFault → Type 0
 IsWhyRefused sources first left second second_left (office.File fault) = RefusesFileOf sources first second fault
 IsWhyRefused sources first left second second_left (office.State fault) = RefusesStateOf sources first second fault
@@ -192,38 +204,41 @@ IsWhyRefused sources first left second second_left office.Memory = WantsFor sour
 IsWhyRefused sources first left second second_left office.Lapsed = ⊥
 IsWhyRefused sources first left second second_left office.Sink = ⊥
 
--- reading the sources ended with a value that has this property, and any file was read to its end. Or it ended with a fault that is a reason to refuse the
--- sources
+-- reading the sources ended with this result. Either it is a value with the property `IsMade`, and
+-- each file was read to its end. Or it is a fault for which the sources may be refused
 abbrev pub EndsReading : {A : Type 0} → (A → Type 0) → Sources → DeviceBytes → DeviceBytes → DeviceBytes → DeviceBytes → Result A OfficeFault → Type 0
 EndsReading IsMade sources first left second second_left (Ok made) = IsMade made × HasReadToEnd sources left second_left
 EndsReading IsMade sources first left second second_left (Err fault) = IsWhyRefused sources first left second second_left fault
 
--- the sources were read in their order, no further than the answer needs, and this outcome holds
+-- the sources were read in their order, no further than the result needs, and `Ends` is true
 pub record ReadsFew (sources : Sources) (first left second second_left : DeviceBytes) (Ends : Type 0) : Type 0 where
   pub first_few : ReadsFewOfFirst sources first left
   pub second_few : ReadsFewOfSecond sources first second second_left
   pub ends : Ends
 
--- the sources were read no further than the answer needs, and the result is a value with this property or a fault
+-- the sources were read no further than the result needs. The result is a value with the property
+-- `IsMade`, or a fault
 abbrev pub ReadsSources : {A : Type 0} → (A → Type 0) → Sources → DeviceBytes → DeviceBytes → DeviceBytes → DeviceBytes → Result A OfficeFault → Type 0
 ReadsSources IsMade sources first left second second_left result =
     ReadsFew sources first left second second_left (EndsReading IsMade sources first left second second_left result)
 
--- the sources were read no further than the answer needs, and the result is their content or a fault
+-- the sources were read no further than the result needs. The result is their content, or a fault
 abbrev pub ReadsContent : {A : Type 0} → (A → ReadView) → Sources → DeviceBytes → DeviceBytes → DeviceBytes → DeviceBytes → Result A OfficeFault → Type 0
 ReadsContent meant sources first left second second_left result =
     ReadsSources (λ made. IsContentOf sources first second (meant made)) sources first left second second_left result
 
--- a task's sources were read no further than the answer needs, and the result is what the task makes of them or a fault
+-- a task's sources were read no further than the result needs. The result is what the task makes of
+-- them, or a fault
 abbrev pub ReadsTask : {A : Type 0} → (A → ReadView) → TaskView → DeviceBytes → DeviceBytes → DeviceBytes → DeviceBytes → Result A OfficeFault → Type 0
 ReadsTask meant task first left second second_left result =
     ReadsSources (λ made. IsReadOf task first second (meant made)) (sources_of task) first left second second_left result
 
--- the prepared job has this job and what the job has made of its sources
+-- the prepared job consists of this job and of what its task makes of its sources
 abbrev pub IsPreparedFor : JobView → DeviceBytes → DeviceBytes → PreparedView → Type 0
 IsPreparedFor job first second prepared = (prepared.job ≡ job) × IsReadOf job.task first second prepared.read
 
--- a job's sources were read no further than the answer needs, and the result is the prepared job or a fault
+-- a job's sources were read no further than the result needs. The result is the prepared job, or a
+-- fault
 abbrev pub ReadsInOrder : JobView → DeviceBytes → DeviceBytes → DeviceBytes → DeviceBytes → Result PreparedView OfficeFault → Type 0
 ReadsInOrder job first left second second_left result =
     ReadsSources (IsPreparedFor job first second) (sources_of job.task) first left second second_left result
@@ -232,7 +247,7 @@ ReadsInOrder job first left second second_left result =
 abbrev pub HaveNotFailed : ℕ → ℕ → ℕ → ℕ → Type 0
 HaveNotFailed first first_now second second_now = (first_now ≡ first) × (second_now ≡ second)
 
--- for the fault `Source`, one of two sources failed once more; for any other fault neither did
+-- if the fault is `Source`, one of the two sources has failed once; otherwise neither has failed
 abbrev pub FailsBy : ℕ → ℕ → ℕ → ℕ → OfficeFault → Type 0
 FailsBy first first_now second second_now (office.File fault) = HaveNotFailed first first_now second second_now
 FailsBy first first_now second second_now (office.State fault) = HaveNotFailed first first_now second second_now
@@ -241,24 +256,27 @@ FailsBy first first_now second second_now office.Memory = HaveNotFailed first fi
 FailsBy first first_now second second_now office.Lapsed = ⊥
 FailsBy first first_now second second_now office.Sink = ⊥
 
--- two sources were read with this result. If the result is the fault `Source`, their failure counts grew by one in all; otherwise the counts are unchanged
+-- two sources were read with this result. If it is the fault `Source`, the sum of their failure
+-- counts grew by one; otherwise both counts are unchanged
 abbrev pub CountsSources : {A : Type 0} → Result A OfficeFault → ℕ → ℕ → ℕ → ℕ → Type 0
 CountsSources (Ok made) first first_now second second_now = HaveNotFailed first first_now second second_now
 CountsSources (Err fault) first first_now second second_now = FailsBy first first_now second second_now fault
 
--- this text is written for a state: a docker, the list of its files, or the state's own text
+-- this is the text of this output for a state: a docker, the list of the state's files, or the text
+-- of the state
 abbrev pub IsStateOutput : Output → State → List ℕ → Type 0
 IsStateOutput counts_written state text = ⊥
 IsStateOutput (docker_written place day) state text = IsDockerText (live_table state) place day text
 IsStateOutput files_written state text = text ≡ files_text state.ledger
 IsStateOutput state_written state text = text ≡ state_text dks_2 state
 
--- this is the text of the output
+-- this is the text of this output for the content that was read
 abbrev pub IsOutputText : Output → ReadView → List ℕ → Type 0
 IsOutputText output (file_read file) text = (output ≡ counts_written) × (text ≡ count_line file.record_count file.change_count)
 IsOutputText output (office_read state) text = IsStateOutput output state text
 
--- this output can be written from what was read: counts from a file, anything else from a state
+-- this output can be written from the content that was read. Counts are written from a file, any
+-- other output from a state
 abbrev pub IsWrittenOf : Output → ReadView → Type 0
 IsWrittenOf output (file_read file) = output ≡ counts_written
 IsWrittenOf output (office_read state) = output ≢ counts_written
@@ -275,11 +293,11 @@ pub record GainsTextPart (output : Output) (read : ReadView) (old new : DeviceBy
   pub is : IsOutputText output read text
   pub gained : TakesPart old text new
 
--- the sink has gained the text that the job writes
+-- the sink has gained the text of the job's output
 abbrev pub GainsOutput : PreparedView → DeviceBytes → DeviceBytes → Type 0
 GainsOutput prepared old new = GainsText (output_of prepared.job.task) prepared.read old new
 
--- the sink has gained a proper prefix of the text that the job writes
+-- the sink has gained a proper prefix of the text of the job's output
 abbrev pub GainsPart : PreparedView → DeviceBytes → DeviceBytes → Type 0
 GainsPart prepared old new = GainsTextPart (output_of prepared.job.task) prepared.read old new
 
@@ -291,7 +309,7 @@ IsRefusedDocker (docker_written place day) (office_read state) = IsDayRefused st
 IsRefusedDocker files_written (office_read state) = ⊥
 IsRefusedDocker state_written (office_read state) = ⊥
 
--- the job prints a docker of a day that the state's horizon refuses
+-- the job would print a docker of a day that the state's horizon refuses
 abbrev pub IsRefused : PreparedView → Type 0
 IsRefused prepared = IsRefusedDocker (output_of prepared.job.task) prepared.read
 
@@ -306,8 +324,9 @@ IsDocker state_written = ⊥
 abbrev pub PrintsDocker : PreparedView → Type 0
 PrintsDocker prepared = IsDocker (output_of prepared.job.task)
 
--- writing an output to a sink ended with this result. On success the sink has gained the text. If the sink failed, it has gained a proper prefix of the text.
--- If a docker can't be made, the sink is unchanged
+-- writing an output to a sink ended with this result. On success the sink has gained the text. If
+-- the sink failed, it has gained a proper prefix of the text. If a docker can't be made, the sink
+-- is unchanged
 abbrev pub EndsEmitting : {K : Type 0} → (K → DeviceBytes) → (K → ℕ) → Output → ReadView → K → K → Result ⊤ OfficeFault → Type 0
 EndsEmitting taken failures output read old new (Ok done) =
     GainsText output read (taken old) (taken new) × (failures new ≡ failures old)

@@ -3,8 +3,8 @@ use Rattle.docker_model.specs.state.StateText.{Format, dks_1, dks_2}
 use Rattle.docker_cmd.specs.declared.reads.Sources as declared
 use Rattle.docker_cmd.specs.declared.reads.Sources.TheVariants as code
 
--- what a task reads, in the order of its words. A file is only checked, or taken by an office. A state is in the present or the older format; a file or a
--- second state may follow it
+-- the input of a task, in the order of its words. A file is only checked, or taken by an office. A
+-- state is in the present or the older format. After a state, a file or a second state may follow
 pub data Sources : Type 0 where
   no_source : Sources
   checked_file : Sources
@@ -13,7 +13,7 @@ pub data Sources : Type 0 where
   state_and_file : Sources
   two_states : Sources
 
--- the definitions' name for each kind of input in the code
+-- converts the code's `Sources` to the `Sources` of the definitions
 abbrev pub sources_meant : declared.Sources → Sources
 sources_meant code.None = no_source
 sources_meant code.CheckedFile = checked_file

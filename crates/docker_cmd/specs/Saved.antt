@@ -1,4 +1,5 @@
--- What a session saves: a state that it read from a version of a STATE file, and that has gained files, versions and horizons since.
+-- What a session saves: a state that was read from a version of a STATE file, and that has gained
+-- files, versions and horizons since.
 use Rattle.std.specs.Prelude.{◌≡◌, ◌<◌, ℕ, List, [], ◌∷◌, length, slice_index_or, Some}
 use Rattle.docker_model.specs.file.File.{most_records}
 use Rattle.docker_model.specs.file.FileFault.{IsFileText}
@@ -13,19 +14,20 @@ use Rattle.docker_cmd.specs.Prepared.{DeviceBytes, most_bytes}
 abbrev pub HoldsFile : DeviceBytes → List (List ℕ) → Type 0
 HoldsFile bytes file = (text : List ℕ) × (bytes ≡ Some text) × IsFileText most_records text file
 
--- a source held the earlier version with this number, and there is such a version
+-- there is an earlier version with this number, and a source held its text
 pub record HoldsVersion (earlier : List (List ℕ)) (bytes : DeviceBytes) (number : ℕ) : Type 0 where
   pub there : number < length earlier
   pub held : bytes ≡ Some (slice_index_or earlier number [])
 
--- one thing that a state gained: a file, an earlier version of any STATE file (by its number), or a horizon
+-- what a state can gain at once: a file, an earlier version of any STATE file (given by its
+-- number), or a horizon
 pub data Gain : Type 0 where
   file_gained : (file : List (List ℕ)) → Gain
   version_gained : (number : ℕ) → Gain
   horizon_gained : (day : ℕ) → Gain
 
--- the old state became the new state by gaining one thing. Either it was joined with the state of a file or of an earlier version that a source held, or its
--- horizon was raised to this day
+-- the old state became the new state by gaining one thing. Either it was joined with the state of a
+-- file or of an earlier version, whose text a source held. Or its horizon was raised to this day
 abbrev pub Gains : List (List ℕ) → Gain → State → State → Type 0
 Gains earlier (file_gained file) old new =
     (held : DeviceBytes) × HoldsFile held file × TakesFile most_records held old new
@@ -33,13 +35,14 @@ Gains earlier (version_gained number) old new =
     (held : DeviceBytes) × HoldsVersion earlier held number × JoinsState dks_2 most_bytes held old new
 Gains earlier (horizon_gained day) old new = IsDay day × (new ≡ raise_horizon day old)
 
--- the old state gained these things in turn, and became the new state
+-- the old state became the new state by gaining these things, in order
 abbrev pub AreGained : List (List ℕ) → List Gain → State → State → Type 0
 AreGained earlier [] old new = new ≡ old
 AreGained earlier (gain ∷ gains) old new =
     (next : State) × Gains earlier gain old next × AreGained earlier gains next new
 
--- this is the text of a state that was read from the earlier version with number `own`, and that then gained these things
+-- this is the text of a state that was read from the earlier version with number `own`, and that
+-- then gained these things
 pub record IsSaved (earlier : List (List ℕ)) (own : ℕ) (gains : List Gain) (text : List ℕ) : Type 0 where
   pub held : DeviceBytes
   pub holds : HoldsVersion earlier held own

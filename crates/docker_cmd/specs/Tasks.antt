@@ -1,4 +1,4 @@
--- The table of subcommands, and the tasks that they do.
+-- The table of subcommands, and the tasks of a job.
 use Rattle.std.specs.Prelude.{ℕ, List, [], ◌∷◌, ◌++◌, Option, Some, None, codes, map, ⊤}
 use Rattle.std.specs.List.{find}
 use Rattle.std.specs.Str.{bytes_eq}
@@ -22,11 +22,11 @@ pub record Row : Type 0 where
 abbrev pub row : Text → List Text → Sources → Row
 row name ids reads = record { name = name; ids = ids; reads = reads }
 
--- the definitions' row for a row of the code
+-- converts the code's `Row` to the `Row` of the definitions
 abbrev pub row_meant : code.Row → Row
 row_meant given = row given.name.now (map (λ id. id.now) given.ids.now) (sources_meant given.reads)
 
--- the table of subcommands: the row of each
+-- the table of subcommands: the row of each subcommand
 abbrev pub row_of : Subcommand → Row
 row_of New = row (codes "new") (codes "STATE" ∷ []) no_source
 row_of Check = row (codes "check") (codes "FILE" ∷ []) checked_file
@@ -70,7 +70,7 @@ pub data TaskView : Type 0 where
   horizon_task : (day : ℕ) → TaskView
   migrate_task : TaskView
 
--- the definitions' task for a task of the code
+-- converts the code's `Task` to a `TaskView`
 abbrev pub task_meant : Task → TaskView
 task_meant task.New = new_task
 task_meant task.Check = check_task
@@ -119,11 +119,11 @@ AreWordsOf files_task = OfOne (λ state. ⊤)
 AreWordsOf (horizon_task day) = OfTwo (λ state date. NamesStored state × NamesDay date day)
 AreWordsOf migrate_task = OfOne (λ state. NamesStored state)
 
--- what a task reads
+-- the input of a task
 abbrev pub sources_of : TaskView → Sources
 sources_of task = (row_of (subcommand_of task)).reads
 
--- what a task writes
+-- the output of a task
 abbrev pub output_of : TaskView → Output
 output_of new_task = state_written
 output_of check_task = counts_written

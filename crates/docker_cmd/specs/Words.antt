@@ -14,7 +14,8 @@ Text = List ℕ
 abbrev pub texts : List (Bor Text) → List Text
 texts = map (λ word. word.now)
 
--- whether a word is allowed on the command line: it isn't empty, and doesn't begin with a hyphen (45)
+-- whether a word is allowed on the command line: it isn't empty, and its first byte isn't a hyphen
+-- (45)
 abbrev pub is_plain_word : Text → Bool
 is_plain_word [] = false
 is_plain_word (byte ∷ bytes) = not (byte == 45)
@@ -28,22 +29,22 @@ pub record NamesPlace (word : Text) (place : List ℕ) : Type 0 where
   pub code : IsTiplocText word
   pub padded : place ≡ word ++ spaces (7 - length word)
 
--- the word names this day: it is the date, such as 2026-03-29
+-- the word names this day: it is the day's date, such as 2026-03-29
 pub record NamesDay (word : Text) (day : ℕ) : Type 0 where
   pub within : day ≤ last_day
   pub written : word ≡ day_text day
 
--- the list has exactly one word, and this holds for it
+-- the list has exactly one word, and `Holds` is true of it
 abbrev pub OfOne : (Text → Type 0) → List Text → Type 0
 OfOne Holds (first ∷ []) = Holds first
 OfOne Holds _ = ⊥
 
--- the list has exactly two words, and this holds for them
+-- the list has exactly two words, and `Holds` is true of them
 abbrev pub OfTwo : (Text → Text → Type 0) → List Text → Type 0
 OfTwo Holds (first ∷ second ∷ []) = Holds first second
 OfTwo Holds _ = ⊥
 
--- the list has exactly three words, and this holds for them
+-- the list has exactly three words, and `Holds` is true of them
 abbrev pub OfThree : (Text → Text → Text → Type 0) → List Text → Type 0
 OfThree Holds (first ∷ second ∷ third ∷ []) = Holds first second third
 OfThree Holds _ = ⊥
@@ -52,7 +53,7 @@ OfThree Holds _ = ⊥
 abbrev pub usage_with : Text → List Text → Text
 usage_with name ids = name ++ flat_map (λ id. 32 ∷ id) ids
 
--- these texts, joined by ` | `
+-- these texts, separated by ` | `
 abbrev pub with_bars : List Text → Text
 with_bars [] = []
 with_bars (last ∷ []) = last

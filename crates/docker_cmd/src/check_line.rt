@@ -6,11 +6,11 @@ use arrayvec::ArrayVec;
 use fixed_text::put;
 use itoa::Buffer;
 
-/// The line with its line feed. It has room for any two counts.
+/// A line with its line feed. Any two counts fit in it.
 pub(crate) type CheckText = ArrayVec<u8, 64>;
 
-/// The line for a file with `records` records and `changes` changes. The header and the trailer
-/// count as records.
+/// Returns the line for a file with `records` records and `changes` changes. The header and the
+/// trailer count as records.
 pub(crate) fn check_line(records: u32, changes: u64) -> CheckText
     ensures { result.items ≡ count_line records changes }
 {

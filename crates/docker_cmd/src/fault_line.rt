@@ -16,8 +16,8 @@ use itoa::Buffer;
 /// The line that reports a fault, with its line feed.
 pub type FaultText = ArrayVec<u8, 192>;
 
-/// The exit status for a fault: 1 for refused input, 2 for usage, 3 for out of memory, 4 for a
-/// failed device.
+/// Returns the exit status for a fault: 1 for refused input, 2 for usage, 3 for out of memory, 4
+/// for a failed device.
 pub fn status(fault: &Fault) -> u8
     ensures { result ≡ status_of fault.now }
 {
@@ -29,7 +29,7 @@ pub fn status(fault: &Fault) -> u8
     }
 }
 
-/// The line that reports a fault on standard error.
+/// Returns the line that reports a fault on standard error.
 pub fn fault_text(fault: &Fault) -> FaultText
     ensures { result.items ≡ fault_line fault.now }
 {

@@ -8,7 +8,7 @@ use crate::tasks::Subcommand;
 use clap::{Arg, ArgMatches, Command, Error};
 use std::alloc::{AllocError, Global};
 
-/// The argument with this id, which is required.
+/// Returns the argument with this id, which is required.
 fn required_word<'a>(alloc: Global, id: &'a str) -> Arg<'a>
     ensures rule { rule_of result ≡ required_rule id.entry.now }
     ensures local { result.global ≡ false }
@@ -16,7 +16,7 @@ fn required_word<'a>(alloc: Global, id: &'a str) -> Arg<'a>
     Arg::new(alloc, id).required(true)
 }
 
-/// The subcommand with its required arguments.
+/// Returns the subcommand with its required arguments.
 fn command_of<'a>(alloc: Global, subcommand: Subcommand) -> Result<Command<'a>, AllocError>
     ensures shape { IfOk result (λ c. app_of c
         ≡ record { top = shape_of subcommand; subs = [] }) }
@@ -29,8 +29,8 @@ fn command_of<'a>(alloc: Global, subcommand: Subcommand) -> Result<Command<'a>, 
     Ok(command)
 }
 
-/// The program without its subcommands. A subcommand is required, and there is no `--help`, `help`
-/// or `--version`.
+/// Returns the program without its subcommands. A subcommand is required, and there is no `--help`,
+/// `help` or `--version`.
 fn top<'a>(alloc: Global) -> Command<'a>
     ensures { app_of result ≡ record { top = docker_shape; subs = [] } }
 {
@@ -42,7 +42,7 @@ fn top<'a>(alloc: Global) -> Command<'a>
         .subcommand_required(true)
 }
 
-/// The program with its subcommands.
+/// Returns the program with its subcommands.
 fn docker<'a>(alloc: Global) -> Result<Command<'a>, AllocError>
     ensures { IfOk result (λ c. app_of c ≡ docker_app) }
 {

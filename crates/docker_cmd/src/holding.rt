@@ -1,5 +1,5 @@
 //! What a job keeps in memory after it has read its sources. `day`, `print` and `files` keep only
-//! the part of the file or the state that their output needs.
+//! what their output needs.
 ghost use Rattle.std.specs.Prelude.{◌≡◌, ◌-◌, ◌^◌, ◌<◌, ◌⊎◌, IfOk};
 ghost use Rattle.docker_cmd.specs.Holding.{IsWrittenFrom, held_meant};
 ghost use Rattle.docker_cmd.specs.Prepared.{CountsSources, HasNoSource, HasSecondSource, HoldsSomeState, ReadsTask, output_of, sources_of};
@@ -58,7 +58,7 @@ pub(crate) fn hold<S: Source, T: Source>(
     }
 }
 
-/// Reads a job's sources, and keeps everything.
+/// Reads a job's sources, and keeps all that was read.
 fn hold_all<S: Source, T: Source>(
     alloc: Global,
     job: &Job,

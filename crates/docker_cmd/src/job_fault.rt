@@ -1,14 +1,14 @@
-//! Why no job was found.
+//! The reasons why no job was found.
 use std::alloc::AllocError;
 use thiserror::Error;
 
-/// Why no job was found in the words or in the job line.
+/// The reason why no job was found in the words or in the job line.
 #[derive(Clone, Copy, PartialEq, Eq, Debug, Error)]
 pub enum JobFault {
     /// The words aren't a subcommand followed by the words that it requires.
     #[error("usage")]
     Usage,
-    /// Out of memory: the allocator refused to grow.
+    /// Out of memory: the allocator refused a request.
     #[error("want of memory")]
     Memory,
     /// The source of the job line failed.

@@ -1,4 +1,4 @@
-//! Finds the job that words name.
+//! Finds the job that the words name.
 ghost use Rattle.std.specs.Prelude.{◌≡◌, ◌≢◌, ◌↔◌, IfOk, false, Err, map, string_bytes};
 ghost use Rattle.docker_cmd.specs.Job.{AskNothing, IsJobOf, NameNoJob};
 ghost use Rattle.docker_cmd.specs.Words.{texts};
@@ -9,8 +9,8 @@ use crate::tasks::Subcommand;
 use crate::words::{are_plain, read_words};
 use std::alloc::{AllocError, Global};
 
-/// The job that the words name. Fails with `Usage` if the words name no job. Fails with `Memory`
-/// only if the words name a job.
+/// Returns the job that the words name. Fails with `Usage` if the words name no job. Fails with
+/// `Memory` only if the words name a job.
 pub fn job(alloc: Global, words: &[&str]) -> Result<Job, JobFault>
     ensures job { IfOk result (λ job. IsJobOf (texts words.now) job) }
     ensures usage { (result ≡ Err JobFault.Usage) ↔ NameNoJob (texts words.now) }
@@ -23,8 +23,8 @@ pub fn job(alloc: Global, words: &[&str]) -> Result<Job, JobFault>
     }
 }
 
-/// The job that `clap` finds in the words. May fail with `Memory`, whether or not the words name a
-/// job.
+/// Returns the job that `clap` finds in the words. May fail with `Memory`, whether or not the words
+/// name a job.
 fn found_job(alloc: Global, words: &[&str]) -> Result<Job, JobFault>
     ensures job { IfOk result (λ job. IsJobOf (texts words.now) job) }
     ensures usage { (result ≡ Err JobFault.Usage) → NameNoJob (texts words.now) }
@@ -60,7 +60,7 @@ fn asks(subcommand: Subcommand, words: &[&str]) -> bool
     subcommand.task(words).is_some()
 }
 
-/// Copies of the words that the job can own.
+/// Returns copies of the words that the job can own.
 fn owned_words(alloc: Global, words: &[&str]) -> Result<Vec<String>, AllocError>
     ensures { IfOk result (λ owned. map (λ word. string_bytes word) owned.items ≡ texts words.now) }
 {

@@ -1,4 +1,4 @@
-//! A job, as the words of a command name it.
+//! A job, which the words of a command name.
 ghost use Rattle.std.specs.Prelude.{◌≡◌, length, map, string_bytes};
 ghost use Rattle.docker_cmd.specs.Tasks.{day_of, ids_of, subcommand_of, task_meant, tiploc_of};
 
@@ -6,7 +6,7 @@ use crate::tasks::{Subcommand, Task};
 use cif_line::{Day, Tiploc};
 use std::marker::Model;
 
-/// A job: what to do, and the words after the subcommand.
+/// A job: its task, and the words after the subcommand.
 #[derive(Debug, Drop)]
 pub struct Job {
     task: Task,
@@ -30,7 +30,7 @@ impl Model for Job {
 }
 
 impl Job {
-    /// The job with this task and these words after the subcommand.
+    /// Returns the job with this task and these words after the subcommand.
     pub(crate) fn new(task: Task, words: Vec<String>) -> Job
         requires { length words.items ≡ length (ids_of (subcommand_of (task_meant task))) }
         ensures task { result.task ≡ task_meant task }
@@ -39,21 +39,22 @@ impl Job {
         Job { task, words }
     }
 
-    /// The job's task.
+    /// Returns the job's task.
     pub fn task(&self) -> Task
         ensures { task_meant result ≡ self.now.task }
     {
         self.task
     }
 
-    /// The job's subcommand.
+    /// Returns the job's subcommand.
     pub fn subcommand(&self) -> Subcommand
         ensures { result ≡ subcommand_of self.now.task }
     {
         self.task.subcommand()
     }
 
-    /// The words after the subcommand. There are exactly as many as the subcommand requires.
+    /// Returns the words after the subcommand. There are exactly as many as the subcommand
+    /// requires.
     pub fn words(&self) -> &[String]
         ensures words { map (λ word. string_bytes word) result.now ≡ self.now.words }
         ensures count { length result.now ≡ length (ids_of (subcommand_of self.now.task)) }
@@ -61,14 +62,15 @@ impl Job {
         self.words.as_slice()
     }
 
-    /// The timing point that the words name; `None` if the subcommand takes no timing point.
+    /// Returns the timing point that the words name; `None` if the subcommand takes no timing
+    /// point.
     pub fn tiploc(&self) -> Option<Tiploc>
         ensures { result ≡ tiploc_of self.now.task }
     {
         self.task.tiploc()
     }
 
-    /// The day that the words name; `None` if the subcommand takes no day.
+    /// Returns the day that the words name; `None` if the subcommand takes no day.
     pub fn day(&self) -> Option<Day>
         ensures { result ≡ day_of self.now.task }
     {

@@ -1,5 +1,5 @@
-//! The job line: a program that is started without words reads them from the first line of its
-//! standard input.
+//! Reads the job line. A program that is started without words reads them from the first line of
+//! its standard input.
 ghost use Rattle.std.specs.Prelude.{◌≡◌, ◌+◌, ◌*◌, ◌-◌, ◌^◌, ◌<◌, ◌≤◌, ◌↔◌, ◌≢◌, ◌++◌, length, Some, IfOk, IsErr, OnErr, Err, MatchOption, IfSome};
 ghost use Rattle.std.specs.List.{position_or_len, before_first, after_first};
 ghost use Rattle.cif_device.specs.Device.{CountsFailure};
@@ -16,7 +16,7 @@ use cif_line::{Source, is_printable};
 use std::alloc::Global;
 use std::str;
 
-/// The most bytes of a job line, not counting its line feed.
+/// The most bytes that a job line may have, not counting its line feed.
 const LONGEST: usize = 255;
 
 /// A job line without its line feed.
@@ -28,9 +28,9 @@ const MOST_WORDS: usize = 128;
 /// The words of a job line.
 type LineWords<'a> = ArrayVec<&'a str, MOST_WORDS>;
 
-/// The job that the first line of a source names. On success the source is left just after the line
-/// feed. Fails with `Usage` if there is no such line, or if the line names no job. Fails with
-/// `Memory` only if the line names a job. Reads at most 256 bytes.
+/// Returns the job that the first line of a source names. On success the source is left just after
+/// the line feed. Fails with `Usage` if there is no such line, or if the line names no job. Fails
+/// with `Memory` only if the line names a job. Reads at most 256 bytes.
 pub fn job_line<S: Source>(alloc: Global, source: &mut S) -> Result<Job, JobFault>
     requires { S.failures source.old < 2 ^ 64 - 1 }
     ensures job { IfOk result (λ job. ReadsJob (S.left source.old) job (S.left source.new)) }
@@ -44,7 +44,7 @@ pub fn job_line<S: Source>(alloc: Global, source: &mut S) -> Result<Job, JobFaul
     job_of_line(alloc, line.as_slice())
 }
 
-/// The job that a job line names.
+/// Returns the job that a job line names.
 fn job_of_line(alloc: Global, line: &[u8]) -> Result<Job, JobFault>
     requires { IsLineText line.now }
     ensures job { IfOk result (λ job. IsJobOf (words_in line.now) job) }
@@ -56,7 +56,7 @@ fn job_of_line(alloc: Global, line: &[u8]) -> Result<Job, JobFault>
     job(alloc, words.as_slice())
 }
 
-/// A job line as text. All its bytes are printable, so it is valid UTF-8.
+/// Returns a job line as text. All its bytes are printable, so it is valid UTF-8.
 pub fn text_of(line: &[u8]) -> &str
     requires { IsLineText line.now }
     ensures { result.now ≡ line.now }
@@ -84,7 +84,7 @@ fn read_byte<S: Source>(source: &mut S) -> Result<Option<u8>, JobFault>
     }
 }
 
-/// The text before the first space and the text after it. `None` if there is no space.
+/// Returns the text before the first space and the text after it, or `None` if there is no space.
 pub fn split_at_space(text: &str) -> Option<(&str, &str)>
     ensures pieces { MatchOption result (position_or_len is_space text.now
         ≡ length text.now) (λ parts.
@@ -109,7 +109,7 @@ fn push_word<'a>(words: &mut LineWords<'a>, piece: &'a str)
     }
 }
 
-/// The words of a line: the pieces between its spaces, without the empty ones.
+/// Returns the words of a line: the pieces between its spaces, without the empty ones.
 #[tactic(auto, using(crate::proofs::LineWords::words_at_space, crate::proofs::LineWords::words_without_space))]
 fn words_in(line: &str) -> LineWords<'_>
     requires { length line.now ≤ 255 }

@@ -59,7 +59,8 @@ fn write<K: Sink>(sink: &mut K, text: &[u8]) -> Result<(), OfficeFault>
     write_all(sink, text).map_err(|_| OfficeFault::Sink)
 }
 
-/// Writes a docker, the list of files or the state's text, from an office that holds everything.
+/// Writes a docker, the list of files or the state's text, from an office that holds the whole
+/// state.
 fn write_office<K: Sink>(office: &Office, output: &Output, sink: &mut K) -> Result<(), OfficeFault>
     requires failures { K.failures sink.old < 2 ^ 64 - 1 }
     requires output { output_meant output.now ≢ counts_written }
@@ -75,7 +76,7 @@ fn write_office<K: Sink>(office: &Office, output: &Output, sink: &mut K) -> Resu
     }
 }
 
-/// Writes the docker for which the office was read.
+/// Writes the docker for which the excerpt was made.
 fn write_place<K: Sink>(office: &PlaceOffice, sink: &mut K) -> Result<(), OfficeFault>
     requires { K.failures sink.old < 2 ^ 64 - 1 }
     ensures ends { EndsEmitting K.taken K.failures (docker_written office.now.place office.now.day)

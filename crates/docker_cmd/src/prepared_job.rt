@@ -33,15 +33,15 @@ impl<'a> Model for Prepared<'a> {
 }
 
 impl<'a> Prepared<'a> {
-    /// The job that was prepared.
+    /// Returns the job that was prepared.
     pub(crate) fn job(&self) -> &'a Job
         ensures { result.now ≡ self.now.job }
     {
         self.job
     }
 
-    /// What the job keeps in memory: the counts of a file for `check`, and an office for any other
-    /// job. The office may hold only the part of the state that the job writes.
+    /// Returns what the job keeps in memory: the counts of a file for `check`, and an office for
+    /// any other job. The office may hold only the part of the state that the job writes.
     pub(crate) fn held(&self) -> &Holding
         ensures held { self.now.read ≡ held_meant result.now }
         ensures written { IsWrittenFrom (output_of self.now.job.task) result.now }
@@ -55,11 +55,11 @@ impl<'a> Prepared<'a> {
 /// `print`, `files`, `horizon` and `migrate` read STATE from it. `take` and `merge` read STATE from
 /// the first source. If the first source held a state, `take` then reads FILE from the second
 /// source, and `merge` reads OTHER from the second source. Each source is read to its end, or to
-/// the piece that decides the answer. A piece has at most 65,536 bytes.
+/// the piece that decides the result. A piece has at most 65,536 bytes.
 ///
 /// Fails with `File` or `State` if a source doesn't hold a file or a state, with `Source` if a
-/// source failed, and with `Memory` if memory ran out. If memory ran out, whatever was checked
-/// before has no fault.
+/// source failed, and with `Memory` if memory ran out. With `Memory`, the records and parts that
+/// were read before have no fault.
 pub fn prepare<'a, S: Source, T: Source>(
     alloc: Global,
     job: &'a Job,

@@ -1,9 +1,9 @@
 //! The kinds of input that a task reads.
 
-/// What a task reads, in the order of its words.
+/// The input of a task, in the order of its words.
 #[derive(Clone, Copy, PartialEq, Eq, Debug)]
 pub enum Sources {
-    /// Nothing.
+    /// No input.
     None,
     /// A CIF file that is only checked. No office takes it.
     CheckedFile,

@@ -16,17 +16,17 @@ use std::alloc::Global;
 /// The most bytes that a state's text may have.
 pub const MOST_BYTES: u64 = 1_099_511_627_776;
 
-/// What a job has read.
+/// The content of a job's sources.
 #[derive(Debug, Drop)]
 pub(crate) enum Content {
     /// The counts of a file that was only checked.
     File(FileCount),
-    /// An office with the state that it reloaded, took or received.
+    /// An office with its state, after it has read all its sources.
     Office(Office),
 }
 
 impl Content {
-    /// This content after the horizon was set on its office. `None` sets no horizon.
+    /// Sets the horizon on the office of this content. `None` sets no horizon.
     pub(crate) fn under(self, horizon: Option<Day>) -> Content
         ensures { content_meant result ≡ under horizon (content_meant self) }
     {
@@ -81,7 +81,7 @@ fn counts_of_file<S: Source>(alloc: Global, source: &mut S) -> Result<FileCount,
     Ok(judge_file(alloc, source, MOST_RECORDS)?)
 }
 
-/// A new office that has taken the file in a source.
+/// Returns a new office that has taken the file in a source.
 fn office_of_file<S: Source>(alloc: Global, source: &mut S) -> Result<Office, OfficeFault>
     requires { S.failures source.old < 2 ^ 64 - 1 }
     ensures reads { (second : DeviceBytes) → ReadsContent office_read taken_file
@@ -94,7 +94,7 @@ fn office_of_file<S: Source>(alloc: Global, source: &mut S) -> Result<Office, Of
     Ok(office)
 }
 
-/// An office with the state in a source.
+/// Returns an office that has reloaded the state in a source.
 fn office_of_state<S: Source>(alloc: Global, source: &mut S) -> Result<Office, OfficeFault>
     requires { S.failures source.old < 2 ^ 64 - 1 }
     ensures { EndsReadingState S.left S.failures dks_2 most_bytes
@@ -105,7 +105,7 @@ fn office_of_state<S: Source>(alloc: Global, source: &mut S) -> Result<Office, O
     Ok(office)
 }
 
-/// An office with the state in a source, in the older format.
+/// Returns an office that has reloaded the state in a source, in the older format.
 fn office_of_older_state<S: Source>(alloc: Global, source: &mut S) -> Result<Office, OfficeFault>
     requires { S.failures source.old < 2 ^ 64 - 1 }
     ensures { EndsReadingState S.left S.failures dks_1 most_bytes
@@ -116,7 +116,8 @@ fn office_of_older_state<S: Source>(alloc: Global, source: &mut S) -> Result<Off
     Ok(office)
 }
 
-/// An office with the state in the first source, which has then taken the file in the second.
+/// Returns a new office that has reloaded the state in the first source and then taken the file in
+/// the second.
 fn office_of_state_and_file<S: Source, T: Source>(
     alloc: Global,
     first: &mut S,
@@ -136,7 +137,8 @@ fn office_of_state_and_file<S: Source, T: Source>(
     Ok(taker)
 }
 
-/// An office with the state in the first source, which has then received the state in the second.
+/// Returns a new office that has reloaded the state in the first source and then received the state
+/// in the second.
 fn office_of_two_states<S: Source, T: Source>(
     alloc: Global,
     first: &mut S,

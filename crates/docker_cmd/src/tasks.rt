@@ -21,9 +21,9 @@ pub enum Subcommand {
     Check,
     /// Prints the docker of a timing point on a day, from one file.
     Day,
-    /// Takes one more file into a state.
+    /// Takes another file into a state.
     Take,
-    /// Joins a state with another.
+    /// Joins a state with another state.
     Merge,
     /// Prints the docker of a timing point on a day, from a state.
     Print,
@@ -58,7 +58,7 @@ impl<'a> Row<'a> {
 }
 
 impl Subcommand {
-    /// All subcommands, in the order of the usage line.
+    /// Returns all subcommands, in the order of the usage line.
     pub(crate) fn all<'a>() -> &'a [Subcommand]
         ensures { result.now ≡ subcommands }
     {
@@ -75,7 +75,7 @@ impl Subcommand {
         ]
     }
 
-    /// The subcommand's row in the table.
+    /// Returns the subcommand's row in the table.
     pub(crate) fn row<'a>(self) -> Row<'a>
         ensures { row_meant result ≡ row_of self }
     {
@@ -92,14 +92,14 @@ impl Subcommand {
         }
     }
 
-    /// The subcommand's name, which is the first word of a command.
+    /// Returns the subcommand's name, which is the first word of a command.
     pub fn name<'a>(self) -> &'a str
         ensures { result.now ≡ name_of self }
     {
         self.row().name
     }
 
-    /// The names of the words after the subcommand, as the usage line shows them.
+    /// Returns the names of the words after the subcommand, as the usage line shows them.
     pub(crate) fn ids<'a>(self) -> &'a [&'a str]
         ensures { map (λ id. id.now) result.now ≡ ids_of self }
     {
@@ -113,7 +113,7 @@ impl Subcommand {
         self.name() == name
     }
 
-    /// The subcommand with this name, if there is one.
+    /// Returns the subcommand with this name, if there is one.
     #[tactic(auto, unfolding(crate::specs::Tasks::subcommand_named))]
     pub(crate) fn of_name(name: &str) -> Option<Subcommand>
         ensures { result ≡ subcommand_named name.now }
@@ -121,9 +121,9 @@ impl Subcommand {
         first_named(Subcommand::all(), name).copied()
     }
 
-    /// The task that these words name for this subcommand. There must be as many words as the
-    /// subcommand requires. `None` if the words name the STATE to write `stdin`, or if a word that
-    /// has to name a timing point or a day doesn't name one.
+    /// Returns the task that these words name for this subcommand. There must be as many words as
+    /// the subcommand requires. Returns `None` if STATE is to be written but is named `stdin`, or
+    /// if a word that has to name a timing point or a day doesn't name one.
     pub(crate) fn task(self, words: &[&str]) -> Option<Task>
         requires { length words.now ≡ length (ids_of self) }
         ensures { IsTaskOf self (texts words.now) (option_map task_meant result) }
@@ -151,14 +151,14 @@ impl Subcommand {
     }
 }
 
-/// The usage line: each subcommand's name and the words that it requires.
+/// Returns the usage line: each subcommand's name and the words that it requires.
 pub(crate) fn usage<'a>() -> &'a [u8]
     ensures { result.now ≡ usage_line }
 {
     b"docker: usage: new STATE | check FILE | day FILE TIPLOC DATE | take STATE FILE | merge STATE OTHER | print STATE TIPLOC DATE | files STATE | horizon STATE DATE | migrate STATE\n"
 }
 
-/// The first of these subcommands that has this name.
+/// Returns the first of these subcommands that has this name.
 fn first_named<'a>(subcommands: &'a [Subcommand], name: &str) -> Option<&'a Subcommand>
     ensures { option_copied result
         ≡ find (λ subcommand. bytes_eq (name_of subcommand) name.now) subcommands.now }
@@ -168,15 +168,16 @@ fn first_named<'a>(subcommands: &'a [Subcommand], name: &str) -> Option<&'a Subc
         .find(|subcommand| subcommand.is_named(name))
 }
 
-/// The task. `None` if its state is named `stdin`: a state on standard input can't be replaced.
+/// Returns the task, or `None` if STATE is named `stdin`. A state on standard input can't be
+/// replaced.
 fn unless_stdin(state: &str, task: Task) -> Option<Task>
     ensures { result ≡ if bytes_eq state.now (codes "stdin") then None else Some task }
 {
     if state == "stdin" { None } else { Some(task) }
 }
 
-/// The timing point and the day that these words name. `None` if the first word isn't a timing
-/// point or the second isn't a day.
+/// Returns the timing point and the day that these words name, or `None` if the first word isn't a
+/// timing point or the second isn't a day.
 fn place_and_day(tiploc: &str, date: &str) -> Option<(Tiploc, Day)>
     ensures pair { IfSome result (λ pair. NamesPlace tiploc.now pair.0 × NamesDay date.now pair.1) }
     ensures none { IsNone result → (place : _) (day : _) → NamesPlace tiploc.now place
@@ -224,7 +225,7 @@ pub enum Task {
 }
 
 impl Task {
-    /// The subcommand that does this task.
+    /// Returns the subcommand that does this task.
     pub(crate) fn subcommand(self) -> Subcommand
         ensures { result ≡ subcommand_of (task_meant self) }
     {
@@ -241,7 +242,7 @@ impl Task {
         }
     }
 
-    /// The timing point of the task, if it has one.
+    /// Returns the timing point of the task, if it has one.
     pub(crate) fn tiploc(self) -> Option<Tiploc>
         ensures { result ≡ tiploc_of (task_meant self) }
     {
@@ -251,7 +252,7 @@ impl Task {
         }
     }
 
-    /// The day of the task, if it has one.
+    /// Returns the day of the task, if it has one.
     pub(crate) fn day(self) -> Option<Day>
         ensures { result ≡ day_of (task_meant self) }
     {
@@ -261,14 +262,14 @@ impl Task {
         }
     }
 
-    /// What the task reads.
+    /// Returns the input of the task.
     pub fn reads(self) -> Sources
         ensures { sources_meant result ≡ sources_of (task_meant self) }
     {
         self.subcommand().row().reads
     }
 
-    /// What the task writes after it has read its sources.
+    /// Returns the output of the task.
     pub fn writes(self) -> Output
         ensures { output_meant result ≡ output_of (task_meant self) }
     {
@@ -282,7 +283,8 @@ impl Task {
         }
     }
 
-    /// The horizon that the task sets on the state that it has read; `None` if it sets none.
+    /// Returns the horizon that the task sets on the state that it has read; `None` if it sets
+    /// none.
     pub fn horizon(self) -> Option<Day>
         ensures { result ≡ horizon_of (task_meant self) }
     {

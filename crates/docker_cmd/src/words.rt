@@ -1,4 +1,4 @@
-//! Finds the subcommand that words name, and the words after it.
+//! Finds the subcommand that the words name, and the words after it.
 ghost use Rattle.std.specs.Prelude.{◌≡◌, ◌≢◌, ◌≤◌, IfOk, Err, length, map, option_map};
 ghost use Rattle.std.specs.List.{list_all};
 ghost use Rattle.clap.specs.Words.{first_of, found_of, rows_of, subcommand_rows_of};
@@ -14,7 +14,7 @@ use clap::ArgMatches;
 use clap::error::ErrorKind;
 use std::alloc::Global;
 
-/// The most words that a subcommand requires.
+/// The most words that a subcommand can require.
 const MOST_WORDS: usize = 3;
 
 /// The words after a subcommand.
@@ -35,9 +35,9 @@ pub(crate) fn are_plain(words: &[&str]) -> bool
     words.iter().all(|word| is_plain(word))
 }
 
-/// The subcommand that the words name, and the words after it. A word that is empty or begins with
-/// a hyphen is a usage error: there are no options, and `help` isn't a subcommand. This may fail
-/// with `Memory` even if the words name no subcommand.
+/// Returns the subcommand that the words name, and the words after it. A word that is empty or
+/// begins with a hyphen is a usage error: there are no options, and `help` isn't a subcommand. This
+/// may fail with `Memory` even if the words name no subcommand.
 pub(crate) fn read_words<'a>(
     alloc: Global,
     words: &'a [&'a str],
@@ -56,7 +56,7 @@ pub(crate) fn read_words<'a>(
     }
 }
 
-/// The fault that reports an error of this kind from `clap`.
+/// Returns the fault for an error of this kind from `clap`.
 fn fault_at(kind: ErrorKind) -> JobFault
     ensures usage { (result ≡ JobFault.Usage) → kind ≢ ErrorKind.OutOfMemory }
     ensures source { result ≢ JobFault.Source }
@@ -67,7 +67,7 @@ fn fault_at(kind: ErrorKind) -> JobFault
     }
 }
 
-/// The subcommand that `clap` found, and the words after it.
+/// Returns the subcommand that `clap` found, and the words after it.
 fn found_subcommand<'a>(found: &ArgMatches<'a>) -> Option<(Subcommand, Behind<'a>)>
     ensures { option_map (λ read. pair_of read.0 (texts read.1.items)) result
         ≡ found_in (subcommand_rows_of found.now) }
@@ -78,7 +78,7 @@ fn found_subcommand<'a>(found: &ArgMatches<'a>) -> Option<(Subcommand, Behind<'a
     Some((subcommand, words))
 }
 
-/// The words that `clap` found for these arguments. `None` if one of them has no word.
+/// Returns the words that `clap` found for these arguments, or `None` if one of them has no word.
 fn words_at<'a>(words: &ArgMatches<'a>, ids: &[&str]) -> Option<Behind<'a>>
     requires { length ids.now ≤ 3 }
     ensures { option_map (λ found. texts found.items) result
@@ -92,7 +92,7 @@ fn words_at<'a>(words: &ArgMatches<'a>, ids: &[&str]) -> Option<Behind<'a>>
     Some(found)
 }
 
-/// The word that `clap` found for this argument.
+/// Returns the word that `clap` found for this argument.
 fn word_at<'a>(words: &ArgMatches<'a>, id: &str) -> Option<&'a str>
     ensures { option_map (λ word. word.now) result
         ≡ first_of id.now (rows_of (found_of words.now)) }

@@ -1,7 +1,7 @@
 //! The kinds of output that a task writes.
 use cif_line::{Day, Tiploc};
 
-/// What a task writes.
+/// The output of a task.
 #[derive(Clone, Copy, PartialEq, Eq, Debug)]
 pub enum Output {
     /// The line with a file's counts.

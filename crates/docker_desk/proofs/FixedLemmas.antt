@@ -1,4 +1,4 @@
--- What the known files fix: states, dockers and lists.
+-- The known files determine states, dockers and lists.
 use Rattle.std.proofs.Common.{◌≡◌, ℕ, List, [], length, subst, arith}
 use Rattle.std.proofs.lemmas.List.{length-map}
 use Rattle.std.proofs.lemmas.List.Elements.{All-get_or}
@@ -24,12 +24,13 @@ use Rattle.docker_desk.specs.Answering.{answers_of, lines_of}
 use Rattle.docker_desk.specs.Learning.{IsKnown}
 use Rattle.docker_desk.specs.SessionViews.{Step}
 
--- the same files under the same horizon have one state
+-- two states are equal if they are the summaries of the same files under the same horizon
 pub one_state : (first second : Known) (one two : State) → IsKnown first one → IsKnown second two → AreOneKnowledge first second → one ≡ two
 one_state first second one two left right same =
     summary_unique first.files second.files same.0 second.horizon one two (subst (λ h. IsSummary first.files h one) same.1 left.is) right.is
 
--- the same files have one docker for each place and each day that isn't refused
+-- two states that know the same files print the same docker for each place and each day that
+-- neither refuses
 pub one_docker : (first second : Known) (one two : State) → IsKnown first one → IsKnown second two → HaveSameFiles first.files second.files
     → (place : List ℕ) (day : ℕ) → ¬ IsDayRefused one.horizon day → ¬ IsDayRefused two.horizon day → (text other : List ℕ)
     → IsDockerText (live_table one) place day text → IsDockerText (live_table two) place day other → text ≡ other
@@ -37,7 +38,8 @@ one_docker first second one two left right same place day prints prints_too =
     docker_of_files dks_2 first second one two left.good right.good left.is right.is same place day
     (subst (λ h. ¬ IsDayRefused h day) left.is.horizon_is prints) (subst (λ h. ¬ IsDayRefused h day) right.is.horizon_is prints_too)
 
--- each docker of the state is the plain table's docker
+-- if no two known files have the same moment, each docker of the state is the docker of the plain
+-- table
 pub plain_dockers : (known : Known) (state : State) → IsKnown known state → HaveDistinctMoments known.files
     → (plain : Table) × (IsPlainTable known.files plain × PrintsAs state plain)
 plain_dockers known state is distinct =
@@ -51,7 +53,8 @@ plain_dockers known state is distinct =
       ),
     )
 
--- the list of timing points is the list of the plain table without the entries that have lapsed
+-- if no two known files have the same moment, the state's list of timing points is the list of the
+-- plain table without its lapsed entries
 pub plain_places : (known : Known) (state : State) → IsKnown known state → HaveDistinctMoments known.files
     → (plain : Table) × IsPlainTable known.files plain
     × ((text : List ℕ) → IsPlacesText (live_table state) text → IsPlacesText (lapse_table known.horizon plain) text)
@@ -62,7 +65,7 @@ plain_places known state is distinct =
       λ text. subst (λ (live : Table). IsPlacesText live text) (live_is_lapsed_plain known.files known.horizon state plain.0 is.is plain.1),
     )
 
--- at the end of its run an office knows the files and the horizon that the run gives
+-- at the end of a run, the state of an office is the summary of what the office knows
 pub office_knows : (known : Known) (state : State) → EndsWith known state → IsKnown known state
 office_knows known state end =
     let sets = sets_of end.offices end.events end.exchange in
@@ -77,7 +80,7 @@ office_knows known state end =
           end.leaves.run.states there;
     }))
 
--- each step has one line and one answer
+-- there are as many answers as lines
 pub one_each : (steps : List Step) → length (answers_of steps) ≡ length (lines_of steps)
 one_each steps =
     let first = length-map steps (λ (step : Step). step.answer) in

@@ -1,4 +1,4 @@
--- What a session gains, from step to step.
+-- What the state gains in each step of a session, and in all steps together.
 use Rattle.std.proofs.Common.{◌≡◌, ℕ, List, [], ◌∷◌, ◌++◌, refl, sym, ◌∙◌, ap, subst, Some, None, Ok, Err}
 use Rattle.std.specs.Prelude.{Option, Result, ⊤}
 use Rattle.docker_model.specs.file.File.{most_records}
@@ -25,7 +25,7 @@ use Rattle.docker_desk.proofs.HeardLemmas.{held_after_look, held_once}
 use Rattle.docker_desk.proofs.KnownLemmas.{day_asked, never_unasked, same_refused, same_saved}
 
 module _ (earlier : List (List ℕ)) where
-  -- a state that is unchanged gained the empty list
+  -- if the state is unchanged, it gained the empty list
   gained_none : (gains : List Gain) (old new : State) → gains ≡ [] → new ≡ old → AreGained earlier gains old new
   gained_none gains old new none same = subst (λ g. AreGained earlier g old new) (sym none) same
 
@@ -33,14 +33,14 @@ module _ (earlier : List (List ℕ)) where
   gained_one : (gain : Gain) (gains : List Gain) (old new : State) → gains ≡ gain ∷ [] → Gains earlier gain old new → AreGained earlier gains old new
   gained_one gain gains old new one gained = subst (λ g. AreGained earlier g old new) (sym one) (new, gained, refl)
 
-  -- a state that gained one list and then another gained the concatenation of the two
+  -- a state that gained one list and then another gained their concatenation
   gained_both : (gains more : List Gain) (old now new : State) → AreGained earlier gains old now → AreGained earlier more now new
       → AreGained earlier (gains ++ more) old new
   gained_both [] more old now new first second = subst (λ s. AreGained earlier more s new) first second
   gained_both (gain ∷ gains) more old now new first second = (first.0, first.1, gained_both gains more first.0 now new first.2 second)
 
   module _ (setting : Setting) (before after : SessionView) where
-    -- after a file is taken, the state gained this file
+    -- if `take` was done, the state gained the file
     gained_file : (file : Text) (text : List ℕ) (gains : List Gain) → Joins file StopsInFile EndsTaking before (done_with text) after
         → GainsFile file before after gains → AreGained earlier gains before.desk.state after.desk.state
     gained_file file text gains does gained = by does.result does.opens.read does.told does.opens.asked does.opens.ends
@@ -58,7 +58,7 @@ module _ (earlier : List (List ℕ)) where
         by (Ok done) None told asked ends = absurd ends
         by (Err fault) read told asked ends = let never : ⊥ = cc in absurd never
 
-    -- after a state is received from a file, the state gained the version that the file held
+    -- if a state was received from a file, the desk's state gained the version that the file held
     gained_state : (events : Reading → List Event) (gains : List Gain) (held : Bytes) (gained : GainsVersion events earlier before after gains)
         → held ≡ gained.read.held → JoinsState dks_2 most_bytes held before.desk.state after.desk.state
         → AreGained earlier gains before.desk.state after.desk.state
@@ -94,7 +94,7 @@ module _ (earlier : List (List ℕ)) where
         by (Ok found) None told asked ends = absurd ends.0.0
         by (Err fault) read told asked ends = let never : ⊥ = cc in absurd never
 
-    -- after a request is done, the state gained what the request gives
+    -- if a request was done, the state gained what `GainsDone` says
     gained_done : (request : RequestView) (text : List ℕ) (gains : List Gain) → ((day : ℕ) → request ≡ horizon_request day → IsDay day)
         → DoesRequest setting request before (done_with text) after → GainsDone setting earlier request before after gains
         → AreGained earlier gains before.desk.state after.desk.state
@@ -112,7 +112,7 @@ module _ (earlier : List (List ℕ)) where
     gained_done save_request text gains days does gained =
         gained_none gains _ _ gained (same_saved setting before after does.result does.desk)
 
-    -- after a line is answered, the state gained what its request gives, or nothing if the line has none or was refused
+    -- after a line is answered, the state gained what `GainsAsked` says
     gained_asked : (request : Option RequestView) (answer : AnswerView) (gains : List Gain) → ((day : ℕ) → request ≡ Some (horizon_request day) → IsDay day)
         → DoesAsked setting request before answer after → GainsAsked setting earlier request before answer after gains
         → AreGained earlier gains before.desk.state after.desk.state
@@ -124,7 +124,7 @@ module _ (earlier : List (List ℕ)) where
     gained_asked (Some request) no_request gains days does gained = absurd (never_unasked setting before after request does)
 
   module _ (setting : Setting) where
-    -- after some steps, the state gained the concatenation of what each step gives
+    -- after some steps, the state gained what `GainedBy` says
     gained_steps : (first last : SessionView) (steps : List Step) (gains : List Gain) → AreSteps setting first steps last → GainedBy setting earlier steps gains
         → AreGained earlier gains first.desk.state last.desk.state
     gained_steps first last [] gains are gained = gained_none gains _ _ gained (ap (λ (m : SessionView). m.desk.state) are)
@@ -136,7 +136,8 @@ module _ (earlier : List (List ℕ)) where
         (λ day same. day_asked setting.may_write step.line step.request day are.1.0.asks same) are.1.0.does gained.1.1.0)
         (gained_steps step.after last steps gained.1.0 are.1.1 gained.1.1.1.0)))
 
-    -- a saving after some steps puts a version in place: the one read at the beginning, with what the steps gained
+    -- if the text is saved after some steps, `IsPlaced` holds. The saved text is the text of the
+    -- version read at the beginning, with the gains of the steps
     pub places_version : (first before after : SessionView) (steps : List Step) (old : List Event) (own : ℕ) (gains : List Gain) (answer : List ℕ)
         → (begins : BeginsAt setting.name old first) → HoldsVersion earlier begins.held own → AreSteps setting first steps before
         → GainedBy setting earlier steps gains → Saves setting before (done_with answer) after → IsPlaced setting earlier own gains before after

@@ -1,4 +1,4 @@
--- What is heard of the files that are merged and renewed.
+-- What a session learns from the files that it takes, merges and renews.
 use Rattle.std.proofs.Common.{◌≡◌, ℕ, List, [], ◌∷◌, ◌++◌, refl, sym, ◌∙◌, subst, Some, None, Ok, Err}
 use Rattle.std.specs.Prelude.{Option, Result, ⊤}
 use Rattle.docker_model.specs.run.Run.{Known, nothing, united}
@@ -19,14 +19,15 @@ use Rattle.docker_desk.specs.Learning.{AllHearKnown, AreLearned, Hears, HearsFil
 use Rattle.docker_desk.specs.Learning.{HoldsKnown, IsKnown, Learns, PlacesKnown, ReceivesKnown, renewing}
 use Rattle.docker_desk.proofs.KnownLemmas.{known_read}
 
--- ---- the bytes of an event
+-- ---- events determine bytes
 
--- if two additions to one history give equal histories, the additions are equal
+-- appending to a history is injective: if `old ++ first` equals `old ++ second`, then `first`
+-- equals `second`
 one_more : (old first second : List Event) → old ++ first ≡ old ++ second → first ≡ second
 one_more [] first second same = same
 one_more (event ∷ old) first second same = let rest : old ++ first ≡ old ++ second = cc in one_more old first second rest
 
--- if a file was opened last, it held exactly one text
+-- the events of an opening determine the bytes that the file held
 pub held_once : (name : Text) (old new : List Event) (first second : Reading) → new ≡ old ++ events_of name first → new ≡ old ++ events_of name second
     → first.held ≡ second.held
 held_once name old new first second one two =
@@ -37,10 +38,11 @@ pub held_after_look : (name : Text) (old new : List Event) (first second : Readi
 held_after_look name old new first second one two =
     let same = one_more old (looked name ∷ events_of name first) (looked name ∷ events_of name second) (sym one ∙ two) in cc
 
--- ---- a state
+-- ---- a state is received or saved
 
 module _ (before after : SessionView) (known : Known) where
-  -- the state that was received is the one that the file held
+  -- if a file held the text of a summary and its state was received, the session learns that
+  -- summary
   hears_held : (events : Reading → List Event) (held : Bytes) (holds : HoldsKnown events before after known) → held ≡ holds.read.held
       → JoinsState dks_2 most_bytes held before.desk.state after.desk.state → HearsState events before after known
   hears_held events held holds same joins =
@@ -53,7 +55,7 @@ module _ (before after : SessionView) (known : Known) where
         of = known_read most_bytes holds.read.held there.received holds.sent known there.read holds.holds holds.of;
       }
 
-  -- after a merge, what is known of the merged file is heard
+  -- if `merge` was done, the session learns the summary that the merged file held
   pub hears_merged : (other : Text) (text : List ℕ) → Joins other StopsInState EndsReceiving before (done_with text) after
       → HoldsKnown (events_of other) before after known → HearsState (events_of other) before after known
   hears_merged other text does holds = by does.result does.opens.read does.told does.opens.asked does.opens.ends
@@ -66,7 +68,7 @@ module _ (before after : SessionView) (known : Known) where
       by (Ok done) None told asked ends = absurd ends
       by (Err fault) read told asked ends = let never : ⊥ = cc in absurd never
 
-  -- after a renewal, what is known of the renewed file is heard
+  -- if `renew` was done, the session learns the summary that the state's file held
   pub hears_renewed : (setting : Setting) (text : List ℕ) → Renews setting before (done_with text) after
       → HoldsKnown (renewing setting.name) before after known → HearsState (renewing setting.name) before after known
   hears_renewed setting text does holds = by does.result does.opens.read does.told does.opens.asked does.opens.ends
@@ -80,7 +82,7 @@ module _ (before after : SessionView) (known : Known) where
       by (Ok found) None told asked ends = absurd ends.0.0
       by (Err fault) read told asked ends = let never : ⊥ = cc in absurd never
 
-  -- after a saving, what is known of the state is known of the saved text
+  -- if `save` was done, the saved text is the text of the summary of what is known
   pub places_known : (setting : Setting) (text : List ℕ) → IsKnown known before.desk.state → Saves setting before (done_with text) after
       → PlacesKnown setting before after known
   places_known setting text is does = by does.result does.told does.stores
@@ -98,7 +100,7 @@ module _ (before after : SessionView) (known : Known) where
 
 -- ---- steps
 
--- after a file is taken, the file is heard
+-- if `take` was done, the session learns some file
 takes_heard : (file : Text) (text : List ℕ) (before after : SessionView) → Joins file StopsInFile EndsTaking before (done_with text) after
     → (heard : Known) × HearsFile file before after heard
 takes_heard file text before after does = by does.result does.opens.read does.told does.opens.asked does.opens.ends
@@ -114,7 +116,7 @@ takes_heard file text before after does = by does.result does.opens.read does.to
     by (Err fault) read told asked ends = let never : ⊥ = cc in absurd never
 
 module _ (setting : Setting) where
-  -- something is heard by each request that was done
+  -- from each request that was done, the session learns some knowledge, possibly nothing
   hears_some : (request : RequestView) (text : List ℕ) (before after : SessionView) → DoesRequest setting request before (done_with text) after
       → ReceivesKnown setting request before after → (heard : Known) × Hears setting request before after heard
   hears_some (print_request place day) text before after does received = (nothing, refl)
@@ -129,7 +131,7 @@ module _ (setting : Setting) where
   hears_some (horizon_request day) text before after does received = (record { files = []; horizon = day }, refl)
   hears_some save_request text before after does received = (nothing, refl)
 
-  -- something is learned from each step
+  -- from each step, the session learns some knowledge, possibly nothing
   learns_some : (request : Option RequestView) (answer : AnswerView) (before after : SessionView) (old : Known) → DoesAsked setting request before answer after
       → HearsKnown setting request before answer after → (new : Known) × Learns setting request before answer after old new
   learns_some (Some request) (done_with text) before after old does hears =
@@ -138,7 +140,7 @@ module _ (setting : Setting) where
   learns_some (Some request) no_request before after old does hears = (old, refl)
   learns_some None answer before after old does hears = (old, refl)
 
-  -- something is learned from all steps together
+  -- from all steps together, the session learns some knowledge, possibly nothing
   pub learned_of : (first last : SessionView) (steps : List Step) (old : Known) → AreSteps setting first steps last → AllHearKnown setting steps
       → (new : Known) × AreLearned setting old steps new
   learned_of first last [] old are hear = (old, refl)

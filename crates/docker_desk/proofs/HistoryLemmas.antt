@@ -1,4 +1,4 @@
--- What was asked of a folder, and what the folder answered.
+-- How a folder's history grows by one request after another.
 use Rattle.std.proofs.Common.{◌≡◌, ℕ, List, [], ◌∷◌, ◌++◌, Bool, true, false, ap, subst, ◌∙◌, append_assoc, Ok}
 use Rattle.std.specs.Prelude.{Option, Result, ⊤}
 use Rattle.cif_device.specs.Device.{Takes}
@@ -10,18 +10,19 @@ use Rattle.docker_model.specs.state.StateText.{dks_2, state_text}
 use Rattle.docker_desk.specs.Desk.{EndsSaving}
 use Rattle.docker_desk.specs.Reading.{OpensOnce, Reading, events_of}
 
--- if some events were added to a history and then others, both were added
+-- if some events were added to a history and then others, their concatenation was added
 pub then : (old middle new : List Event) (first next : List Event) → middle ≡ old ++ first → new ≡ middle ++ next → new ≡ old ++ (first ++ next)
 then old middle new first next before after =
     after ∙ ap (λ (events : List Event). events ++ next) before ∙ append_assoc old first next
 
--- an empty draft that took a text holds that text
+-- a draft that was empty and took a text holds exactly this text
 pub draft_took : (names_bytes : Bool) (text : List ℕ) (before after : Bytes) → before ≡ named_if names_bytes [] → Takes before text after
     → after ≡ named_if names_bytes text
 draft_took true text before after empty takes = rw empty at takes
 draft_took false text before after empty takes = rw empty at takes
 
--- a draft that was made and didn't take its place adds these two events
+-- making a draft, and then failing to replace the file with it, adds the events `drafted` and
+-- `unplaced` to the history
 pub then_unplaced : (name made_for : Text) (look : ℕ) (old middle new : List Event) (took bytes : Bytes)
     → middle ≡ old ++ drafted name look ∷ [] → new ≡ middle ++ unplaced made_for took ∷ [] → made_for ≡ name → took ≡ bytes
     → new ≡ old ++ drafted name look ∷ unplaced name bytes ∷ []
@@ -31,7 +32,7 @@ then_unplaced name made_for look old middle new took bytes made failed same held
 
 -- ---- an opening
 
--- an opening that fits two states fits equal states too
+-- `OpensOnce` is preserved if the states before and after are replaced by equal ones
 pub opens_as : (name : Text) (Stops : Reading → Type 0) (Ends : State → State → Result ⊤ OfficeFault → Option Reading → Type 0) (own now old new : State)
     (result : Result ⊤ OfficeFault) (before after : List Event) → own ≡ old → now ≡ new → OpensOnce name Stops (Ends own now result) before after
     → OpensOnce name Stops (Ends old new result) before after
@@ -43,14 +44,14 @@ opens_as name Stops Ends own now old new result before after is same opens = rec
       subst (λ (state : State). Ends state new result opens.read) is (subst (λ (state : State). Ends own state result opens.read) same opens.ends);
 }
 
--- opening a file and closing it adds these two events
+-- opening a file and closing it adds the events `opened` and `closed` to the history
 pub then_closed : (name : Text) (held left : Bytes) (old opened_now new : List Event) → opened_now ≡ old ++ opened name held ∷ []
     → new ≡ opened_now ++ closed left ∷ [] → new ≡ old ++ events_of name (record { held = held; left = left })
 then_closed name held left old opened_now new opens closes = then old opened_now new (opened name held ∷ []) (closed left ∷ []) opens closes
 
 -- ---- a saving
 
--- storing a state's text and then looking at the file is a saving that was done
+-- if the state's text was stored and the file was then looked at, the saving was done
 pub saved_then : (names_bytes : Bool) (name : Text) (look : ℕ) (own state : State) (old middle new : List Event)
     → IsStored names_bytes name look (state_text dks_2 own) old middle → new ≡ middle ++ looked name ∷ [] → own ≡ state
     → EndsSaving names_bytes name look (state_text dks_2 state) old new (Ok tt)

@@ -1,4 +1,4 @@
--- What is known in a session, from step to step.
+-- What is known in each step of a session, and after all steps.
 use Rattle.std.proofs.Common.{◌≡◌, ◌≤◌, ℕ, Bool, List, [], ◌∷◌, ◌++◌, length, refl, sym, ◌∙◌, ap, subst, arith, append-nil, Some, None, Ok, Err}
 use Rattle.std.specs.Prelude.{Option, Result, max, ⊤}
 use Rattle.std.proofs.Math.Nat.{max-zero}
@@ -32,17 +32,18 @@ use Rattle.docker_desk.specs.Learning.{AreLearned, Hears, HearsFile, HearsState,
 
 -- ---- what is known
 
--- what is known stays the same if nothing is added
+-- the union of some knowledge with `nothing` equals that knowledge
 known_with_nothing : (known : Known) → united known nothing ≡ known
 known_with_nothing known = λ i. record { files = append-nil known.files i; horizon = max-zero known.horizon i }
 
--- if nothing was heard and the state is the same, what is known is the same
+-- if nothing was learned and the state is unchanged, the state is still the summary of what is
+-- known
 nothing_heard : (old heard : Known) (before after : State) → heard ≡ nothing → after ≡ before → IsKnown old before → IsKnown (united old heard) after
 nothing_heard old heard before after none same is =
     subst (λ h. IsKnown (united old h) after) (sym none)
     (subst (λ k. IsKnown k after) (sym (known_with_nothing old)) (subst (IsKnown old) (sym same) is))
 
--- after a join, what was known of both states is known of the joined state
+-- the join of two states is the summary of everything that is known of either state
 known_joined : (old heard : Known) (own other after : State) → IsKnown old own → IsKnown heard other
     → IsJoin own other after → IsKnown (united old heard) after
 known_joined old heard own other after first second join = record {
@@ -50,7 +51,7 @@ known_joined old heard own other after first second join = record {
   is = join_is_summary old.files heard.files old.horizon heard.horizon own other after first.is second.is join;
 }
 
--- after a horizon is set, the horizon is known too
+-- after a horizon is set, the state is the summary of what was known before and of the horizon
 known_raised : (old heard : Known) (day : ℕ) (state : State) → IsDay day → heard ≡ record { files = []; horizon = day } → IsKnown old state
     → IsKnown (united old heard) (raise_horizon day state)
 known_raised old heard day state is_day heard_is known =
@@ -61,7 +62,8 @@ known_raised old heard day state is_day heard_is known =
           (raised_summary old.files old.horizon day state known.is);
     })
 
--- after a file is read, the file is known
+-- if a state is the summary of one file without a horizon, `IsKnown` holds for this file and no
+-- horizon
 known_file : (file : List (List ℕ)) (state : State) → IsFile file → length file ≤ most_records → IsSummary (file ∷ []) 0 state
     → IsKnown (record { files = file ∷ []; horizon = 0 }) state
 known_file file state is few summary = record {
@@ -75,7 +77,7 @@ known_file file state is few summary = record {
 -- ---- one request
 
 module _ (setting : Setting) (before after : SessionView) where
-  -- after a file is taken, the file is known too
+  -- after a file is taken, the state is the summary of what was known before and of the file
   file_known : (name : Text) (old heard : Known) → HearsFile name before after heard → IsKnown old before.desk.state
       → IsKnown (united old heard) after.desk.state
   file_known name old heard hears is =
@@ -84,7 +86,8 @@ module _ (setting : Setting) (before after : SessionView) where
       (known_joined old (record { files = takes.file ∷ []; horizon = 0 }) before.desk.state takes.own after.desk.state is
       (known_file takes.file takes.own takes.is_text.is takes.is_text.within takes.of_file) takes.joined)
 
-  -- after a state is received, what was heard of the state is known too
+  -- after a state is received, the desk's state is the summary of what was known before and of what
+  -- was learned
   state_known : (events : Reading → List Event) (old heard : Known) → HearsState events before after heard → IsKnown old before.desk.state
       → IsKnown (united old heard) after.desk.state
   state_known events old heard hears is =
@@ -95,7 +98,7 @@ module _ (setting : Setting) (before after : SessionView) where
   same_saved (Ok done) same = ap (λ (desk : DeskView). desk.state) same
   same_saved (Err fault) same = ap (λ (desk : DeskView). desk.state) same
 
-  -- a refused request doesn't change the state
+  -- if `take` is refused, the state is unchanged
   refused_take : (fault : OfficeFault) (result : Result ⊤ OfficeFault) (held : Option Reading) → refused_for fault ≡ answer_of result
       → EndsTaking before.desk.state after.desk.state result held → after.desk.state ≡ before.desk.state
   refused_take fault (Ok done) held told ends = let never : ⊥ = cc in absurd never
@@ -111,12 +114,13 @@ module _ (setting : Setting) (before after : SessionView) where
   refused_renew fault (Ok done) held told ends = let never : ⊥ = cc in absurd never
   refused_renew fault (Err why) held told ends = ap (λ (desk : DeskView). desk.state) ends.1
 
-  -- each request has an answer
+  -- the answer made from a result is never `no_request`
   some_answer : {A : Type 0} (result : Result A OfficeFault) → ¬ (no_request ≡ answer_of result)
   some_answer (Ok done) told = let never : ⊥ = cc in never
   some_answer (Err fault) told = let never : ⊥ = cc in never
 
-  -- after a request is done, what was heard is known too
+  -- after a request is done, the state is the summary of what was known before and of what was
+  -- learned
   known_done : (request : RequestView) (text : List ℕ) (old heard : Known) → ((day : ℕ) → request ≡ horizon_request day → IsDay day)
       → DoesRequest setting request before (done_with text) after → Hears setting request before after heard → IsKnown old before.desk.state
       → IsKnown (united old heard) after.desk.state
@@ -137,7 +141,7 @@ module _ (setting : Setting) (before after : SessionView) where
       (known_raised old heard day before.desk.state (days day refl) hears is)
   known_done save_request text old heard days does hears is = nothing_heard old heard _ _ hears (same_saved does.result does.desk) is
 
-  -- a request that is refused doesn't change the state
+  -- a refused request doesn't change the state
   pub same_refused : (request : RequestView) (fault : OfficeFault) → DoesRequest setting request before (refused_for fault) after
       → after.desk.state ≡ before.desk.state
   same_refused (print_request place day) fault does = ap (λ (m : SessionView). m.desk.state) does.1
@@ -152,7 +156,7 @@ module _ (setting : Setting) (before after : SessionView) where
   same_refused (horizon_request day) fault does = let told = does.0 in let never : ⊥ = cc in absurd never
   same_refused save_request fault does = same_saved does.result does.desk
 
-  -- a request is never answered as if it were none
+  -- the answer to a request is never `no_request`
   pub never_unasked : (request : RequestView) → ¬ DoesRequest setting request before no_request after
   never_unasked (print_request place day) does = does.0
   never_unasked (permanent_request place day) does = does.0
@@ -166,7 +170,7 @@ module _ (setting : Setting) (before after : SessionView) where
   never_unasked (horizon_request day) does = let told = does.0 in let never : ⊥ = cc in never
   never_unasked save_request does = some_answer does.result does.told
 
-  -- after a line is answered, what was learned from it is known
+  -- after a line is answered, the state is the summary of what is known after the line
   known_asked : (request : Option RequestView) (answer : AnswerView) (old new : Known) → ((day : ℕ) → request ≡ Some (horizon_request day) → IsDay day)
       → DoesAsked setting request before answer after → Learns setting request before answer after old new → IsKnown old before.desk.state
       → IsKnown new after.desk.state
@@ -181,7 +185,7 @@ module _ (setting : Setting) (before after : SessionView) where
 
 -- ---- steps
 
--- the day of a horizon request is a day
+-- the date that a `horizon` request names is a day
 one_day : (words : List Text) (day : ℕ) → OfOne (λ date. NamesDay date day) words → IsDay day
 one_day [] day of = absurd of
 one_day (word ∷ []) day of = of.within
@@ -195,14 +199,14 @@ day_asked may_write bad_line request day asks same = let never : ⊥ = cc in abs
 day_asked may_write cut_line request day asks same = let never : ⊥ = cc in absurd never
 
 module _ (setting : Setting) where
-  -- after a step, what was learned from it is known
+  -- after a step, the state is the summary of what is known after the step
   known_step : (step : Step) (old new : Known) → IsStep setting step → Learns setting step.request step.before step.answer step.after old new
       → IsKnown old step.before.desk.state → IsKnown new step.after.desk.state
   known_step step old new does learns is =
       known_asked setting step.before step.after step.request step.answer old new
       (λ day same. day_asked setting.may_write step.line step.request day does.asks same) does.does learns is
 
-  -- after some steps, what was learned from all of them is known
+  -- after some steps, the state is the summary of what is known after all of them
   pub known_steps : (first last : SessionView) (steps : List Step) (old new : Known) → IsKnown old first.desk.state → AreSteps setting first steps last
       → AreLearned setting old steps new → IsKnown new last.desk.state
   known_steps first last [] old new is are learned =
@@ -211,11 +215,12 @@ module _ (setting : Setting) where
       known_steps step.after last steps learned.0 new
       (known_step step old learned.0 are.1.0 learned.1.0 (subst (λ (m : SessionView). IsKnown old m.desk.state) (sym are.0) is)) are.1.1 learned.1.1
 
-  -- at each point of a session, what was learned up to then is known of the state
+  -- at each point of a session, the state is the summary of what is known at that point
   pub known_then : (known : Known) (state : State) → KnowsAt setting known state → IsKnown known state
   known_then known state at = subst (IsKnown known) at.has (known_steps at.first at.last at.steps at.start known at.begins at.are at.learned)
 
-  -- if steps are split in two, the first part leads to a point, and the second part on from there
+  -- if a list of steps is split in two, the first part ends at some point, and the second part
+  -- begins at that point
   pub steps_apart : (first last : SessionView) (earlier later : List Step) → AreSteps setting first (earlier ++ later) last
       → (between : SessionView) × (AreSteps setting first earlier between × AreSteps setting between later last)
   steps_apart first last [] later are = (first, (refl, are))
@@ -224,13 +229,13 @@ module _ (setting : Setting) where
 
 -- ---- the beginning
 
--- the state that was read is the one whose text the file held
+-- if a file held the text of a state, reading the file returns that state
 pub one_read : (limit : ℕ) (left : Option (List ℕ)) (read sent : State) → ReadsState dks_2 limit left read → HoldsState dks_2 limit left sent → read ≡ sent
 one_read limit left read sent reads holds =
     let same : holds.text ≡ reads.text = subst (λ bytes. Held bytes reads.text) holds.told reads.held in
     one_text dks_2 read sent reads.is.valid holds.is.valid (sym reads.is.is ∙ sym same ∙ holds.is.is)
 
--- what is known of the state that a file held is known of the state that was read
+-- if a file held the text of a summary, reading the file returns that summary
 pub known_read : (limit : ℕ) (left : Option (List ℕ)) (read sent : State) (start : Known) → ReadsState dks_2 limit left read → HoldsState dks_2 limit left sent
     → IsKnown start sent → IsKnown start read
 known_read limit left read sent start reads holds is = subst (IsKnown start) (sym (one_read limit left read sent reads holds)) is

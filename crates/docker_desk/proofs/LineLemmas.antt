@@ -1,4 +1,4 @@
--- Reading a line byte by byte, and what the bytes so far say about the text.
+-- Reading a line byte by byte, and what each byte means for the line.
 use Rattle.std.proofs.Common.{◌≡◌, ℕ, ◌+◌, ◌-◌, ◌^◌, ◌≤◌, ◌≢◌, List, [], ◌∷◌, ◌++◌, length, true, false, refl, sym, ◌∙◌}
 use Rattle.std.proofs.Common.{ap, subst, arith, append_assoc, length-append, append-nil, Some, None, inl, inr, Ok, Err}
 use Rattle.std.specs.Prelude.{Option, option_map, Result, ◌⊎◌}
@@ -16,23 +16,23 @@ use Rattle.docker_desk.specs.Lines.{SkipsLine, SkipsAll, whole_line, cut_line, w
 
 -- ---- what was read ahead
 
--- if nothing was read ahead, the text is the text that is left
+-- if no bytes were read ahead, the bytes to read are the bytes left in the source
 pub none_ahead : (left : Option (List ℕ)) → with_ahead [] left ≡ left
 none_ahead None = refl
 none_ahead (Some rest) = refl
 
--- the first byte that was read ahead is read
+-- if bytes were read ahead, the next byte read is the first of them
 pub first_ahead : (byte : ℕ) (old new : List ℕ) (left : Option (List ℕ)) → old ≡ byte ∷ new → ReadsByte (with_ahead old left) (Some byte) (with_ahead new left)
 first_ahead byte old new None same = refl
 first_ahead byte old new (Some rest) same = ap (λ bytes. Some (bytes ++ rest)) same
 
 -- ---- bytes without a line feed
 
--- each byte is printable
+-- every byte of the line is printable
 abbrev pub ArePrintable : List ℕ → Type 0
 ArePrintable = AllByRecursion (λ b. is_printable b ≡ true)
 
--- a line of printable bytes has no line feed
+-- printable bytes contain no line feed
 pub printable_without : (line : List ℕ) → ArePrintable line → IsWithoutFeed line
 printable_without [] good = tt
 printable_without (b ∷ line) good = (other b good.0, printable_without line good.1)
@@ -40,34 +40,34 @@ printable_without (b ∷ line) good = (other b good.0, printable_without line go
     other : (b : ℕ) → is_printable b ≡ true → b ≢ 10
     other b here = λ same. let feed : is_printable 10 ≡ true = subst (λ c. is_printable c ≡ true) same here in cc
 
--- printable bytes and one more printable byte are all printable
+-- appending a printable byte to printable bytes gives printable bytes
 pub printable_more : (line : List ℕ) (b : ℕ) → ArePrintable line → is_printable b ≡ true → ArePrintable (line ++ b ∷ [])
 printable_more [] b good here = (here, tt)
 printable_more (y ∷ line) b good here = (good.0, printable_more line b good.1 here)
 
--- if two texts have no line feed, both together have none
+-- the concatenation of two texts without a line feed has no line feed
 without_both : (xs ys : List ℕ) → IsWithoutFeed xs → IsWithoutFeed ys → IsWithoutFeed (xs ++ ys)
 without_both [] ys first second = second
 without_both (x ∷ xs) ys first second = (first.0, without_both xs ys first.1 second)
 
--- ---- reading on
+-- ---- one reading after another
 
--- reading some bytes and then more is reading both
+-- reading some bytes and then more bytes is reading their concatenation
 pub reads_on : (old now new : Option (List ℕ)) (line more : List ℕ) → Reads old line now → Reads now more new → Reads old (line ++ more) new
 reads_on old now None line more first then_more = first ∙ ap (option_map (λ rest. line ++ rest)) then_more
 reads_on old now (Some rest) line more first then_more =
     first ∙ ap (option_map (λ rest. line ++ rest)) then_more ∙ ap Some (sym (append_assoc line more rest))
 
--- before the first byte is read, no bytes were read
+-- reading no bytes leaves all bytes
 pub reads_none : (left : Option (List ℕ)) → Reads left [] left
 reads_none None = refl
 reads_none (Some bytes) = refl
 
--- before the first byte is read, at least 0 bytes were read
+-- reading no bytes is reading at least 0 bytes
 pub many_none : (left : Option (List ℕ)) → ReadsMany 0 left left
 many_none left = record { lost = []; many = omega arith; read = reads_none left }
 
--- if at least n bytes and then one more were read, at least n + 1 bytes were read
+-- reading at least n bytes and then one more is reading at least n + 1 bytes
 pub many_more : (n : ℕ) (old now new : Option (List ℕ)) (byte : ℕ) → ReadsMany n old now → Reads now (byte ∷ []) new → ReadsMany (n + 1) old new
 many_more n old now new byte many then_one = record {
   lost = many.lost ++ byte ∷ [];
@@ -75,11 +75,11 @@ many_more n old now new byte many then_one = record {
   read = reads_on old now new many.lost (byte ∷ []) many.read then_one;
 }
 
--- if at least n bytes were read, at least 0 bytes were read
+-- reading at least n bytes is reading at least 0 bytes
 pub some_read : (n : ℕ) (old now new : Option (List ℕ)) → ReadsMany n old now → new ≡ now → ReadsMany 0 old new
 some_read n old now new many same = record { lost = many.lost; many = omega arith; read = subst (Reads old many.lost) (sym same) many.read }
 
--- if at least n bytes were read after a line, at least n bytes were read with the line
+-- reading a line and then at least n bytes is reading at least n bytes
 pub many_behind : (n : ℕ) (old now new : Option (List ℕ)) (line : List ℕ) → Reads old line now → ReadsMany n now new → ReadsMany n old new
 many_behind n old now new line first many = record {
   lost = line ++ many.lost;
@@ -87,15 +87,15 @@ many_behind n old now new line first many = record {
   read = reads_on old now new line many.lost first many.read;
 }
 
--- ---- the rest of a line that isn't whole
+-- ---- the rest of a bad line
 
--- a line feed ends the rest of a line
+-- if the next byte is a line feed, reading it skips the line
 pub skips_feed : (old new : Option (List ℕ)) → Reads old (10 ∷ []) new → SkipsLine old new
 skips_feed None new read = tt
 skips_feed (Some text) None read = let never : ⊥ = cc in absurd never
 skips_feed (Some text) (Some rest) read = record { skipped = []; rest = rest; whole = cc; one = tt; behind = refl }
 
--- a byte before the rest of a line is in the rest, if the byte is no line feed
+-- reading a byte other than a line feed, and then skipping the rest of the line, skips the line
 pub skips_byte : (old now new : Option (List ℕ)) (b : ℕ) → Reads old (b ∷ []) now → b ≢ 10 → SkipsLine now new → SkipsLine old new
 skips_byte None now new b read other line = tt
 skips_byte (Some text) None new b read other line = let never : ⊥ = cc in absurd never
@@ -111,12 +111,13 @@ skips_byte (Some text) (Some left) new b read other line =
     behind : (text left : List ℕ) (b : ℕ) (skipped rest : List ℕ) → text ≡ b ∷ left → left ≡ skipped ++ 10 ∷ rest → text ≡ b ∷ skipped ++ 10 ∷ rest
     behind text left b skipped rest first second = cc
 
--- at the end of the source, the rest of the last line is empty
+-- at the end of a source, reading nothing skips the rest of the last line
 pub skips_end : (old new : Option (List ℕ)) → IsEnd old → new ≡ old → SkipsAll old new
 skips_end None new end same = tt
 skips_end (Some text) new end same = (subst IsWithoutFeed (sym end) tt, same ∙ ap Some end)
 
--- a byte before the rest of the last line is in the rest, if the byte is no line feed
+-- reading a byte other than a line feed, and then skipping the rest of the last line, skips the
+-- last line
 pub skips_before : (old now new : Option (List ℕ)) (b : ℕ) → Reads old (b ∷ []) now → b ≢ 10 → SkipsAll now new → SkipsAll old new
 skips_before None now new b read other line = tt
 skips_before (Some text) None new b read other line = let never : ⊥ = cc in absurd never
@@ -125,7 +126,7 @@ skips_before (Some text) (Some left) new b read other line =
 
 -- ---- lines
 
--- at most 255 printable bytes and then a line feed are a whole line
+-- at most 255 printable bytes, followed by a line feed, are a whole line
 pub reads_whole : (old now new : Option (List ℕ)) (line : List ℕ) → Reads old line now → Reads now (10 ∷ []) new → ArePrintable line → length line ≤ 255
     → ReadsNext old (whole_line line) new
 reads_whole old now new line first feed good short = by old new (reads_on old now new line (10 ∷ []) first feed)
@@ -140,8 +141,7 @@ reads_whole old now new line first feed good short = by old new (reads_on old no
         let same : text ≡ (line ++ 10 ∷ []) ++ rest = cc in
         (rest, (record { whole = same ∙ append_assoc line (10 ∷ []) rest; line_text = is_text }, refl))
 
--- printable bytes before the end of the source are a line without its line feed, or no line if
--- there are no bytes
+-- if the source ends after printable bytes, these are a cut line, or no line if there are none
 pub reads_cut : (old now new : Option (List ℕ)) (line : List ℕ) → Reads old line now → IsEnd now → new ≡ now → ArePrintable line
     → ReadsAsked old (cut_or_end line) new
 reads_cut old now new [] read end same good = at_end old now new read end same
@@ -174,7 +174,8 @@ pub record IsSpoiled (line : List ℕ) (b : ℕ) : Type 0 where
   pub other : b ≢ 10
   pub why : (length line ≡ 255) ⊎ (is_printable b ≡ false)
 
--- with a byte that makes it bad, a line is no line of text, whatever comes after the byte
+-- a line with a byte that makes it bad isn't a line of at most 255 printable bytes, whatever bytes
+-- follow
 not_text : (line : List ℕ) (b : ℕ) (more : List ℕ) → IsSpoiled line b → ¬ IsLineText (line ++ b ∷ more)
 not_text line b more spoiled text = by spoiled.why
   where
@@ -186,7 +187,7 @@ not_text line b more spoiled text = by spoiled.why
     by (inl full) = let short = text.short in omega (arith, full, short, length-append line (b ∷ more))
     by (inr bad) = let good : is_printable b ≡ true = inside line (recursion_from_All _ (line ++ b ∷ more) text.printable) in cc
 
--- with a byte that makes it bad, a line is bad once its rest was read
+-- if a byte makes a line bad and the rest of the line is skipped, a bad line was read
 pub reads_bad : (old now mid new : Option (List ℕ)) (line : List ℕ) (b : ℕ) (result : Result Asked InputFault) → Reads old line now → Reads now (b ∷ []) mid
     → ArePrintable line → IsSpoiled line b → EndsSkipping mid result new → EndsLine old result new
 reads_bad old now mid new line b result first then_one good spoiled ends = by old mid result (reads_on old now mid line (b ∷ []) first then_one) ends

@@ -1,4 +1,4 @@
--- The look of a session, from step to step.
+-- At every point of a session, the look from which the next draft is made is good (`IsGoodLook`).
 use Rattle.std.proofs.Common.{◌≡◌, ℕ, ◌+◌, List, [], ◌∷◌, ◌++◌, length, sym, ◌∙◌, ap, subst, arith, append_assoc, length-append, Some, None, Ok, Err, inl, inr}
 use Rattle.std.specs.Prelude.{Option, Result, ⊤, Bool}
 use Rattle.docker_cmd.specs.OfficeFault.{OfficeFault}
@@ -18,7 +18,7 @@ use Rattle.docker_desk.specs.Looking.{IsGoodLook}
 use Rattle.docker_desk.specs.Serving.{BeginsAt}
 
 module _ (name : Text) where
-  -- a good look is good after further events
+  -- a good look is still good after events were added to the history
   pub good_more : (old new more : List Event) (look : ℕ) → new ≡ old ++ more → IsGoodLook name old look → IsGoodLook name new look
   good_more old new more look grown (inl before) = inl (record {
     earlier = before.earlier;
@@ -38,13 +38,13 @@ module _ (name : Text) where
     number = placing.number;
   })
 
-  -- a look with an opening after it is good
+  -- a look that is followed by an opening of the file is good
   good_opened : (old new : List Event) (held left : Bytes) (look : ℕ) → new ≡ old ++ looked name ∷ opened name held ∷ closed left ∷ []
       → look ≡ length old → IsGoodLook name new look
   good_opened old new held left look grown number =
       inl (record { earlier = old; held = held; left = left; later = []; whole = grown; number = number })
 
-  -- a look after a draft took its place is good
+  -- a look right after a draft replaced the file is good
   good_placed : (old new : List Event) (bytes : Bytes) (from look : ℕ) → new ≡ old ++ drafted name from ∷ placed name bytes ∷ looked name ∷ []
       → look ≡ length old + 2 → IsGoodLook name new look
   good_placed old new bytes from look grown number = inr (record {
@@ -55,12 +55,12 @@ module _ (name : Text) where
     number = (let size = length-append old (drafted name from ∷ []) in omega (arith, size, number));
   })
 
-  -- if the look doesn't change, it is good after any events
+  -- if the number of the look is unchanged, the look is still good after events were added
   good_same : (old new more : List Event) (look look_now : ℕ) → new ≡ old ++ more → look_now ≡ look → IsGoodLook name old look
       → IsGoodLook name new look_now
   good_same old new more look look_now grown same good = subst (IsGoodLook name new) (sym same) (good_more old new more look grown good)
 
-  -- after a renewal the look is good
+  -- after a renewal, the look is still good
   good_renewed : (old new : List Event) (read : Option Reading) (result : Result Compared OfficeFault) (own after : DeskView) (look look_now : ℕ)
       → new ≡ old ++ looked name ∷ opening_of name read → EndsRenewing own after result read → look_now ≡ look_by result (length old) look
       → IsGoodLook name old look → IsGoodLook name new look_now
@@ -70,7 +70,7 @@ module _ (name : Text) where
   good_renewed old new read (Err fault) own after look look_now grown ends same good =
       good_same old new (looked name ∷ opening_of name read) look look_now grown same good
 
-  -- after a saving that failed the look is good
+  -- after a saving that failed, the look is still good
   good_unsaved : (names_bytes : Bool) (text : List ℕ) (old new : List Event) (from look look_now : ℕ) → FailsToStore names_bytes name from text old new
       → look_now ≡ look → IsGoodLook name old look → IsGoodLook name new look_now
   good_unsaved names_bytes text old new from look look_now (inl grown) same good =
@@ -95,14 +95,14 @@ module _ (name : Text) where
   good_saved names_bytes text old new (Err (office.State fault)) from look look_now never same good = absurd never
 
 module _ (setting : Setting) where
-  -- the look of a point is good
+  -- the look of this point is good
   abbrev pub LooksWell : SessionView → Type 0
   LooksWell session_view = IsGoodLook setting.name session_view.history session_view.look
 
   good_kept : (before after : SessionView) → after ≡ before → LooksWell before → LooksWell after
   good_kept before after same good = subst LooksWell (sym same) good
 
-  -- after a request the look is still good
+  -- after each request, the look is still good
   good_request : (request : RequestView) (before after : SessionView) (answer : AnswerView) → DoesRequest setting request before answer after → LooksWell before
       → LooksWell after
   good_request (print_request place day) before after answer does good = good_kept before after does.1 good
@@ -132,13 +132,13 @@ module _ (setting : Setting) where
   good_asked (Some request) before after answer does good = good_request request before after answer does good
   good_asked None before after answer does good = good_kept before after does.1 good
 
-  -- after some steps the look is still good
+  -- after any list of steps, the look is still good
   pub good_steps : (first last : SessionView) (steps : List Step) → LooksWell first → AreSteps setting first steps last → LooksWell last
   good_steps first last [] good are = good_kept first last are good
   good_steps first last (step ∷ steps) good are =
       good_steps step.after last steps
       (good_asked step.request step.before step.after step.answer are.1.0.does (good_kept first step.before are.0 good)) are.1.1
 
-  -- at the beginning of a session the look is good
+  -- at the beginning of a session, the look is good
   pub good_first : (old : List Event) (first : SessionView) → BeginsAt setting.name old first → LooksWell first
   good_first old first begins = good_opened setting.name old first.history begins.held begins.left first.look begins.asked begins.look

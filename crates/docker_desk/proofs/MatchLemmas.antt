@@ -1,4 +1,4 @@
--- How a text is compared as it is written.
+-- How a sink compares a text with the bytes that are written to it.
 use Rattle.std.proofs.Common.{◌≡◌, ◌<◌, ◌≤◌, ◌+◌, ◌-◌, ℕ, List, [], ◌∷◌, ◌++◌, length, take, drop, Option, None}
 use Rattle.std.proofs.Common.{Some, refl, sym, ◌∙◌, ap, subst, arith, append-nil, append_assoc, length-append}
 use Rattle.std.proofs.lemmas.List.{take-append-drop}
@@ -12,11 +12,12 @@ use Rattle.docker_cmd.specs.OfficeFault.{OfficeFault}
 use Rattle.docker_cmd.specs.OfficeFault.TheVariants as office
 use Rattle.docker_desk.specs.Copying.{IsNoFront, with_other}
 
--- if the taken bytes are a prefix of the text, and these bytes of the piece come next, both together are a prefix
+-- the first `at` bytes of a text, followed by its next n bytes, are its first `at + n` bytes. The
+-- next n bytes are given as the first n bytes of a piece
 pub goes_on : (text piece taken : List ℕ) (at n : ℕ) → take n (drop at text) ≡ take n piece → take at text ≡ taken → take (at + n) text ≡ taken ++ take n piece
 goes_on text piece taken at n same front = take-add at n text ∙ (λ i. front i ++ same i)
 
--- the same as `goes_on`, for a sink that has taken no byte that differs
+-- the same as `goes_on`, for a sink that has only taken bytes of the text
 pub goes_on_as : (text piece taken : List ℕ) (other : Option ℕ) (at n : ℕ) → is_some other ≡ false → with_other (take at text) other ≡ taken
     → take n (take (length text - at) (drop at text)) ≡ take n piece → Some (with_other (take (at + n) text) other) ≡ Some (taken ++ take n piece)
 goes_on_as text piece taken None at n none front same = ap Some (goes_on text piece taken at n (ap (take n) (sym rest) ∙ same) front)
@@ -25,7 +26,7 @@ goes_on_as text piece taken None at n none front same = ap Some (goes_on text pi
     rest = ap (λ (many : ℕ). take many (drop at text)) (sym (length-drop at text)) ∙ take-length (drop at text)
 goes_on_as text piece taken (Some byte) at n none front same = let never : ⊥ = cc in absurd never
 
--- a sink that has taken a byte that differs didn't take the text
+-- a sink that has taken a byte that differs from the text hasn't taken exactly the text
 pub never_whole : (text own front taken : List ℕ) (other : Option ℕ) (test : Bool) → is_some other ≡ true → own ≡ text → with_other front other ≡ taken
     → IfSome other (λ _. IsNoFront (with_other front other) own) → test ≡ false → (IsTrue test → taken ≡ text) × (taken ≡ text → IsTrue test)
 never_whole text own front taken None test some same is none fails = let never : ⊥ = cc in absurd never
@@ -34,7 +35,8 @@ never_whole text own front taken (Some byte) test some same is none fails = (
   λ whole. absurd (none [] (same ∙ sym whole ∙ sym is ∙ sym (append-nil (front ++ byte ∷ [])))),
 )
 
--- if a sink fails only after taking bytes that aren't a prefix of the text, it took exactly the text if and only if the text was sent
+-- if a sink fails only after taking bytes that aren't a prefix of the text, it took exactly the
+-- text if and only if exactly the text was sent
 pub sent_compares : (text sent before taken own : List ℕ) (bytes : Option (List ℕ)) (failures_before failures : ℕ) (done : Result ⊤ OfficeFault)
     (ok whole : Bool) → before ≡ [] → failures_before ≡ 0 → bytes ≡ Some text → bytes ≡ Some own → OnOk done (Takes (Some before) sent (Some taken))
     → OnErr done (TakesPart (Some before) sent (Some taken)) → CountsFailure (done ≡ Err office.Sink) failures_before failures

@@ -1,4 +1,4 @@
--- What the files that are known fix of dockers without the short-term plan.
+-- The known files determine the dockers without the short-term plan.
 use Rattle.std.proofs.Common.{◌≡◌, ℕ, List, [], ◌++◌, Option, Some, subst, sym}
 use Rattle.docker_model.specs.docker.DockerText.{IsDockerText}
 use Rattle.docker_model.specs.docker.Permanent.{permanent_table}
@@ -14,20 +14,22 @@ use Rattle.docker_desk.specs.Desk.{IsDockerRefused, IsPermanentAnswer, TellsDock
 use Rattle.docker_desk.specs.Replies.{AnswerView, done_with, no_request, refused_for}
 use Rattle.docker_desk.specs.Learning.{IsKnown, KeepsAs}
 
--- an empty page that gained a text has that text
+-- if a text was written on an empty page, the page has exactly this text
 pub written_whole : (own text new : List ℕ) → own ≡ [] → ◌≡◌ {A = Option (List ℕ)} (Some new) (Some (own ++ text)) → new ≡ text
 written_whole own text new none whole =
     let same : ◌≡◌ {A = Option (List ℕ)} (Some new) (Some text) =
     subst (λ (front : List ℕ). ◌≡◌ {A = Option (List ℕ)} (Some new) (Some (front ++ text))) none whole in cc
 
--- the answer has the docker, and its day isn't refused
+-- if an answer has the permanent docker for a day that isn't refused, it is an answer to
+-- `permanent`
 pub told_docker : (state : State) (place : List ℕ) (day : ℕ) (answer : AnswerView) → ¬ IsDayRefused state.horizon day
     → TellsDocker (permanent_table (live_table state)) place day answer → IsPermanentAnswer state place day answer
 told_docker state place day (done_with text) allowed told = (told, allowed)
 told_docker state place day (refused_for fault) allowed same = subst (IsDockerRefused state day) (sym same) allowed
 told_docker state place day no_request allowed never = never
 
--- the same files have one permanent docker for each place and each day that isn't refused
+-- two states that know the same files print the same permanent docker for each place and each day
+-- that neither refuses
 pub one_permanent : (first second : Known) (one two : State) → IsKnown first one → IsKnown second two → HaveSameFiles first.files second.files
     → (place : List ℕ) (day : ℕ) → ¬ IsDayRefused one.horizon day → ¬ IsDayRefused two.horizon day → (text other : List ℕ)
     → IsDockerText (permanent_table (live_table one)) place day text → IsDockerText (permanent_table (live_table two)) place day other → text ≡ other
@@ -36,7 +38,8 @@ one_permanent first second one two left right same place day prints prints_too =
     left.is right.is place day (subst (λ h. ¬ IsDayRefused h day) left.is.horizon_is prints)
     (subst (λ h. ¬ IsDayRefused h day) right.is.horizon_is prints_too)
 
--- each permanent docker is the plain table's
+-- if no two known files have the same moment, each permanent docker of the state is the permanent
+-- docker of the plain table
 pub plain_permanent : (known : Known) (state : State) → IsKnown known state → HaveDistinctMoments known.files
     → (plain : Table) × (IsPlainTable known.files plain × KeepsAs state plain)
 plain_permanent known state is distinct =

@@ -1,4 +1,5 @@
--- How taking, receiving and reloading end for a desk, derived from how the office's reading ends.
+-- How `take`, `merge`, `renew` and the reading of a state end for a desk. This follows from how the
+-- office's reading ends.
 use Rattle.std.proofs.Common.{◌≡◌, ◌≢◌, ◌+◌, ◌∙◌, ℕ, ap, arith, refl, subst, sym, Some, Ok, Err, IsErr, true, false}
 use Rattle.std.specs.Prelude.{Result, ⊤, Bool, List, ◌++◌, Option, None, IfSome, Vec, option_map}
 use Rattle.cif_device.specs.Device.{Reads}
@@ -20,16 +21,17 @@ use Rattle.docker_desk.specs.Reading.{StopsInState, reading}
 use Rattle.docker_desk.specs.declared.compared.Compared.{Compared}
 use Rattle.docker_desk.specs.declared.compared.Compared.TheVariants as compared
 
--- a status that isn't a device's counts no failure
+-- if the status isn't 4 and no failure was counted, `IsCounted` holds
 not_failed : (status before after : ℕ) → status ≢ 4 → after ≡ before → IsCounted status before after
 not_failed status before after other same =
     ((λ is. absurd (other is), λ rose. let never : ⊥ = omega (arith, same, rose) in absurd never), λ differs. same)
 
--- a device's status counts one failure
+-- if the status is 4 and one failure was counted, `IsCounted` holds
 failed_once : (before after : ℕ) → after ≡ before + 1 → IsCounted 4 before after
 failed_once before after rose = ((λ is. rose, λ is. refl), λ differs. absurd (differs refl))
 
--- a folder that takes back a file adds the file's failures to its own
+-- if `IsCounted` holds for a file's failures and the folder adds them to its own count, `IsCounted`
+-- holds for the folder
 pub counted_back : (status first opened start read after : ℕ) → opened ≡ first → start ≡ 0 → IsCounted status start read → after ≡ opened + read
     → IsCounted status first after
 counted_back status first opened start read after same none counted back = (
@@ -42,7 +44,7 @@ counted_back status first opened start read after same none counted back = (
 
 -- ---- a file
 
--- a file was taken, or refused
+-- if an office took or refused a file, the desk's `take` ends in the same way
 pub takes : (left left_now : Bytes) (old new : State) (result : Result ⊤ OfficeFault)
     → IsTakingOutcome most_records (λ _. TakesFile most_records left old new) left left_now result → (IsErr result → new ≡ old)
     → EndsTaking old new result (Some (reading left left_now))
@@ -54,7 +56,7 @@ takes left left_now old new (Err (office.State fault)) outcome kept = absurd out
 takes left left_now old new (Err office.Lapsed) outcome kept = absurd outcome
 takes left left_now old new (Err office.Sink) outcome kept = absurd outcome
 
--- the status says how often the source failed
+-- the failure count grows as the result's status requires
 pub taking_counted : (before after : ℕ) (result : Result ⊤ OfficeFault) → CountsTaking before after result → IsCounted (result_status result) before after
 taking_counted before after (Ok done) counted = not_failed 0 before after (λ is. omega arith) counted
 taking_counted before after (Err (office.File fault)) counted = not_failed _ before after (λ is. omega arith) counted
@@ -66,7 +68,7 @@ taking_counted before after (Err office.Sink) counted = absurd counted
 
 -- ---- a state
 
--- a state was refused
+-- if an office refused to receive a state, the desk refuses for the same fault
 pub refuses_to_receive : (left left_now : Bytes) (fault : OfficeFault)
     → IsWhyUnread WantsMemory dks_2 most_bytes left left_now (why_unread fault) → RefusesToReceive (reading left left_now) fault
 refuses_to_receive left left_now (office.State fault) why = why
@@ -76,21 +78,21 @@ refuses_to_receive left left_now (office.File fault) why = why
 refuses_to_receive left left_now office.Lapsed why = why
 refuses_to_receive left left_now office.Sink why = why
 
--- a state was received, or refused
+-- if an office received or refused a state, the desk's receiving ends in the same way
 pub receives : (left left_now : Bytes) (old new : State) (result : Result ⊤ OfficeFault)
     → IsOutcome WantsMemory why_unread dks_2 most_bytes (λ _. JoinsState dks_2 most_bytes left old new) left left_now result
     → (IsErr result → new ≡ old) → EndsReceiving old new result (Some (reading left left_now))
 receives left left_now old new (Ok done) outcome kept = outcome
 receives left left_now old new (Err fault) outcome kept = (refuses_to_receive left left_now fault outcome, kept refl)
 
--- a state was read, or refused
+-- if an office reloaded or refused a state, the desk's reloading ends in the same way
 pub reloads : (left left_now : Bytes) (new : State) (result : Result ⊤ OfficeFault)
     → IsOutcome WantsMemory why_unread dks_2 most_bytes (λ _. ReadsState dks_2 most_bytes left new) left left_now result
     → EndsReloading new result (Some (reading left left_now))
 reloads left left_now new (Ok done) outcome = outcome
 reloads left left_now new (Err fault) outcome = refuses_to_receive left left_now fault outcome
 
--- the status says how often the source failed
+-- the failure count grows as the fault's status requires
 fault_counted : (before after : ℕ) (fault : OfficeFault) → CountsWhy (why_unread fault) before after
     → IsCounted (result_status {A = ⊤} (Err fault)) before after
 fault_counted before after (office.State fault) counted = not_failed _ before after (λ is. omega arith) counted
@@ -105,9 +107,9 @@ pub reading_counted : (before after : ℕ) (result : Result ⊤ OfficeFault) →
 reading_counted before after (Ok done) counted = not_failed 0 before after (λ is. omega arith) counted
 reading_counted before after (Err fault) counted = fault_counted before after fault counted
 
--- ---- a state that was compared
+-- ---- comparing a file with a state
 
--- what the copy was found to be is true of the bytes that the source held
+-- the result of comparing the copy is also the result of comparing the bytes that the source held
 found_held : (bytes : Bytes) (copy : Option Text) (found : Compared) (state : State) (left : Bytes) → IfSome copy (IsText bytes)
     → ComparesCopy found copy (state_text dks_2 state) → IsFound found state (reading bytes left)
 found_held None copy compared.Same state left held is = tt
@@ -118,13 +120,14 @@ found_held (Some text) None compared.Same state left held is = let never : ⊥ =
 found_held (Some text) (Some it) compared.Other state left held is = λ same. is (sym held ∙ same)
 found_held (Some text) None compared.Other state left held is = absurd is
 
--- a source that was read through a copy stopped where reading a state stops
+-- if the reading through a copy stopped where the reading of a state may stop, so did the reading
+-- of the file
 pub stops_as : (held left seen seen_left : Bytes) → ReadsFewOfState dks_2 seen seen_left → seen ≡ held → left ≡ seen_left
     → StopsInState (reading held left)
 stops_as held left seen seen_left stops same same_left =
     subst (λ (bytes : Bytes). ReadsFewOfState dks_2 bytes left) same (subst (ReadsFewOfState dks_2 seen) (sym same_left) stops)
 
--- a source that was read through a copy is refused for the same fault
+-- if the reading through a copy ended with a fault, so did the comparison
 pub refuses_as : (held left seen seen_left : Bytes) (old new : State) (fault : OfficeFault)
     → IsWhyUnread WantsMemory dks_2 most_bytes seen seen_left (why_unread fault) → new ≡ old → seen ≡ held → left ≡ seen_left
     → EndsComparing old new (Err fault) (Some (reading held left))
@@ -135,13 +138,14 @@ refuses_as held left seen seen_left old new fault why kept same same_left = (
   kept,
 )
 
--- if a copy is the text of these bytes, so are the items of its vector
+-- if a copy has the text of these bytes, so have the items of the copy's vector
 copied : {Z : Type 0} (bytes : Bytes) (copy : Option (Vec ℕ Z)) → IfSome copy (λ it. IsText bytes it.items)
     → IfSome (option_map (λ (it : Vec ℕ Z). it.items) copy) (IsText bytes)
 copied bytes None held = tt
 copied bytes (Some it) held = held
 
--- a state was received, and the bytes that the source held were compared with its text
+-- if a state was received, and the copy was compared with the text of the new state,
+-- `EndsComparing` holds
 pub compares : {Z : Type 0} (held bytes left : Bytes) (copy : Option (Vec ℕ Z)) (old new : State) (found : Compared) → held ≡ bytes
     → IfSome copy (λ it. IsText bytes it.items) → ComparesCopy found (option_map (λ (it : Vec ℕ Z). it.items) copy) (state_text dks_2 new)
     → JoinsState dks_2 most_bytes held old new → EndsComparing old new (Ok found) (Some (reading held left))

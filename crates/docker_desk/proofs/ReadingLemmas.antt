@@ -1,4 +1,4 @@
--- A text has at most one list of lines.
+-- A text has at most one division into lines.
 use Rattle.std.proofs.Common.{◌≡◌, ◌≢◌, ℕ, List, [], ◌∷◌, ◌++◌, true, refl, sym, ◌∙◌, ap, subst}
 use Rattle.std.specs.List.{AllByRecursion}
 use Rattle.std.proofs.lemmas.List.Elements.{recursion_from_All}
@@ -8,8 +8,7 @@ use Rattle.docker_desk.specs.Lines.{AreLines, IsBadLine, IsNextLine, IsWithoutFe
 
 -- ---- the first line feed of a text
 
--- whichever way a text is split at its first line feed, the line before the line feed is the same,
--- and the rest too
+-- the first line feed of a text determines the line before it and the bytes after it
 one_split : (line other rest last : List ℕ) → IsWithoutFeed line → IsWithoutFeed other → line ++ 10 ∷ rest ≡ other ++ 10 ∷ last → (line ≡ other) × (rest ≡ last)
 one_split [] [] rest last first second same = (refl, cc)
 one_split [] (b ∷ other) rest last first second same = absurd (second.0 (cc))
@@ -30,7 +29,7 @@ no_split [] (b ∷ line) rest without same = let never : ⊥ = cc in never
 no_split (a ∷ text) [] rest without same = without.0 (cc)
 no_split (a ∷ text) (b ∷ line) rest without same = let tail : text ≡ line ++ 10 ∷ rest = cc in no_split text line rest without.1 tail
 
--- printable bytes are no line feed
+-- a line of printable bytes has no line feed
 text_without : (line : List ℕ) → IsLineText line → IsWithoutFeed line
 text_without line text = by line (recursion_from_All (λ byte. is_printable byte ≡ true) line text.printable)
   where
@@ -57,7 +56,7 @@ module _ (text rest last : List ℕ) where
   two_bad : IsBadLine text rest → IsBadLine text last → rest ≡ last
   two_bad first second = (one_split first.line second.line rest last first.one second.one (sym first.whole ∙ second.whole)).1
 
--- whichever way a text is read, its next line is the same, and the rest too
+-- a text determines its next line and the bytes after that line
 one_line : (text rest last : List ℕ) (line other : LineView) → IsNextLine text line rest → IsNextLine text other last → (line ≡ other) × (rest ≡ last)
 one_line text rest last (whole_line line) (whole_line other) first second = two_whole text rest last line other first second
 one_line text rest last (whole_line line) bad_line first second = absurd (not_both text rest last line first second)
@@ -69,13 +68,13 @@ one_line text rest last cut_line (whole_line other) first second = absurd (no_sp
 one_line text rest last cut_line bad_line first second = absurd (no_split text second.line last first.0.one second.whole)
 one_line text rest last cut_line cut_line first second = (refl, first.1 ∙ sym second.1)
 
--- no line begins where the text ends
+-- the empty text has no next line
 no_line : (line : LineView) (rest : List ℕ) → ¬ IsNextLine [] line rest
 no_line (whole_line line) rest next = no_split [] line rest tt next.whole
 no_line bad_line rest next = no_split [] next.line rest tt next.whole
 no_line cut_line rest next = next.0.some refl
 
--- a text has one list of lines
+-- a text has at most one list of lines
 pub one_reading : (text : List ℕ) (lines others : List LineView) → AreLines text lines → AreLines text others → lines ≡ others
 one_reading text [] [] first second = refl
 one_reading text [] (other ∷ others) first second = absurd (no_line other second.0 (subst (λ t. IsNextLine t other second.0) first second.1.0))

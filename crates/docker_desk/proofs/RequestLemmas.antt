@@ -1,4 +1,4 @@
--- What a line asks for, word by word.
+-- The words of a line determine its request.
 use Rattle.std.proofs.Common.{◌≡◌, ◌∙◌, ℕ, Bool, true, false, cond, List, [], ◌∷◌, Some, None, refl, sym, ap, subst}
 use Rattle.std.specs.Prelude.{Option, find}
 use Rattle.std.specs.Str.{bytes_eq}
@@ -11,7 +11,7 @@ use Rattle.docker_desk.specs.Requests.{places_request, known_request, renew_requ
 use Rattle.docker_desk.specs.declared.requests.Verb.{Verb}
 use Rattle.docker_desk.specs.declared.requests.Verb.TheVariants as verb
 
--- if two words aren't a train and a day, no train is asked for
+-- if two words aren't a UID and a day, they don't fit `train`
 pub no_train : (rest : List ℕ) (word date : Text) → words_in rest ≡ word ∷ date ∷ []
     → ((uid : List ℕ) (day : ℕ) → NamesTrain word uid → NamesDay date day → ⊥) → FitsRest verb.Train rest None
 no_train rest word date two none (train_request uid day) same has =
@@ -27,7 +27,7 @@ no_train rest word date two none (merge_request other) same has = cc
 no_train rest word date two none (horizon_request day) same has = cc
 no_train rest word date two none save_request same has = cc
 
--- if the rest of a line isn't a timing point and a day, no docker is asked for
+-- if the rest of a line isn't a timing point and a day, it doesn't fit `print`
 pub no_docker : (rest : List ℕ) → ((place : List ℕ) (day : ℕ) → ¬ OfTwo (ArePlaceAndDay place day) (words_in rest)) → FitsRest verb.Print rest None
 no_docker rest none (print_request place day) same has = none place day has
 no_docker rest none (permanent_request place day) same has = cc
@@ -41,7 +41,7 @@ no_docker rest none (merge_request other) same has = cc
 no_docker rest none (horizon_request day) same has = cc
 no_docker rest none save_request same has = cc
 
--- if the rest of a line isn't a timing point and a day, no permanent docker is asked for
+-- if the rest of a line isn't a timing point and a day, it doesn't fit `permanent`
 pub no_permanent : (rest : List ℕ) → ((place : List ℕ) (day : ℕ) → ¬ OfTwo (ArePlaceAndDay place day) (words_in rest)) → FitsRest verb.Permanent rest None
 no_permanent rest none (print_request place day) same has = cc
 no_permanent rest none (permanent_request place day) same has = none place day has
@@ -57,7 +57,7 @@ no_permanent rest none save_request same has = cc
 
 -- ---- names
 
--- a verb is found by its name
+-- looking up a verb's name returns that verb
 named_back : (v : Verb) → verb_named (name_of v) ≡ Some v
 unfolding verb_named
 named_back verb.Print = refl
@@ -72,7 +72,7 @@ named_back verb.Merge = refl
 named_back verb.Horizon = refl
 named_back verb.Save = refl
 
--- a verb that is found by a name has this name
+-- if looking up a name returns a verb, the verb has that name
 found_name : (word : Text) (v : Verb) (vs : List Verb) → find (λ u. bytes_eq (name_of u) word) vs ≡ Some v → word ≡ name_of v
 found_name word v [] found = absurd (cc)
 found_name word v (u ∷ vs) found = by (bytes_eq (name_of u) word) refl found (found_name word v vs)
@@ -90,24 +90,25 @@ name_back word v found = found_name word v verbs found
 
 -- ---- requests
 
--- a line whose first word is no verb asks for nothing
+-- if the first word of a line isn't a verb, the line isn't a request
 pub no_verb : (may_write : Bool) (line : List ℕ) (word : Text) → word ≡ first_word line → None ≡ verb_named word → AsksFor may_write line None
 no_verb may_write line word first none = λ request is.
     let never : None ≡ Some (verb_of request) = none ∙ ap verb_named (first ∙ is.name) ∙ named_back (verb_of request) in
     cc
 
 module _ (may_write : Bool) (line : List ℕ) (word : Text) (v : Verb) (first : word ≡ first_word line) (found : Some v ≡ verb_named word) where
-  -- the request's verb is the line's verb
+  -- each request of the line has the verb that the line's first word names
   of_request : (request : RequestView) → IsRequestOf may_write line request → verb_of request ≡ v
   of_request request is =
       let one : Some v ≡ Some (verb_of request) = found ∙ ap verb_named (first ∙ is.name) ∙ named_back (verb_of request) in
       cc
 
-  -- a line with a verb that isn't allowed asks for nothing
+  -- if the verb of a line isn't allowed, the line isn't a request
   pub not_allowed : ((is_writing v ≡ true → may_write ≡ true) → ⊥) → AsksFor may_write line None
   not_allowed never = λ request is. never (subst (λ u. is_writing u ≡ true → may_write ≡ true) (of_request request is) is.allowed)
 
-  -- a line with a verb that is allowed asks for the request that its other words fit
+  -- if the verb of a line is allowed, the line's request is the one that the rest of the line makes
+  -- with the verb
   pub asked_by : (rest : List ℕ) (request : Option RequestView) → rest ≡ after_word line → (is_writing v ≡ true → may_write ≡ true) → FitsRest v rest request
       → AsksFor may_write line request
   asked_by rest None behind allowed fits = λ request is. fits request (of_request request is) (subst (HasRest request) (sym behind) is.rest)

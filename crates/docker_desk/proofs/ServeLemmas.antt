@@ -14,7 +14,7 @@ use Rattle.docker_desk.specs.SessionViews.{SessionView, session_view, setting}
 use Rattle.docker_desk.specs.Serving.{BeginsAt, EndsOpening, EndsWithStatus, NamesSession, Serves}
 use Rattle.docker_desk.proofs.WritingLemmas.{both_taken, part_of_back, part_of_front}
 
--- if two texts are written one after the other, both are written
+-- writing two texts one after the other writes their concatenation
 pub tells_both : (first second piece behind : List ℕ) (old middle new : FaultsView) → piece ≡ first → behind ≡ second → middle.failures ≡ old.failures
     → Takes old.taken piece middle.taken → TellsText behind middle new → TellsText (first ++ second) old new
 tells_both first second piece behind old middle new one two sound whole tells = by (subst (λ text. TellsText text middle new) two tells)
@@ -26,13 +26,14 @@ tells_both first second piece behind old middle new one two sound whole tells = 
     by (inl next) = inl (next.0 ∙ sound, both_taken old.taken middle.taken new.taken first second taken next.1)
     by (inr part) = inr (part.0 ∙ ap (λ n. n + 1) sound, part_of_back old.taken middle.taken new.taken first second taken part.1)
 
--- if a part of the first text is written, a part of both texts is written
+-- if writing the first text fails after a part of it, a part of the concatenation was written
 pub tells_first : (first second piece : List ℕ) (old new : FaultsView) → piece ≡ first → new.failures ≡ old.failures + 1 → TakesPart old.taken piece new.taken
     → TellsText (first ++ second) old new
 tells_first first second piece old new one failed part =
     inr (failed, part_of_front old.taken new.taken first second (subst (λ text. TakesPart old.taken text new.taken) one part))
 
--- a session begins with the desk that was read
+-- if the state's file was looked at, opened and read, the session begins with the desk that was
+-- read
 pub begins : {T : Type 0} (desk_in : T → DeskView) (name : Text) (old new : List Event) (made : T) (look failures : ℕ)
     → LooksAndOpens name (EndsOpening desk_in (Ok made)) old new → look ≡ length old
     → BeginsAt name old (session_view (desk_in made) look new failures)
@@ -44,11 +45,11 @@ begins desk_in name old new made look failures opens same = by opens.read opens.
         record { held = read.held; left = read.left; asked = asked; stops = stops; state = ends.0; saved = ends.1; look = same }
     by None asked stops ends = absurd ends.0
 
--- if the status is 0, the folder hasn't failed
+-- if the status is 0, the folder's failure count is unchanged
 pub still : (before after : ℕ) → IsCounted 0 before after → after ≡ before
 still before after counted = counted.1 (λ four. omega arith)
 
--- if the lines were answered and the ending was reported, the session was served
+-- if the session started, its lines were answered and its ending was reported, `IsServed` holds
 pub served : (words : List Text) (names_bytes : Bool) (old new : HostView) (status : ℕ) (name : Text) (may_write : Bool) (first last : SessionView)
     (ending : Ending) (unsaved : Bool)
     → NamesSession words name may_write → BeginsAt name old.history first → first.failures ≡ old.folder_failures
@@ -75,7 +76,7 @@ served words names_bytes old new status name may_write first last ending unsaved
       ends = subst (λ (u : Bool). EndsWithStatus ending u status (faults_of old) (faults_of new)) same ends;
     }))
 
--- the same as `served`, for a view that equals the old one
+-- the same as `served`, for a host `seen` that equals the old host
 pub served_as : (words : List Text) (names_bytes : Bool) (seen old new : HostView) (status : ℕ) (name : Text) (may_write : Bool) (first last : SessionView)
     (ending : Ending) (unsaved : Bool) → seen ≡ old
     → NamesSession words name may_write → BeginsAt name seen.history first → first.failures ≡ seen.folder_failures

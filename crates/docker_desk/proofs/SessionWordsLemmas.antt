@@ -5,7 +5,7 @@ use Rattle.docker_cmd.specs.Words.{Text, texts}
 use Rattle.docker_desk.specs.Requests.{NamesFile}
 use Rattle.docker_desk.specs.Serving.{NamesSession}
 
--- words of length 2 are a first and a second word
+-- a list of exactly two words consists of its first and its second word
 two_words : (words : List (Bor Text)) (none : Bor Text) → 2 ≤ length words → length words < 3
     → texts words ≡ (get_or words 0 none).now ∷ (get_or words 1 none).now ∷ []
 two_words [] none some few = absurd (omega arith)
@@ -13,7 +13,8 @@ two_words (one ∷ []) none some few = absurd (omega arith)
 two_words (one ∷ two ∷ []) none some few = refl
 two_words (one ∷ two ∷ three ∷ more) none some few = absurd (omega arith)
 
--- two words that begin with `--write` name a session that may write
+-- if there are two words and the first is `--write`, they name a session in which the desk may
+-- write
 pub named_to_write : {T : Type 0} (name_in : T → Text) (writes : T → Bool) (words : List (Bor Text)) (none : Bor Text) (found : Option T)
     → 2 ≤ length words → length words < 3 → (get_or words 0 none).now ≡ codes "--write"
     → IfSome found (λ it. (name_in it ≡ (get_or words 1 none).now) × (writes it ≡ true) × NamesFile (get_or words 1 none).now (get_or words 1 none).now)

@@ -1,4 +1,4 @@
--- A session after some lines, and after one more line.
+-- Appending one more answered line to a session.
 use Rattle.std.proofs.Common.{◌≡◌, ◌≢◌, ℕ, ◌+◌, ◌-◌, ◌^◌, ◌≤◌, List, [], ◌∷◌, ◌++◌, length, refl, sym, ◌∙◌, ap, subst}
 use Rattle.std.proofs.Common.{arith, append_assoc, append-nil, length-append, Some, None, Ok, Err, true, false, inl, inr}
 use Rattle.std.specs.Prelude.{Option, option_map, ◌⊎◌, ⊤}
@@ -24,18 +24,19 @@ use Rattle.docker_desk.specs.Answering.{HasLines, IsEndless, IsFollowed, ServesN
 
 -- ---- the input
 
--- if contracts know the bytes of the input, these began with the lines, and the bytes after the
--- lines are left
+-- the bytes of the input begin with these lines, and the bytes after the lines are left. This says
+-- nothing if contracts don't know which bytes the input held
 abbrev pub ReadsFirst : DeviceBytes → List LineView → DeviceBytes → Type 0
 ReadsFirst None lines left = ⊤
 ReadsFirst (Some text) lines left = (rest : List ℕ) × (AreFirstLines text lines rest × (left ≡ Some rest))
 
--- before the first line, the whole input is left
+-- before any line is read, all bytes of the input are left
 pub reads_none : (input : DeviceBytes) → ReadsFirst input [] input
 reads_none None = tt
 reads_none (Some text) = (text, (refl, refl))
 
--- if an input begins with some lines, and the rest with others, the input begins with both
+-- if a text begins with some lines, and the bytes after them begin with others, the text begins
+-- with the concatenation
 first_lines_more : (text : List ℕ) (lines more : List LineView) (rest last : List ℕ) → AreFirstLines text lines rest → AreFirstLines rest more last
     → AreFirstLines text (lines ++ more) last
 first_lines_more text [] more rest last first then_more = subst (λ t. AreFirstLines t more last) first then_more
@@ -46,7 +47,7 @@ lines_more : (text : List ℕ) (lines more : List LineView) (rest : List ℕ) �
 lines_more text [] more rest first then_more = subst (λ t. AreLines t more) first then_more
 lines_more text (line ∷ lines) more rest first then_more = (first.0, (first.1.0, lines_more first.0 lines more rest first.1.1 then_more))
 
--- each line has at least one byte, its line feed or another
+-- each line has at least one byte
 line_is_some : (text : List ℕ) (line : LineView) (rest : List ℕ) → IsNextLine text line rest → 1 + length rest ≤ length text
 line_is_some text (whole_line line) rest next =
     let size : length text ≡ length (line ++ 10 ∷ rest) = ap length next.whole in let both = length-append line (10 ∷ rest) in omega (arith, size, both)
@@ -63,7 +64,7 @@ first_lines_some text (line ∷ lines) rest first =
     let one = line_is_some text line first.0 first.1.0 in let more = first_lines_some first.0 lines rest first.1.1 in omega (arith, one, more)
 
 module _ (old now : DeviceBytes) (lines : List LineView) where
-  -- after one more line is read, the input began with the lines and this one
+  -- if some lines were read from an input and then one more, all these lines were read in order
   pub reads_more : (new : DeviceBytes) (line : LineView) → ReadsFirst old lines now → ReadsNext now line new → ReadsFirst old (lines ++ line ∷ []) new
   reads_more new line = by old
     where
@@ -73,7 +74,8 @@ module _ (old now : DeviceBytes) (lines : List LineView) where
           let there : ReadsNext (Some first.0) line new = subst (λ d. ReadsNext d line new) first.1.1 next in
           (there.0, (first_lines_more text lines (line ∷ []) first.0 there.0 first.1.0 (there.0, (there.1.0, refl)), there.1.1))
 
-  -- if the rest of an input begins with more lines, the input begins with all these lines
+  -- if some lines were read, and the bytes left begin with more lines, the input begins with the
+  -- concatenation
   pub begins_more : (more : List LineView) → ReadsFirst old lines now → BeginsWith now more → BeginsWith old (lines ++ more)
   begins_more more = by old
     where
@@ -83,7 +85,8 @@ module _ (old now : DeviceBytes) (lines : List LineView) where
           let there : BeginsWith (Some first.0) more = subst (λ d. BeginsWith d more) first.1.1 next in
           (there.0, first_lines_more text lines more first.0 there.0 first.1.0 there.1)
 
-  -- if the rest of an input has just some lines, the input has the lines before and these
+  -- if some lines were read, and the bytes left consist of more lines, the input consists of the
+  -- concatenation
   pub has_more : (more : List LineView) → ReadsFirst old lines now → HasLines now more → HasLines old (lines ++ more)
   has_more more = by old
     where
@@ -91,7 +94,7 @@ module _ (old now : DeviceBytes) (lines : List LineView) where
       by None first next = tt
       by (Some text) first next = lines_more text lines more first.0 first.1.0 (subst (λ d. HasLines d more) first.1.1 next)
 
-  -- an input whose rest is endless is endless
+  -- if the bytes left in an input are endless, the input is endless
   pub endless_more : ReadsFirst old lines now → IsEndless now → IsEndless old
   endless_more = by old
     where
@@ -102,7 +105,7 @@ module _ (old now : DeviceBytes) (lines : List LineView) where
           let some = first_lines_some text lines first.0 first.1.0 in
           omega (arith, there, some)
 
-  -- an input of 2 ^ 64 - 1 lines is endless
+  -- an input from which 2 ^ 64 - 1 lines were read is endless
   pub endless_lines : ReadsFirst old lines now → length lines ≡ 2 ^ 64 - 1 → IsEndless old
   endless_lines = by old
     where
@@ -110,7 +113,7 @@ module _ (old now : DeviceBytes) (lines : List LineView) where
       by None first many = tt
       by (Some text) first many = let some = first_lines_some text lines first.0 first.1.0 in omega (arith, some, many)
 
-  -- an input begins with the lines that were read of it
+  -- an input begins with the lines that were read from it
   pub begins_so_far : ReadsFirst old lines now → BeginsWith old lines
   begins_so_far = by old
     where
@@ -118,15 +121,15 @@ module _ (old now : DeviceBytes) (lines : List LineView) where
       by None first = tt
       by (Some text) first = (first.0, first.1.0)
 
--- the line that was read is the next line of the input
+-- if reading a line succeeded with a line, this line is the next line of the input
 pub next_read : (old new : DeviceBytes) (read : Asked) (line : LineView) → asked_meant read ≡ Some line → EndsLine old (Ok read) new → ReadsNext old line new
 next_read old new read line is ends = subst (λ (met : Option LineView). ReadsAsked old met new) is ends
 
--- if a line has more bytes than can be counted, at least 2 ^ 64 - 1 bytes were read
+-- if reading a line ended with `Endless`, at least 2 ^ 64 - 1 bytes were read
 pub next_endless : (old new : DeviceBytes) (fault : InputFault) → fault ≡ Endless → EndsLine old (Err fault) new → ReadsMany (2 ^ 64 - 1) old new
 next_endless old new fault is ends = subst (λ (f : InputFault). EndsLine old (Err f) new) is ends
 
--- an input from which 2 ^ 64 - 1 bytes were read is endless
+-- an input from which at least 2 ^ 64 - 1 bytes were read is endless
 pub endless_line : (old new : DeviceBytes) → ReadsMany (2 ^ 64 - 1) old new → IsEndless old
 endless_line None new many = tt
 endless_line (Some text) new many = by new many.read
@@ -142,12 +145,12 @@ endless_line (Some text) new many = by new many.read
 
 -- ---- the output
 
--- an output that takes no bytes is unchanged
+-- writing no bytes leaves an output unchanged
 pub takes_none : (output : DeviceBytes) → Takes output [] output
 takes_none None = refl
 takes_none (Some taken) = ap Some (sym (append-nil taken))
 
--- an output that takes one piece and then another takes both
+-- writing one piece and then another writes their concatenation
 pub takes_more : (old now new : DeviceBytes) (first second : List ℕ) → Takes old first now → Takes now second new → Takes old (first ++ second) new
 takes_more None now new first second one two = two ∙ ap (option_map (λ taken. taken ++ second)) one
 takes_more (Some taken) now new first second one two =
@@ -156,7 +159,8 @@ takes_more (Some taken) now new first second one two =
 -- ---- steps
 
 module _ (setting : Setting) where
-  -- if some steps lead to a point, and more steps lead from it to a last one, all steps lead to the last point
+  -- if some steps end at a point, and more steps begin at that point, their concatenation is a list
+  -- of steps
   steps_more : (first now last : SessionView) (steps more : List Step) → AreSteps setting first steps now → AreSteps setting now more last
       → AreSteps setting first (steps ++ more) last
   steps_more first now last [] more are then_more = subst (λ m. AreSteps setting m more last) are then_more
@@ -168,7 +172,7 @@ module _ (setting : Setting) where
   told_both : (steps more : List Step) → answers_text (steps ++ more) ≡ answers_text steps ++ answers_text more
   told_both steps more = flat_map-append (λ (step : Step). answer_bytes step.answer) steps more
 
-  -- a session so far: some lines were answered, and led to this point
+  -- the part of a session up to this point: `count` lines were read from the input and answered
   pub record IsSoFar (count : ℕ) (first now : SessionView) (input input_now output output_now : DeviceBytes) : Type 0 where
     pub steps : List Step
     pub many : length steps ≡ count
@@ -176,12 +180,12 @@ module _ (setting : Setting) where
     pub read : ReadsFirst input (lines_of steps) input_now
     pub told : Takes output (answers_text steps) output_now
 
-  -- before the first line, the session has no step
+  -- a session without a step ends at its first point
   so_far_none : (first : SessionView) (input output : DeviceBytes) → IsSoFar 0 first first input input output output
   so_far_none first input output =
       record { steps = []; many = refl; are = refl; read = reads_none input; told = takes_none output }
 
-  -- before the first line nothing was read ahead
+  -- the same as `so_far_none`, for an input from which nothing was read ahead
   pub so_far_first : (first : SessionView) (ahead : List ℕ) (left output : DeviceBytes) → ahead ≡ []
       → IsSoFar 0 first first left (with_ahead ahead left) output output
   so_far_first first ahead left output none =
@@ -192,7 +196,7 @@ module _ (setting : Setting) where
       none_ahead None = refl
       none_ahead (Some rest) = refl
 
-  -- a line with its answer is a step
+  -- the step that consists of a line and its answer
   abbrev pub step_of : (line : LineView) (before : SessionView) (answer : AnswerView) (after : SessionView) → DoesLine setting line before answer after → Step
   step_of line before answer after does = record { line = line; request = does.request; before = before; answer = answer; after = after }
 
@@ -200,12 +204,12 @@ module _ (setting : Setting) where
       → IsStep setting (step_of line before answer after does)
   is_step line before answer after does = record { asks = does.asks; does = does.does; counted = does.counted }
 
-  -- a line that is answered is one step
+  -- an answered line is a list of one step
   pub one_step : (line : LineView) (before : SessionView) (answer : AnswerView) (after : SessionView) → (does : DoesLine setting line before answer after)
       → AreSteps setting before (step_of line before answer after does ∷ []) after
   one_step line before answer after does = (refl, (is_step line before answer after does, refl))
 
-  -- after one more answered line, the session so far has that line too
+  -- appending an answered line to the part of a session gives a longer part
   so_far_more : (count : ℕ) (first now next : SessionView) (input input_now input_next output output_now output_next : DeviceBytes)
       → IsSoFar count first now input input_now output output_now → ServesNext setting now next input_now input_next output_now output_next None
       → IsSoFar (count + 1) first next input input_next output output_next
@@ -223,7 +227,7 @@ module _ (setting : Setting) where
             (takes_more output output_now output_next (answers_text so_far.steps) (answer_bytes answer) so_far.told told);
       }
 
-  -- if the session doesn't end at the next line, the session so far has that line too
+  -- the same as `so_far_more`, for a result that equals `None`
   pub so_far_on : (count : ℕ) (first now next : SessionView) (input input_now input_next output output_now output_next : DeviceBytes) (result : Option Ending)
       → IsSoFar count first now input input_now output output_now → result ≡ None
       → ServesNext setting now next input_now input_next output_now output_next result
@@ -232,7 +236,8 @@ module _ (setting : Setting) where
       so_far_more count first now next input input_now input_next output output_now output_next so_far
       (subst (ServesNext setting now next input_now input_next output_now output_next) none serves)
 
-  -- a session that ends after further lines ends after all its lines
+  -- if the bytes left in the input end a session with more steps, the whole input ends the session
+  -- with all steps
   ends_more : (ending : Ending) (count : ℕ) (first now : SessionView) (input input_now output output_now output_last : DeviceBytes) (more : List Step)
       → (so_far : IsSoFar count first now input input_now output output_now) → EndsSession ending input_now more output_now output_last
       → EndsSession ending input (so_far.steps ++ more) output output_last
@@ -268,7 +273,8 @@ module _ (setting : Setting) where
       by InputEndless ends = (begins ends.0, (endless_more input input_now (lines_of so_far.steps) so_far.read ends.1.0, gained ends.1.1))
       by OutputFailed ends = (begins ends.0, breaks ends.1)
 
-  -- a session so far, followed by the lines that end it, is a session that ended
+  -- the part of a session up to a point, followed by the steps that end the session, is a session
+  -- that ended
   pub ended_after : (ending : Ending) (count : ℕ) (first now last : SessionView) (input input_now output output_now output_last : DeviceBytes)
       → IsSoFar count first now input input_now output output_now → AnswersLines setting now last input_now output_now output_last ending
       → AnswersLines setting first last input output output_last ending
@@ -278,7 +284,7 @@ module _ (setting : Setting) where
     ends = ends_more ending count first now input input_now output output_now output_last answers.steps so_far answers.ends;
   }
 
-  -- a session with 2 ^ 64 - 1 lines ends, because the input is endless
+  -- after 2 ^ 64 - 1 lines, a session ends because its input is endless
   pub ended_endless : (count : ℕ) (first now : SessionView) (input input_now output output_now : DeviceBytes) → count ≡ 2 ^ 64 - 1
       → IsSoFar count first now input input_now output output_now → AnswersLines setting first now input output output_now InputEndless
   ended_endless count first now input input_now output output_now full so_far = record {
@@ -299,7 +305,7 @@ module _ (setting : Setting) where
 -- ---- one line
 
 module _ (setting : Setting) (now next : SessionView) (input input_now output output_now : DeviceBytes) where
-  -- at the end of the input the session ends without another line
+  -- if the input is at its end, the session ends without another line
   pub ends_before : next ≡ now → IsEnd input → input_now ≡ input → output_now ≡ output
       → ServesNext setting now next input input_now output output_now (Some Ended)
   ends_before same end kept silent = record { steps = []; are = same; ends = (by input end, subst (Takes output []) (sym silent) (takes_none output)) }
@@ -324,7 +330,7 @@ module _ (setting : Setting) (now next : SessionView) (input input_now output ou
     ends = (begins_none input, (endless_line input input_now many, subst (Takes output []) (sym silent) (takes_none output)));
   }
 
-  -- if an answer is written in part, the session ends at this line
+  -- if only a part of an answer is written, the session ends at this line
   pub breaks_at : (line : LineView) (answer : AnswerView) → DoesLine setting line now answer next → ReadsNext input line input_now
       → TakesPart output (answer_bytes answer) output_now
       → ServesNext setting now next input input_now output output_now (Some OutputFailed)
@@ -341,7 +347,7 @@ module _ (setting : Setting) (now next : SessionView) (input input_now output ou
       begins_one None read = tt
       begins_one (Some text) read = (read.0, (read.0, (read.1.0, refl)))
 
-  -- at a line whose line feed is missing the session ends, because that line is the last
+  -- if a line is cut and its answer is written, the session ends, because no line follows
   pub ends_at_cut : (answer : AnswerView) → DoesLine setting cut_line now answer next → ReadsNext input cut_line input_now
       → Takes output (answer_bytes answer) output_now
       → ServesNext setting now next input input_now output output_now (Some Ended)
@@ -355,7 +361,7 @@ module _ (setting : Setting) (now next : SessionView) (input input_now output ou
       has_one None read = tt
       has_one (Some text) read = (read.0, (read.1.0, read.1.0.1))
 
-  -- after a line that isn't the last, the session continues unless the output fails
+  -- if a line isn't cut, the session continues after its answer unless the output fails
   after_line : (line : LineView) (answer : AnswerView) (failures failures_now : ℕ) (result : Option Ending) → IsFollowed line
       → DoesLine setting line now answer next → ReadsNext input line input_now
       → TellsAnswer (answer_bytes answer) None output output_now failures failures_now result
@@ -365,7 +371,7 @@ module _ (setting : Setting) (now next : SessionView) (input input_now output ou
   after_line line answer failures failures_now result followed does read (inr part) =
       subst (ServesNext setting now next input input_now output output_now) (sym part.0) (breaks_at line answer does read part.1.0)
 
-  -- after a whole line, whose bytes were passed on, the session continues unless the output fails
+  -- the same as `after_line`, for a whole line
   pub after_whole : (line passed : List ℕ) (answer : AnswerView) (failures failures_now : ℕ) (result : Option Ending) → passed ≡ line
       → DoesLine setting (whole_line passed) now answer next → ReadsNext input (whole_line line) input_now
       → TellsAnswer (answer_bytes answer) None output output_now failures failures_now result
@@ -373,7 +379,7 @@ module _ (setting : Setting) (now next : SessionView) (input input_now output ou
   after_whole line passed answer failures failures_now result same does read tells =
       after_line (whole_line line) answer failures failures_now result tt (subst (λ l. DoesLine setting (whole_line l) now answer next) same does) read tells
 
-  -- after a bad line the session continues unless the output fails
+  -- the same as `after_line`, for a bad line
   pub after_bad : (failures failures_now : ℕ) (result : Option Ending) → DoesLine setting bad_line now no_request next → ReadsNext input bad_line input_now
       → TellsAnswer (answer_bytes no_request) None output output_now failures failures_now result
       → ServesNext setting now next input input_now output output_now result
@@ -393,11 +399,11 @@ pub counts_on : (result : Option Ending) (input input_now output output_now : �
     → (input_now ≡ input) × (output_now ≡ output)
 counts_on result input input_now output output_now none counts = subst (λ (r : Option Ending). CountsNext r input input_now output output_now) none counts
 
--- if no device failed and the status isn't a device's, no failure is counted
+-- if the status isn't 4 and no failure was counted, `IsCounted` holds
 counted_none : (status count : ℕ) → status ≢ 4 → IsCounted status count count
 counted_none status count other = ((λ four. absurd (other four), λ more. absurd (omega arith)), λ _. refl)
 
--- a line adds at most one failure of a device
+-- if `IsCounted` holds, the failure count grows by at most one
 pub counted_few : (status before after : ℕ) → IsCounted status before after → after ≤ before + 1
 counted_few status before after counted = by (eqb_tells status 4)
   where
@@ -405,7 +411,7 @@ counted_few status before after counted = by (eqb_tells status 4)
     by (inl four) = let once = counted.0.0 four.1 in omega (arith, once)
     by (inr other) = let never = counted.1 other.1 in omega (arith, never)
 
--- a bad line asks for nothing
+-- answering a bad line with `no_request` changes nothing else
 pub does_bad : (setting : Setting) (now : SessionView) → DoesLine setting bad_line now no_request now
 does_bad setting now = record { request = None; asks = refl; does = (refl, refl); counted = counted_none 2 now.failures (λ four. omega arith) }
 

@@ -1,4 +1,4 @@
--- What the known files say of a train.
+-- The known files determine the schedules that `train` shows.
 use Rattle.std.proofs.Common.{◌≤◌, ℕ, List, Some, subst}
 use Rattle.std.specs.Prelude.{Option, option_map}
 use Rattle.docker_model.specs.records.Date.{IsDay}
@@ -11,20 +11,22 @@ use Rattle.docker_train.specs.Origin.{CameFrom}
 use Rattle.docker_train.specs.TrainText.{IsFoundFor, IsTrainText, Stamped}
 use Rattle.docker_desk.specs.Learning.{IsKnown, IsTrainOf}
 
--- a schedule that is found in a summary came from one of its files
+-- each schedule that is found in a summary came from one of the files
 abbrev pub FoundCameFrom : Type 0
 FoundCameFrom =
     (files : Files) (horizon : ℕ) (state : State) (uid : List ℕ) (day : ℕ) (found : Stamped) → IsSummary files horizon state
     → IsFoundFor state uid day (Some found) → CameFrom files found
 
--- a schedule found in a summary is the one that the plain table of its files has
+-- if the files have a plain table, the schedule that is found in their summary, if any, is the
+-- schedule chosen on this table. This holds for each day from the horizon on
 abbrev pub FoundIsPlain : Type 0
 FoundIsPlain =
     (files : Files) (horizon : ℕ) (state : State) (table : Table) (uid : List ℕ) (day : ℕ) (found : Option Stamped) → IsSummary files horizon state
     → IsPlainTable files table → IsDay horizon → horizon ≤ day → IsFoundFor state uid day found
     → IsChosenOn table uid day (option_map (λ (it : Stamped). it.schedule) found)
 
--- the schedule that a known state shows for a UID and a day came from a known file
+-- if a text shows the schedule of a UID for a day, taken from a state that knows some files,
+-- `IsTrainOf` holds for these files
 pub train_known : FoundCameFrom → FoundIsPlain → (known : Known) (state : State) (uid : List ℕ) (day : ℕ) (text : List ℕ) → IsKnown known state
     → IsTrainText state uid day text → state.horizon ≤ day → IsTrainOf known uid day text
 train_known came_from is_plain known state uid day text is train from = record {

@@ -1,4 +1,4 @@
--- A session that asks a state without files for its files.
+-- A session that asks for the files of a state without files.
 use Rattle.std.proofs.Common.{◌≡◌, ◌≢◌, ℕ, ◌≤◌, Bool, true, false, List, [], ◌∷◌, ◌++◌, length, refl}
 use Rattle.std.proofs.Common.{sym, ◌∙◌, ap, subst, arith, append-nil, Some, None, ◌⊎◌, inl, inr}
 use Rattle.std.specs.Prelude.{Option, codes, decimal}
@@ -32,17 +32,17 @@ use Rattle.docker_desk.proofs.ReadingLemmas.{one_reading}
 use Rattle.docker_desk.proofs.KnownLemmas.{one_read}
 use Rattle.state_laws.proofs.texts.ReportedWithHorizon.{valid_is_told}
 
--- the line that asks for the files
+-- the line `files`, which asks for the list of files
 abbrev asked_line : List ℕ
 asked_line = codes "files"
 
--- the output gains the answer without files, or the answer that memory ran out
+-- the output holds the answer that lists no files, or the answer that memory ran out
 abbrev pub IsAnswered : Bytes → Type 0
 IsAnswered output = (output ≡ Some (codes "0 0 0\n")) ⊎ (output ≡ Some memory_answer)
 
 -- ---- the words and the status
 
--- no fault has the status 0
+-- the status of a fault is never 0
 some_status : (fault : OfficeFault) → status_of (Office fault) ≢ 0
 some_status (office.File fault) none = let never : ⊥ = omega (arith, none) in never
 some_status (office.State fault) none = let never : ⊥ = omega (arith, none) in never
@@ -51,25 +51,25 @@ some_status office.Source none = let never : ⊥ = omega (arith, none) in never
 some_status office.Sink none = let never : ⊥ = omega (arith, none) in never
 some_status office.Memory none = let never : ⊥ = omega (arith, none) in never
 
--- only the end of the input has the status 0
+-- if the status of an ending is 0, the session ended at the end of its input
 ended_well : (ending : Ending) (unsaved : Bool) → ending_status ending unsaved ≡ 0 → ending ≡ Ended
 ended_well Ended unsaved none = refl
 ended_well InputFailed unsaved none = let never : ⊥ = omega (arith, none) in absurd never
 ended_well InputEndless unsaved none = let never : ⊥ = omega (arith, none) in absurd never
 ended_well OutputFailed unsaved none = let never : ⊥ = omega (arith, none) in absurd never
 
--- if the words of a session are one word, this word names its file
+-- if the words of a session are one word, this word names the state's file
 named_so : (word name : Text) (may_write : Bool) → word ∷ [] ≡ session_words name may_write → name ≡ word
 named_so word name false same = cc
 named_so word name true same = let never : ⊥ = cc in absurd never
 
 -- ---- the line
 
--- the input is one line
+-- the input `files` with a line feed consists of one whole line
 one_line : AreLines (codes "files\n") (whole_line asked_line ∷ [])
 one_line = ([], (record { whole = refl; line_text = record { short = omega arith; printable = AllPass-from_list_all is_printable asked_line refl } }, refl))
 
--- the line asks for the files
+-- the line `files` makes the request `files`
 asks_files : (may_write : Bool) → IsRequestOf may_write asked_line files_request
 asks_files may_write = record { name = refl; rest = refl; allowed = λ writes. let never : ⊥ = cc in absurd never }
 
@@ -93,14 +93,15 @@ asked_files may_write (Some save_request) asks = let first = heads 102 115 _ _ a
 
 -- ---- the answer
 
--- the bytes of an answer without a text
+-- an answer that is done and has no text has the bytes `0 0 0` and a line feed
 empty_told : answer_bytes (done_with []) ≡ codes "0 0 0\n"
 empty_told = ap (λ (zero : List ℕ). zero ++ codes " " ++ zero ++ codes " " ++ zero ++ codes "\n" ++ []) zero_told
   where
     zero_told : decimal 0 ≡ 48 ∷ []
     zero_told = decimal_digit 0 (omega arith)
 
--- asked for the files of the state of no files, the output gains an empty answer, or the answer that memory ran out
+-- writing the answer to `files`, for the state of no files, gives an output that satisfies
+-- `IsAnswered`
 answered : (output : Bytes) (state : State) (answer : AnswerView) → state ≡ no_state → IsFilesAnswer state answer
     → Takes (Some []) (answer_bytes answer ++ []) output → IsAnswered output
 answered output state (done_with text) same is takes =
@@ -112,13 +113,13 @@ answered output state no_request same is takes = absurd is
 
 -- ---- the state
 
--- a file that is opened holds the text that was placed on the shelf
+-- an opened file holds the text that was last placed under its name on the shelf
 held_there : (text name : Text) (held left : Bytes) → name ≡ codes "S"
     → IsShelfHistory (placed (codes "S") (Some text) ∷ looked name ∷ opened name held ∷ closed left ∷ []) → held ≡ Some text
 held_there text name held left same met =
     (subst (λ (n : Text). IsShelfHistory (placed (codes "S") (Some text) ∷ looked n ∷ opened n held ∷ closed left ∷ [])) same met).1.1.0.0
 
--- a file with the text of the state of no files holds this state
+-- a file that holds the text of the state of no files holds this state
 holds_none : (text : List ℕ) → text ≡ state_text dks_2 no_state → length text ≤ 100 → IsValid no_state → HoldsState dks_2 most_bytes (Some text) no_state
 holds_none text is few valid = record {
   text = text;
@@ -130,7 +131,7 @@ holds_none text is few valid = record {
 
 module _ (text : List ℕ) (holds : HoldsState dks_2 most_bytes (Some text) no_state) (old : List Event) (output : Bytes)
     (before : old ≡ placed (codes "S") (Some text) ∷ []) where
-  -- one answered line leads from the beginning of the session to its last point
+  -- if the line `files` is the only step of the session, the output satisfies `IsAnswered`
   one_step : (its : Setting) (first last : SessionView) (step : Step) → BeginsAt its.name old first → its.name ≡ codes "S" → step.line ≡ whole_line asked_line
       → AreSteps its first (step ∷ []) last → IsShelfHistory last.history → Takes (Some []) (answer_bytes step.answer ++ []) output → IsAnswered output
   one_step its first last step begins named line are met takes =
@@ -159,7 +160,7 @@ module _ (text : List ℕ) (holds : HoldsState dks_2 most_bytes (Some text) no_s
       read = one_read most_bytes begins.held first.desk.state no_state begins.state
           (subst (λ (h : Bytes). HoldsState dks_2 most_bytes h no_state) (sym held) holds)
 
-  -- the session's steps are the one step of the line
+  -- if the lines of the steps are the one line `files`, the output satisfies `IsAnswered`
   all_steps : (its : Setting) (first last : SessionView) (steps : List Step) → BeginsAt its.name old first → its.name ≡ codes "S"
       → lines_of steps ≡ whole_line asked_line ∷ [] → AreSteps its first steps last → IsShelfHistory last.history
       → Takes (Some []) (answers_text steps) output → IsAnswered output
@@ -168,8 +169,8 @@ module _ (text : List ℕ) (holds : HoldsState dks_2 most_bytes (Some text) no_s
       let line : step.line ≡ whole_line asked_line = cc in one_step its first last step begins named line are met takes
   all_steps its first last (step ∷ next ∷ steps) begins named lines are met takes = let never : ⊥ = cc in absurd never
 
--- a session on the state of no files, with this line as its input, answers that there are no files,
--- or that memory ran out
+-- a session on the state of no files, with `files` as its only line, answers that there are no
+-- files, or that memory ran out
 pub files_answered : (text : List ℕ) (old new : HostView) (status : ℕ) → HoldsState dks_2 most_bytes (Some text) no_state
     → old.history ≡ placed (codes "S") (Some text) ∷ [] → old.input ≡ Some (codes "files\n") → old.output ≡ Some []
     → IsShelfHistory new.history → status ≡ 0 → Serves (codes "S" ∷ []) true old new status → IsAnswered new.output
@@ -213,7 +214,7 @@ bytes_answered taken (inr refused) = inr (unsome taken memory_answer refused)
     unsome : (one two : List ℕ) → Some one ≡ Some two → one ≡ two
     unsome one two equal = cc
 
--- the same as `files_answered`, for a view that equals the new one
+-- the same as `files_answered`, for a host `seen` that equals the new host
 pub files_told : (text : List ℕ) (old seen new : HostView) (status : ℕ) (taken : List ℕ) → Serves (codes "S" ∷ []) true old new status → seen ≡ new
     → text ≡ state_text dks_2 no_state → length text ≤ 100 → IsValid no_state → old.history ≡ placed (codes "S") (Some text) ∷ []
     → old.input ≡ Some (codes "files\n") → old.output ≡ Some [] → IsShelfHistory seen.history → status ≡ 0 → seen.output ≡ Some taken

@@ -1,4 +1,4 @@
--- The words of a line: the first word, and the words after it.
+-- The words of a line: its first word, and the words after it.
 use Rattle.std.proofs.Common.{◌≡◌, ◌≢◌, ℕ, ◌+◌, ◌<◌, List, [], ◌∷◌, ◌++◌, length, take, drop, ap, ◌∙◌, refl, sym}
 use Rattle.std.proofs.Common.{subst, Bool, true, false, cond, suc, arith, rules, tests, append-nil, length-drop}
 use Rattle.std.specs.Prelude.{◌==◌, not, filter}
@@ -11,7 +11,8 @@ use Rattle.docker_desk.specs.Requests.{after_word, first_word, without_spaces}
 
 -- ---- the words of pieces
 
--- the words of pieces are the first piece, if it is a word, and the words of the others
+-- the words in a list of pieces are the first piece, if it isn't empty, and the words in the other
+-- pieces
 first_apart : (piece : List ℕ) (pieces : List (List ℕ))
     → filter (λ word. not (length word == 0)) (piece ∷ pieces) ≡ word_or_none piece ++ filter (λ word. not (length word == 0)) pieces
 first_apart piece pieces = by (length piece == 0)
@@ -21,7 +22,7 @@ first_apart piece pieces = by (length piece == 0)
     by true = refl
     by false = refl
 
--- a piece with a byte is a word
+-- a piece that isn't empty is a word
 some_word : (piece : List ℕ) → 0 < length piece → word_or_none piece ≡ piece ∷ []
 some_word piece some = by (length piece == 0) refl
   where
@@ -29,15 +30,15 @@ some_word piece some = by (length piece == 0) refl
     by false is = refl
     by true is = let none : length piece ≡ 0 = search (rules, tests) in absurd (omega (arith, some, none))
 
--- the words of a text with a space are the piece before the space, if it is a word, and the words
--- after the space
+-- the words of a text with a space are the bytes before the first space, if there are any, and the
+-- words of the bytes after that space
 at_space : (text : List ℕ) → position_or_len is_space text < length text
     → words_in text ≡ word_or_none (before_first is_space text) ++ words_in (after_first is_space text)
 at_space text here =
     ap (filter (λ word. not (length word == 0))) (slice_split_first is_space text 0 here)
     ∙ first_apart (before_first is_space text) (slice_split is_space (after_first is_space text))
 
--- if the first space would be at the end, no byte is a space
+-- if a text has no first space, none of its bytes is a space
 no_space : (text : List ℕ) → position_or_len is_space text ≡ length text → AllByRecursion (λ b. is_space b ≡ false) text
 no_space [] none = tt
 no_space (b ∷ text) none = by (is_space b) refl none (no_space text)
@@ -48,20 +49,20 @@ no_space (b ∷ text) none = by (is_space b) refl none (no_space text)
     by true here at_end rest = absurd (omega arith)
     by false here at_end rest = (here, rest (omega arith))
 
--- a text without a space is one word, or none
+-- a text without a space is one word, or has no word if it is empty
 without_space : (text : List ℕ) → position_or_len is_space text ≡ length text → words_in text ≡ word_or_none text
 without_space text none =
     ap (filter (λ word. not (length word == 0))) (slice_split_none is_space text (All-from_recursion _ text (no_space text none)))
     ∙ first_apart text [] ∙ append-nil (word_or_none text)
 
--- a text of length 0 has no byte
+-- a list of length 0 is empty
 pub no_byte : (xs : List ℕ) → length xs ≡ 0 → xs ≡ []
 no_byte [] none = refl
 no_byte (x ∷ xs) none = absurd (omega arith)
 
--- ---- the spaces that a text begins with
+-- ---- leading spaces
 
--- the spaces at the start of a text make no word
+-- removing leading spaces preserves the words of a text
 words_behind_spaces : (text : List ℕ) → words_in text ≡ words_in (without_spaces text)
 words_behind_spaces [] = refl
 words_behind_spaces (b ∷ text) = by (is_space b) refl (words_behind_spaces text)
@@ -71,7 +72,7 @@ words_behind_spaces (b ∷ text) = by (is_space b) refl (words_behind_spaces tex
     by false here rest = refl
     by true here rest = ap (filter (λ word. not (length word == 0))) (slice_split-cons_yes is_space b text here) ∙ rest
 
--- after the spaces at the start of a text comes a word, or nothing
+-- if a text without its leading spaces isn't empty, its first word isn't empty
 word_leads : (text : List ℕ) → without_spaces text ≢ [] → 0 < position_or_len is_space (without_spaces text)
 word_leads [] some = absurd (some refl)
 word_leads (b ∷ text) some = by (is_space b) refl some (word_leads text)
@@ -84,7 +85,8 @@ word_leads (b ∷ text) some = by (is_space b) refl some (word_leads text)
 
 -- ---- the first word
 
--- if a space comes after the first word, the words are the first word and the words after the space
+-- if a space follows the first word, the words are the first word and the words of the bytes after
+-- it
 pub words_cut : (text : List ℕ) → without_spaces text ≢ [] → position_or_len is_space (without_spaces text) < length (without_spaces text)
     → words_in text ≡ first_word text ∷ words_in (after_word text)
 words_cut text some here =
@@ -98,7 +100,7 @@ words_cut text some here =
     long = let leads = word_leads text some in
         let size = length-take-le (position_or_len is_space rest) rest (omega (arith, here)) in omega (arith, leads, size)
 
--- if no space comes after the first word, it is the only word
+-- if no space follows the first word, it is the only word
 pub words_last : (text : List ℕ) → without_spaces text ≢ [] → position_or_len is_space (without_spaces text) ≡ length (without_spaces text)
     → (words_in text ≡ without_spaces text ∷ words_in []) × ((first_word text ≡ without_spaces text) × (after_word text ≡ []))
 words_last text some end = (words_behind_spaces text ∙ without_space rest end ∙ some_word rest long, (first, behind))
@@ -119,7 +121,7 @@ words_last text some end = (words_behind_spaces text ∙ without_space rest end 
     behind : without_spaces (after_first is_space rest) ≡ []
     behind = nothing (after_first is_space rest) (let size = length-drop (position_or_len is_space rest + 1) rest in omega (arith, size, end))
 
--- the same as `words_cut`, for a text that was stripped and then cut
+-- the same as `words_cut`, with equations for the parts of the text
 pub words_cut_as : (text rest word behind more : List ℕ) → rest ≡ without_spaces text → rest ≢ [] → position_or_len is_space rest < length rest
     → word ≡ before_first is_space rest → behind ≡ after_first is_space rest → more ≡ without_spaces behind → words_in text ≡ word ∷ words_in more
 words_cut_as text rest word behind more stripped some here first after last =
@@ -127,19 +129,20 @@ words_cut_as text rest word behind more stripped some here first after last =
     (sym stripped) (words_cut text) some here
     ∙ (λ i. sym first i ∷ words_in (sym (last ∙ ap without_spaces after) i))
 
--- the same as `words_last`, for a text that was stripped
+-- the same as `words_last`, with an equation for the text without its leading spaces
 pub words_last_as : (text rest : List ℕ) → rest ≡ without_spaces text → rest ≢ [] → position_or_len is_space rest ≡ length rest → words_in text ≡ rest ∷ []
 words_last_as text rest stripped some end =
     subst (λ r. r ≢ [] → position_or_len is_space r ≡ length r → words_in text ≡ r ∷ words_in []) (sym stripped)
     (λ some end. (words_last text some end).0) some end
 
--- a text with no byte but spaces has no word
+-- a text that consists of spaces has no word
 pub words_none : (text : List ℕ) → without_spaces text ≡ [] → (words_in text ≡ []) × (first_word text ≡ [])
 words_none text none = (words_behind_spaces text ∙ ap words_in none, ap (before_first is_space) none)
 
--- ---- the spaces, one by one
+-- ---- removing spaces one by one
 
--- if a space comes first, one space can be taken away
+-- if a text begins with a space, removing this space doesn't change what is left without leading
+-- spaces
 pub space_leads : (text : List ℕ) → position_or_len is_space text < length text → before_first is_space text ≡ []
     → without_spaces text ≡ without_spaces (after_first is_space text)
 space_leads [] here none = absurd (omega (arith, here))
@@ -160,7 +163,7 @@ space_leads (b ∷ text) here none = by (is_space b) refl here none
             let zero : length (take n (b ∷ text)) ≡ 0 = ap length none in
             omega (arith, size, zero, some)
 
--- if a word comes first, no space is taken away
+-- if a text begins with a word, it has no leading spaces
 pub word_stays : (text : List ℕ) → 0 < length (before_first is_space text) → without_spaces text ≡ text
 word_stays [] some = refl
 word_stays (b ∷ text) some = by (is_space b) refl some
@@ -173,7 +176,7 @@ word_stays (b ∷ text) some = by (is_space b) refl some
         absurd (omega (arith, none))
     by false is some = rw is refl
 
--- if there is no space at all, none is taken away
+-- a text without a space has no leading spaces
 pub spaces_nowhere : (text : List ℕ) → position_or_len is_space text ≡ length text → without_spaces text ≡ text
 spaces_nowhere [] end = refl
 spaces_nowhere (b ∷ text) end = (λ i. cond ((no_space (b ∷ text) end).0 i) (without_spaces text) (b ∷ text))

@@ -6,21 +6,22 @@ use Rattle.std.proofs.lemmas.List.{take-append-le}
 use Rattle.std.proofs.Math.Seq.{take-add, take-append-add, take-length}
 use Rattle.cif_device.specs.Device.{Takes, TakesPart}
 
--- if two parts were taken one after the other, both together were taken
+-- writing two parts one after the other writes their concatenation
 pub both_taken : (first second third : Option (List ℕ)) (front back : List ℕ) → Takes first front second → Takes second back third
     → Takes first (front ++ back) third
 both_taken None second third front back one two = two ∙ ap (option_map (λ taken. taken ++ back)) one
 both_taken (Some taken) second third front back one two =
     two ∙ ap (option_map (λ out. out ++ back)) one ∙ ap Some (append_assoc taken front back)
 
--- a proper prefix of the first part is a proper prefix of both
+-- a proper prefix of the first part is a proper prefix of the concatenation
 pub part_of_front : (first second : Option (List ℕ)) (front back : List ℕ) → TakesPart first front second → TakesPart first (front ++ back) second
 part_of_front first second front back (n, short, taken) =
     let long = length-append front back in
     let same : take n (front ++ back) ≡ take n front = take-append-le n front back (omega arith) in
     (n, omega arith, subst (λ bytes. Takes first bytes second) (sym same) taken)
 
--- the first part and a proper prefix of the second are a proper prefix of both
+-- the first part, followed by a proper prefix of the second, is a proper prefix of the
+-- concatenation
 pub part_of_back : (first second third : Option (List ℕ)) (front back : List ℕ) → Takes first front second → TakesPart second back third
     → TakesPart first (front ++ back) third
 part_of_back first second third front back one (n, short, taken) =
@@ -31,7 +32,8 @@ part_of_back first second third front back one (n, short, taken) =
           (both_taken first second third front (take n back) one taken),
     )
 
--- if the start of a text was taken, and then its next piece, the longer start was taken
+-- if a piece follows the first `at` bytes of a text, these bytes and the piece together are the
+-- first `at + length piece` bytes of the text
 pub matched : (text piece taken : List ℕ) (at : ℕ) → slice_range text at (at + length piece) ≡ piece → take at text ≡ taken
     → take (at + length piece) text ≡ taken ++ take (length piece) piece
 matched text piece taken at same front = take-add at (length piece) text ∙ (λ i. front i ++ next i)

@@ -1,4 +1,4 @@
--- How a session answers the lines of its input on its output.
+-- What a session reads from its input and writes to its output while it answers lines.
 use Rattle.std.specs.Prelude.{◌≡◌, ℕ, ◌+◌, ◌-◌, ◌^◌, ◌≤◌, ◌⊎◌, Bool, false, List, [], ◌∷◌, ◌++◌, length, map, Option, Some, None, ⊤}
 use Rattle.std.specs.List.{flat_map}
 use Rattle.cif_device.specs.Device.{Takes, TakesPart}
@@ -18,27 +18,30 @@ lines_of = map (λ step. step.line)
 abbrev pub answers_of : List Step → List AnswerView
 answers_of = map (λ step. step.answer)
 
--- the bytes of all answers of these steps
+-- the bytes of all answers of these steps, in order
 abbrev pub answers_text : List Step → List ℕ
 answers_text = flat_map (λ step. answer_bytes step.answer)
 
--- the text begins with these lines, and `rest` follows them
+-- the text begins with these lines, and `rest` are the bytes after them
 abbrev pub AreFirstLines : List ℕ → List LineView → List ℕ → Type 0
 AreFirstLines text [] rest = rest ≡ text
 AreFirstLines text (line ∷ lines) rest =
     (next : List ℕ) × (IsNextLine text line next × AreFirstLines next lines rest)
 
--- the input begins with these lines. This says nothing if contracts don't know which bytes the input holds
+-- the input begins with these lines. This says nothing if contracts don't know which bytes the
+-- input holds
 abbrev pub BeginsWith : DeviceBytes → List LineView → Type 0
 BeginsWith None lines = ⊤
 BeginsWith (Some text) lines = (rest : List ℕ) × AreFirstLines text lines rest
 
--- the input consists of exactly these lines. This says nothing if contracts don't know which bytes the input holds
+-- the input consists of exactly these lines. This says nothing if contracts don't know which bytes
+-- the input holds
 abbrev pub HasLines : DeviceBytes → List LineView → Type 0
 HasLines None lines = ⊤
 HasLines (Some text) lines = AreLines text lines
 
--- the input has at least 2 ^ 64 - 1 bytes. This says nothing if contracts don't know which bytes the input holds
+-- the input has at least 2 ^ 64 - 1 bytes. This says nothing if contracts don't know which bytes
+-- the input holds
 abbrev pub IsEndless : DeviceBytes → Type 0
 IsEndless None = ⊤
 IsEndless (Some text) = 2 ^ 64 - 1 ≤ length text
@@ -53,8 +56,9 @@ pub record BreaksOff (steps : List Step)
   pub told : Takes output (answers_text earlier) between
   pub part : TakesPart between (answer_bytes last.answer) output_now
 
--- says which lines were answered and what the output gained in a session that ended in this way. If the input ended, every line of the input was answered;
--- otherwise the input begins with the lines that were answered
+-- these steps were done in a session that ended in this way. If the input ended, their lines are
+-- all lines of the input; otherwise the input begins with their lines. The output gained their
+-- answers; if it failed, it gained only a proper prefix of the last answer
 abbrev pub EndsSession : Ending → DeviceBytes → List Step → DeviceBytes
     → DeviceBytes → Type 0
 EndsSession Ended input steps output output_now =
@@ -67,14 +71,15 @@ EndsSession InputEndless input steps output output_now =
 EndsSession OutputFailed input steps output output_now =
     BeginsWith input (lines_of steps) × BreaksOff steps output output_now
 
--- the lines of an input were answered on an output. The steps begin at the point `before` and end at the point `after`, and the session then ended in this way
+-- the lines of an input were answered on an output. The steps begin at the point `before` and end
+-- at the point `after`. The session then ended in this way
 pub record AnswersLines (setting : Setting) (before after : SessionView)
     (input output output_now : DeviceBytes) (ending : Ending) : Type 0 where
   pub steps : List Step
   pub are : AreSteps setting before steps after
   pub ends : EndsSession ending input steps output output_now
 
--- says how the failure counts of input and output changed in a session that ended in this way
+-- the failure counts of input and output changed as they do in a session that ends in this way
 abbrev pub CountsStreams : Ending → ℕ → ℕ → ℕ → ℕ → Type 0
 CountsStreams Ended input input_now output output_now = (input_now ≡ input) × (output_now ≡ output)
 CountsStreams InputFailed input input_now output output_now =
@@ -90,8 +95,8 @@ IsFollowed (whole_line line) = ⊤
 IsFollowed bad_line = ⊤
 IsFollowed cut_line = ⊥
 
--- one line was served with this outcome. None says that the line was answered and the session continues. Otherwise the session ended with this line, in this
--- way
+-- one line was answered, or the session ended at it. With None, the line was answered and the
+-- session continues. Otherwise the session ended in this way
 abbrev pub ServesNext : Setting → SessionView → SessionView → DeviceBytes → DeviceBytes
     → DeviceBytes → DeviceBytes → Option Ending → Type 0
 ServesNext setting before after input input_now output output_now None =
@@ -101,19 +106,22 @@ ServesNext setting before after input input_now output output_now None =
 ServesNext setting before after input input_now output output_now (Some ending) =
     AnswersLines setting before after input output output_now ending
 
--- says how the failure counts of input and output changed while one line was served with this outcome
+-- the failure counts of input and output changed as they do when one line is answered with this
+-- outcome
 abbrev pub CountsNext : Option Ending → ℕ → ℕ → ℕ → ℕ → Type 0
 CountsNext None input input_now output output_now = (input_now ≡ input) × (output_now ≡ output)
 CountsNext (Some ending) input input_now output output_now =
     CountsStreams ending input input_now output output_now
 
--- an input that hadn't reported its end before wasn't read past it. If the session continues, the input still hasn't reported its end
+-- if an input hadn't reported its end before, it wasn't read past its end. If the session
+-- continues, the input still hasn't reported its end
 abbrev pub StopsAtEnd : Option Ending → Bool → Bool → Bool → Bool → Type 0
 StopsAtEnd result ended ended_now passed passed_now =
     ended ≡ false → (passed_now ≡ passed) × (result ≡ None → ended_now ≡ false)
 
--- writing an answer to the output ended with this result. Either the answer was written, and the result is `next`. Or the output failed after a proper prefix
--- of the answer, and the result is `OutputFailed`
+-- writing an answer to the output ended with this result. Either the answer was written, and the
+-- result is `next`. Or the output failed after a proper prefix of the answer, and the result is
+-- `OutputFailed`
 abbrev pub TellsAnswer : List ℕ → Option Ending → DeviceBytes → DeviceBytes → ℕ → ℕ → Option Ending
     → Type 0
 TellsAnswer told next output output_now failures failures_now result =

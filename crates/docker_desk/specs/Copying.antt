@@ -1,11 +1,13 @@
--- A source that keeps a copy of what is read from it, and a sink that compares what is written with a text.
+-- A source that keeps a copy of what is read from it, and a sink that compares what is written to
+-- it with a text.
 use Rattle.std.specs.Prelude.{◌≡◌, ◌≢◌, ℕ, Bool, List, [], ◌∷◌, ◌++◌, Option, Some, None, ⊤}
 use Rattle.docker_host.specs.History.{Bytes, Text}
 use Rattle.docker_desk.specs.declared.compared.Compared.{Compared}
 use Rattle.docker_desk.specs.declared.compared.Compared.TheVariants as compared
 
--- a source that keeps a copy: its bytes left, its number of failures, whether it has reported its end, and whether it was read after that. `copy` is None if
--- memory ran out for it
+-- a source that keeps a copy of what is read from it. The fields give the bytes left in it, its
+-- failure count, whether it has reported its end, and whether it was read after that. `copy` is
+-- None if there was no memory for the copy
 pub record CopyView : Type 0 where
   pub left : Bytes
   pub failures : ℕ
@@ -13,8 +15,9 @@ pub record CopyView : Type 0 where
   pub passed : Bool
   pub copy : Option Text
 
--- a sink that compares what is written with a text: the text, the bytes that the sink accepted, and its number of failures. The sink accepts the bytes of the
--- text, and after them the first byte that differs
+-- a sink that compares what is written to it with a text. The fields give the text, the bytes that
+-- the sink has taken, and its failure count. The sink takes the bytes of the text, and after them
+-- the first byte that differs
 pub record MatchView : Type 0 where
   pub text : Text
   pub taken : Text
@@ -26,7 +29,7 @@ KeepsMore old bytes None = ⊤
 KeepsMore None bytes (Some new) = ⊥
 KeepsMore (Some old) bytes (Some new) = new ≡ old ++ bytes
 
--- these bytes, followed by the other byte if there is another byte
+-- these bytes, followed by the byte that differs, if there is one
 abbrev pub with_other : Text → Option ℕ → Text
 with_other front None = front
 with_other front (Some other) = front ++ other ∷ []
@@ -35,7 +38,8 @@ with_other front (Some other) = front ++ other ∷ []
 abbrev pub IsNoFront : Text → Text → Type 0
 IsNoFront front text = (more : List ℕ) → text ≢ front ++ more
 
--- a copy and a text compare with this result: `Same` if the copy equals the text, `Other` if it differs from the text. `Unknown` says nothing
+-- comparing a copy with a text has this result: `Same` if they are equal, `Other` if they differ.
+-- `Unknown` says nothing
 abbrev pub ComparesCopy : Compared → Option Text → Text → Type 0
 ComparesCopy compared.Same copy text = copy ≡ Some text
 ComparesCopy compared.Other None text = ⊥

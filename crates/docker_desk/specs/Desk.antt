@@ -24,13 +24,14 @@ use Rattle.docker_desk.specs.declared.compared.Compared.{Compared}
 use Rattle.docker_desk.specs.declared.compared.Compared.TheVariants as compared
 use Rattle.docker_desk.specs.Replies.{AnswerView, done_with, refused_for, no_request}
 
--- what a desk knows: its state, and whether the desk may have unsaved changes. It may have some if the state may differ from the state that the file was last
--- seen to hold
+-- what a desk knows: its state, and whether the desk may have unsaved changes. The flag is set if
+-- the state may differ from the state that the file was last seen to hold
 pub record DeskView : Type 0 where
   pub state : State
   pub unsaved : Bool
 
--- a docker is refused with this fault: `Lapsed` if the horizon refuses its day, otherwise `Memory`
+-- this is the fault for which a docker is refused: `Lapsed` if the horizon refuses its day,
+-- otherwise `Memory`
 abbrev pub IsDockerRefused : State → ℕ → OfficeFault → Type 0
 IsDockerRefused state day office.Lapsed = IsDayRefused state.horizon day
 IsDockerRefused state day office.Memory = ¬ IsDayRefused state.horizon day
@@ -46,20 +47,22 @@ IsDockerAnswer state place day (done_with text) =
 IsDockerAnswer state place day (refused_for fault) = IsDockerRefused state day fault
 IsDockerAnswer state place day no_request = ⊥
 
--- the answer has the docker of this table, or says that memory ran out for the docker's text
+-- the answer has the docker of this table as its text, or says that memory ran out
 abbrev pub TellsDocker : Table → List ℕ → ℕ → AnswerView → Type 0
 TellsDocker live place day (done_with text) = IsDockerText live place day text
 TellsDocker live place day (refused_for fault) = fault ≡ office.Memory
 TellsDocker live place day no_request = ⊥
 
--- this is an answer to `permanent`, the request for a docker without the short-term plan. It is refused for the same faults as `print`
+-- this is an answer to `permanent`, the request for a docker without the short-term plan. It is
+-- refused for the same faults as `print`
 abbrev pub IsPermanentAnswer : State → List ℕ → ℕ → AnswerView → Type 0
 IsPermanentAnswer state place day (done_with text) =
     IsDockerText (permanent_table (live_table state)) place day text × (¬ IsDayRefused state.horizon day)
 IsPermanentAnswer state place day (refused_for fault) = IsDockerRefused state day fault
 IsPermanentAnswer state place day no_request = ⊥
 
--- a train is refused with this fault: `Lapsed` if its day is before the horizon, otherwise `Memory`
+-- this is the fault for which `train` is refused: `Lapsed` if the day is before the horizon,
+-- otherwise `Memory`
 abbrev pub IsTrainRefused : State → ℕ → OfficeFault → Type 0
 IsTrainRefused state day office.Lapsed = day < state.horizon
 IsTrainRefused state day office.Memory = ¬ (day < state.horizon)
@@ -93,9 +96,10 @@ IsKnownAnswer state (done_with text) = IsKnownText state text
 IsKnownAnswer state (refused_for fault) = fault ≡ office.Memory
 IsKnownAnswer state no_request = ⊥
 
--- ---- what is read
+-- ---- how files are read
 
--- a file can't be opened for this fault: `Source` if its device failed, or `Memory`
+-- this is the fault for which a file can't be opened: `Source` if its device failed, otherwise
+-- `Memory`
 abbrev pub IsWhyUnopened : OfficeFault → Type 0
 IsWhyUnopened office.Source = ⊤
 IsWhyUnopened office.Memory = ⊤
@@ -104,7 +108,8 @@ IsWhyUnopened (office.State fault) = ⊥
 IsWhyUnopened office.Lapsed = ⊥
 IsWhyUnopened office.Sink = ⊥
 
--- a file isn't taken for this fault: its text is refused, its device failed, or memory ran out. If memory ran out, no record read until then is at fault
+-- this is the fault for which a file isn't taken: its text is refused, its device failed, or memory
+-- ran out. If memory ran out, no record that was read before has a fault
 abbrev pub RefusesToTake : Reading → OfficeFault → Type 0
 RefusesToTake read (office.File fault) = RefusesText most_records read.held fault
 RefusesToTake read office.Source = ⊤
@@ -113,7 +118,8 @@ RefusesToTake read (office.State fault) = ⊥
 RefusesToTake read office.Lapsed = ⊥
 RefusesToTake read office.Sink = ⊥
 
--- no state is received from a file for this fault: its text is refused, its device failed, or memory ran out. If memory ran out, no part read until then is bad
+-- this is the fault for which no state is received from a file: its text is refused, its device
+-- failed, or memory ran out. If memory ran out, no part that was read before has a fault
 abbrev pub RefusesToReceive : Reading → OfficeFault → Type 0
 RefusesToReceive read (office.State fault) = RefusesState dks_2 most_bytes read.held fault
 RefusesToReceive read office.Source = ⊤
@@ -122,83 +128,94 @@ RefusesToReceive read (office.File fault) = ⊥
 RefusesToReceive read office.Lapsed = ⊥
 RefusesToReceive read office.Sink = ⊥
 
--- a file isn't read for this fault. None says that the file couldn't be opened; otherwise the file was opened, and `Refuses` holds of the reading and the fault
+-- this is the fault for which a file isn't read. If there is no reading, the file couldn't be
+-- opened. Otherwise the file was opened, and `Refuses` holds for the reading and the fault
 abbrev pub IsWhyNot : (Reading → OfficeFault → Type 0) → OfficeFault → Option Reading → Type 0
 IsWhyNot Refuses fault (Some read) = Refuses read fault
 IsWhyNot Refuses fault None = IsWhyUnopened fault
 
--- the file was read to its end, and the old state was joined with the state of the file
+-- the file was read to its end, and the new state is the join of the old state and the file's state
 pub record TakesReading (old new : State) (read : Reading) : Type 0 where
   pub takes : TakesFile most_records read.held old new
   pub end : IsEnd read.left
 
--- taking a file ended with this result. If the file couldn't be opened, there is no reading. A refusal leaves the state unchanged
+-- taking a file ended with this result. If the file couldn't be opened, there is no reading. A
+-- refusal leaves the state unchanged
 abbrev pub EndsTaking : State → State → Result ⊤ OfficeFault → Option Reading → Type 0
 EndsTaking old new (Ok done) read = HasOpened (TakesReading old new) read
 EndsTaking old new (Err fault) read = IsWhyNot RefusesToTake fault read × (new ≡ old)
 
--- receiving the state in a file ended with this result. If the file couldn't be opened, there is no reading. A refusal leaves the state unchanged
+-- receiving the state in a file ended with this result. If the file couldn't be opened, there is no
+-- reading. A refusal leaves the state unchanged
 abbrev pub EndsReceiving : {A : Type 0} → State → State → Result A OfficeFault → Option Reading
     → Type 0
 EndsReceiving old new (Ok done) read =
     HasOpened (λ it. JoinsState dks_2 most_bytes it.held old new) read
 EndsReceiving old new (Err fault) read = IsWhyNot RefusesToReceive fault read × (new ≡ old)
 
--- starting again from the state in a file ended with this result. If the file couldn't be opened, there is no reading
+-- reloading the state in a file ended with this result. If the file couldn't be opened, there is no
+-- reading
 abbrev pub EndsReloading : State → Result ⊤ OfficeFault → Option Reading → Type 0
 EndsReloading new (Ok done) read = HasOpened (λ it. ReadsState dks_2 most_bytes it.held new) read
 EndsReloading new (Err fault) read = IsWhyNot RefusesToReceive fault read
 
--- ---- what is compared
+-- ---- how a file is compared with a state
 
 -- these bytes differ from the text. This says nothing if contracts don't know which bytes they are
 abbrev pub IsOtherText : Bytes → Text → Type 0
 IsOtherText None text = ⊤
 IsOtherText (Some bytes) text = bytes ≢ text
 
--- a file and a state compare with this result: `Same` if the file held the state's text, `Other` if it held another text. This says nothing for `Unknown`, or
--- if contracts don't know which bytes the file held
+-- comparing the text in a file with the text of a state has this result: `Same` if they are equal,
+-- `Other` if they differ. This says nothing for `Unknown`, or if contracts don't know which bytes
+-- the file held
 abbrev pub IsFound : Compared → State → Reading → Type 0
 IsFound compared.Same state read = IsText read.held (state_text dks_2 state)
 IsFound compared.Other state read = IsOtherText read.held (state_text dks_2 state)
 IsFound compared.Unknown state read = ⊤
 
--- receiving the state in a file, and comparing what the file held with the text of the new state, ended with this result
+-- receiving the state in a file, and comparing what the file held with the text of the new state,
+-- ended with this result
 abbrev pub EndsComparing : State → State → Result Compared OfficeFault → Option Reading → Type 0
 EndsComparing old new (Ok found) read =
     EndsReceiving old new (Ok found) read × HasOpened (IsFound found new) read
 EndsComparing old new (Err fault) read = EndsReceiving {A = Compared} old new (Err fault) read
 
--- the unsaved flag after a renewal: cleared if the file was found to hold the text of the new state, otherwise set
+-- the unsaved flag after a renewal: cleared if the file held the text of the new state, otherwise
+-- set
 abbrev pub unsaved_if : Compared → Bool
 unsaved_if compared.Same = false
 unsaved_if compared.Other = true
 unsaved_if compared.Unknown = true
 
--- renewing a desk from its state's file ended with this result. The desk then has unsaved changes unless the file was found to hold the text of the new state.
--- A refusal leaves the desk unchanged
+-- renewing a desk from its state's file ended with this result. The desk then has unsaved changes
+-- unless the comparison showed that the file held the text of the new state. A refusal leaves the
+-- desk unchanged
 abbrev pub EndsRenewing : DeskView → DeskView → Result Compared OfficeFault → Option Reading
     → Type 0
 EndsRenewing old new (Ok found) read =
     EndsComparing old.state new.state (Ok found) read × (new.unsaved ≡ unsaved_if found)
 EndsRenewing old new (Err fault) read = IsWhyNot RefusesToReceive fault read × (new ≡ old)
 
--- ---- what is unsaved
+-- ---- the unsaved flag and the look
 
--- the unsaved flag after a request that may change the state: set if the request was done, unchanged if it was refused
+-- the unsaved flag after a request that may change the state: set if the request was done,
+-- unchanged if it was refused
 abbrev pub unsaved_by : Result ⊤ OfficeFault → Bool → Bool
 unsaved_by (Ok done) unsaved = true
 unsaved_by (Err fault) unsaved = unsaved
 
--- the number of the look after a request: `look` if the request was done, otherwise the number before
+-- the number of the look after a request: `look` if the request was done, otherwise the number
+-- before
 abbrev pub look_by : {A : Type 0} → Result A OfficeFault → ℕ → ℕ → ℕ
 look_by (Ok done) look before = look
 look_by (Err fault) look before = before
 
--- ---- what is written
+-- ---- how a text is stored
 
--- storing a text in the named file, by a draft from the look with this number, ended with this result. The draft took the file's place, or a device failed, or
--- there was no memory for a draft
+-- storing a text in the named file, by a draft from the look with this number, ended with this
+-- result. Either the draft replaced the file, or a device failed, or there was no memory for a
+-- draft
 abbrev pub EndsStoring : (names_bytes : Bool) (name : Text) (look : ℕ) (text : List ℕ)
     (old new : List Event) → Result ⊤ OfficeFault → Type 0
 EndsStoring names_bytes name look text old new (Ok done) = IsStored names_bytes name look text old new
@@ -210,7 +227,8 @@ EndsStoring names_bytes name look text old new (Err office.Lapsed) = ⊥
 EndsStoring names_bytes name look text old new (Err (office.File fault)) = ⊥
 EndsStoring names_bytes name look text old new (Err (office.State fault)) = ⊥
 
--- saving a text in the named file ended with this result. The text is stored, and if its draft took the file's place, the file is looked at again
+-- saving a text in the named file ended with this result. The text is stored, and if its draft
+-- replaced the file, the file is looked at again
 abbrev pub EndsSaving : (names_bytes : Bool) (name : Text) (look : ℕ) (text : List ℕ)
     (old new : List Event) → Result ⊤ OfficeFault → Type 0
 EndsSaving names_bytes name look text old new (Ok done) =

@@ -16,13 +16,15 @@ use Rattle.docker_desk.specs.declared.compared.Compared.{Compared}
 use Rattle.docker_desk.specs.Replies.{AnswerView, done_with, no_request, refused_for, answer_status}
 use Rattle.docker_desk.specs.SessionViews.{SessionView, Setting, Step}
 
--- the answer to a request without a text, given its result: done, or refused for a fault
+-- the answer to a request whose answer has no text, given the request's result: done, or refused
+-- for a fault
 abbrev pub answer_of : {A : Type 0} → Result A OfficeFault → AnswerView
 answer_of (Ok done) = done_with []
 answer_of (Err fault) = refused_for fault
 
--- `take` or `merge`, done at the point `before`, has this answer and ends at the point `after`. The named file is opened once, and the bytes that it then held
--- decide the outcome. `Stops` limits how far the file is read, and `Ends` gives the outcome
+-- `take` or `merge`, done at the point `before`, has this answer and ends at the point `after`. The
+-- named file is opened once, and the bytes that it held at that moment determine the outcome.
+-- `Stops` limits how far the file is read, and `Ends` gives the outcome
 pub record Joins (name : Text) (Stops : Reading → Type 0)
     (Ends : State → State → Result ⊤ OfficeFault → Option Reading → Type 0)
     (before : SessionView) (answer : AnswerView) (after : SessionView) : Type 0 where
@@ -33,8 +35,9 @@ pub record Joins (name : Text) (Stops : Reading → Type 0)
   pub unsaved : after.desk.unsaved ≡ unsaved_by result before.desk.unsaved
   pub look : after.look ≡ before.look
 
--- `renew`, done at the point `before`, has this answer and ends at the point `after`. The state's file is looked at and then opened once, and the desk's state
--- is joined with the state that the file then held. If `renew` succeeds, later drafts are made from this look
+-- `renew`, done at the point `before`, has this answer and ends at the point `after`. The state's
+-- file is looked at and then opened once, and the desk's state is joined with the state that the
+-- file then held. If `renew` succeeds, later drafts are made from this look
 pub record Renews (setting : Setting) (before : SessionView) (answer : AnswerView) (after : SessionView)
     : Type 0 where
   pub result : Result Compared OfficeFault
@@ -48,8 +51,9 @@ abbrev pub desk_by : Result ⊤ OfficeFault → DeskView → DeskView
 desk_by (Ok done) desk = record desk { unsaved = false }
 desk_by (Err fault) desk = desk
 
--- `save`, done at the point `before`, has this answer and ends at the point `after`. A draft is made from the look of `before`. If the draft takes the file's
--- place, the file is looked at again, and later drafts are made from the second look
+-- `save`, done at the point `before`, has this answer and ends at the point `after`. A draft is
+-- made from the look of `before`. If the draft replaces the file, the file is looked at again, and
+-- later drafts are made from the second look
 pub record Saves (setting : Setting) (before : SessionView) (answer : AnswerView) (after : SessionView)
     : Type 0 where
   pub result : Result ⊤ OfficeFault
@@ -59,12 +63,13 @@ pub record Saves (setting : Setting) (before : SessionView) (answer : AnswerView
   pub desk : after.desk ≡ desk_by result before.desk
   pub look : after.look ≡ look_by result (length before.history + 2) before.look
 
--- the point after a horizon was set: the state has the later of the two horizons, and the unsaved flag is set
+-- the point after a horizon was set: the state has the later of the two horizons, and the unsaved
+-- flag is set
 abbrev pub with_horizon : ℕ → SessionView → SessionView
 with_horizon day before =
     record before { desk = record { state = raise_horizon day before.desk.state; unsaved = true } }
 
--- this request, done at the first point, has this answer and ends at the second point
+-- this request, done at the point `before`, has this answer and ends at the point `after`
 abbrev pub DoesRequest : Setting → RequestView → SessionView → AnswerView → SessionView → Type 0
 DoesRequest setting (print_request place day) before answer after =
     IsDockerAnswer before.desk.state place day answer × (after ≡ before)
@@ -93,21 +98,23 @@ AsksOf may_write (whole_line line) request = IsLineText line × AsksFor may_writ
 AsksOf may_write bad_line request = request ≡ None
 AsksOf may_write cut_line request = request ≡ None
 
--- a line with this request, done at the first point, has this answer and ends at the second point. If the line has no request, the answer is `no_request` and
--- nothing changes
+-- a line with this request, done at the point `before`, has this answer and ends at the point
+-- `after`. If the line has no request, the answer is `no_request` and nothing changes
 abbrev pub DoesAsked : Setting → Option RequestView → SessionView → AnswerView → SessionView → Type 0
 DoesAsked setting (Some request) before answer after =
     DoesRequest setting request before answer after
 DoesAsked setting None before answer after = (answer ≡ no_request) × (after ≡ before)
 
--- this step is right: its line has this request, and the request, done at the step's first point, has this answer and ends at the step's second point. The
--- folder failed once in the step if the answer has status 4, and otherwise not
+-- this step is one that a session can do. The step's line has the step's request. The request, done
+-- at the step's first point, has the step's answer and ends at the step's second point. The folder
+-- failed once in the step if the answer has status 4, and otherwise didn't fail
 pub record IsStep (setting : Setting) (step : Step) : Type 0 where
   pub asks : AsksOf setting.may_write step.line step.request
   pub does : DoesAsked setting step.request step.before step.answer step.after
   pub counted : IsCounted (answer_status step.answer) step.before.failures step.after.failures
 
--- this line, done at the point `before`, has this answer and ends at the point `after`. The folder failed once if the answer has status 4, and otherwise not
+-- this line, done at the point `before`, has this answer and ends at the point `after`. The folder
+-- failed once if the answer has status 4, and otherwise didn't fail
 pub record DoesLine (setting : Setting) (line : LineView) (before : SessionView) (answer : AnswerView)
     (after : SessionView) : Type 0 where
   pub request : Option RequestView

@@ -1,4 +1,5 @@
--- What a session knows: at each point its state is the summary of known files under a known horizon.
+-- What a session knows. At each point its state is the summary of known files under a known
+-- horizon.
 use Rattle.std.specs.Prelude.{◌≡◌, ◌↔◌, ℕ, List, [], ◌∷◌, ◌++◌, Option, Some, None, option_map, ⊤}
 use Rattle.docker_model.specs.file.File.{most_records}
 use Rattle.docker_model.specs.state.State.{State, live_table}
@@ -29,19 +30,22 @@ pub record IsKnown (known : Known) (state : State) : Type 0 where
   pub good : IsGoodKnown dks_2 known
   pub is : IsStateOf known state
 
--- the state and this table have the same dockers without the short-term plan, on each day that the state's horizon doesn't refuse
+-- on each day that the state's horizon doesn't refuse, the state and this table have the same
+-- dockers without the short-term plan
 abbrev pub KeepsAs : State → Table → Type 0
 KeepsAs state table = (place : List ℕ) (day : ℕ) (text : List ℕ) → ¬ IsDayRefused state.horizon day
     → IsDockerText (permanent_table (live_table state)) place day text ↔ IsDockerText (permanent_table table) place day text
 
--- `take` opened the named file, which held an extract, and took the extract. The session learned this extract, with no horizon
+-- `take` opened the named file, which held an extract, and took the extract. The session learned
+-- this extract, with no horizon
 pub record HearsFile (name : Text) (before after : SessionView) (heard : Known) : Type 0 where
   pub read : Reading
   pub asked : after.history ≡ before.history ++ events_of name read
   pub takes : TakesFile most_records read.held before.desk.state after.desk.state
   pub heard_is : heard ≡ record { files = takes.file ∷ []; horizon = 0 }
 
--- `merge` or `renew` opened a file by these events. The file held the text of a state, which is the summary of this knowledge. The session learned it
+-- `merge` or `renew` opened a file, which added these events. The file held the text of the summary
+-- of this knowledge, and the session learned it
 pub record HearsState (events : Reading → List Event) (before after : SessionView) (heard : Known)
     : Type 0 where
   pub read : Reading
@@ -53,8 +57,9 @@ pub record HearsState (events : Reading → List Event) (before after : SessionV
 abbrev pub renewing : Text → Reading → List Event
 renewing name read = looked name ∷ events_of name read
 
--- a request that was done added this knowledge: `take` added its file, `merge` and `renew` the knowledge of the summary that they received, `horizon` its day.
--- Any other request added nothing
+-- this is the knowledge that a request added when it was done. `take` added its file. `merge` and
+-- `renew` added the knowledge of the summary that they received. `horizon` added its day. Any other
+-- request added nothing
 abbrev pub Hears : Setting → RequestView → SessionView → SessionView → Known → Type 0
 Hears setting (print_request place day) before after heard = heard ≡ nothing
 Hears setting (permanent_request place day) before after heard = heard ≡ nothing
@@ -71,7 +76,8 @@ Hears setting (horizon_request day) before after heard =
     heard ≡ record { files = []; horizon = day }
 Hears setting save_request before after heard = heard ≡ nothing
 
--- if `old` was known before a line, `new` is known after it. If the line has a request that was done, `new` also has what the request added
+-- if `old` was known before a line, `new` is known after it. If the line has a request that was
+-- done, `new` also has what the request added
 abbrev pub Learns : Setting → Option RequestView → SessionView → AnswerView → SessionView
     → Known → Known → Type 0
 Learns setting (Some request) before (done_with text) after old new =
@@ -87,7 +93,7 @@ AreLearned setting old (step ∷ steps) new =
     (now : Known) × (Learns setting step.request step.before step.answer step.after old now
     × AreLearned setting now steps new)
 
--- a file was opened by these events, and held the text of the summary of this knowledge
+-- a file was opened, which added these events. It held the text of the summary of this knowledge
 pub record HoldsKnown (events : Reading → List Event) (before after : SessionView) (known : Known)
     : Type 0 where
   pub read : Reading
@@ -112,7 +118,8 @@ ReceivesKnown setting (merge_request other) before after =
 ReceivesKnown setting (horizon_request day) before after = ⊤
 ReceivesKnown setting save_request before after = ⊤
 
--- if the line's request was done and is `merge` or `renew`, the file held the text of the summary of some knowledge
+-- if the line's request was done and is `merge` or `renew`, the file held the text of the summary
+-- of some knowledge
 abbrev pub HearsKnown : Setting → Option RequestView → SessionView → AnswerView → SessionView → Type 0
 HearsKnown setting (Some request) before (done_with text) after =
     ReceivesKnown setting request before after
@@ -120,13 +127,14 @@ HearsKnown setting (Some request) before (refused_for fault) after = ⊤
 HearsKnown setting (Some request) before no_request after = ⊤
 HearsKnown setting None before answer after = ⊤
 
--- in each of these steps, every file that was merged or renewed held the text of the summary of some knowledge
+-- in each of these steps, every file that was merged or renewed held the text of the summary of
+-- some knowledge
 abbrev pub AllHearKnown : Setting → List Step → Type 0
 AllHearKnown setting [] = ⊤
 AllHearKnown setting (step ∷ steps) =
     HearsKnown setting step.request step.before step.answer step.after × AllHearKnown setting steps
 
--- a draft took the place of the state's file. Its text is the text of the summary of this knowledge
+-- a draft with the text of the summary of this knowledge replaced the state's file
 pub record PlacesKnown (setting : Setting) (before after : SessionView) (known : Known) : Type 0 where
   pub text : List ℕ
   pub good : IsGoodKnown dks_2 known
@@ -134,7 +142,8 @@ pub record PlacesKnown (setting : Setting) (before after : SessionView) (known :
   pub asked : after.history ≡ before.history ++ drafted setting.name before.look
       ∷ placed setting.name (named_if setting.names_bytes text) ∷ looked setting.name ∷ []
 
--- the named file was opened and held the text of an extract. The state gained this extract and nothing else
+-- the named file was opened and held the text of an extract. The state gained this extract and
+-- nothing else
 pub record GainsFile (name : Text) (before after : SessionView) (gains : List Gain) : Type 0 where
   pub read : Reading
   pub asked : after.history ≡ before.history ++ events_of name read
@@ -142,7 +151,8 @@ pub record GainsFile (name : Text) (before after : SessionView) (gains : List Ga
   pub holds : HoldsFile read.held file
   pub gains_are : gains ≡ file_gained file ∷ []
 
--- a file was opened by these events and held an earlier version of some state's file. The state gained this version and nothing else
+-- a file was opened, which added these events. It held an earlier version of some state's file. The
+-- state gained this version and nothing else
 pub record GainsVersion (events : Reading → List Event) (earlier : List Text) (before after : SessionView)
     (gains : List Gain) : Type 0 where
   pub read : Reading
@@ -151,7 +161,8 @@ pub record GainsVersion (events : Reading → List Event) (earlier : List Text) 
   pub holds : HoldsVersion earlier read.held number
   pub gains_are : gains ≡ version_gained number ∷ []
 
--- the state gained this by a request that was done: a file, an earlier version of some state's file, a horizon, or nothing
+-- this is what the state gained by a request that was done: a file, an earlier version of some
+-- state's file, a horizon, or nothing
 abbrev pub GainsDone : Setting → List Text → RequestView → SessionView → SessionView → List Gain → Type 0
 GainsDone setting earlier (print_request place day) before after gains = gains ≡ []
 GainsDone setting earlier (permanent_request place day) before after gains = gains ≡ []
@@ -169,7 +180,7 @@ GainsDone setting earlier (horizon_request day) before after gains =
     gains ≡ horizon_gained day ∷ []
 GainsDone setting earlier save_request before after gains = gains ≡ []
 
--- the state gained this by a line: nothing, unless the line has a request that was done
+-- this is what the state gained by a line: nothing, unless the line has a request that was done
 abbrev pub GainsAsked : Setting → List Text → Option RequestView → SessionView → AnswerView → SessionView
     → List Gain → Type 0
 GainsAsked setting earlier (Some request) before (done_with text) after gains =
@@ -178,16 +189,17 @@ GainsAsked setting earlier (Some request) before (refused_for fault) after gains
 GainsAsked setting earlier (Some request) before no_request after gains = gains ≡ []
 GainsAsked setting earlier None before answer after gains = gains ≡ []
 
--- by these steps, the state gained these things in this order. Contracts know which bytes each file held that was taken, merged or renewed. Each file that was
--- merged or renewed held an earlier version of some state's file
+-- this is what the state gained by these steps, in order. Contracts know which bytes were in each
+-- file that was taken, merged or renewed. Each file that was merged or renewed held an earlier
+-- version of some state's file
 abbrev pub GainedBy : Setting → List Text → List Step → List Gain → Type 0
 GainedBy setting earlier [] gains = gains ≡ []
 GainedBy setting earlier (step ∷ steps) gains = (now : List Gain) × ((more : List Gain)
     × (GainsAsked setting earlier step.request step.before step.answer step.after now
     × (GainedBy setting earlier steps more × (gains ≡ now ++ more))))
 
--- a draft took the place of the state's file. Its text is the text of a state that was read from the earlier version with number `own`, and that then gained
--- these things
+-- a draft replaced the state's file. Its text is the text of a state that was read from the earlier
+-- version with number `own`, and that then gained these things
 pub record IsPlaced (setting : Setting) (earlier : List Text) (own : ℕ) (gains : List Gain)
     (before after : SessionView) : Type 0 where
   pub text : Text
@@ -195,7 +207,7 @@ pub record IsPlaced (setting : Setting) (earlier : List Text) (own : ℕ) (gains
   pub asked : after.history ≡ before.history ++ drafted setting.name before.look
       ∷ placed setting.name (named_if setting.names_bytes text) ∷ looked setting.name ∷ []
 
--- at some point of some session, the desk knows this and has this state
+-- at some point of some session, the desk has this knowledge and this state
 pub record KnowsAt (setting : Setting) (known : Known) (state : State) : Type 0 where
   pub start : Known
   pub first : SessionView
@@ -206,8 +218,9 @@ pub record KnowsAt (setting : Setting) (known : Known) (state : State) : Type 0 
   pub learned : AreLearned setting start steps known
   pub has : last.desk.state ≡ state
 
--- this text shows a train's schedule, or says that the train has no schedule that day. A schedule that is shown came from a known file. If the known files have
--- a plain table, the text shows the schedule of that table for the train on that day
+-- this text shows a train's schedule, or says that the train has no schedule that day. A schedule
+-- that is shown came from a known file. If the known files have a plain table, the schedule is the
+-- one that this table has for the train on that day
 pub record IsTrainOf (known : Known) (uid : List ℕ) (day : ℕ) (text : List ℕ) : Type 0 where
   pub found : Option Stamped
   pub text_is : text ≡ train_text uid day found

@@ -8,8 +8,9 @@ use Rattle.docker_desk.specs.declared.lines.Asked.TheVariants as asked
 use Rattle.docker_desk.specs.declared.lines.InputFault.{InputFault}
 use Rattle.docker_desk.specs.declared.lines.InputFault.TheVariants.{Failed, Endless}
 
--- a line of a text. It is whole if it has at most 255 printable bytes before its line feed. It is bad if it is longer or has another byte. It is cut if its
--- line feed is missing
+-- a line of a text: whole, bad or cut. A whole line has at most 255 printable bytes before its line
+-- feed. A bad line is longer or has another byte. A cut line has no line feed, because the text
+-- ends
 pub data LineView : Type 0 where
   whole_line : (line : List ℕ) → LineView
   bad_line : LineView
@@ -19,7 +20,7 @@ pub data LineView : Type 0 where
 abbrev pub IsWithoutFeed : List ℕ → Type 0
 IsWithoutFeed = AllByRecursion (λ byte. byte ≢ 10)
 
--- the text begins with a bad line and its line feed, and `rest` follows
+-- the text begins with a bad line and its line feed, and `rest` are the bytes after them
 pub record IsBadLine (text rest : List ℕ) : Type 0 where
   pub line : List ℕ
   pub whole : text ≡ line ++ 10 ∷ rest
@@ -31,7 +32,7 @@ pub record IsCutLine (text : List ℕ) : Type 0 where
   pub some : text ≢ []
   pub one : IsWithoutFeed text
 
--- the text begins with this line, and `rest` follows
+-- the text begins with this line, and `rest` are the bytes after it
 abbrev pub IsNextLine : List ℕ → LineView → List ℕ → Type 0
 IsNextLine text (whole_line line) rest = IsJobLine text line rest
 IsNextLine text bad_line rest = IsBadLine text rest
@@ -42,23 +43,25 @@ abbrev pub AreLines : List ℕ → List LineView → Type 0
 AreLines text [] = text ≡ []
 AreLines text (line ∷ lines) = (rest : List ℕ) × (IsNextLine text line rest × AreLines rest lines)
 
--- says what contracts know of a line that was read, even if they don't know which bytes the source held
+-- if the line is whole, it has at most 255 bytes, and all are printable. Contracts know this of
+-- each line that was read, even if they don't know which bytes the source held
 abbrev pub IsSomeLine : LineView → Type 0
 IsSomeLine (whole_line line) = IsLineText line
 IsSomeLine bad_line = ⊤
 IsSomeLine cut_line = ⊤
 
--- this line was read from a source. If contracts know which bytes the source held, these began with the line, and the rest is left
+-- this line was read from a source. If contracts know which bytes the source held, these began with
+-- the line, and the bytes after the line are left
 abbrev pub ReadsNext : Option (List ℕ) → LineView → Option (List ℕ) → Type 0
 ReadsNext None line new = IsSomeLine line
 ReadsNext (Some text) line new = (rest : List ℕ) × (IsNextLine text line rest × (new ≡ Some rest))
 
--- the bytes that are still to be read: first those that were read ahead, then what the source has left. None if contracts don't know which bytes the source has
--- left
+-- the bytes that are still to be read: the bytes that were read ahead, followed by the bytes left
+-- in the source. None if contracts don't know which bytes are left in the source
 abbrev pub with_ahead : List ℕ → Option (List ℕ) → Option (List ℕ)
 with_ahead ahead left = option_map (λ rest. ahead ++ rest) left
 
--- the definitions' line for what the code has read; None at the end of the source
+-- converts the code's `Asked` to the definitions' `LineView`; None at the end of the source
 abbrev pub asked_meant : Asked → Option LineView
 asked_meant (asked.Line line) = Some (whole_line line.items)
 asked_meant asked.Bad = Some bad_line
@@ -76,24 +79,27 @@ pub record ReadsMany (least : ℕ) (old new : Option (List ℕ)) : Type 0 where
   pub many : least ≤ length lost
   pub read : Reads old lost new
 
--- reading a line ended with this result: the line, or a source that failed, or a line of at least 2 ^ 64 - 1 bytes
+-- reading a line ended with this result: the line, or a source that failed, or a line of at least 2
+-- ^ 64 - 1 bytes
 abbrev pub EndsLine : Option (List ℕ) → Result Asked InputFault → Option (List ℕ) → Type 0
 EndsLine old (Ok asked) new = ReadsAsked old (asked_meant asked) new
 EndsLine old (Err Failed) new = ReadsMany 0 old new
 EndsLine old (Err Endless) new = ReadsMany (2 ^ 64 - 1) old new
 
--- if a source hadn't reported its end before, then it has reported its end now if and only if `at_end` is true, and the source wasn't read past its end
+-- if a source hadn't reported its end before, it wasn't read past its end, and it has reported its
+-- end now if and only if `at_end` is true
 pub record MeetsEnd (at_end ended now_ended passed now_passed : Bool) : Type 0 where
   pub told : ended ≡ false → now_ended ≡ at_end
   pub kept : ended ≡ false → now_passed ≡ passed
 
--- whether the source reported its end when the next byte was read: it did if there was no byte
+-- whether the source reported its end when the next byte was read. It did if there was no byte
 abbrev pub is_end_of_bytes : {A E : Type 0} → Result (Option A) E → Bool
 is_end_of_bytes (Ok (Some byte)) = false
 is_end_of_bytes (Ok None) = true
 is_end_of_bytes (Err fault) = false
 
--- whether the source reported its end when the next line was read: it did if the line is cut or there is no line
+-- whether the source reported its end when the next line was read. It did if the line is cut or
+-- there is no line
 abbrev pub is_end_of_lines : Result Asked InputFault → Bool
 is_end_of_lines (Ok (asked.Line line)) = false
 is_end_of_lines (Ok asked.Bad) = false
@@ -101,12 +107,14 @@ is_end_of_lines (Ok asked.Cut) = true
 is_end_of_lines (Ok asked.End) = true
 is_end_of_lines (Err fault) = false
 
--- what these bytes are if the source ends after them: None if there are no bytes, otherwise a cut line
+-- the line that these bytes are if the source ends after them: None if there are no bytes,
+-- otherwise a cut line
 abbrev pub cut_or_end : List ℕ → Option LineView
 cut_or_end [] = None
 cut_or_end (byte ∷ bytes) = Some cut_line
 
--- the text begins with the rest of a line and its line feed, and the bytes after the line feed are left
+-- the text begins with the rest of a line and its line feed, and `left` are the bytes after the
+-- line feed
 pub record SkipsTo (text : List ℕ) (left : Option (List ℕ)) : Type 0 where
   pub skipped : List ℕ
   pub rest : List ℕ
@@ -114,12 +122,14 @@ pub record SkipsTo (text : List ℕ) (left : Option (List ℕ)) : Type 0 where
   pub one : IsWithoutFeed skipped
   pub behind : left ≡ Some rest
 
--- the rest of a line and its line feed were read. This says nothing if contracts don't know which bytes the source held
+-- the rest of a line and its line feed were read. This says nothing if contracts don't know which
+-- bytes the source held
 abbrev pub SkipsLine : Option (List ℕ) → Option (List ℕ) → Type 0
 SkipsLine None new = ⊤
 SkipsLine (Some text) new = SkipsTo text new
 
--- all that the source had left was read, and no byte of it is a line feed. This says nothing if contracts don't know which bytes the source held
+-- all bytes left in the source were read, and none of them is a line feed. This says nothing if
+-- contracts don't know which bytes the source held
 abbrev pub SkipsAll : Option (List ℕ) → Option (List ℕ) → Type 0
 SkipsAll None new = ⊤
 SkipsAll (Some text) new = IsWithoutFeed text × (new ≡ Some [])

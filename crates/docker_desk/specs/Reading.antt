@@ -1,10 +1,10 @@
--- What is known of a file that was opened, read and closed.
+-- What contracts know of a file that was opened, read and closed.
 use Rattle.std.specs.Prelude.{◌≡◌, List, [], ◌∷◌, ◌++◌, Option, Some, None, IfSome}
 use Rattle.docker_model.specs.state.StateText.{dks_2}
 use Rattle.docker_cmd.specs.Prepared.{ReadsFewOfFile, ReadsFewOfState}
 use Rattle.docker_host.specs.History.{Bytes, Event, Text, closed, looked, opened, unopened}
 
--- what an opened file held when it was opened, and what was left of it when it was closed
+-- the bytes that a file held when it was opened, and the bytes left in it when it was closed
 pub record Reading : Type 0 where
   pub held : Bytes
   pub left : Bytes
@@ -17,7 +17,8 @@ reading held left = record { held = held; left = left }
 abbrev pub events_of : Text → Reading → List Event
 events_of name read = opened name read.held ∷ closed read.left ∷ []
 
--- the events of opening the named file: its opening and its closing, or only the failed opening if the file couldn't be opened
+-- the events of opening the named file: its opening and its closing, or only the failed opening if
+-- the file couldn't be opened
 abbrev pub opening_of : Text → Option Reading → List Event
 opening_of name (Some read) = events_of name read
 opening_of name None = unopened name ∷ []
@@ -30,8 +31,9 @@ StopsInFile read = ReadsFewOfFile read.held read.left
 abbrev pub StopsInState : Reading → Type 0
 StopsInState read = ReadsFewOfState dks_2 read.held read.left
 
--- the named file was opened once and closed, and `Stops` and `Ends` hold of the reading; or the file couldn't be opened, and `Ends` holds of `None`. The
--- folder's history has no other new events
+-- the named file was opened once and closed, and `Stops` and `Ends` hold for the reading. Or the
+-- file couldn't be opened, and `Ends` holds for `None`. The folder's history has no other new
+-- events
 pub record OpensOnce (name : Text) (Stops : Reading → Type 0) (Ends : Option Reading → Type 0)
     (old new : List Event) : Type 0 where
   pub read : Option Reading
@@ -39,8 +41,9 @@ pub record OpensOnce (name : Text) (Stops : Reading → Type 0) (Ends : Option R
   pub stops : IfSome read Stops
   pub ends : Ends read
 
--- the named file was looked at. Then it was opened once, read no further than the answer needs, and closed, and `Ends` holds of the reading. Or it couldn't be
--- opened, and `Ends` holds of `None`. The folder's history has no other new events
+-- the named file was looked at. Then it was opened once, read no further than the result needs, and
+-- closed, and `Ends` holds for the reading. Or the file couldn't be opened, and `Ends` holds for
+-- `None`. The folder's history has no other new events
 pub record LooksAndOpens (name : Text) (Ends : Option Reading → Type 0) (old new : List Event)
     : Type 0 where
   pub read : Option Reading
@@ -48,7 +51,7 @@ pub record LooksAndOpens (name : Text) (Ends : Option Reading → Type 0) (old n
   pub stops : IfSome read StopsInState
   pub ends : Ends read
 
--- a file was opened, and this holds of the reading
+-- the file was opened, and `Holds` is true of the reading
 abbrev pub HasOpened : (Reading → Type 0) → Option Reading → Type 0
 HasOpened Holds (Some read) = Holds read
 HasOpened Holds None = ⊥

@@ -9,13 +9,14 @@ use Rattle.docker_desk.specs.Requests.{usage_line}
 use Rattle.docker_desk.specs.declared.reply.Answer.{Answer}
 use Rattle.docker_desk.specs.declared.reply.Answer.TheVariants as code
 
--- the answer to a line: its request was done, with this text; its request was refused, for this fault; or the line isn't a request
+-- the answer to a line. Either its request was done, with this text; or its request was refused,
+-- for this fault; or the line isn't a request
 pub data AnswerView : Type 0 where
   done_with : (text : List ℕ) → AnswerView
   refused_for : (fault : OfficeFault) → AnswerView
   no_request : AnswerView
 
--- the definitions' answer for an answer of the code
+-- converts the code's `Answer` to the `AnswerView` of the definitions
 abbrev pub answer_meant : Answer → AnswerView
 answer_meant (code.Text page) = done_with page.text
 answer_meant code.Done = done_with []
@@ -28,7 +29,8 @@ answer_status (done_with text) = 0
 answer_status (refused_for fault) = status_of (Office fault)
 answer_status no_request = 2
 
--- the text of an answer: what was asked for, the line that reports the fault, or the usage line
+-- the text of an answer: the text that was requested, the line that reports the fault, or the usage
+-- line
 abbrev pub answer_body : AnswerView → List ℕ
 answer_body (done_with text) = text
 answer_body (refused_for fault) = fault_line (Office fault)

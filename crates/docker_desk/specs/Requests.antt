@@ -1,4 +1,4 @@
--- The request in a line: its first word is a verb, and what follows has to fit the verb.
+-- The request in a line: its first word is a verb, and its other words must fit the verb.
 use Rattle.std.specs.Prelude.{◌≡◌, ℕ, Bool, true, false, not, if◌then◌else◌, List, [], ◌∷◌, ◌++◌, Option, Some, None, IsTrue, codes, filter, find, map}
 use Rattle.std.specs.Str.{bytes_eq}
 use Rattle.std.specs.List.{before_first, after_first}
@@ -25,7 +25,7 @@ pub data RequestView : Type 0 where
   horizon_request : (day : ℕ) → RequestView
   save_request : RequestView
 
--- the definitions' request for a request of the code
+-- converts the code's `Request` to the `RequestView` of the definitions
 abbrev pub request_meant : Request → RequestView
 request_meant (code.Print place day) = print_request place day
 request_meant (code.Permanent place day) = permanent_request place day
@@ -53,7 +53,8 @@ verb_of (merge_request other) = verb.Merge
 verb_of (horizon_request day) = verb.Horizon
 verb_of save_request = verb.Save
 
--- a row of the table of requests: the verb, the names of what comes after it, and whether the request is allowed only if the desk may write
+-- a row of the table of requests: the verb, the names of the words after it, and whether the
+-- request is allowed only if the desk may write
 pub record RequestRow : Type 0 where
   pub name : Text
   pub ids : List Text
@@ -63,7 +64,7 @@ pub record RequestRow : Type 0 where
 abbrev pub row : Text → List Text → Bool → RequestRow
 row name ids writes = record { name = name; ids = ids; writes = writes }
 
--- the definitions' row for a row of the code
+-- converts the code's `RequestRow` to the `RequestRow` of the definitions
 abbrev pub row_meant : given.RequestRow → RequestRow
 row_meant it = row it.name.now (map (λ id. id.now) it.ids.now) it.writes
 
@@ -103,7 +104,7 @@ verb_named name = find (λ verb. bytes_eq (name_of verb) name) verbs
 abbrev pub usages : List Verb → Text
 usages requests = with_bars (map (λ verb. usage_with (name_of verb) (row_of verb).ids) requests)
 
--- the line that answers a line that isn't a request
+-- the text that answers a line that isn't a request: the usage line
 abbrev pub usage_line : Text
 usage_line =
     codes "desk: usage: [--write] STATE, and then a line for each request: " ++ usages (filter (λ verb. not (is_writing verb)) verbs)
@@ -127,19 +128,21 @@ pub record NamesTrain (word : Text) (uid : List ℕ) : Type 0 where
   pub six : IsTextOfLength 6 word
   pub same : uid ≡ word
 
--- the text names this file: it is the file's name, isn't empty, doesn't begin with a hyphen, and isn't `stdin`
+-- the text names this file: it is the file's name, isn't empty, doesn't begin with a hyphen, and
+-- isn't `stdin`
 pub record NamesFile (text : List ℕ) (file : Text) : Type 0 where
   pub same : file ≡ text
   pub plain : IsTrue (is_plain_word text)
   pub stored : NamesStored text
 
--- the first word names this timing point and doesn't begin with a hyphen, and the second names this day
+-- the first word names this timing point and doesn't begin with a hyphen, and the second word names
+-- this day
 pub record ArePlaceAndDay (place : List ℕ) (day : ℕ) (tiploc date : Text) : Type 0 where
   pub plain : IsTrue (is_plain_word tiploc)
   pub named : NamesPlace tiploc place
   pub dated : NamesDay date day
 
--- the rest of a line, after the verb, has exactly what this request needs
+-- the rest of a line, after the verb, consists of exactly the words that this request needs
 abbrev pub HasRest : RequestView → List ℕ → Type 0
 HasRest (print_request place day) rest = OfTwo (ArePlaceAndDay place day) (words_in rest)
 HasRest (permanent_request place day) rest = OfTwo (ArePlaceAndDay place day) (words_in rest)
@@ -154,18 +157,19 @@ HasRest (merge_request other) rest = NamesFile rest other
 HasRest (horizon_request day) rest = OfOne (λ date. NamesDay date day) (words_in rest)
 HasRest save_request rest = words_in rest ≡ []
 
--- the line is this request, and the desk may write if the request requires that
+-- the line makes this request, and the desk may write if the request requires that
 pub record IsRequestOf (may_write : Bool) (line : List ℕ) (request : RequestView) : Type 0 where
   pub name : first_word line ≡ name_of (verb_of request)
   pub rest : HasRest request (after_word line)
   pub allowed : is_writing (verb_of request) ≡ true → may_write ≡ true
 
--- the line is this request; None says that it isn't any request
+-- the line makes this request; None says that it makes no request
 abbrev pub AsksFor : Bool → List ℕ → Option RequestView → Type 0
 AsksFor may_write line (Some request) = IsRequestOf may_write line request
 AsksFor may_write line None = (request : RequestView) → ¬ IsRequestOf may_write line request
 
--- the rest of a line, after this verb, makes this request; None says that it makes no request
+-- the rest of a line, after this verb, makes this request; None says that it doesn't make any
+-- request
 abbrev pub FitsRest : Verb → List ℕ → Option RequestView → Type 0
 FitsRest verb rest (Some request) = (verb_of request ≡ verb) × HasRest request rest
 FitsRest verb rest None = (request : RequestView) → verb_of request ≡ verb → ¬ HasRest request rest

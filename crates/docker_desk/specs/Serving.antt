@@ -20,12 +20,14 @@ use Rattle.docker_desk.specs.Answering.{AnswersLines, CountsStreams}
 
 -- ---- words
 
--- the words of a session: the name of the state's file, with `--write` before it if the desk may write
+-- the words of a session: the name of the state's file, with `--write` before it if the desk may
+-- write
 abbrev pub session_words : Text → Bool → List Text
 session_words name false = name ∷ []
 session_words name true = codes "--write" ∷ name ∷ []
 
--- these are the words of a session with this file, in which the desk may write or not
+-- these are the words of a session on the file with this name. `may_write` says whether the desk
+-- may write
 pub record NamesSession (words : List Text) (name : Text) (may_write : Bool) : Type 0 where
   pub words_are : words ≡ session_words name may_write
   pub named : NamesFile name name
@@ -36,8 +38,8 @@ NameNoSession words = (name : Text) (may_write : Bool) → ¬ NamesSession words
 
 -- ---- the start
 
--- starting a desk from a file ended with this result. The desk has the state that the file held, and no unsaved changes; or the file wasn't opened or was
--- refused
+-- starting a desk from a file ended with this result. Either the desk has the state that the file
+-- held, and no unsaved changes; or the file couldn't be opened, or its text was refused
 abbrev pub EndsOpening : {T : Type 0} → (T → DeskView) → Result T OfficeFault → Option Reading
     → Type 0
 EndsOpening desk_in (Ok made) read =
@@ -45,8 +47,9 @@ EndsOpening desk_in (Ok made) read =
     × ((desk_in made).unsaved ≡ false)
 EndsOpening desk_in (Err fault) read = IsWhyNot RefusesToReceive fault read
 
--- this is the first point of a session. The state's file was looked at, opened, read no further than the answer needs, and closed. The desk has the state that
--- the file held, and the next draft is made from this look
+-- this is the first point of a session. The state's file was looked at, opened, read no further
+-- than the result needs, and closed. The desk has the state that the file held. The next draft is
+-- made from this look
 pub record BeginsAt (name : Text) (old : List Event) (first : SessionView) : Type 0 where
   pub held : Bytes
   pub left : Bytes
@@ -58,7 +61,7 @@ pub record BeginsAt (name : Text) (old : List Event) (first : SessionView) : Typ
 
 -- ---- the end
 
--- the line on the sink of faults if changes weren't saved
+-- the line that reports unsaved changes
 abbrev pub unsaved_line : List ℕ
 unsaved_line = codes "desk: changes not saved\n"
 
@@ -75,8 +78,8 @@ ending_status InputFailed unsaved = 4
 ending_status InputEndless unsaved = 4
 ending_status OutputFailed unsaved = 4
 
--- what the sink of faults gains at the end of a session: first the line on a failed device, then the line on unsaved changes. A line is written only if there
--- is something to report
+-- the text that the sink of faults gains at the end of a session. It has the line that reports a
+-- failed device, if one failed, and then the line that reports unsaved changes, if there are any
 abbrev pub ending_text : Ending → Bool → List ℕ
 ending_text Ended unsaved = unsaved_text unsaved
 ending_text InputFailed unsaved = device_line ++ unsaved_text unsaved
@@ -91,7 +94,8 @@ pub record EndsWithStatus (ending : Ending) (unsaved : Bool) (status : ℕ) (old
 
 -- ---- a session
 
--- the words are wrong for a session; the usage line went to the sink of faults, and nothing else changed
+-- these words aren't the words of a session. The usage line was written to the sink of faults, and
+-- nothing else changed
 pub record IsMisused (words : List Text) (old new : HostView) (status : ℕ) : Type 0 where
   pub none : NameNoSession words
   pub untouched : new ≡ record old { faults = new.faults; faults_failures = new.faults_failures }
@@ -107,7 +111,8 @@ pub record LeavesStreams (old new : HostView) : Type 0 where
   pub input_failures : new.input_failures ≡ old.input_failures
   pub output_failures : new.output_failures ≡ old.output_failures
 
--- the state's file was looked at, but it couldn't be opened, or no state could be read from it. The fault was reported, and the session ended
+-- the state's file was looked at. But it couldn't be opened, or no state could be read from it. The
+-- fault was reported, and the session ended
 pub record IsRefusedStart (words : List Text) (old new : HostView) (status : ℕ) : Type 0 where
   pub name : Text
   pub may_write : Bool
@@ -119,8 +124,9 @@ pub record IsRefusedStart (words : List Text) (old new : HostView) (status : ℕ
   pub status_is : status ≡ status_of (Office fault)
   pub tells : TellsText (fault_line (Office fault)) (faults_of old) (faults_of new)
 
--- the session started, the lines of the input were answered, and then the session ended. Unsaved changes count only if the desk may write. If the input hadn't
--- reported its end at the start, it wasn't read past its end
+-- the session started, the lines of the input were answered, and then the session ended. Unsaved
+-- changes count only if the desk may write. If the input hadn't reported its end at the start, it
+-- wasn't read past its end
 pub record IsServed (words : List Text) (names_bytes : Bool) (old new : HostView) (status : ℕ)
     : Type 0 where
   pub name : Text
@@ -141,7 +147,8 @@ pub record IsServed (words : List Text) (names_bytes : Bool) (old new : HostView
   pub ends : EndsWithStatus ending (may_write && last.desk.unsaved) status (faults_of old)
       (faults_of new)
 
--- a run of the program with these words: they are wrong for a session, or the start was refused, or a session was served
+-- a run of the program with these words. Either they aren't the words of a session, or the start
+-- was refused, or the lines of the input were answered
 abbrev pub Serves : List Text → Bool → HostView → HostView → ℕ → Type 0
 Serves words names_bytes old new status =
     IsMisused words old new status

@@ -6,8 +6,8 @@ use Rattle.docker_desk.specs.Requests.{RequestView}
 use Rattle.docker_desk.specs.Desk.{DeskView}
 use Rattle.docker_desk.specs.Replies.{AnswerView}
 
--- what doesn't change in a session: the name of the state's file, whether the desk may write, and whether contracts know which bytes the folder's drafts have
--- taken
+-- what doesn't change in a session: the name of the state's file, whether the desk may write, and
+-- whether contracts know which bytes the folder's drafts have taken
 pub record Setting : Type 0 where
   pub name : Text
   pub may_write : Bool
@@ -18,8 +18,8 @@ abbrev pub setting : Text → Bool → Bool → Setting
 setting name may_write names_bytes =
     record { name = name; may_write = may_write; names_bytes = names_bytes }
 
--- a point of a session: what the desk knows, and the number of the event that is the look for the next draft. A point also has the folder's events up to this
--- point, and how often the folder has failed
+-- a point of a session: what the desk knows, and the number of the look from which the next draft
+-- is made. A point also has the folder's events before it, and the folder's failure count
 pub record SessionView : Type 0 where
   pub desk : DeskView
   pub look : ℕ
@@ -31,7 +31,8 @@ abbrev pub session_view : DeskView → ℕ → List Event → ℕ → SessionVie
 session_view desk look history failures =
     record { desk = desk; look = look; history = history; failures = failures }
 
--- a step of a session: a line, its request if it has one, its answer, and the points before and after
+-- a step of a session: a line, its request if it has one, its answer, and the points before and
+-- after it
 pub record Step : Type 0 where
   pub line : LineView
   pub request : Option RequestView

@@ -7,7 +7,7 @@ ghost use Rattle.docker_desk.specs.Lines.{MeetsEnd, is_end_of_bytes, with_ahead}
 use cif_line::{Failed, Source};
 use std::marker::Model;
 
-/// The most bytes that one read asks for.
+/// The most bytes that one read requests.
 const PIECE: usize = 4096;
 
 /// The bytes that were read from a source and don't belong to any line yet.
@@ -40,14 +40,14 @@ impl Ahead {
         }
     }
 
-    /// Whether no bytes are held.
+    /// Whether there are no bytes.
     fn is_empty(&self) -> bool
         ensures { IsTrue result ↔ (self.now ≡ []) }
     {
         self.at == self.end
     }
 
-    /// Takes the first byte that is held; `None` if there is none.
+    /// Removes the first byte and returns it. Returns `None` if there are no bytes.
     fn take_first(&mut self) -> Option<u8>
         ensures { MatchOption result ((self.old ≡ []) × (self.new ≡ []))
             (λ byte. self.old ≡ byte ∷ self.new) }
@@ -60,7 +60,7 @@ impl Ahead {
         Some(byte)
     }
 
-    /// Reads from the source once if no bytes are held. If still no bytes are held after that, the
+    /// Reads from the source once if there are no bytes. If there are still none after that, the
     /// source is at its end.
     fn make_ready<S: Source>(&mut self, source: &mut S) -> Result<(), Failed>
         requires { S.failures source.old < 2 ^ 64 - 1 }

@@ -1,4 +1,4 @@
-//! How a line is answered.
+//! Answers a line.
 ghost use Rattle.std.specs.Prelude.{◌≡◌, ◌-◌, ◌^◌, ◌<◌};
 ghost use Rattle.docker_cmd.specs.FaultLine.{IsCounted};
 ghost use Rattle.docker_cmd.specs.JobLine.{IsLineText};
@@ -15,7 +15,7 @@ use crate::session_words::SessionWords;
 use docker_cmd::OfficeFault;
 use docker_host::Folder;
 
-/// Answers one line: does what it asks for, if it asks for anything. A refusal changes nothing.
+/// Answers one line, by doing the request that it makes, if any. A refusal changes nothing.
 pub fn answer_line<D: Folder>(
     words: &SessionWords<'_>,
     line: &[u8],
@@ -83,7 +83,7 @@ fn answer_request<D: Folder>(
     }
 }
 
-/// The answer to a request that has no text.
+/// Returns the answer to a request that has no text.
 fn answer_to<T: Drop>(outcome: Result<T, OfficeFault>) -> Answer
     ensures { answer_meant result ≡ answer_of outcome }
 {

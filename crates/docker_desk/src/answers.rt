@@ -1,4 +1,4 @@
-//! How an answer is written.
+//! Writes an answer.
 ghost use Rattle.std.specs.Prelude.{◌≡◌, ◌-◌, ◌^◌, ◌<◌, IsErr, OnOk, OnErr};
 ghost use Rattle.cif_device.specs.Device.{CountsFailure, Takes, TakesPart};
 ghost use Rattle.docker_desk.specs.Answers.{answer_text, header_text, line_count};
@@ -8,10 +8,10 @@ use cif_line::{Failed, Sink, write_all};
 use fixed_text::put;
 use itoa::Buffer;
 
-/// The header of an answer, with its line feed. It has room for all numbers.
+/// The header of an answer, with its line feed. The longest header fits.
 type AnswerHeader = ArrayVec<u8, 64>;
 
-/// Writes the answer with a status and a text: its header, and then the text as it is. If a write
+/// Writes the answer with a status and a text: its header, and then the text unchanged. If a write
 /// fails, the sink has gained a proper prefix of the answer.
 pub fn write_answer<K: Sink>(status: u8, text: &[u8], sink: &mut K) -> Result<(), Failed>
     requires { K.failures sink.old < 2 ^ 64 - 1 }
@@ -26,7 +26,7 @@ pub fn write_answer<K: Sink>(status: u8, text: &[u8], sink: &mut K) -> Result<()
     write_all(sink, text)
 }
 
-/// The header of an answer.
+/// Returns the header of an answer.
 fn header(status: u8, lines: usize, bytes: usize) -> AnswerHeader
     ensures { result.items ≡ header_text status lines bytes }
 {
@@ -40,7 +40,7 @@ fn header(status: u8, lines: usize, bytes: usize) -> AnswerHeader
     header
 }
 
-/// How many line feeds a text has.
+/// Returns the number of line feeds in a text.
 fn line_feeds(text: &[u8]) -> usize
     ensures { result ≡ line_count text.now }
 {

@@ -21,8 +21,8 @@ impl Begun for Brand {
     ghost bytes = { None };
 }
 
-/// A source, with a copy of all that was read from it. The copy is `None` if memory ran out for it.
-/// `at_end` says whether the last read reported the end of the source.
+/// A source, with a copy of all bytes that were read from it. The copy is `None` if there was no
+/// memory for it. `at_end` says whether the last read reported the end of the source.
 #[derive(Drop)]
 pub(crate) struct Copying<B: Begun, S: Source> {
     source: S,
@@ -67,8 +67,8 @@ impl<B: Begun, S: Source> Copying<B, S> {
         }
     }
 
-    /// Returns the source. Also returns the copy, if there was memory for it and the source was
-    /// read to its end. The copy then has all that the source held.
+    /// Returns the source and the copy. The copy is `None` if there was no memory for it, or if the
+    /// source wasn't read to its end. Otherwise the copy has all bytes that the source held.
     pub(crate) fn into_parts(self) -> (S, Option<Vec<u8>>)
         ensures left { S.left result.0 ≡ self.left }
         ensures failures { S.failures result.0 ≡ self.failures }

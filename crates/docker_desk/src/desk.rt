@@ -25,8 +25,9 @@ use state_lists::{KnownText, known_text, print_places};
 use std::alloc::Global;
 use std::marker::Model;
 
-/// A desk: an office, and whether its state may differ from the one that the state's file was last
-/// seen to hold. If it was asked what it knows since the state last changed, it keeps that text.
+/// A desk: an office, and whether its state may differ from the state that STATE's file was last
+/// seen to hold. The desk also keeps the text of its last answer to `known`, until its state may
+/// change.
 #[derive(Debug, Drop)]
 pub struct Desk {
     alloc: Global,
@@ -48,7 +49,7 @@ impl Model for Desk {
 }
 
 impl Desk {
-    /// The desk of an office that was just read.
+    /// Returns the desk of an office that was just read.
     pub fn new(alloc: Global, office: Office) -> Desk
         ensures { result ≡ record { state = office; unsaved = false } }
     {
@@ -60,16 +61,17 @@ impl Desk {
         }
     }
 
-    /// Whether the state may differ from the one that the state's file was last seen to hold. If
-    /// so, something was taken, merged, set or renewed since the file was read or saved.
+    /// Whether the desk's state may differ from the state that STATE's file was last seen to hold.
+    /// If so, the desk has taken, received or renewed something, or set a horizon, since the file
+    /// was read or saved.
     pub fn is_unsaved(&self) -> bool
         ensures { result ≡ self.now.unsaved }
     {
         self.unsaved
     }
 
-    /// The docker of a timing point on a day, as a whole text. Refused for a day before the horizon
-    /// plus three days, or because memory ran out.
+    /// Returns the docker of a timing point on a day, as a whole text. Refused for a day before the
+    /// horizon plus three days, or because memory ran out.
     pub fn print(&self, place: &Tiploc, day: Day) -> Answer
         ensures { IsDockerAnswer self.now.state place.now day (answer_meant result) }
     {
@@ -81,8 +83,8 @@ impl Desk {
         }
     }
 
-    /// The docker of a timing point on a day without the short-term plan, as a whole text. Refused as
-    /// `print` is.
+    /// Returns the docker of a timing point on a day without the short-term plan, as a whole text.
+    /// Refused for the same faults as `print`.
     pub fn permanent(&self, place: &Tiploc, day: Day) -> Answer
         ensures { IsPermanentAnswer self.now.state place.now day (answer_meant result) }
     {
@@ -93,8 +95,9 @@ impl Desk {
         }
     }
 
-    /// The schedule that is chosen for a train on a day, or that none is, as a whole text. Refused
-    /// for a day before the horizon, or because memory ran out.
+    /// Returns the schedule that is chosen for a train on a day, or a line which says that no
+    /// schedule is chosen, as a whole text. Refused for a day before the horizon, or because memory
+    /// ran out.
     pub fn train(&self, uid: &Uid, day: Day) -> Answer
         ensures { IsTrainAnswer self.now.state uid.now day (answer_meant result) }
     {
@@ -106,8 +109,8 @@ impl Desk {
         }
     }
 
-    /// A line for each file that the desk knows, in the ledger's order. Refused only if memory ran
-    /// out.
+    /// Returns a line for each file that the desk knows, in the ledger's order. Refused only if
+    /// memory ran out.
     pub fn files(&self) -> Answer
         ensures { IsFilesAnswer self.now.state (answer_meant result) }
     {
@@ -118,8 +121,8 @@ impl Desk {
         }
     }
 
-    /// The timing points that are live, with how many live schedules call at each. Refused only if
-    /// memory ran out.
+    /// Returns a line for each live timing point, with the number of live schedules that call
+    /// there. Refused only if memory ran out.
     pub fn places(&self) -> Answer
         ensures { IsPlacesAnswer self.now.state (answer_meant result) }
     {
@@ -128,9 +131,9 @@ impl Desk {
         answer_on(page, printed)
     }
 
-    /// What the desk knows, in a few lines: the horizon, the newest full extract, the last day, and
-    /// how much is live. Refused only if memory ran out. All entries are counted for it, but only
-    /// once until the state may have changed.
+    /// Returns a few lines on what the desk knows: the horizon, the newest full extract, the last
+    /// day, and the numbers of live entries. Refused only if memory ran out. The first call counts
+    /// all entries; later calls return the same text, until the state may have changed.
     pub fn known(&mut self) -> Answer
         ensures answer { IsKnownAnswer self.old.state (answer_meant result) }
         ensures desk { self.new ≡ self.old }
@@ -143,7 +146,7 @@ impl Desk {
     }
 
     /// Takes the named file, which is opened once. A refusal, `File`, `Source` or `Memory`, leaves
-    /// the desk as it was.
+    /// the desk unchanged.
     pub fn take<D: Folder>(&mut self, name: &str, folder: &mut D) -> Result<(), OfficeFault>
         requires { D.failures folder.old < 2 ^ 64 - 1 }
         ensures opens { OpensOnce name.now StopsInFile
@@ -163,8 +166,8 @@ impl Desk {
         }
     }
 
-    /// Joins what the desk knows with the state in the named file, which is opened once. A refusal,
-    /// `State`, `Source` or `Memory`, leaves the desk as it was.
+    /// Joins the desk's state with the state in the named file, which is opened once. A refusal,
+    /// `State`, `Source` or `Memory`, leaves the desk unchanged.
     pub fn receive<D: Folder>(&mut self, name: &str, folder: &mut D) -> Result<(), OfficeFault>
         requires { D.failures folder.old < 2 ^ 64 - 1 }
         ensures opens { OpensOnce name.now StopsInState
@@ -184,7 +187,7 @@ impl Desk {
         }
     }
 
-    /// Sets a horizon: the desk keeps the later of this day and its own horizon. It is never
+    /// Sets a horizon: the desk keeps the later of this day and its own horizon. This is never
     /// refused.
     pub fn set_horizon(&mut self, day: Day)
         ensures { self.new
@@ -195,18 +198,18 @@ impl Desk {
         self.note_change();
     }
 
-    /// Notes that something may be unsaved.
+    /// Sets the flag for unsaved changes.
     fn note_change(&mut self)
         ensures { self.new ≡ record self.old { unsaved = true } }
     {
         self.unsaved = true;
     }
 
-    /// Looks at the named file, then opens it once and joins what the desk knows with the state in
-    /// it. If that is done, `seen` is what this look saw, and the result says whether the file held
-    /// the text of the state that the desk has now. The texts are compared only if `compares` is
+    /// Looks at the named file, then opens it once and joins the desk's state with the state in the
+    /// file. If this succeeds, `seen` becomes the result of this look, and the call returns whether
+    /// the file held the text of the desk's new state. The texts are compared only if `compares` is
     /// set and there is memory to keep the file's text until then. The desk then has unsaved
-    /// changes unless the file was found to hold that text.
+    /// changes unless the comparison showed that the file held that text.
     pub fn renew<D: Folder>(
         &mut self,
         name: &str,
@@ -234,10 +237,10 @@ impl Desk {
         }
     }
 
-    /// Stores the text of the desk's state in the named file, by a draft from what was seen of that
-    /// file. If that is done, looks at the file again, and `seen` is what this look saw. A refusal
-    /// leaves the desk and `seen` as they were: `Sink` if the draft can't be made, written or put in
-    /// the file's place, or `Memory` if there is no memory to make it.
+    /// Stores the text of the desk's state in the named file, by a draft from the look `seen`. If
+    /// this succeeds, looks at the file again, and `seen` becomes the result of the new look. A
+    /// refusal leaves the desk and `seen` unchanged. The fault is `Sink` if the draft can't be made
+    /// or written or can't replace the file, and `Memory` if there is no memory to make the draft.
     pub fn save<D: Folder>(
         &mut self,
         name: &str,
@@ -265,7 +268,7 @@ impl Desk {
     }
 }
 
-/// What an office knows, as text: the kept text, or a new one if none is kept.
+/// Returns the text of what an office knows: the kept text, or a new one if no text is kept.
 fn text_of_known(kept: Option<KnownText>, office: &Office) -> KnownText
     requires { IfSome kept (λ text. IsKnownText office.now text.items) }
     ensures { IsKnownText office.now result.items }
@@ -276,7 +279,8 @@ fn text_of_known(kept: Option<KnownText>, office: &Office) -> KnownText
     }
 }
 
-/// The answer whose text was printed on a page, or a refusal if memory ran out for the page.
+/// Returns the answer whose text was printed on a page, or a refusal if memory ran out for the
+/// page.
 fn answer_on(page: Page, printed: Result<(), Failed>) -> Answer
     ensures done { IsOk printed → answer_meant result ≡ done_with page.text }
     ensures refused { IsErr printed → answer_meant result ≡ refused_for office.Memory }
@@ -287,7 +291,8 @@ fn answer_on(page: Page, printed: Result<(), Failed>) -> Answer
     }
 }
 
-/// The answer that has the text of a docker. Refused if there is no memory for the text.
+/// Returns the answer that has the text of a docker, or a refusal if there is no memory for the
+/// text.
 fn answer_with(alloc: Global, docker: &Docker<'_>) -> Answer
     ensures { (live : Table) (place : List ℕ) (day : ℕ) → IsDockerOf live place day docker.now
         → TellsDocker live place day (answer_meant result) }

@@ -8,10 +8,10 @@ use cif_line::{Sink, write_all};
 use docker_cmd::{Fault, OfficeFault, fault_text, status};
 use docker_host::tell_text;
 
-/// The line on standard error if changes weren't saved.
+/// The line on standard error that reports unsaved changes.
 const UNSAVED: &[u8] = b"desk: changes not saved\n";
 
-/// Why a session ended.
+/// The reason why a session ended.
 #[derive(Clone, Copy, PartialEq, Eq, Debug)]
 pub enum Ending {
     /// The input is at its end, and every line was answered.
@@ -44,15 +44,15 @@ pub(crate) fn end_session<L: Sink>(ending: Ending, unsaved: bool, faults: &mut L
     }
 }
 
-/// The line on unsaved changes; empty if there are none.
+/// Returns the line that reports unsaved changes, or an empty text if there are none.
 fn unsaved_line<'a>(unsaved: bool) -> &'a [u8]
     ensures { result.now ≡ unsaved_text unsaved }
 {
     if unsaved { UNSAVED } else { b"" }
 }
 
-/// Writes the line that reports a fault. Then, if there are unsaved changes, writes the line on
-/// unsaved changes, but only if the whole first line was written. Returns the fault's exit status.
+/// Writes the line that reports a fault. If there are unsaved changes, the line on unsaved changes
+/// follows, but only if the whole first line was written. Returns the fault's exit status.
 pub(crate) fn tell_failure<L: Sink>(fault: &Fault, unsaved: bool, faults: &mut L) -> u8
     requires { L.failures faults.old < 2 ^ 64 - 1 }
     ensures status { result ≡ status_of fault.now }

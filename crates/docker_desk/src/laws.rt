@@ -1,4 +1,4 @@
-//! Laws of every session. Each law is the contract of a function that does nothing, and holds for
+//! Laws of every session. Each law is the contract of a function that does nothing. It holds for
 //! all values that its clauses name.
 ghost use Rattle.std.specs.Prelude.{◌≡◌, ◌≤◌, ◌++◌, ℕ, List, Some, length};
 ghost use Rattle.docker_model.specs.state.Lapse.{IsDayRefused, lapse_table};
@@ -50,10 +50,10 @@ pub fn known_files_fix_sessions()
 {}
 
 /// Each point of a session has a look, from which the next draft is made. The look comes right
-/// before an opening of the state's file, whose text was then read, or right after the desk put its
-/// own text in the file's place. So a text that arrived between the look and the reading is never
-/// overwritten unread. Either the desk read it, or the file was replaced after the look, and the
-/// draft is refused.
+/// before an opening of the state's file, whose text was then read, or right after the desk
+/// replaced the file with its own text. So a text that arrived between the look and the reading is
+/// never overwritten unread. Either the desk has read that text, or the file was replaced after the
+/// look and the draft is refused.
 pub fn looks_come_before_readings()
     ensures { (setting : Setting) (old : List Event) (first last : SessionView) (steps : List Step)
         → BeginsAt setting.name old first → AreSteps setting first steps last
@@ -78,8 +78,8 @@ pub fn known_texts_are_heard()
         → (new : Known) × AreLearned setting old steps new }
 {}
 
-/// Each text that a desk puts in the place of its state's file is the text of the summary of what
-/// the desk then knew.
+/// Each text with which a desk replaces its state's file is the text of the summary of what the
+/// desk then knew.
 pub fn saves_tell_what_is_known()
     ensures { (setting : Setting) (text : List ℕ) (before after : SessionView) (known : Known)
         → IsKnown known before.desk.state
@@ -102,7 +102,7 @@ pub fn saves_are_versions()
 {}
 
 /// A session can be split at any step. The steps before it end at a point, and the later steps
-/// begin at this point. So what a law says of a session's last point holds at every point.
+/// begin at this point. So whatever a law says of a session's last point is true of every point.
 pub fn each_point_is_a_last_one()
     ensures { (setting : Setting) (first last : SessionView) (earlier later : List Step)
         → AreSteps setting first (earlier ++ later) last → (between : SessionView)
@@ -117,8 +117,8 @@ pub fn offices_know_as_desks()
 
 /// Two sessions that know the same files under the same horizon have equal states, and so equal
 /// texts. Two sessions that know the same files, even under different horizons, print the same
-/// docker for each timing point and each day that neither refuses. Both facts hold for a session
-/// and an office of a run, too.
+/// docker for each timing point and each day that neither refuses. Both facts are also true of a
+/// session and an office of a run.
 pub fn known_files_fix_states()
     ensures state { (first second : Known) (one two : State) → IsKnown first one
         → IsKnown second two → AreOneKnowledge first second → one ≡ two }
@@ -142,7 +142,7 @@ pub fn dockers_are_of_the_plain_table()
 
 /// Two sessions that know the same files, even under different horizons, have the same dockers
 /// without the short-term plan, for each timing point and each day that neither refuses. The same
-/// holds for a session and an office of a run. If no two of the files have the same moment, these
+/// is true of a session and an office of a run. If no two of the files have the same moment, these
 /// are the dockers of the plain table without its short-term entries.
 pub fn known_files_fix_permanent_answers()
     ensures docker { (first second : Known) (one two : State) → IsKnown first one
@@ -163,14 +163,14 @@ pub fn trains_came_from_known_files()
         → IsKnown known state → IsTrainText state uid day text → state.horizon ≤ day
         → IsTrainOf known uid day text }
 {
-    // These calls are made only for their contracts, which state the law for the files of any
-    // summary.
+    // These calls are made only for their contracts. The contracts state the law for the files of
+    // any summary.
     train_came_from_a_file();
     found_train_is_plain();
 }
 
 /// Two sessions that know the same files under the same horizon have the same list of timing points
-/// and the same text of what is known. The same holds for a session and an office of a run.
+/// and the same text of what is known. The same is true of a session and an office of a run.
 pub fn known_files_fix_lists()
     ensures places { (first second : Known) (one two : State) → IsKnown first one
         → IsKnown second two → AreOneKnowledge first second → (text other : List ℕ)
@@ -179,14 +179,14 @@ pub fn known_files_fix_lists()
         → IsKnown second two → AreOneKnowledge first second → (text other : List ℕ)
         → IsKnownText one text → IsKnownText two other → text ≡ other }
 {
-    // These calls are made only for their contracts: a state has only one list of timing points,
-    // and only one text of what is known.
+    // These calls are made only for their contracts. By these, a state has only one list of timing
+    // points, and only one text of what is known.
     one_places_text();
     one_known_text();
 }
 
 /// If no two files that a session knows have the same moment, its list of timing points is the list
-/// for their plain table, without what has lapsed.
+/// of their plain table, without the entries that have lapsed.
 pub fn places_are_of_the_plain_table()
     ensures { (known : Known) (state : State) → IsKnown known state
         → HaveDistinctMoments known.files → (plain : Table) × IsPlainTable known.files plain
@@ -200,8 +200,8 @@ pub fn an_input_has_one_reading()
         → AreLines text others → lines ≡ others }
 {}
 
-/// Each line of the input that was done has exactly one answer. If the session ended at the end of
-/// the input, these lines are all lines of the input.
+/// Each line of the input that was answered has exactly one answer. If the session ended at the end
+/// of the input, these lines are all lines of the input.
 pub fn each_line_has_one_answer()
     ensures one { (ending : Ending) (input output output_now : DeviceBytes) (steps : List Step)
         → EndsSession ending input steps output output_now

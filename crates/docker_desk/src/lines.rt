@@ -7,27 +7,27 @@ use crate::ahead::Ahead;
 use arrayvec::ArrayVec;
 use cif_line::{Source, is_printable};
 
-/// The most bytes of a line, not counting its line feed.
+/// The most bytes that a line may have, not counting its line feed.
 const LONGEST: usize = 255;
 
 /// A line without its line feed.
 pub type RequestLine = ArrayVec<u8, LONGEST>;
 
-/// What was read as the next line of a source.
+/// The result of reading the next line of a source.
 #[derive(Debug)]
 pub enum Asked {
-    /// A line of at most 255 printable bytes that a line feed ended. The line feed isn't kept.
+    /// A whole line: at most 255 printable bytes, ended by a line feed. The line feed isn't kept.
     Line(RequestLine),
-    /// A line with more bytes, or with a byte that isn't printable. It was read up to and including
-    /// its line feed.
+    /// A bad line: it has more bytes, or a byte that isn't printable. It was read up to and
+    /// including its line feed.
     Bad,
-    /// Bytes after the last line feed of the source.
+    /// A cut line: the bytes after the last line feed of the source.
     Cut,
-    /// Nothing: the source is at its end.
+    /// No line, because the source is at its end.
     End,
 }
 
-/// Why no line could be read.
+/// The reason why no line could be read.
 #[derive(Clone, Copy, PartialEq, Eq, Debug)]
 pub enum InputFault {
     /// The source failed.
@@ -48,7 +48,7 @@ impl From<cif_line::Failed> for InputFault {
 }
 
 /// Reads the next line of a source, beginning with the bytes that were read ahead. The bytes after
-/// the line feed are left for the next call. With `Cut` and `End` the source has reported its end,
+/// the line feed are kept for the next call. With `Cut` and `End` the source has reported its end,
 /// so a caller that must not read past the end has to stop. With a fault, the part of the line that
 /// was read is lost.
 pub fn next_line<S: Source>(ahead: &mut Ahead, source: &mut S) -> Result<Asked, InputFault>
@@ -76,7 +76,8 @@ pub fn next_line<S: Source>(ahead: &mut Ahead, source: &mut S) -> Result<Asked, 
     unreachable!()
 }
 
-/// What these bytes are if the source ends after them: a cut line, or the end if there are none.
+/// Returns what these bytes are if the source ends after them: a cut line, or `End` if there are no
+/// bytes.
 fn without_feed(line: &RequestLine) -> Asked
     ensures { asked_meant result ≡ cut_or_end line.now.items }
 {

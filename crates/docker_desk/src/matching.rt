@@ -9,9 +9,9 @@ use cif_line::{Failed, Sink};
 use docker_cmd::Office;
 use std::marker::{Brand, Model, PhantomData};
 
-/// A sink that compares what is written with a text. It accepts the bytes of the text, and after
-/// them the first byte that differs. After that it fails. It allocates nothing. Its type parameter
-/// `B` has the text, for contracts.
+/// A sink that compares what is written to it with a text. It takes the bytes of the text, and
+/// after them the first byte that differs. After that it fails. It allocates nothing. Its type
+/// parameter `B` gives contracts the text.
 #[derive(Drop)]
 pub(crate) struct Matching<'a, B: Begun> {
     text: &'a [u8],
@@ -93,8 +93,8 @@ impl<B: Begun> Sink for Matching<'_, B> {
     }
 }
 
-/// The length of a common prefix of the text and the piece. It needn't be the longest, but is 0
-/// only if the first bytes differ or the text is empty.
+/// Returns the length of a common prefix of the text and the piece. It needn't be the longest, but
+/// is 0 only if the first bytes differ or the text is empty.
 fn matching_front(text: &[u8], piece: &[u8]) -> usize
     requires { 0 < length piece.now }
     ensures within { (result ≤ length text.now) × (result ≤ length piece.now) }
@@ -128,7 +128,7 @@ fn is_text_of<B: Begun>(text: &[u8], office: &Office) -> bool
     sent.is_ok() & sink.is_whole()
 }
 
-/// Compares a copy with the text of the office's state. `Unknown` if there is no copy.
+/// Compares a copy with the text of the office's state. Returns `Unknown` if there is no copy.
 pub(crate) fn compared_with(copy: &Option<Vec<u8>>, office: &Office) -> Compared
     ensures { ComparesCopy result (option_map (λ copy. copy.items) copy.now)
         (state_text dks_2 office.now) }

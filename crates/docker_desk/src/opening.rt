@@ -1,4 +1,4 @@
-//! How a session begins.
+//! Starts a session.
 ghost use Rattle.std.specs.Prelude.{◌≡◌, ◌-◌, ◌^◌, ◌<◌, IfOk, length};
 ghost use Rattle.docker_cmd.specs.FaultLine.{IsCounted, result_status};
 ghost use Rattle.docker_desk.specs.Reading.{LooksAndOpens};
@@ -11,8 +11,8 @@ use docker_cmd::{Office, OfficeFault};
 use docker_host::Folder;
 use std::alloc::Global;
 
-/// Looks at the named file, and then opens it and reads its state. The file is looked at, even if
-/// it can't be opened. Refused with `State`, `Source` or `Memory`, and then there is no session.
+/// Looks at the named file, then opens it and reads its state. The look is made even if the file
+/// can't be opened. If the result is `State`, `Source` or `Memory`, there is no session.
 pub fn open_session<D: Folder>(
     alloc: Global,
     name: &str,

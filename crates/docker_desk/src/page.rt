@@ -1,11 +1,11 @@
-//! A text in memory that is written like a sink.
+//! A sink that collects a text in memory.
 ghost use Rattle.std.specs.Prelude.{◌≡◌, ◌+◌, ◌-◌, ◌^◌, ◌<◌, ◌≤◌, [], ◌++◌, length, take, IfOk, OnOk, OnErr, Some};
 
 use cif_line::{Failed, Sink};
 use std::alloc::Global;
 use std::marker::Model;
 
-/// A sink in memory. It grows as it is written, and fails only if memory runs out.
+/// A sink in memory. It grows when it is written, and fails only if memory runs out.
 #[derive(Debug, Drop)]
 pub struct Page {
     bytes: Vec<u8>,
@@ -24,7 +24,7 @@ impl Model for Page {
 }
 
 impl Page {
-    /// An empty page, which has allocated nothing.
+    /// Returns an empty page, which has allocated nothing.
     pub fn new(alloc: Global) -> Page
         ensures text { result.text ≡ [] }
         ensures no_failure { result.failures ≡ 0 }
@@ -35,7 +35,7 @@ impl Page {
         }
     }
 
-    /// The text that was written on the page.
+    /// Returns the text that was written on the page.
     pub fn text(&self) -> &[u8]
         ensures { result.now ≡ self.now.text }
     {
@@ -58,7 +58,7 @@ impl Sink for Page {
         ensures counted { OnErr result (self.new.failures ≡ self.old.failures + 1) }
         ensures unmoved { OnErr result (self.new.text ≡ self.old.text) }
 
-        // The clauses above are the clauses of any sink. The one below holds for this sink only.
+        // Every sink promises the clauses above. Only this sink promises the clause below.
         ensures whole { IfOk result (λ n. n ≡ length piece.now) }
     {
         match self.bytes.extend_from_slice(piece) {

@@ -15,8 +15,8 @@ use docker_host::{Folder, Host, tell_text};
 use std::alloc::Global;
 use std::mem;
 
-/// Serves a session: reads the state in the file that the words name, writes an answer for each
-/// line of the input to the output, and returns the exit status. The sink of faults gains a line
+/// Serves a session: reads the state in the file that the words name, writes an answer to the
+/// output for each line of the input, and returns the exit status. The sink of faults gains a line
 /// only if the session can't begin, a stream fails, or changes weren't saved.
 ///
 /// The laws in `laws` say what the answers are in terms of the known files, and from which look
@@ -44,8 +44,8 @@ pub fn serve<S: Source, D: Folder, K: Sink, L: Sink>(
                 &mut host.output,
             );
             let unsaved = session.desk.is_unsaved();
-            // The program ends here. The state isn't freed piece by piece: the system takes all of
-            // it back at once.
+            // The program ends here. The state isn't freed piece by piece, because the system takes
+            // back all its memory at once.
             mem::forget(session);
             end_session(ending, named.may_write & unsaved, &mut host.faults)
         }

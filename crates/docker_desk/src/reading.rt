@@ -115,7 +115,7 @@ fn receive_copied<B: Begun, S: Source>(
     }
 }
 
-/// Opens the named file once, and has the office start again from the state in it.
+/// Opens the named file once, and has the office reload the state in it.
 pub(crate) fn reload_state<D: Folder>(
     office: &mut Office,
     name: &str,

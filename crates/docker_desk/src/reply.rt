@@ -25,7 +25,7 @@ pub enum Answer {
     Usage,
 }
 
-/// Writes an answer: its header and then its text. The text is what was asked for, or the line that
+/// Writes an answer: its header and then its text. The text is the requested text, the line that
 /// reports the fault, or the usage line. If a write fails, the sink has gained a proper prefix of
 /// the answer.
 pub fn write_reply<K: Sink>(answer: &Answer, sink: &mut K) -> Result<(), Failed>

@@ -22,13 +22,13 @@ pub enum Verb {
     Train,
     /// Lists the files that are known.
     Files,
-    /// Lists the timing points that are known, with the number of schedules that call at each.
+    /// Lists the timing points that are known, with the number of live schedules that call at each.
     Places,
-    /// Shows how much is known.
+    /// Shows the horizon, the newest full extract, the last day, and the number of live entries.
     Known,
-    /// Joins the state with what the state's file holds now.
+    /// Joins the state with the state that its file holds now.
     Renew,
-    /// Takes one more file into the state.
+    /// Takes another file into the state.
     Take,
     /// Joins the state with another state.
     Merge,
@@ -43,7 +43,7 @@ pub enum Verb {
 struct RequestRow<'a> {
     /// The word that names the request.
     name: &'a str,
-    /// The names of what comes after the verb, as the usage line shows them.
+    /// The names of the words after the verb, as the usage line shows them.
     ids: &'a [&'a str],
     /// Whether the request is allowed only if the desk may write.
     writes: bool,
@@ -61,7 +61,7 @@ impl<'a> RequestRow<'a> {
 }
 
 impl Verb {
-    /// All verbs, in the order of the usage line.
+    /// Returns all verbs, in the order of the usage line.
     fn all<'a>() -> &'a [Verb]
         ensures { result.now ≡ verbs }
     {
@@ -80,7 +80,7 @@ impl Verb {
         ]
     }
 
-    /// The verb's row in the table.
+    /// Returns the verb's row in the table.
     fn row<'a>(self) -> RequestRow<'a>
         ensures { row_meant result ≡ row_of self }
     {
@@ -106,7 +106,7 @@ impl Verb {
         self.row().name == name
     }
 
-    /// The verb with this name, if there is one.
+    /// Returns the verb with this name, if there is one.
     #[tactic(auto, unfolding(crate::specs::Requests::verb_named))]
     fn of_name(name: &str) -> Option<Verb>
         ensures { result ≡ verb_named name.now }
@@ -129,14 +129,14 @@ impl Verb {
     }
 }
 
-/// The usage line: each verb, and what comes after it.
+/// Returns the usage line: each verb, and the names of the words after it.
 pub(crate) fn usage<'a>() -> &'a [u8]
     ensures { result.now ≡ usage_line }
 {
     b"desk: usage: [--write] STATE, and then a line for each request: print TIPLOC DATE | permanent TIPLOC DATE | train UID DATE | files | places | known | renew | with --write take FILE | merge OTHER | horizon DATE | save\n"
 }
 
-/// The first of these verbs that has this name.
+/// Returns the first of these verbs that has this name.
 fn first_named<'a>(verbs: &'a [Verb], name: &str) -> Option<&'a Verb>
     ensures { option_copied result ≡ find (λ verb. bytes_eq (name_of verb) name.now) verbs.now }
 {
@@ -188,8 +188,8 @@ pub enum Request<'a> {
     Save,
 }
 
-/// The request in a line. `None` if the line isn't a request, or if the request is allowed only to
-/// a desk that may write and this one may not.
+/// Returns the request in a line. Returns `None` if the line isn't a request, or if the request is
+/// allowed only to a desk that may write and this desk may not.
 pub fn request_in(line: &[u8], may_write: bool) -> Option<Request<'_>>
     requires { IsLineText line.now }
     ensures { AsksFor may_write line.now (option_map request_meant result) }
@@ -202,7 +202,7 @@ pub fn request_in(line: &[u8], may_write: bool) -> Option<Request<'_>>
     None
 }
 
-/// The request with this verb, if the rest of the line fits the verb.
+/// Returns the request with this verb, if the rest of the line fits the verb.
 fn request_of(verb: Verb, rest: &str) -> Option<Request<'_>>
     ensures { FitsRest verb rest.now (option_map request_meant result) }
 {
@@ -236,7 +236,7 @@ fn request_of(verb: Verb, rest: &str) -> Option<Request<'_>>
     }
 }
 
-/// The `print` request with this rest of the line, if it fits.
+/// Returns the `print` request with this rest of the line, if it fits.
 fn print_request(rest: &str) -> Option<Request<'_>>
     ensures { FitsRest verb.Print rest.now (option_map request_meant result) }
 {
@@ -244,7 +244,7 @@ fn print_request(rest: &str) -> Option<Request<'_>>
     Some(Request::Print { place, day })
 }
 
-/// The `permanent` request with this rest of the line, if it fits.
+/// Returns the `permanent` request with this rest of the line, if it fits.
 fn permanent_request(rest: &str) -> Option<Request<'_>>
     ensures { FitsRest verb.Permanent rest.now (option_map request_meant result) }
 {
@@ -252,8 +252,8 @@ fn permanent_request(rest: &str) -> Option<Request<'_>>
     Some(Request::Permanent { place, day })
 }
 
-/// The timing point and the day that the rest of the line names. `None` if it isn't exactly these
-/// two words.
+/// Returns the timing point and the day that the rest of the line names, or `None` if it isn't
+/// exactly these two words.
 fn place_and_day(rest: &str) -> Option<(Tiploc, Day)>
     ensures some { IfSome result (λ it. OfTwo (ArePlaceAndDay it.0 it.1) (words_in rest.now)) }
     ensures none { IsNone result → (place : List ℕ) (day : ℕ)
@@ -268,7 +268,7 @@ fn place_and_day(rest: &str) -> Option<(Tiploc, Day)>
     Some((place, day))
 }
 
-/// The `train` request with this rest of the line, if it fits.
+/// Returns the `train` request with this rest of the line, if it fits.
 fn train_request(rest: &str) -> Option<Request<'_>>
     ensures { FitsRest verb.Train rest.now (option_map request_meant result) }
 {
@@ -278,7 +278,7 @@ fn train_request(rest: &str) -> Option<Request<'_>>
     Some(Request::Train { uid, day })
 }
 
-/// The `horizon` request with this rest of the line, if it fits.
+/// Returns the `horizon` request with this rest of the line, if it fits.
 fn horizon_request(rest: &str) -> Option<Request<'_>>
     ensures { FitsRest verb.Horizon rest.now (option_map request_meant result) }
 {
@@ -287,7 +287,7 @@ fn horizon_request(rest: &str) -> Option<Request<'_>>
     Some(Request::Horizon { day })
 }
 
-/// `Some` if the rest of the line has no word.
+/// Returns `Some` if the rest of the line has no word.
 fn alone(rest: &str) -> Option<()>
     ensures alone { IsSome result → words_in rest.now ≡ [] }
     ensures more { IsNone result → words_in rest.now ≢ [] }
@@ -298,7 +298,7 @@ fn alone(rest: &str) -> Option<()>
     Some(())
 }
 
-/// The UID that a word names; `None` if the word is no UID.
+/// Returns the UID that a word names, or `None` if the word isn't a UID.
 fn train_named(word: &str) -> Option<Uid>
     ensures named { IfSome result (λ uid. NamesTrain word.now uid) }
     ensures none { IsNone result → (uid : List ℕ) → ¬ NamesTrain word.now uid }
@@ -312,7 +312,8 @@ fn train_named(word: &str) -> Option<Uid>
     Uid::from_field(&bytes)
 }
 
-/// The file that a text names. `None` if the text is empty, begins with a hyphen, or is `stdin`.
+/// Returns the file that a text names, or `None` if the text is empty, begins with a hyphen, or is
+/// `stdin`.
 pub fn file_named(text: &str) -> Option<&str>
     ensures named { IfSome result (λ file. NamesFile text.now file.now) }
     ensures none { IsNone result → (file : List ℕ) → ¬ NamesFile text.now file }

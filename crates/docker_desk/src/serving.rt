@@ -16,8 +16,8 @@ use cif_line::{Sink, Source};
 use docker_host::Folder;
 
 /// Answers the lines of an input in their order, until the input ends or a device fails. Each
-/// answer is whole in memory before its first byte is written, and is written before the next line
-/// is read. After a last line without a line feed, nothing more is read.
+/// answer is complete in memory before its first byte is written, and is written before the next
+/// line is read. After a cut line, nothing more is read.
 pub fn serve_lines<S: Source, D: Folder, K: Sink>(
     words: &SessionWords<'_>,
     session: &mut Session<D::Seen>,
@@ -50,8 +50,8 @@ pub fn serve_lines<S: Source, D: Folder, K: Sink>(
     Ending::InputEndless
 }
 
-/// Reads one line and writes its answer. Returns why the session ends, if it ends with this line.
-/// Later lines are left for the next call, so each line is answered even if the input never ends.
+/// Reads one line and writes its answer. Returns why the session ends, if it ends at this line.
+/// Later lines are kept for the next call, so each line is answered even if the input never ends.
 pub fn serve_next<S: Source, D: Folder, K: Sink>(
     words: &SessionWords<'_>,
     ahead: &mut Ahead,

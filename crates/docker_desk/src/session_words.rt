@@ -6,7 +6,7 @@ ghost use Rattle.docker_desk.specs.Serving.{NameNoSession, NamesSession};
 
 use crate::requests::file_named;
 
-/// What the words of a session say.
+/// The meaning of a session's words.
 #[derive(Clone, Copy, Debug)]
 pub struct SessionWords<'a> {
     /// The name of the state's file.
@@ -16,7 +16,7 @@ pub struct SessionWords<'a> {
 }
 
 /// Reads the words of a session: the name of the state's file, with `--write` before it if the desk
-/// may write. `None` if the words have another form.
+/// may write. Returns `None` if the words have another form.
 pub fn session_words_in<'a>(words: &[&'a str]) -> Option<SessionWords<'a>>
     ensures named { IfSome result (λ it.
         NamesSession (texts words.now) it.name.now it.may_write) }
@@ -34,7 +34,7 @@ pub fn session_words_in<'a>(words: &[&'a str]) -> Option<SessionWords<'a>>
     }
 }
 
-/// The session with this file. `None` if a state's file can't have this name.
+/// Returns the session words for this file, or `None` if a state's file can't have this name.
 fn session_words_of(name: &str, may_write: bool) -> Option<SessionWords<'_>>
     ensures named { IfSome result (λ it. (it.name.now ≡ name.now)
         × (it.may_write ≡ may_write) × NamesFile name.now name.now) }

@@ -1,4 +1,4 @@
-//! What the contract of `serve` says of an answer if contracts know the bytes of all devices.
+//! A worked example of the contract of `serve`, over devices whose bytes contracts know.
 ghost use Rattle.std.specs.Prelude.{◌≡◌, ◌⊎◌, IfOk, codes};
 ghost use Rattle.docker_desk.specs.Replies.{memory_answer};
 
@@ -8,12 +8,13 @@ use docker_cmd::Office;
 use docker_host::{Host, Shelf};
 use std::alloc::Global;
 
-/// The most bytes of the text of an empty state.
+/// The most bytes that the text of an empty state may have.
 const ROOM: usize = 100;
 
-/// Serves a session over a shelf. The words are `S`; the file `S` holds the text of the state that
-/// knows no files; and the input is the one line `files`. Returns the answer if the session ends
-/// with status 0, and `Memory` otherwise. The answer lists no files, unless memory ran out for it.
+/// Serves a session over a shelf, and returns the answer if the session ends with status 0, and
+/// `Memory` otherwise. The words of the session are `S`. The file `S` holds the text of the state
+/// that knows no files. The input is the one line `files`. The answer lists no files, unless memory
+/// ran out for it.
 pub fn files_of_none(alloc: Global) -> Result<Kept, Memory>
     ensures { IfOk result (λ output. (output.taken ≡ codes "0 0 0\n")
         ⊎ (output.taken ≡ memory_answer)) }
@@ -38,7 +39,8 @@ pub fn files_of_none(alloc: Global) -> Result<Kept, Memory>
         faults: Kept::new(alloc, ROOM)?,
     };
     let status = serve(alloc, &["S"], &mut host);
-    // This call is made only for its contract: each file held what was last placed under its name.
+    // This call is made only for its contract: each file held the text that was last placed under
+    // its name.
     host.folder.tell();
     let Host { output, .. } = host;
     if status != 0 {

@@ -5,7 +5,7 @@ ghost use Rattle.docker_desk.specs.Requests.{HasOneWord, HasTwoWords, after_word
 
 use docker_cmd::split_at_space;
 
-/// The text without its leading spaces.
+/// Returns the text without its leading spaces.
 fn without_spaces(text: &str) -> &str
     ensures { result.now ≡ without_spaces text.now }
 {
@@ -19,8 +19,8 @@ fn without_spaces(text: &str) -> &str
     rest
 }
 
-/// The first word of a text, and what follows it without leading spaces. `None` if the text has no
-/// word.
+/// Returns the first word of a text, and the text after it without leading spaces. Returns `None`
+/// if the text has no word.
 pub(crate) fn next_word(text: &str) -> Option<(&str, &str)>
     ensures none { IsNone result → (words_in text.now ≡ []) × (first_word text.now ≡ []) }
     ensures word { IfSome result (λ cut. cut.0.now ≡ first_word text.now) }
@@ -37,7 +37,7 @@ pub(crate) fn next_word(text: &str) -> Option<(&str, &str)>
     }
 }
 
-/// The words of a text that has exactly two words; otherwise `None`.
+/// Returns the words of a text that has exactly two words; otherwise `None`.
 pub(crate) fn two_words(text: &str) -> Option<(&str, &str)>
     ensures { HasTwoWords text.now
         (option_map (λ words. (words.0.now, words.1.now)) result) }
@@ -50,7 +50,7 @@ pub(crate) fn two_words(text: &str) -> Option<(&str, &str)>
     Some((first, second))
 }
 
-/// The word of a text that has exactly one word; otherwise `None`.
+/// Returns the word of a text that has exactly one word; otherwise `None`.
 pub(crate) fn one_word(text: &str) -> Option<&str>
     ensures { HasOneWord text.now (option_map (λ word. word.now) result) }
 {

@@ -1,4 +1,4 @@
--- The search for the text of a name in the places of a shelf.
+-- Searching the places of a shelf for the text of a name.
 use Rattle.std.proofs.Common.{◌≡◌, ℕ, ◌+◌, ◌<◌, ◌≤◌, List, ◌∷◌, Some, None, true, false, length, drop, refl, ap, sym, ◌∙◌, string_bytes, add-one}
 use Rattle.std.proofs.Math.Seq.{drop-cons}
 use Rattle.std.proofs.Math.ListN.{drop_of_length-le, get_or}
@@ -7,7 +7,7 @@ use Rattle.docker_host.specs.History.{Text}
 use Rattle.docker_host.specs.Places.{texts_of}
 use Rattle.docker_host.specs.declared.shelf.Place.{Place}
 
--- the places from index `i` on are the place at `i` and the places after it
+-- the places from index `i` on are the place at `i`, followed by the places from `i + 1` on
 drop_next : (i : ℕ) (places : List Place) (place : Place) → i < length places → place ≡ get_or places i place
     → drop i places ≡ place ∷ drop (i + 1) places
 drop_next i places place below at = drop-cons places i place below ∙ (λ j. sym at j ∷ drop (sym (add-one i) j) places)

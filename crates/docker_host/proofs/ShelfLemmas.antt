@@ -1,11 +1,12 @@
--- The invariant of a shelf: the shelf agrees with its history.
+-- The calls to a shelf preserve its invariant: the shelf agrees with its history.
 use Rattle.std.proofs.Common.{◌≡◌, List, [], ◌∷◌, ◌++◌, Some, refl, sym, ap, ◌∙◌, string_bytes}
 use Rattle.docker_host.specs.History.{Text, Event, opened, placed}
 use Rattle.docker_host.specs.Shelf.{Texts, no_texts, with_text, after_event, after_events, IsMet, AreMet, text_under}
 use Rattle.docker_host.specs.Places.{texts_of, IsKept}
 use Rattle.docker_host.specs.declared.shelf.Place.{Place}
 
--- appending an event to a history changes the files as the event does
+-- the files after a history with one more event are the files after the history, changed by this
+-- event
 pub after_events-append : (texts : Texts) (events : List Event) (event : Event)
     → after_events texts (events ++ event ∷ []) ≡ after_event (after_events texts events) event
 after_events-append texts [] event = refl
@@ -17,7 +18,7 @@ pub AreMet-append : (texts : Texts) (events : List Event) (event : Event)
 AreMet-append texts [] event met last = (last, tt)
 AreMet-append texts (first ∷ events) event met last = (met.0, AreMet-append (after_event texts first) events event met.1 last)
 
--- the invariant is preserved by an event that changes no file
+-- an event that changes no file preserves the invariant
 pub kept_still : (places : List Place) (events : List Event) (event : Event) → IsKept places events
     → ((texts : Texts) → after_event texts event ≡ texts) → IsMet (after_events no_texts events) event
     → IsKept places (events ++ event ∷ [])
@@ -27,7 +28,7 @@ kept_still places events event kept still met = record {
       ∙ sym (ap (λ (texts : Texts). texts name) (after_events-append no_texts events event ∙ still (after_events no_texts events)));
 }
 
--- the invariant is preserved if a text is put in a file and its event is appended
+-- writing a text to a file, and appending the event `placed`, preserves the invariant
 pub kept_placed : (place : Place) (places : List Place) (events : List Event) (name text : Text) → IsKept places events
     → string_bytes place.name ≡ name → place.text.items ≡ text
     → IsKept (place ∷ places) (events ++ placed name (Some text) ∷ [])
@@ -44,7 +45,7 @@ kept_placed place places events name text kept named held = record {
         → with_text name text texts other ≡ with_text name text texts' other
     with_same name text other texts texts' same = rw same refl
 
--- the invariant is preserved if a file is opened and its event is appended
+-- opening a file, and appending the event `opened`, preserves the invariant
 pub kept_opened : (places : List Place) (events : List Event) (name text : Text) → IsKept places events
     → text_under events name ≡ Some text → IsKept places (events ++ opened name (Some text) ∷ [])
 kept_opened places events name text kept found =

@@ -1,5 +1,5 @@
--- How a text is stored in a file, from the folder's history before and after. The number of a look
--- is the number of its event, counted from 0.
+-- How a text is stored in a file, as the folder's history before and after shows. The number of a
+-- look is the number of its event, counted from 0.
 use Rattle.std.specs.Prelude.{◌≡◌, ℕ, Bool, ⊤, ◌⊎◌, List, [], ◌∷◌, ◌++◌, Result, Ok, Err}
 use Rattle.docker_host.specs.History.{Text, Event, drafted, undrafted, placed, unplaced, dropped, named_if}
 use Rattle.docker_host.specs.declared.folder.OpenFault.{OpenFault}
@@ -30,8 +30,8 @@ FailsToStore names_bytes name look text old new =
     IsUndrafted name look old new
     ⊎ (IsDropped name look old new ⊎ IsUnplaced names_bytes name look text old new)
 
--- storing a text in the named file ended with this result. The draft was to be made from the look
--- with this number
+-- storing a text in the named file, by a draft from the look with this number, ended with this
+-- result
 abbrev pub EndsStoring : Bool → Text → ℕ → Text → List Event → List Event → Result ⊤ OpenFault → Type 0
 EndsStoring names_bytes name look text old new (Ok done) = IsStored names_bytes name look text old new
 EndsStoring names_bytes name look text old new (Err opening.Failed) = FailsToStore names_bytes name look text old new

@@ -1,20 +1,20 @@
--- The bytes that a program writes to its sink of faults. The sink of faults takes the program's
--- messages of faults.
+-- The bytes that a program writes to its sink of faults. This sink takes the lines that report
+-- faults.
 use Rattle.std.specs.Prelude.{◌≡◌, ℕ, ◌+◌, List, ◌⊎◌}
 use Rattle.cif_device.specs.Device.{Takes, TakesPart}
 use Rattle.docker_host.specs.History.{Bytes}
 use Rattle.docker_host.specs.Host.{HostView}
 
--- the bytes that a sink of faults has taken, and the number of its failures
+-- the bytes that a sink of faults has taken, and its failure count
 pub record FaultsView : Type 0 where
   pub taken : Bytes
   pub failures : ℕ
 
--- the view with these bytes and this number of failures
+-- the view with these bytes and this failure count
 abbrev pub faults_view : Bytes → ℕ → FaultsView
 faults_view taken failures = record { taken = taken; failures = failures }
 
--- the sink of faults of a program: the bytes that it has taken, and the number of its failures
+-- converts the view of a program's host to the view of its sink of faults
 abbrev pub faults_of : HostView → FaultsView
 faults_of host = faults_view host.faults host.faults_failures
 

@@ -1,8 +1,8 @@
--- The state of a folder in contracts.
+-- The view of a folder in contracts.
 use Rattle.std.specs.Prelude.{ℕ, List}
 use Rattle.docker_host.specs.History.{Event}
 
--- the events of the folder, oldest first, and the number of its failures
+-- the events of the folder, oldest first, and its failure count
 pub record FolderView : Type 0 where
   pub events : List Event
   pub failures : ℕ

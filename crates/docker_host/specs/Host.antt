@@ -2,8 +2,7 @@
 use Rattle.std.specs.Prelude.{ℕ, ◌^◌, ◌-◌, ◌<◌, Bool, List}
 use Rattle.docker_host.specs.History.{Bytes, Event}
 
--- All devices of a program at one moment. If contracts don't know the bytes of a device, `None` is
--- used in their place.
+-- all devices of a program at one moment. Bytes are `None` if contracts don't know them
 pub record HostView : Type 0 where
   -- the bytes left in the input, whether its end was reported, and whether the input was read after
   -- that
@@ -16,7 +15,7 @@ pub record HostView : Type 0 where
   pub output : Bytes
   -- the bytes that the sink of faults has taken
   pub faults : Bytes
-  -- the number of failures of each device
+  -- the failure count of each device
   pub input_failures : ℕ
   pub folder_failures : ℕ
   pub output_failures : ℕ

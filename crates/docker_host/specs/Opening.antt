@@ -1,9 +1,8 @@
--- Why a file couldn't be opened, or no draft could be made.
+-- The reason why a file couldn't be opened, or why no draft could be made.
 use Rattle.docker_host.specs.declared.folder.OpenFault.{OpenFault}
 use Rattle.docker_host.specs.declared.folder.OpenFault.TheVariants as opening
 
--- one of two values, chosen by the fault: the first if the device failed, the second if memory ran
--- out
+-- one of two values, chosen by the fault: `failed` if the device failed, `memory` if memory ran out
 abbrev pub one_of : {A : Type 0} → A → A → OpenFault → A
 one_of failed memory opening.Failed = failed
 one_of failed memory opening.Memory = memory

@@ -4,14 +4,14 @@ use Rattle.docker_host.specs.History.{Text, Event}
 use Rattle.docker_host.specs.Shelf.{Texts, no_texts, with_text, after_events, AreMet}
 use Rattle.docker_host.specs.declared.shelf.Place.{Place}
 
--- the text of each name on a shelf with these places. If several places have the name, the first
--- one counts
+-- the text of each name on a shelf with these places. If several places have the same name, the
+-- text of the first place counts
 abbrev pub texts_of : List Place → Texts
 texts_of [] = no_texts
 texts_of (place ∷ places) = with_text (string_bytes place.name) place.text.items (texts_of places)
 
--- the shelf agrees with its history. Each opened file held the text that was last placed under its
--- name, and each file holds the text that was last placed under its name
+-- the shelf agrees with its history. Each file held, when it was opened, the text that was last
+-- placed under its name. Each file now holds the text that was last placed under its name
 pub record IsKept (places : List Place) (events : List Event) : Type 0 where
   pub met : AreMet no_texts events
   pub same : (name : Text) → texts_of places name ≡ after_events no_texts events name

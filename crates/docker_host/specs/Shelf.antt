@@ -3,9 +3,9 @@ use Rattle.std.specs.Prelude.{◌≡◌, ℕ, min, length, Bool, ⊤, if◌then�
 use Rattle.std.specs.Str.{bytes_eq}
 use Rattle.docker_host.specs.History.{Text, Event, looked, opened, unopened, closed, drafted, undrafted, placed, unplaced, dropped}
 
--- An opened file: the bytes left in the file, the number of bytes that can be read before a read
--- fails, and the number of failures. Also whether the file has reported its end, and whether it was
--- read after that.
+-- An opened file on a shelf: the bytes left in it, the number of bytes that can be read before a
+-- read fails, and its failure count. Also whether it has reported its end, and whether it was read
+-- after that.
 pub record PageView : Type 0 where
   pub left : List ℕ
   pub sound : ℕ
@@ -26,12 +26,11 @@ Texts = Text → Option Text
 abbrev pub no_texts : Texts
 no_texts name = None
 
--- the files after this text is put in the named file
+-- these files after this text was written to the named file
 abbrev pub with_text : Text → Text → Texts → Texts
 with_text name text texts other = if bytes_eq name other then Some text else texts other
 
--- the files after an event. Only a placed text changes a file; all other events leave the files
--- unchanged
+-- these files after an event. Only placing a text changes a file
 abbrev pub after_event : Texts → Event → Texts
 after_event texts (placed name (Some text)) = with_text name text texts
 after_event texts (placed name None) = texts
@@ -44,7 +43,7 @@ after_event texts (undrafted name look) = texts
 after_event texts (unplaced name bytes) = texts
 after_event texts (dropped name) = texts
 
--- the files after some events
+-- these files after some events
 abbrev pub after_events : Texts → List Event → Texts
 after_events texts [] = texts
 after_events texts (event ∷ events) = after_events (after_event texts event) events

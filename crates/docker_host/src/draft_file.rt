@@ -13,7 +13,7 @@ use std::fs::{File, Metadata};
 use std::io::ErrorKind;
 use std::marker::Model;
 
-/// A new text for a file, while it is being written.
+/// A draft: a new text for a file, while it is being written.
 #[derive(Drop)]
 pub struct DraftFile {
     name: String,
@@ -40,9 +40,9 @@ impl Model for DraftFile {
 }
 
 impl DraftFile {
-    /// Makes an empty draft for the named file, if what is under the name is still what was seen.
-    /// The draft is in the folder of the file, even if the file doesn't exist yet. But if the name
-    /// is a link to a missing file, that file is made and written directly.
+    /// Makes an empty draft for the named file, if the file under the name is still the one that
+    /// was seen. The draft is in the folder of the file, even if the file doesn't exist yet. But if
+    /// the name is a link to a missing file, that file is made and written directly.
     pub(crate) fn make(
         rt: &HostRuntime,
         name: &str,
@@ -62,7 +62,7 @@ impl DraftFile {
 
     /// Replaces the file with the draft. Returns the version that the next look will see, or `None`
     /// if that can't be known, as for a file that was written directly. If the file can't be
-    /// replaced, removes the draft as far as possible and returns `Failed`.
+    /// replaced, removes the draft if possible and returns `Failed`.
     pub(crate) fn place(self, rt: &HostRuntime) -> Result<Option<Placed>, Failed> {
         let DraftFile {
             name,
@@ -86,7 +86,7 @@ impl DraftFile {
         Ok(Some(Placed { name, version }))
     }
 
-    /// Removes the draft, as far as possible.
+    /// Removes the draft, if possible.
     pub(crate) fn remove(&self, rt: &HostRuntime) {
         if let Some(place) = &self.place {
             place.remove(rt);
@@ -94,7 +94,7 @@ impl DraftFile {
     }
 }
 
-/// Opens a draft for the named file, if what is under the name is still what was seen.
+/// Opens a draft for the named file, if the file under the name is still the one that was seen.
 fn open_draft(
     rt: &HostRuntime,
     name: &str,
@@ -125,8 +125,8 @@ fn open_draft(
     }
 }
 
-/// Opens a draft in the folder of the file with this path, if what is under the name is still what
-/// was seen.
+/// Opens a draft in the folder of the file with this path, if the file under the name is still the
+/// one that was seen.
 fn open_in_folder_of(
     rt: &HostRuntime,
     name: &str,
@@ -142,7 +142,7 @@ fn open_in_folder_of(
     Ok((file, Some(place)))
 }
 
-/// Whether a pipe or a device was seen, and is still under the name.
+/// Whether a pipe or a device was seen, and is still the file under the name.
 fn is_still_pipe(seen: Option<Version>, there: &Version) -> bool {
     match seen {
         Some(seen) => seen.is_same_pipe(there),

@@ -6,10 +6,10 @@ use std::fs::{File, Metadata, Permissions, TryLockError};
 use std::os::unix::fs::{MetadataExt, OpenOptionsExt, PermissionsExt};
 use std::{fs, io};
 
-/// The suffix of a draft's name. The rest of the name is the name of the file.
+/// The suffix of a draft's name. The rest of its name is the name of the file.
 const SUFFIX: &str = ".new";
 
-/// The permission bit that marks a draft: the sticky bit, which means nothing else on a regular
+/// The permission bit that marks a draft: the sticky bit, which has no other meaning on a regular
 /// file.
 const MARK: u32 = 0o1000;
 
@@ -70,15 +70,15 @@ impl DraftPlace {
         Ok(())
     }
 
-    /// Removes the draft, as far as possible. The caller has counted a failure already.
+    /// Removes the draft, if possible. The caller has already counted a failure.
     pub(crate) fn remove(&self, rt: &HostRuntime) {
         let _ = fs::remove_file(rt, self.draft.as_str());
     }
 }
 
-/// The mark of a draft for the file with this path. If the name of the file ends like the name of a
-/// draft, its draft has no mark. With a mark, the replaced file might look like a draft that was
-/// left over for another file.
+/// Returns the mark of a draft for the file with this path. If the name of the file ends like the
+/// name of a draft, its draft has no mark. With a mark, the replaced file might look like a draft
+/// that was left over for another file.
 fn draft_bit_of(file: &str) -> u32 {
     if file.ends_with(SUFFIX) { 0 } else { MARK }
 }
@@ -113,9 +113,9 @@ fn remove_left_over(rt: &HostRuntime, name: &str) {
     }
 }
 
-/// Whether a file that this command has locked is still a marked draft under this name. The file is
-/// no longer a marked draft, or no longer under this name, if the command that made the draft has
-/// ended meanwhile.
+/// Whether a file that this command has locked is a marked draft, and is still the file under this
+/// name. If the command that made the draft has ended meanwhile, the file may have lost its mark or
+/// its name.
 fn is_left_over(rt: &HostRuntime, left: &File, name: &str) -> bool {
     let Ok(held) = left.metadata() else {
         return false;
@@ -123,8 +123,8 @@ fn is_left_over(rt: &HostRuntime, left: &File, name: &str) -> bool {
     has_draft_bit(&held) && stands_under(rt, left, name)
 }
 
-/// Locks a draft that was just made. Fails if another command has locked or removed the draft,
-/// because it looked left over. On a file system without locks no draft counts as left over.
+/// Locks a draft that was just made. Fails if another command has locked or removed the draft as
+/// one that was left over. On a file system without locks no draft counts as left over.
 fn hold(rt: &HostRuntime, made: &File, name: &str) -> Result<(), OpenFault> {
     if let Err(TryLockError::WouldBlock) = made.try_lock() {
         return Err(OpenFault::Failed);

@@ -1,4 +1,4 @@
-//! Writes a program's messages of faults.
+//! Writes the lines that report a program's faults.
 ghost use Rattle.std.specs.Prelude.{◌-◌, ◌^◌, ◌<◌};
 ghost use Rattle.docker_host.specs.FaultSink.{TellsText, faults_view};
 

@@ -8,7 +8,7 @@ use std::alloc::AllocError;
 use std::io;
 use std::io::ErrorKind;
 
-/// Why a file couldn't be opened, or no draft could be made.
+/// The reason why a file couldn't be opened, or why no draft could be made.
 #[derive(Clone, Copy, PartialEq, Eq, Debug)]
 pub enum OpenFault {
     /// The file doesn't exist, may not be opened in this way, or is no longer the file that was
@@ -22,8 +22,8 @@ impl OpenFault {
     ghost use Rattle.docker_host.specs.Opening.{one_of};
     ghost use Rattle.std.specs.Prelude.{◌≡◌};
 
-    /// One of two values, chosen by the fault: `failed` if the device failed, `memory` if memory
-    /// ran out.
+    /// Returns one of two values, chosen by the fault: `failed` if the device failed, `memory` if
+    /// memory ran out.
     pub fn one_of<T: Copy>(self, failed: T, memory: T) -> T
         ensures { result ≡ one_of failed memory self }
     {
@@ -79,7 +79,7 @@ pub trait Folder {
     /// A new text for a file, while it is being written.
     type Draft: Sink + Drop;
 
-    /// What a look saw of a file.
+    /// What a look has found out about a file.
     type Seen: Drop;
 
     // The events of the folder, oldest first.
@@ -95,7 +95,7 @@ pub trait Folder {
     // Whether contracts know which bytes the folder's drafts have taken. For real files they don't.
     ghost names_bytes: { Bool };
 
-    /// Looks at the named file. A draft for the file can be made from what the look saw.
+    /// Looks at the named file. A draft for the file can be made from the result.
     fn look(&mut self, name: &str) -> Self::Seen
         ensures asked { history self.new ≡ history self.old ++ looked name.now ∷ [] }
         ensures look { look_of result ≡ length (history self.old) }
@@ -122,8 +122,8 @@ pub trait Folder {
         ensures asked { history self.new ≡ history self.old ++ closed (Self.File.left file) ∷ [] }
         ensures counted { failures self.new ≡ failures self.old + Self.File.failures file };
 
-    /// Makes an empty draft for the named file, from what a look saw of it. Fails if what is under
-    /// the name is no longer what the look saw.
+    /// Makes an empty draft for the named file, from the result of a look. Fails if the file under
+    /// the name is no longer the one that was seen.
     fn create<'a>(
         &mut self,
         name: &'a str,
@@ -159,7 +159,7 @@ pub trait Folder {
         ensures counted { failures self.new
             ≡ failures self.old + Self.Draft.failures made.entry.draft };
 
-    /// The number of failures of the folder.
+    /// Returns the number of failures of the folder.
     fn failures(&self) -> u64
         ensures { result ≡ failures self.now };
 }

@@ -60,21 +60,21 @@ pub enum Note<'a> {
 impl History {
     ghost use Rattle.docker_host.specs.Notes.{event_of};
 
-    /// A history without events.
+    /// Returns a history without events.
     pub fn new() -> History
         ensures { result.events ≡ [] }
     {
         History {}
     }
 
-    /// The history with this event as its last.
+    /// Returns the history with this event appended.
     pub fn then(&self, _note: &Note<'_>) -> History
         ensures { result.events ≡ self.now.events ++ event_of _note.now ∷ [] }
     {
         History {}
     }
 
-    /// The position before the next event.
+    /// Returns the position before the next event.
     pub fn position(&self) -> Position
         ensures { result.at ≡ length self.now.events }
     {

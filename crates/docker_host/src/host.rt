@@ -12,7 +12,7 @@ pub struct Host<S: Source, D: Folder, K: Sink, L: Sink> {
     pub folder: D,
     /// The output of the program.
     pub output: K,
-    /// The sink to which the program writes its messages of faults.
+    /// The sink to which the program writes the lines that report faults.
     pub faults: L,
 }
 

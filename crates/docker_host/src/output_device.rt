@@ -6,7 +6,7 @@ use cif_device::{Failed, Sink};
 use std::io::{Stderr, Stdout};
 use std::marker::Model;
 
-/// Which stream an output device writes to.
+/// The stream to which an output device writes.
 #[derive(Drop)]
 enum To {
     Stdout(Stdout),
@@ -29,7 +29,7 @@ impl Model for OutputDevice {
 }
 
 impl OutputDevice {
-    /// Standard output, even if nobody reads it.
+    /// Returns standard output, even if nobody reads it.
     pub fn stdout(rt: &HostRuntime) -> OutputDevice
         ensures { result.failures ≡ 0 }
     {
@@ -37,7 +37,7 @@ impl OutputDevice {
         OutputDevice { to, failures: 0 }
     }
 
-    /// Standard error, even if nobody reads it.
+    /// Returns standard error, even if nobody reads it.
     pub fn stderr(rt: &HostRuntime) -> OutputDevice
         ensures { result.failures ≡ 0 }
     {

@@ -39,7 +39,7 @@ impl Model for Page {
 }
 
 impl Page {
-    /// A source of these bytes. After the first `sound` bytes each read fails.
+    /// Returns a source of these bytes. After the first `sound` bytes each read fails.
     pub fn new(bytes: Vec<u8>, sound: usize) -> Page
         ensures left { result.left ≡ bytes.items }
         ensures sound { result.sound ≡ sound }
@@ -57,7 +57,7 @@ impl Page {
         }
     }
 
-    /// The bytes that are left.
+    /// Returns the bytes that are left.
     pub fn rest(&self) -> &[u8]
         ensures { result.now ≡ self.now.left }
     {
@@ -87,7 +87,7 @@ impl Source for Page {
         ensures still { OnErr result
             ((self.new.ended ≡ self.old.ended) × (self.new.passed ≡ self.old.passed)) }
 
-        // A source promises the clauses above. This source promises the following clauses too.
+        // Every source promises the clauses above. Only this source promises the clauses below.
         ensures count { IfOk result (λ n. n ≡ page_count self.old (length into.old)) }
         ensures sound { IfOk result (λ n. self.new.sound ≡ self.old.sound - n) }
         ensures fails { IsErr result ↔ (self.old.sound ≡ 0) }

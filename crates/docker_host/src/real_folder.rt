@@ -12,7 +12,7 @@ use crate::version::Version;
 use cif_device::{Failed, Sink, Source};
 use std::marker::Model;
 
-/// What a look at a real file saw.
+/// The result of a look at a real file.
 #[derive(Drop)]
 pub struct Seen {
     file: Option<Version>,
@@ -42,7 +42,8 @@ impl Model for RealFolder {
 }
 
 impl RealFolder {
-    /// The real files, with names relative to the working directory. The history has no events yet.
+    /// Returns the real files, with names relative to the working directory. The history has no
+    /// events yet.
     pub fn new(rt: &HostRuntime) -> RealFolder
         ensures events { result.events ≡ [] }
         ensures no_failure { result.failures ≡ 0 }
@@ -55,8 +56,9 @@ impl RealFolder {
         }
     }
 
-    /// The version of the draft that replaced the named file, for the next look at that name.
-    /// `None` if no draft has replaced the file, or a look has seen that draft already.
+    /// Returns the version of the draft that replaced the named file, for the next look at that
+    /// name. Returns `None` if no draft has replaced the file, or a look has seen that draft
+    /// already.
     fn take_placed(&mut self, name: &str) -> Option<Version>
         ensures { self.new ≡ self.old }
     {

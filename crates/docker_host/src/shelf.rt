@@ -40,8 +40,8 @@ pub enum Fails {
     AtComplete,
 }
 
-/// What a look at a file on a shelf saw: the number of the text in the file, or `None` if there was
-/// no file.
+/// The result of a look at a file on a shelf: the number of the text in the file, or `None` if
+/// there was no file.
 #[derive(Drop)]
 pub struct Sight {
     text: Option<usize>,
@@ -74,7 +74,7 @@ impl Model for Shelf {
     ghost invariant = { λ shelf. IsKept shelf.places.items shelf.history.events };
 }
 
-/// The text of the file with this name, or `None` if there is no such file.
+/// Returns the text of the file with this name, or `None` if there is no such file.
 fn text_among<'a>(places: &'a [Place], name: &str) -> Option<&'a [u8]>
     ensures { texts_of places.now name.now ≡ option_map (λ text. text.now) result }
 {
@@ -86,8 +86,8 @@ fn text_among<'a>(places: &'a [Place], name: &str) -> Option<&'a [u8]>
     None
 }
 
-/// The number of the text with this name, counted from the oldest place, or `None` if there is no
-/// such file.
+/// Returns the number of the text with this name, counted from the oldest place, or `None` if there
+/// is no such file.
 fn number_among(places: &[Place], name: &str) -> Option<usize> {
     places
         .iter()
@@ -96,7 +96,7 @@ fn number_among(places: &[Place], name: &str) -> Option<usize> {
 }
 
 impl Shelf {
-    /// An empty shelf that doesn't fail. Each of its drafts has room for `room` bytes.
+    /// Returns an empty shelf that doesn't fail. Each of its drafts has room for `room` bytes.
     pub fn new(alloc: Global, room: usize) -> Shelf
         ensures events { result.events ≡ [] }
         ensures no_failure { result.failures ≡ 0 }
@@ -118,7 +118,7 @@ impl Shelf {
         self.fails = fails;
     }
 
-    /// Puts a text in the named file, as another program would. If memory runs out, the shelf is
+    /// Writes a text to the named file, as another program would. If memory runs out, the shelf is
     /// unchanged.
     pub fn put(&mut self, name: &str, text: &[u8]) -> Result<(), Memory>
         ensures placed { OnOk result
@@ -135,22 +135,22 @@ impl Shelf {
         Ok(())
     }
 
-    /// The text of the named file, or `None` if there is no such file.
+    /// Returns the text of the named file, or `None` if there is no such file.
     pub fn text(&self, name: &str) -> Option<&[u8]>
         ensures { option_map (λ text. text.now) result ≡ text_under self.now.events name.now }
     {
         text_among(self.places.as_slice(), name)
     }
 
-    /// Changes nothing. The contract says that each opened file held the text that was last placed
-    /// under its name.
+    /// Changes nothing. By its contract, each opened file held the text that was last placed under
+    /// its name.
     pub fn tell(&self)
         ensures { IsShelfHistory self.now.events }
     {
         let _ = &self.places;
     }
 
-    /// A copy of the text of the named file, if the file can be opened.
+    /// Returns a copy of the text of the named file, if the file can be opened.
     fn copy_of(&self, name: &str) -> Result<Vec<u8>, OpenFault>
         ensures { IfOk result (λ text. text_under self.now.events name.now ≡ Some text.items) }
     {
@@ -166,7 +166,7 @@ impl Shelf {
         }
     }
 
-    /// The number of bytes that can be read from an opened file before a read fails.
+    /// Returns the number of bytes that can be read from an opened file before a read fails.
     fn sound(&self) -> usize {
         match self.fails {
             Fails::AfterReading(sound) => sound,
@@ -174,7 +174,7 @@ impl Shelf {
         }
     }
 
-    /// The number of bytes that can be written to a draft before a write fails.
+    /// Returns the number of bytes that can be written to a draft before a write fails.
     fn draft_room(&self) -> usize {
         match self.fails {
             Fails::AfterWriting(room) => room,
@@ -182,7 +182,7 @@ impl Shelf {
         }
     }
 
-    /// An empty draft for the named file, if the file still holds the text that was seen.
+    /// Returns an empty draft for the named file, if the file still holds the text that was seen.
     fn draft_of(&self, name: &str, seen: &Sight) -> Result<Kept, OpenFault>
         ensures empty { IfOk result (λ draft. draft.taken ≡ []) }
         ensures sound { IfOk result (λ draft. draft.failures ≡ 0) }
@@ -201,7 +201,7 @@ impl Shelf {
         }
     }
 
-    /// Puts the text of a draft in the named file. Returns `false` if that fails.
+    /// Replaces the text of the named file with the text of a draft. Returns `false` if that fails.
     fn put_draft(&mut self, name: &str, text: &[u8]) -> bool
         ensures placed { result ≡ true
             → self.new.events ≡ self.old.events ++ placed name.now (Some text.now) ∷ [] }

@@ -5,7 +5,7 @@ use std::os::fd::AsRawFd;
 /// The highest file descriptor of a standard stream, which is standard error.
 const LAST_STANDARD: i32 = 2;
 
-/// Files that hold the descriptors of closed standard streams. They can be neither read nor
+/// Files that occupy the descriptors of closed standard streams. They can be neither read nor
 /// written.
 #[derive(Drop)]
 pub struct Standard {
@@ -21,7 +21,8 @@ pub fn hold_standard(rt: &HostRuntime) -> Standard {
     }
 }
 
-/// Occupies the lowest free file descriptor, if it belongs to a standard stream.
+/// Opens the folder `/` on the lowest free file descriptor, and keeps it open if that is the
+/// descriptor of a standard stream.
 fn hold_one(rt: &HostRuntime) -> Option<File> {
     let root = File::open(rt, "/").ok()?;
     if root.as_raw_fd() > LAST_STANDARD {

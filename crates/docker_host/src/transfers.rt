@@ -1,4 +1,4 @@
-//! One read from or one write to a real device, repeated if a signal interrupts it.
+//! One read from a real device, or one write to it, repeated if a signal interrupts it.
 ghost use Rattle.std.specs.Prelude.{◌<◌, ◌≤◌, IfSome, length};
 
 use std::io::{ErrorKind, Read, Write};

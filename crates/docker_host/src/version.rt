@@ -1,4 +1,4 @@
-//! Versions of files, which distinguish a file from a file that has replaced it.
+//! Versions of files. They distinguish a file from a file that has replaced it.
 use std::fs;
 use std::fs::{File, Metadata};
 use std::os::unix::fs::MetadataExt;
@@ -16,7 +16,7 @@ pub(crate) struct Version {
 }
 
 impl Version {
-    /// The version of the file with this metadata.
+    /// Returns the version of the file with this metadata.
     pub(crate) fn of(file: &Metadata) -> Version {
         Version {
             device: file.dev(),
@@ -28,17 +28,19 @@ impl Version {
         }
     }
 
-    /// The version of an open file, if its metadata can be read.
+    /// Returns the version of an open file, if its metadata can be read.
     pub(crate) fn of_open(file: &File) -> Option<Version> {
         file.metadata().ok().map(|file| Version::of(&file))
     }
 
-    /// The version of the file under a name, or `None` if there is no file. Links are followed.
+    /// Returns the version of the file under a name, or `None` if there is no file. Links are
+    /// followed.
     pub(crate) fn under(rt: &HostRuntime, name: &str) -> Option<Version> {
         fs::metadata(rt, name).ok().map(|file| Version::of(&file))
     }
 
-    /// Whether both are the same pipe or device. The times of the last write are ignored.
+    /// Whether both versions are of the same pipe or device. The times of the last write are
+    /// ignored.
     pub(crate) fn is_same_pipe(&self, other: &Version) -> bool {
         !self.regular && !other.regular && self.device == other.device && self.node == other.node
     }

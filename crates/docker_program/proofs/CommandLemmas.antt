@@ -1,4 +1,4 @@
--- What a command knows, from what its sources held.
+-- What a command knows follows from what its sources held.
 use Rattle.std.proofs.Common.{◌≡◌, ◌≤◌, ◌<◌, ◌^◌, ℕ, List, [], ◌∷◌, Some, None, length, refl, sym, ◌∙◌, ap, subst, arith, append-nil}
 use Rattle.std.specs.Prelude.{max, Option}
 use Rattle.std.proofs.lemmas.List.Elements.{All-cons, All-nil}
@@ -32,7 +32,7 @@ use Rattle.docker_program.specs.Program.{AsksFor}
 use Rattle.docker_program.specs.Sources.{SourcesRead}
 use Rattle.docker_program.specs.Commands.{HoldsKnown, IsKnownText, Knows, MayStore, Prints, PrintsKnown, Run, Stores, WritesKnown, of_file, of_horizon}
 
--- the state is the summary of the files and the horizon that are known
+-- the state is the summary of the known files under the known horizon
 pub record IsKnown (known : Known) (state : State) : Type 0 where
   pub good : IsGoodKnown dks_2 known
   pub is : IsStateOf known state
@@ -42,7 +42,7 @@ none_some name is = cc
 
 -- ---- what a source held
 
--- the state that is read from a text is the one that the text was made from
+-- reading the text of a state returns that state
 one_sent : (format : Format) (known : Known) (sent state : State) (text : List ℕ) → IsGoodKnown format known → IsStateOf known sent
     → text ≡ state_text format sent → IsStateText format most_bytes text state → sent ≡ state
 one_sent format known sent state text good is told reads =
@@ -52,7 +52,7 @@ one_sent format known sent state text good is told reads =
     let counts = counts_fit format sent short in
     one_text format sent state (summary_told format known sent good is, counts.0, counts.1) reads.valid same
 
--- the state that a source held is the summary of what its text knows
+-- if a source held the text of a summary, the state read from the source is that summary
 pub state_held : (format : Format) (known : Known) (bytes : Bytes) (state : State) → HoldsKnown format bytes known → ReadsState format most_bytes bytes state
     → IsStateOf known state
 state_held format known bytes state holds reads =
@@ -62,7 +62,8 @@ state_held format known bytes state holds reads =
     same : holds.0 ≡ reads.text
     same = subst (λ (b : Bytes). Held b reads.text) holds.1 reads.held
 
--- the state that a source held is known
+-- if a source held the text of a summary in the current format, `IsKnown` holds for the state read
+-- from the source
 pub known_held : (known : Known) (bytes : Bytes) (state : State) → HoldsKnown dks_2 bytes known → ReadsState dks_2 most_bytes bytes state
     → IsKnown known state
 known_held known bytes state holds reads = record {
@@ -70,16 +71,16 @@ known_held known bytes state holds reads = record {
   is = state_held dks_2 known bytes state holds reads;
 }
 
--- the file that was read from a source is the one that the source held
+-- the file that was read from a source is the file that the source held
 pub file_held : (bytes : Bytes) (file : List (List ℕ)) (old new : State) (holds : HoldsFile bytes file) (takes : TakesFile most_records bytes old new)
     → takes.file ≡ file
 file_held bytes file old new holds takes =
     let same : holds.0 ≡ takes.text = subst (λ (b : Bytes). Held b takes.text) holds.1 takes.held in
     sym takes.is_text.lines ∙ ap lines_of (sym same) ∙ holds.2.lines
 
--- ---- what is known after a step
+-- ---- what is known after each step
 
--- after a join, what is known of both states is known of the joined state
+-- the join of two states is the summary of everything that is known of either state
 pub known_joined : (old heard : Known) (own other after : State) → IsKnown old own → IsKnown heard other → IsJoin own other after
     → IsKnown (united old heard) after
 known_joined old heard own other after first second join = record {
@@ -87,7 +88,7 @@ known_joined old heard own other after first second join = record {
   is = join_is_summary old.files heard.files old.horizon heard.horizon own other after first.is second.is join;
 }
 
--- after a horizon is set, the horizon is known too
+-- after a horizon is set, the state is the summary of what was known before and of the horizon
 pub known_raised : (old : Known) (day : ℕ) (state : State) → IsDay day → IsKnown old state → IsKnown (united old (of_horizon day)) (raise_horizon day state)
 known_raised old day state is_day known = record {
   good = united_good dks_2 old (of_horizon day) known.good (horizon_good dks_2 day is_day);
@@ -95,7 +96,8 @@ known_raised old day state is_day known = record {
       (raised_summary old.files old.horizon day state known.is);
 }
 
--- after a file is read, the file is known
+-- if a state is the summary of one file without a horizon, `IsKnown` holds for this file and no
+-- horizon
 pub known_file : (file : List (List ℕ)) (state : State) → IsFile file → length file ≤ most_records → IsSummary (file ∷ []) 0 state
     → IsKnown (of_file file) state
 known_file file state is few summary = record {
@@ -106,7 +108,7 @@ known_file file state is few summary = record {
   is = summary;
 }
 
--- nothing is known of the state of no file
+-- for no knowledge and the state of no files, `IsKnown` holds
 pub known_nothing : IsKnown nothing no_state
 known_nothing = record {
   good = nothing_good dks_2;
@@ -121,7 +123,7 @@ known_nothing = record {
   };
 }
 
--- what is known of a state is known of its text
+-- if a state is the summary of what is known, its text is the text of this summary
 pub known_text : (known : Known) (state : State) (text : List ℕ) → IsKnown known state → text ≡ state_text dks_2 state → IsKnownText dks_2 known text
 known_text known state text is same = record {
   good = is.good;
@@ -130,7 +132,7 @@ known_text known state text is same = record {
 
 -- ---- a command
 
--- if an office without files takes a file, this file is known of its state
+-- if an office without files takes a file, its state becomes the summary of that file
 taken_alone : (bytes : Bytes) (file : List (List ℕ)) (state : State) → HoldsFile bytes file → TakesFile most_records bytes no_state state
     → IsKnown (of_file file) state
 taken_alone bytes file state holds takes =
@@ -138,7 +140,7 @@ taken_alone bytes file state holds takes =
     (known_joined nothing (of_file takes.file) no_state takes.own state known_nothing
     (known_file takes.file takes.own takes.is_text.is takes.is_text.within takes.of_file) takes.joined)
 
--- if an office takes a file, the file is known besides the files known before
+-- if an office takes a file, its state becomes the summary of what it knew before and of that file
 pub taken_behind : (own : Known) (bytes : Bytes) (file : List (List ℕ)) (old new : State) → IsKnown own old → HoldsFile bytes file
     → TakesFile most_records bytes old new → IsKnown (united own (of_file file)) new
 taken_behind own bytes file old new is holds takes =
@@ -146,7 +148,8 @@ taken_behind own bytes file old new is holds takes =
     (known_joined own (of_file takes.file) old takes.own new is
     (known_file takes.file takes.own takes.is_text.is takes.is_text.within takes.of_file) takes.joined)
 
--- what is known of a text in the older format is known of the state read from it
+-- if a source held the text of a summary in the older format, the state read from it is that
+-- summary
 known_older : (known : Known) (bytes : Bytes) (state : State) → HoldsKnown dks_1 bytes known → ReadsState dks_1 most_bytes bytes state
     → IsKnown known state
 known_older known bytes state holds reads = record {
@@ -154,7 +157,7 @@ known_older known bytes state holds reads = record {
   is = state_held dks_1 known bytes state holds reads;
 }
 
--- the docker of a state is a docker of what is known of the state
+-- a docker printed from a state is a docker of what is known of the state
 known_docker : (known : Known) (state : State) (place : List ℕ) (day : ℕ) (text : List ℕ) → IsKnown known state → ¬ IsDayRefused state.horizon day
     → IsOutputText (output_of (print_task place day)) (office_read state) text → PrintsKnown known place day text
 known_docker known state place day text is allowed text_is = record {
@@ -165,7 +168,8 @@ known_docker known state place day text is allowed text_is = record {
   docker = text_is;
 }
 
--- the text that a job writes of a state is a text of what the job knows
+-- if a job writes a text from a state, the text is one that `WritesKnown` allows for what the job
+-- knows
 written_of_state : (task : TaskView) (first second : Bytes) (state : State) (text : List ℕ) (known : Known)
     → ((day : ℕ) → task ≡ horizon_task day → IsDay day) → IsReadOf task first second (office_read state)
     → IsOutputText (output_of task) (office_read state) text → ¬ IsRefusedDocker (output_of task) (office_read state)
@@ -198,11 +202,11 @@ written_of_state (horizon_task day) first second state text known days reads is 
 written_of_state migrate_task first second state text known days reads is allowed knows =
     known_text known state text (known_older known first state knows reads) is
 
--- a job that counts a file is `check`
+-- only `check` counts a file, and any text may be its output
 written_of_file : (task : TaskView) (known : Known) (text : List ℕ) → task ≡ check_task → WritesKnown task known text
 written_of_file task known text is = subst (λ (t : TaskView). WritesKnown t known text) (sym is) tt
 
--- the text that a job writes is a text of what the job knows
+-- if a job writes a text, the text is one that `WritesKnown` allows for what the job knows
 written_known : (task : TaskView) (first second : Bytes) (what : ReadView) (text : List ℕ) (known : Known)
     → ((day : ℕ) → task ≡ horizon_task day → IsDay day) → IsReadOf task first second what
     → IsOutputText (output_of task) what text → ¬ IsRefusedDocker (output_of task) what
@@ -211,12 +215,12 @@ written_known task first second (file_read file) text known days reads is allowe
 written_known task first second (office_read state) text known days reads is allowed knows =
     written_of_state task first second state text known days reads is allowed knows
 
--- the words of a job are the words of its task
+-- the words of a requested job are words that its task requires
 asked_words : (words : List Text) (input rest : Bytes) (job : JobView) → AsksFor words input job rest → AreWordsOf job.task job.words
 asked_words [] input rest job asks = asks.2.required
 asked_words (word ∷ words) input rest job asks = asks.0.required
 
--- the day that a horizon command names is a day
+-- the date that a `horizon` command names is a day
 one_day : (words : List Text) (day : ℕ) → OfTwo (λ state date. NamesStored state × NamesDay date day) words → IsDay day
 one_day [] day of = absurd of
 one_day (word ∷ []) day of = absurd of
@@ -227,7 +231,7 @@ asked_day : (words : List Text) (input rest : Bytes) (job : JobView) → AsksFor
 asked_day words input rest job asks day is =
     one_day job.words day (subst (λ (t : TaskView). AreWordsOf t job.words) is (asked_words words input rest job asks))
 
--- a state that is stored is no docker
+-- output that is stored in a file isn't a docker of a refused day
 stored_allowed : (task : TaskView) (words : List Text) (name : Text) (what : ReadView) → file_stored (output_of task) words ≡ Some name
     → ¬ IsRefusedDocker (output_of task) what
 stored_allowed task words name (file_read file) stored = λ refused. refused
@@ -241,7 +245,7 @@ stored_allowed files_task words name (office_read state) stored = λ refused. re
 stored_allowed (horizon_task day) words name (office_read state) stored = λ refused. refused
 stored_allowed migrate_task words name (office_read state) stored = λ refused. refused
 
--- a job that stores what it writes stores the text of the summary of what it knows
+-- if a job stores its output, the output is the text of the summary of what the job knows
 stored_known : (task : TaskView) (words : List Text) (name : Text) (known : Known) (text : List ℕ) → file_stored (output_of task) words ≡ Some name
     → WritesKnown task known text → IsKnownText dks_2 known text
 stored_known new_task words name known text stored writes = writes

@@ -1,4 +1,4 @@
--- What a command stored or printed, from how it ended.
+-- What a command stored or printed follows from how it ended.
 use Rattle.std.proofs.Common.{◌≡◌, ◌≢◌, ℕ, List, [], ◌∷◌, ◌++◌, Option, None, Some, length, refl}
 use Rattle.std.proofs.Common.{sym, ◌∙◌, ap, subst, arith, inl, inr, append-nil, append_assoc}
 use Rattle.docker_host.specs.Asked.{IsStored, IsUnplaced}
@@ -18,7 +18,7 @@ use Rattle.docker_program.specs.Commands.{AreNoStorings, IsDone, IsRun, IsUndone
 
 -- ---- no storing
 
--- no event after the old ones stored anything
+-- the new history extends the old one by events that store nothing
 NoStoring : List Event → List Event → Type 0
 NoStoring old new = (events : List Event) × (new ≡ old ++ events) × AreNoStorings events
 
@@ -86,7 +86,7 @@ module _ (run : Run) (job : JobView) (rest : Bytes) where
   none_if_failed now (inl fails) = none_if_unopened now fails
   none_if_failed now (inr is) = none_if_opened now is
 
-  -- a job that read its sources whole, and how the job ended
+  -- facts about a job that read its sources whole
   module _ {Holds : Written → PreparedView → Type 0} (has : HasRead run.old run.new Holds job rest) where
     read_none : NoStoring run.old.history has.read
     read_none = none_if_opened has.read has.is.opened
@@ -158,7 +158,7 @@ done_by run (Some (Office office.Source)) same ends = let never : ⊥ = omega ar
 done_by run (Some (Office office.Sink)) same ends = let never : ⊥ = omega arith in absurd never
 done_by run (Some (Office office.Memory)) same ends = let never : ⊥ = omega arith in absurd never
 
--- a command with status 0 stored or printed
+-- a command with status 0 stored or printed the output of its job
 pub run_done : (run : Run) → IsRun run 0 → IsDone run
 run_done run performs = done_by run performs.ending performs.status_is performs.ends
 
@@ -204,7 +204,7 @@ want_none run job rest None has wants = none_same run.old.history has.read run.n
 want_none run job rest (Some name) has wants =
     none_more run.old.history has.read run.new.history (undrafted name (length run.old.history) ∷ []) (read_none run job rest has) wants (tt, tt)
 
--- if the command asked nothing of the folder, it stored nothing
+-- if a command left the folder's history unchanged, it stored nothing
 unasked : (run : Run) → run.new.history ≡ run.old.history → IsUndone run
 unasked run same = inl (nothing_stored run (none_same run.old.history run.old.history run.new.history (none_here run.old.history) same))
 
@@ -231,6 +231,6 @@ undone_by run status (Some (Office office.Memory)) some same (asked, kept) = by 
     by (inl (inr wants)) = inl (nothing_stored run (none_if_opened run asked.job asked.rest run.new.history wants.0))
     by (inr has) = inl (nothing_stored run (want_none run asked.job asked.rest (stored_by has.prepared.job) has has.holds))
 
--- a command with another status stored nothing, or may have stored its text
+-- a command with a status other than 0 stored nothing, or may have stored the output of its job
 pub run_undone : (run : Run) (status : ℕ) → IsRun run status → status ≢ 0 → IsUndone run
 run_undone run status performs some = undone_by run status performs.ending some performs.status_is performs.ends

@@ -1,4 +1,4 @@
--- How writing a file anew ends.
+-- How the writing of a job's output ends.
 use Rattle.std.proofs.Common.{◌≡◌, ◌≢◌, ◌+◌, arith, refl, sym, ◌∙◌, ap, subst, Some, None, Ok, Err, inl, inr, append_assoc}
 use Rattle.std.specs.Prelude.{ℕ, Bool, true, false, List, [], ◌∷◌, ◌++◌, Option, Result, ⊤}
 use Rattle.cif_device.specs.Device.{Takes}
@@ -18,14 +18,14 @@ use Rattle.docker_program.specs.Writing.{Drafting, EndsWriting, WantsToWriteTo, 
 none_some : (name : Text) → ◌≡◌ {A = Option Text} None (Some name) → ⊥
 none_some name is = cc
 
--- an output that is stored in a file is no docker
+-- output that is stored in a file isn't a docker
 no_docker : (output : Output) (words : List Text) (name : Text) → file_stored output words ≡ Some name → ¬ IsDocker output
 no_docker counts_written words name is = λ docker. docker
 no_docker (docker_written place day) words name is = λ docker. absurd (none_some name is)
 no_docker files_written words name is = λ docker. docker
 no_docker state_written words name is = λ docker. docker
 
--- an output that is no docker is no docker of a refused day
+-- output that isn't a docker isn't a docker of a refused day
 no_refused : (output : Output) (read : ReadView) → ¬ IsDocker output → ¬ IsRefusedDocker output read
 no_refused output (file_read file) none = λ refused. refused
 no_refused counts_written (office_read state) none = λ refused. refused
@@ -33,7 +33,8 @@ no_refused (docker_written place day) (office_read state) none = λ refused. non
 no_refused files_written (office_read state) none = λ refused. refused
 no_refused state_written (office_read state) none = λ refused. refused
 
--- if the draft of a job that writes a file isn't written whole, the draft failed, exactly once
+-- writing a job's output to a draft fails only because the draft failed, and then it failed exactly
+-- once
 pub fails_alone : {K : Type 0} (taken : K → Bytes) (failures : K → ℕ) (old new : K) (prepared : PreparedView) (name : Text) (fault : OfficeFault) →
     stored_by prepared.job ≡ Some name → EndsEmitting taken failures (output_of prepared.job.task) prepared.read old new (Err fault) →
     (fault ≡ office.Sink) × (failures new ≡ failures old + 1)
@@ -48,19 +49,19 @@ fails_alone taken failures old new prepared name office.Source is ends = elim en
 
 -- ---- a job that writes a file
 
--- if no draft was made because a device failed, the job has written in part
+-- if no draft was made because a device failed, `WritesPart` holds
 pub ends_unmade : (by : Drafting) (written : Written) (prepared : PreparedView) (name : Text) → stored_by prepared.job ≡ Some name
     → IsUndrafted name by.look written.before written.now → written.output_now ≡ written.output → WritesPart by written prepared
 ends_unmade by written prepared name is none kept =
     subst (λ (stored : Option Text). WritesPartTo stored by written prepared) (sym is) (inl none, kept)
 
--- if no draft was made because memory ran out, the job ends as out of memory
+-- if no draft was made because memory ran out, the writing ends with the fault `Memory`
 pub ends_wanting : (by : Drafting) (written : Written) (prepared : PreparedView) (name : Text) → stored_by prepared.job ≡ Some name
     → IsUndrafted name by.look written.before written.now → written.output_now ≡ written.output → EndsWriting by written prepared (Err office.Memory)
 ends_wanting by written prepared name is none kept =
     (subst (λ (stored : Option Text). WantsToWriteTo stored by written prepared) (sym is) none, kept)
 
--- if the draft failed and was given up, the job ends with the draft's fault
+-- if the draft failed and was discarded, the writing ends with the draft's fault
 pub ends_dropped : (by : Drafting) (written : Written) (prepared : PreparedView) (name : Text) (fault : OfficeFault) → stored_by prepared.job ≡ Some name
     → fault ≡ office.Sink → IsDropped name by.look written.before written.now → written.output_now ≡ written.output
     → EndsWriting by written prepared (Err fault)
@@ -68,20 +69,20 @@ ends_dropped by written prepared name fault is alone given_up kept =
     subst (λ (fault : OfficeFault). EndsWriting by written prepared (Err fault)) (sym alone)
     (subst (λ (stored : Option Text). WritesPartTo stored by written prepared) (sym is) (inr (inl given_up), kept))
 
--- if only the draft failed, its failure is counted once
+-- if only the draft failed, one failure is counted, as the status requires
 pub counted_alone : (fault : OfficeFault) (before after : ℕ) → fault ≡ office.Sink → after ≡ before + 1 →
     IsCounted (status_of (Office fault)) before after
 counted_alone fault before after alone rose =
     subst (λ fault. IsCounted (status_of (Office fault)) before after) (sym alone)
     ((λ is. rose, λ is. refl), λ differs. absurd (differs refl))
 
--- the text that an empty draft gained is the text that the draft holds
+-- a draft that was empty and gained a text holds exactly this text
 holds_gained : (names_bytes : Bool) (empty taken : Bytes) (text : List ℕ) → empty ≡ named_if names_bytes [] → Takes empty text taken
     → taken ≡ named_if names_bytes text
 holds_gained true empty taken text none gained = subst (λ (b : Bytes). Takes b text taken) none gained
 holds_gained false empty taken text none gained = subst (λ (b : Bytes). Takes b text taken) none gained
 
--- a draft that took its file's place is written
+-- if the complete draft replaced its file, the writing succeeded
 pub ends_stored : (by : Drafting) (written : Written) (prepared : PreparedView) (name : Text) (middle : List Event) (empty taken : Bytes)
     → stored_by prepared.job ≡ Some name → empty ≡ named_if by.names_bytes [] → GainsOutput prepared empty taken
     → middle ≡ written.before ++ drafted name by.look ∷ [] → written.now ≡ middle ++ placed name taken ∷ []
@@ -98,8 +99,7 @@ ends_stored by written prepared name middle empty taken is none gains made put k
       kept,
     )
 
--- if a draft was written whole, but may not have taken its file's place, the job has written in
--- part
+-- if replacing the file with the complete draft failed, `WritesPart` holds
 pub ends_unplaced : (by : Drafting) (written : Written) (prepared : PreparedView) (name : Text) (middle : List Event) (empty taken : Bytes)
     → stored_by prepared.job ≡ Some name → empty ≡ named_if by.names_bytes [] → GainsOutput prepared empty taken
     → middle ≡ written.before ++ drafted name by.look ∷ [] → written.now ≡ middle ++ unplaced name taken ∷ []
@@ -116,7 +116,7 @@ ends_unplaced by written prepared name middle empty taken is none gains made put
       kept,
     )
 
--- a draft that was made and then given up adds these two events
+-- making a draft and then discarding it adds the events `drafted` and `dropped` to the history
 pub then_dropped : (before middle now : List Event) (name : Text) (look : ℕ) → middle ≡ before ++ drafted name look ∷ []
     → now ≡ middle ++ dropped name ∷ [] → now ≡ before ++ drafted name look ∷ dropped name ∷ []
 then_dropped before middle now name look made given_up =
@@ -124,7 +124,7 @@ then_dropped before middle now name look made given_up =
 
 -- ---- a job that prints
 
--- a job that writes no file ends as its writing to the output ends
+-- for a job that prints, the writing ends as the writing to the output device ends
 pub ends_printed : {K : Type 0} (taken : K → Bytes) (failures : K → ℕ) (old new : K) (prepared : PreparedView) (history : List Event)
     (by : Drafting) (result : Result ⊤ OfficeFault) → stored_by prepared.job ≡ None
     → EndsEmitting taken failures (output_of prepared.job.task) prepared.read old new result → (IsRefused prepared → result ≡ Err office.Lapsed)
@@ -143,12 +143,13 @@ ends_printed taken failures old new prepared history by (Err (office.File fault)
 ends_printed taken failures old new prepared history by (Err (office.State fault)) is ends lapsed = ends
 ends_printed taken failures old new prepared history by (Err office.Source) is ends lapsed = ends
 
--- if the device didn't fail and the status isn't a device's, the count of failures fits the status
+-- if no device failed and the status isn't 4, the failure count is unchanged, as the status
+-- requires
 none_failed : (status folder before after : ℕ) → status ≢ 4 → after ≡ before → IsCounted status (folder + before) (folder + after)
 none_failed status folder before after other same =
     ((λ is. absurd (other is), λ rose. let never : ⊥ = omega arith in absurd never), λ differs. omega arith)
 
--- the result's status says how often the output failed
+-- when a job prints, the failure count grows as the result's status requires
 pub counted_printed : {K : Type 0} (taken : K → Bytes) (failures : K → ℕ) (old new : K) (prepared : PreparedView) (folder : ℕ)
     (result : Result ⊤ OfficeFault) →
     EndsEmitting taken failures (output_of prepared.job.task) prepared.read old new result →

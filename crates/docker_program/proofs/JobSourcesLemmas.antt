@@ -1,4 +1,4 @@
--- What was read from opened files is what was read from the sources of a job.
+-- What was read from a job's files and from standard input is what the job's sources held.
 use Rattle.std.proofs.Common.{◌≡◌, ◌≢◌, ◌+◌, ℕ, List, [], ◌∷◌, ◌++◌, arith, refl, sym, ◌∙◌, ap, subst, append_assoc, inl, inr, Ok, Err, Some}
 use Rattle.std.specs.Prelude.{Result, ⊤}
 use Rattle.docker_host.specs.History.{Bytes, Event}
@@ -16,15 +16,15 @@ use Rattle.docker_program.specs.Sources.{AreRead, Asking, FailsToOpen, IsOpened,
 
 -- ---- histories
 
--- one more event extends what was added to a history by that event
+-- if some events were added to a history, and then one more, their concatenation was added
 pub one_more : (old before now events : List Event) (event : Event) → before ≡ old ++ events → now ≡ before ++ event ∷ []
     → now ≡ old ++ (events ++ event ∷ [])
 one_more old before now events event earlier last =
     last ∙ ap (λ (history : List Event). history ++ event ∷ []) earlier ∙ append_assoc old events (event ∷ [])
 
--- ---- what each result means
+-- ---- what each result implies
 
--- sources that were read had been opened
+-- if the sources of a job were read, its files had been opened
 opened_by : (asked : Asking) (job : JobView) (result : Result PreparedView OfficeFault) → AreRead (names_of job) asked job result → IsOpened asked job
 opened_by asked job result read = record {
   read = read.read;
@@ -34,7 +34,7 @@ opened_by asked job result read = record {
   second_few = read.reads.second_few;
 }
 
--- if a job's sources were read, the result means what it should
+-- if the sources of a job were read with a result, `ReadsNamed` holds for this result
 by_reading : (asked : Asking) (job : JobView) (result : Result PreparedView OfficeFault) → AreRead (names_of job) asked job result
     → ReadsNamed asked job result
 unfolding opened_by
@@ -51,7 +51,7 @@ by_reading asked job (Err office.Memory) read = inr (opened_by asked job (Err of
 by_reading asked job (Err office.Lapsed) read = read.reads.ends
 by_reading asked job (Err office.Sink) read = read.reads.ends
 
--- if a job's source wasn't opened, the fault means what it should
+-- if a file of a job couldn't be opened, `ReadsNamed` holds for the fault of the opening
 by_cause : (asked : Asking) (job : JobView) (cause : OpenFault) → FailsToOpen (names_of job) asked.before asked.now → asked.left ≡ asked.rest
     → ReadsNamed asked job (Err (one_of office.Source office.Memory cause))
 by_cause asked job opening.Failed fails unread = inl (record { fails = fails; unread = unread })
@@ -63,13 +63,14 @@ by_result asked job result (inl fails) =
     subst (ReadsNamed asked job) (sym fails.is) (by_cause asked job fails.cause fails.fails fails.unread)
 by_result asked job result (inr read) = by_reading asked job result read
 
--- if the files of a job's names were to be opened, the result means what it should
+-- if opening and reading the sources of a job ended with a result, `ReadsNamed` holds for this
+-- result
 pub reads_named : (names : SourceNames) (asked : Asking) (job : JobView) (result : Result PreparedView OfficeFault) → names ≡ names_of job
     → ReadsBy names asked job result → ReadsNamed asked job result
 reads_named names asked job result is reads =
     by_result asked job result (subst (λ (names : SourceNames). ReadsBy names asked job result) is reads)
 
--- ---- what each kind of sources is
+-- ---- each kind of sources
 
 -- a job without a source reads nothing
 pub reads_none : (history : List Event) (rest first first_left second second_left : Bytes) (job : JobView) (result : Result PreparedView OfficeFault)
@@ -83,7 +84,7 @@ reads_none history rest first first_left second second_left job result none none
       reads = reads;
     })
 
--- a job whose source is standard input reads the input
+-- a job whose only source is standard input reads it
 pub reads_stdin : (history : List Event) (rest left second second_left : Bytes) (job : JobView) (result : Result PreparedView OfficeFault)
     → second ≡ Some [] → ReadsInOrder job rest left second second_left result
     → ReadsBy standard_input (asking history history rest left) job result
@@ -95,7 +96,7 @@ reads_stdin history rest left second second_left job result none_behind reads =
       reads = reads;
     })
 
--- a job with one file reads this file and no other
+-- a job with one file and no other source reads only the file
 pub reads_alone : (name : Text) (before now : List Event) (rest second second_left : Bytes) (job : JobView)
     (result : Result PreparedView OfficeFault) → second ≡ Some [] → ReadsBy (file_and_input name) (asking before now second second_left) job result
     → ReadsBy (one_file name) (asking before now rest rest) job result
@@ -111,12 +112,13 @@ reads_alone name before now rest second second_left job result none (inr read) =
 
 -- ---- failures
 
--- if two sources didn't fail and the status isn't a device's, the count of failures fits the status
+-- if neither of two sources failed and the status isn't 4, their failure counts are unchanged, as
+-- the status requires
 none_failed : (status one one_now two two_now : ℕ) → status ≢ 4 → one_now ≡ one → two_now ≡ two → IsCounted status (one + two) (one_now + two_now)
 none_failed status one one_now two two_now other first second =
     ((λ is. absurd (other is), λ rose. let never : ⊥ = omega arith in absurd never), λ differs. omega arith)
 
--- the result's status says how often the two sources that were read failed
+-- when two sources are read, their failure counts grow as the result's status requires
 pub counted_together : {A : Type 0} (result : Result A OfficeFault) (one one_now two two_now : ℕ) → CountsSources result one one_now two two_now →
     IsCounted (result_status result) (one + two) (one_now + two_now)
 counted_together (Ok made) one one_now two two_now counts = none_failed 0 one one_now two two_now (λ is. omega arith) counts.0 counts.1
@@ -130,7 +132,7 @@ counted_together (Err office.Memory) one one_now two two_now counts = none_faile
 counted_together (Err office.Lapsed) one one_now two two_now counts = elim counts [ ]
 counted_together (Err office.Sink) one one_now two two_now counts = elim counts [ ]
 
--- a count that fits the status still fits it when the same number is added before and after
+-- adding the same number to both failure counts preserves `IsCounted`
 pub counted_beside : (status before after more all all_now : ℕ) → IsCounted status before after → all ≡ before + more → all_now ≡ after + more →
     IsCounted status all all_now
 counted_beside status before after more all all_now counts is is_now = (
@@ -138,7 +140,8 @@ counted_beside status before after more all all_now counts is is_now = (
   λ differs. let same : after ≡ before = counts.1 differs in omega arith,
 )
 
--- if a file wasn't opened, one failure is counted if and only if its device failed
+-- if a file couldn't be opened, one failure is counted if and only if the opening's cause is
+-- `Failed`
 pub counted_opening : (cause : OpenFault) (before after more more_now : ℕ) → (cause ≡ opening.Failed → after ≡ before + 1)
     → (¬ (cause ≡ opening.Failed) → after ≡ before) → more_now ≡ more
     → IsCounted (result_status {A = ⊤} (Err (one_of office.Source office.Memory cause))) (more + before) (more_now + after)

@@ -1,4 +1,4 @@
--- How the program ends, by how far its job came.
+-- How the program ends depends on which step of its job failed, if any.
 use Rattle.std.proofs.Common.{◌≡◌, ◌≢◌, ◌≤◌, ◌↔◌, ℕ, Bool, List, [], ◌∷◌, Option, None, Some, Err, arith, ap, inl, inr, refl, sym, ◌∙◌, subst}
 use Rattle.docker_host.specs.History.{Bytes, Event}
 use Rattle.docker_host.specs.FaultSink.{FaultsView, TellsText, faults_of, faults_view}
@@ -18,7 +18,7 @@ use Rattle.docker_program.specs.Writing.{EndsWriting, Writes, Written, written}
 use Rattle.docker_program.specs.Program.{AskForNone, AskForSome, AsksAtMost, AsksFor, EndsBy, HasRead, IsAsked, IsNotAsked}
 use Rattle.docker_program.specs.Program.{IsUsageStatus, Performs, WantsMemory, ending_status, failures_of, from_first_look, reading}
 
--- if a job is refused for what its sources held, the program ends with that fault
+-- if reading a job's sources ends with a fault, the program ends with that fault
 unread : (words : List Text) (names_bytes : Bool) (old new : HostView) (job : JobView) (rest : Bytes) (fault : OfficeFault) →
     AsksFor words old.input job rest → AsksAtMost words old.input rest → new.output ≡ old.output →
     ReadsNamed (reading old new job rest new.history) job (Err fault) → EndsBy words names_bytes old new (Some (Office fault))
@@ -33,7 +33,8 @@ unread words names_bytes old new job rest office.Memory asks at_most unwritten r
 unread words names_bytes old new job rest office.Lapsed asks at_most unwritten reads = elim reads [ ]
 unread words names_bytes old new job rest office.Sink asks at_most unwritten reads = elim reads [ ]
 
--- if a job was read whole and its writing ends with a fault, the program ends with that fault
+-- if a job read its sources whole and writing its output ends with a fault, the program ends with
+-- that fault
 unwritten : (words : List Text) (names_bytes : Bool) (old new : HostView) (job : JobView) (rest : Bytes) (read : List Event)
     (prepared : PreparedView) (fault : OfficeFault) →
     AsksFor words old.input job rest → AsksAtMost words old.input rest → IsPrepared (reading old new job rest read) job prepared →
@@ -51,7 +52,8 @@ unwritten words names_bytes old new job rest read prepared (office.File fault) a
 unwritten words names_bytes old new job rest read prepared (office.State fault) asks at_most is ends = elim ends [ ]
 unwritten words names_bytes old new job rest read prepared office.Source asks at_most is ends = elim ends [ ]
 
--- the same as `unread`, for the host as it was seen before, and for the history after the look
+-- the same as `unread`, for a host `before` that equals the old host, and a history `shown` that
+-- equals the history after the look
 pub ends_unread : (words : List Text) (names_bytes : Bool) (before old new : HostView) (shown : List Event) (job : JobView) (rest : Bytes)
     (fault : OfficeFault) → before ≡ old → shown ≡ with_look_at (stored_by job) before.history → AsksFor words before.input job rest
     → AsksAtMost words before.input rest → new.output ≡ before.output → ReadsNamed (asking shown new.history rest new.input) job (Err fault)
@@ -71,7 +73,7 @@ ends_unwritten words names_bytes before old new shown read job rest prepared fau
     (unwritten words names_bytes before new job rest read prepared fault asks at_most
     (subst (λ (history : List Event). IsPrepared (asking history read rest new.input) job prepared) seen is) ends)
 
--- if a job was read whole and written, the program ends without a fault
+-- if a job read its sources whole and wrote its output whole, the program ends without a fault
 pub ends_done : (words : List Text) (names_bytes : Bool) (before old new : HostView) (shown read : List Event) (job : JobView) (rest : Bytes)
     (prepared : PreparedView) → before ≡ old → shown ≡ with_look_at (stored_by job) before.history
     → AsksFor words before.input job rest → AsksAtMost words before.input rest → IsPrepared (asking shown read rest new.input) job prepared
@@ -91,11 +93,11 @@ ends_done words names_bytes before old new shown read job rest prepared same see
       };
     })
 
--- what the host shows after the sink of faults has taken something
+-- the view of a host after its sink of faults has taken something
 abbrev pub with_faults : HostView → Bytes → ℕ → HostView
 with_faults host faults failures = record host { faults = faults; faults_failures = failures }
 
--- if a job has read its sources whole, this is still so after the report of a fault
+-- if a job read its sources whole, that remains true after a fault is reported
 read_still : (old new : HostView) (faults : Bytes) (failures : ℕ) (Holds : Written → PreparedView → Type 0) (job : JobView) (rest : Bytes)
     → HasRead old new Holds job rest → HasRead old (with_faults new faults failures) Holds job rest
 read_still old new faults failures Holds job rest has = record { prepared = has.prepared; read = has.read; is = has.is; holds = has.holds }
@@ -114,7 +116,7 @@ unasked_still : (words : List Text) (old new : HostView) (faults : Bytes) (failu
     → IsNotAsked words old new Why → IsNotAsked words old (with_faults new faults failures) Why
 unasked_still words old new faults failures Why is = record { why = is.why; at_most = is.at_most; unasked = is.unasked }
 
--- an ending is the same after the report of its fault
+-- reporting a fault preserves `EndsBy`
 ends_still : (words : List Text) (names_bytes : Bool) (old new : HostView) (faults : Bytes) (failures : ℕ) (fault : Fault)
     → EndsBy words names_bytes old new (Some fault) → EndsBy words names_bytes old (with_faults new faults failures) (Some fault)
 ends_still words names_bytes old new faults failures (Job job.Usage) ends = (unasked_still words old new faults failures _ ends.0, ends.1)
@@ -140,7 +142,7 @@ ends_still words names_bytes old new faults failures (Office office.Memory) ends
     by (inr has) = inr (read_still old new faults failures _ ends.0.job ends.0.rest has)
 ends_still words names_bytes old new faults failures (Office office.Sink) ends = asked_still words old new faults failures _ ends
 
--- a program that ended with a fault reports it
+-- if the program ended with a fault and reported it, `Performs` holds
 pub performs_telling : (words : List Text) (names_bytes : Bool) (old shown new : HostView) (faults : Bytes) (failures : ℕ) (fault : Fault) (status : ℕ)
     → shown ≡ new → EndsBy words names_bytes old new (Some fault) → IsCounted (status_of fault) (failures_of old) (failures_of new)
     → new.faults ≡ old.faults → new.faults_failures ≡ old.faults_failures → status ≡ status_of fault
@@ -157,26 +159,27 @@ performs_telling words names_bytes old shown new faults failures fault status sa
       (subst (λ (host : HostView). IsCounted (status_of fault) (failures_of old) (failures_of host)) (sym same) counted);
 }
 
--- words that ask for a job name one
+-- if there are words and `IsAsked` holds, the words name a job
 names_one : (words : List Text) (input : Bytes) (Holds : JobView → Bytes → Type 0) → words ≢ [] → IsAsked words input Holds → ¬ NameNoJob words
 names_one [] input Holds some asked = absurd (some refl)
 names_one (word ∷ words) input Holds some asked = λ none. none asked.job asked.asks.0
 
--- words that ask for no job name no job
+-- if there are words and `AskForNone` holds, the words name no job
 names_none : (words : List Text) (input : Bytes) → words ≢ [] → AskForNone words input → NameNoJob words
 names_none [] input some none = absurd (some refl)
 names_none (word ∷ words) input some none = none
 
--- words that ask for some job name a job
+-- if there are words and `AskForSome` holds, the words name a job
 names_some : (words : List Text) (input : Bytes) → words ≢ [] → AskForSome words input → ¬ NameNoJob words
 names_some [] input some one = absurd (some refl)
 names_some (word ∷ words) input some one = one
 
--- if the words name a job, a status other than the usage status is right
+-- if the words name a job and the status isn't 2, the status is 2 if and only if the words name no
+-- job
 other_status : (words : List Text) (status : ℕ) → status ≢ 2 → ¬ NameNoJob words → (status ≡ 2) ↔ NameNoJob words
 other_status words status differs one = (λ is. absurd (differs is), λ none. absurd (one none))
 
--- for each ending, the status is the usage status if and only if the words name no job
+-- if there are words, the status of an ending is 2 if and only if the words name no job
 usage_of : (words : List Text) (names_bytes : Bool) (old new : HostView) (ending : Option Fault) → words ≢ [] → EndsBy words names_bytes old new ending →
     (ending_status ending ≡ 2) ↔ NameNoJob words
 usage_of words names_bytes old new None some ends = other_status words 0 (λ is. omega arith) (names_one words old.input _ some ends)
@@ -197,7 +200,7 @@ usage_of words names_bytes old new (Some (Office office.Memory)) some ends =
 usage_of words names_bytes old new (Some (Office office.Sink)) some ends =
     other_status words 4 (λ is. omega arith) (names_one words old.input _ some ends)
 
--- the program's status is the usage status if and only if the words name no job
+-- if there are words, the program's status is 2 if and only if the words name no job
 pub usage_status : (words : List Text) (names_bytes : Bool) (old new : HostView) (status : ℕ) →
     Performs words names_bytes old new status → IsUsageStatus words status
 usage_status words names_bytes old new status performs =

@@ -1,4 +1,4 @@
--- What commands leave on a shelf, by their contract only.
+-- What commands leave on a shelf follows from the contract of `perform`.
 use Rattle.std.proofs.Common.{◌≡◌, ℕ, true, List, [], ◌∷◌, ◌++◌, Option, None, Some, length, refl, sym, ◌∙◌, ap, subst, arith, inl, inr, codes}
 use Rattle.docker_model.specs.file.Change.{changes}
 use Rattle.docker_model.specs.file.Text.{lines_of}
@@ -27,23 +27,23 @@ use Rattle.docker_program.proofs.EndingLemmas.{run_done}
 none_some : (name : Text) → ◌≡◌ {A = Option Text} None (Some name) → ⊥
 none_some name is = cc
 
--- ---- jobs by their words
+-- ---- the words determine the job
 
--- the first byte, or 0 if there is none
+-- the first byte of a text, or 0 if the text is empty
 abbrev first_byte : List ℕ → ℕ
 first_byte [] = 0
 first_byte (byte ∷ bytes) = byte
 
--- the first byte of the first word
+-- the first byte of the first word, or 0 if there is none
 abbrev first_of : List Text → ℕ
 first_of words = first_byte (first_word words)
 
--- the words after the first
+-- all words except the first
 abbrev behind : List Text → List Text
 behind [] = []
 behind (word ∷ words) = words
 
--- words that begin with `check` name a check
+-- if the first word is `check`, the task is a check
 check_named : (task : TaskView) (words more : List Text) → codes "check" ∷ more ≡ name_of (subcommand_of task) ∷ words → task ≡ check_task
 check_named check_task words more same = refl
 check_named new_task words more same = let other : ◌≡◌ {A = ℕ} 99 110 = ap first_of same in let never : ⊥ = omega arith in absurd never
@@ -55,7 +55,7 @@ check_named files_task words more same = let other : ◌≡◌ {A = ℕ} 99 102 
 check_named (horizon_task day) words more same = let other : ◌≡◌ {A = ℕ} 99 104 = ap first_of same in let never : ⊥ = omega arith in absurd never
 check_named migrate_task words more same = let other : ◌≡◌ {A = ℕ} 99 109 = ap first_of same in let never : ⊥ = omega arith in absurd never
 
--- words that begin with `take` name a take
+-- if the first word is `take`, the task is a take
 take_named : (task : TaskView) (words more : List Text) → codes "take" ∷ more ≡ name_of (subcommand_of task) ∷ words → task ≡ take_task
 take_named take_task words more same = refl
 take_named new_task words more same = let other : ◌≡◌ {A = ℕ} 116 110 = ap first_of same in let never : ⊥ = omega arith in absurd never
@@ -67,7 +67,7 @@ take_named files_task words more same = let other : ◌≡◌ {A = ℕ} 116 102 
 take_named (horizon_task day) words more same = let other : ◌≡◌ {A = ℕ} 116 104 = ap first_of same in let never : ⊥ = omega arith in absurd never
 take_named migrate_task words more same = let other : ◌≡◌ {A = ℕ} 116 109 = ap first_of same in let never : ⊥ = omega arith in absurd never
 
--- a job with this task and these words
+-- the job with this task and these words
 abbrev job_of : TaskView → List Text → JobView
 job_of task words = record { task = task; words = words }
 
@@ -89,7 +89,7 @@ counted extract first (file_read file) text same reads is =
     is.1 ∙ (λ i. count_line ((reads.1.of_text.of_records.count_is ∙ ap length (sym lines)) i)
     ((reads.1.of_text.of_records.changes_are ∙ ap (λ (ls : List (List ℕ)). length (changes ls)) (sym lines)) i))
 
--- a `check` with status 0 on a shelf printed the counts of the file
+-- a `check` that ends with status 0 on a shelf prints the counts of the file
 pub check_printed : (extract : List ℕ) (old new : HostView) → old.history ≡ placed file_name (Some extract) ∷ [] → old.output ≡ Some []
     → IsShelfHistory new.history → Performs (codes "check" ∷ file_name ∷ []) true old new 0
     → new.output ≡ Some (count_line (length (lines_of extract)) (length (changes (lines_of extract))))
@@ -118,7 +118,7 @@ check_printed extract old new put empty met performs = by (run_done run performs
 some_one : (one two : List ℕ) → ◌≡◌ {A = Bytes} (Some one) (Some two) → one ≡ two
 some_one one two same = cc
 
--- the same as `check_printed`, for what the host shows after the command
+-- the same as `check_printed`, with equations for the words, the status and the host after the run
 pub check_result : (extract text : List ℕ) (words : List Text) (old shown new : HostView) (status : ℕ)
     → words ≡ codes "check" ∷ file_name ∷ [] → status ≡ 0 → shown ≡ new
     → old.history ≡ placed file_name (Some extract) ∷ [] → old.output ≡ Some [] → IsShelfHistory shown.history
@@ -133,7 +133,7 @@ check_result extract text words old shown new status named zero same put empty m
 
 -- ---- take
 
--- the rest of a source whose bytes are known is known
+-- if contracts know the bytes that a source held, they know the bytes that are left in it
 rest_known : (held lost : List ℕ) (left : Bytes) → Reads (Some held) lost left → (rest : List ℕ) × (left ≡ Some rest)
 rest_known held lost None reads = absurd (none_some held (sym reads))
 rest_known held lost (Some rest) reads = (rest, refl)
@@ -141,7 +141,7 @@ rest_known held lost (Some rest) reads = (rest, refl)
 few_known : (state : List ℕ) (left : Bytes) → ReadsFewOfState dks_2 (Some state) left → (rest : List ℕ) × (left ≡ Some rest)
 few_known state left few = rest_known state (few.text ++ few.piece) left few.lost
 
--- a source whose bytes are known, and that is at its end, has nothing left
+-- if contracts know the bytes left in a source that is at its end, no bytes are left
 end_some : (left : Bytes) (rest : List ℕ) → left ≡ Some rest → IsEnd left → left ≡ Some []
 end_some None rest is end = absurd (none_some rest is)
 end_some (Some own) rest is end = ap Some end
@@ -155,7 +155,8 @@ end_known extract first second left held (inr few) end =
     let rest = rest_known extract (few.1.before ++ few.1.piece) left read in
     end_some left rest.0 rest.1 end
 
--- on a shelf with both texts, `take` with status 0 leaves the events of `IsTaken`
+-- on a shelf with a STATE file and an extract, a `take` that ends with status 0 leaves the events
+-- of `IsTaken`
 pub take_left : (state extract : List ℕ) (old new : HostView) → old.history ≡ both_put state extract
     → IsShelfHistory new.history → Performs (codes "take" ∷ state_name ∷ file_name ∷ []) true old new 0
     → IsTaken state extract new.history
@@ -211,7 +212,7 @@ take_left state extract old new put met performs = by (run_done run performs)
         let none = subst (λ (j : JobView). stored_by j ≡ None) (take_job state_name file_name job prints.reads.asks.0) prints.unstored in
         absurd (none_some state_name (sym none))
 
--- the same as `take_left`, for what the host shows after the command
+-- the same as `take_left`, with equations for the words, the status and the host after the run
 pub take_result : (state extract : List ℕ) (words : List Text) (old shown new : HostView) (status : ℕ)
     → words ≡ codes "take" ∷ state_name ∷ file_name ∷ [] → status ≡ 0 → shown ≡ new
     → old.history ≡ both_put state extract → IsShelfHistory shown.history

@@ -1,4 +1,4 @@
--- What the versions of STATE files know. What is known fixes their texts.
+-- What the versions of STATE files know. This knowledge determines their texts.
 use Rattle.std.proofs.Common.{◌≡◌, Some, ◌<◌, ◌⊎◌, ℕ, List, [], ◌∷◌, ◌++◌, length, map, refl, sym, ◌∙◌, ap, subst, arith, inl, inr, append-nil, append_assoc}
 use Rattle.std.specs.Prelude.{slice_index_or}
 use Rattle.std.specs.List.{AllZip}
@@ -27,15 +27,15 @@ use Rattle.docker_program.specs.Commands.{known_once, known_with, merged, migrat
 use Rattle.docker_program.proofs.CommandLemmas.{IsKnown, known_held, known_joined, known_raised, known_text}
 use Rattle.docker_program.proofs.CommandLemmas.{may_store_known, prints_known, stores_known, taken_behind}
 
--- the texts of versions
+-- the texts of these versions, in order
 abbrev pub texts_of : List Version → List (List ℕ)
 texts_of versions = map (λ (version : Version). version.text) versions
 
--- each of these texts has the summary of what is known of it
+-- each text is the text of the summary of the knowledge at the same index
 abbrev AreKnown : List Known → List (List ℕ) → Type 0
 AreKnown knowns texts = AllZip (IsKnownText dks_2) knowns texts
 
--- a source that held an earlier version held the text of the summary of what it knows
+-- if a source held an earlier version, it held the text of the summary of what that version knows
 version_held : (knowns : List Known) (texts : List (List ℕ)) (bytes : Bytes) (number : ℕ) → AreKnown knowns texts → HoldsVersion texts bytes number
     → HoldsKnown dks_2 bytes (known_at knowns number)
 version_held knowns texts bytes number are holds =
@@ -44,20 +44,21 @@ version_held knowns texts bytes number are holds =
     let low : number < length knowns = omega arith in
     (slice_index_or texts number [], holds.held, zip_at (IsKnownText dks_2) knowns texts number nothing [] are low)
 
--- a text that was stored, or may have been, is the text of what the job knows
+-- a text that a job stored, or may have stored, is the text of the summary of what the job knows
 stored_either : (run : Run) (job : JobView) (read : SourcesRead) (text : List ℕ) (known : Known) → Stores run job read text ⊎ MayStore run job read text
     → Knows job.task read.first read.second known → IsKnownText dks_2 known text
 stored_either run job read text known (inl stores) knows = stores_known run job read text known stores knows
 stored_either run job read text known (inr stores) knows = may_store_known run job read text known stores knows
 
--- a text that a command stored, or may have stored, is the text of what its job knows
+-- a text that a command stored, or may have stored, is the text of the summary of what its job
+-- knows
 by_command : {Held : Bytes → Bytes → Type 0} (task : TaskView) (known : Known) (text : List ℕ) (by : ByCommand task Held text)
     → Knows task by.read.first by.read.second known → IsKnownText dks_2 known text
 by_command task known text by knows =
     stored_either by.run by.job by.read text known by.stores
     (subst (λ (t : TaskView). Knows t by.read.first by.read.second known) (sym by.task_is) knows)
 
--- after one gain, the state is the summary of what it knew before and of what the gain gives
+-- after one gain, the state is the summary of what was known before and of what was gained
 gained_known : (knowns : List Known) (texts : List (List ℕ)) (gain : Gain) (known : Known) (old new : State) → AreKnown knowns texts
     → IsKnown known old → Gains texts gain old new → IsKnown (known_with knowns known gain) new
 gained_known knowns texts (file_gained file) known old new are is gains = taken_behind known gains.0 file old new is gains.1 gains.2
@@ -67,7 +68,8 @@ gained_known knowns texts (version_gained number) known old new are is gains =
 gained_known knowns texts (horizon_gained day) known old new are is gains =
     subst (IsKnown (united known (of_horizon day))) (sym gains.1) (known_raised known day old gains.0 is)
 
--- after a list of gains, the state is the summary of what it knew before and of what all gains give
+-- after a list of gains, the state is the summary of what was known before and of everything that
+-- was gained
 all_gained : (knowns : List Known) (texts : List (List ℕ)) (gains : List Gain) (known : Known) (old new : State) → AreKnown knowns texts
     → IsKnown known old → AreGained texts gains old new → IsKnown (known_once knowns known gains) new
 all_gained knowns texts [] known old new are is same = subst (IsKnown known) (sym same) is
@@ -75,7 +77,8 @@ all_gained knowns texts (gain ∷ gains) known old new are is gained =
     all_gained knowns texts gains (known_with knowns known gain) gained.0 new are
     (gained_known knowns texts gain known old gained.0 are is gained.1) gained.2
 
--- a text that a session saved is the text of what was known at its beginning and of what its gains give
+-- a text that a session saved is the text of the summary of what was known at its beginning and of
+-- everything that it gained
 saved_known : (knowns : List Known) (texts : List (List ℕ)) (own : ℕ) (gains : List Gain) (text : List ℕ) → AreKnown knowns texts
     → IsSaved texts own gains text → IsKnownText dks_2 (known_once knowns (known_at knowns own) gains) text
 saved_known knowns texts own gains text are is =
@@ -83,7 +86,7 @@ saved_known knowns texts own gains text are is =
     (all_gained knowns texts gains (known_at knowns own) is.first is.last are
     (known_held (known_at knowns own) is.held is.first (version_held knowns texts is.held own are is.holds) is.reads) is.gained) is.text_is
 
--- a version made from earlier ones is the text of what is known of it
+-- a version made from earlier versions is the text of the summary of what the version knows
 made_known : (knowns : List Known) (texts : List (List ℕ)) (origin : Origin) (text : List ℕ) → AreKnown knowns texts → IsMade texts origin text
     → IsKnownText dks_2 (known_by knowns origin) text
 made_known knowns texts begun text are made = by_command new_task nothing text made refl
@@ -104,7 +107,7 @@ made_known knowns texts (raised own day) text are made =
 made_known knowns texts (migrated known) text are made = by_command migrate_task known text made made.held
 made_known knowns texts (saved own gains) text are made = saved_known knowns texts own gains text are made
 
--- the text of each version is the text of what is known of the version
+-- the text of each version is the text of the summary of what the version knows
 all_known : (knowns : List Known) (texts : List (List ℕ)) (versions : List Version) → AreKnown knowns texts → AreMade texts versions
     → AreKnown (known_after knowns versions) (texts ++ texts_of versions)
 all_known knowns texts [] are made = subst (AreKnown knowns) (sym (append-nil texts)) are
@@ -115,13 +118,13 @@ all_known knowns texts (version ∷ versions) are made =
     (zip_end (IsKnownText dks_2) knowns texts (known_by knowns version.origin) version.text are
     (made_known knowns texts version.origin version.text are made.0)) made.1)
 
--- for each version there is one entry of what is known
+-- there are as many entries of knowledge as versions
 known_long : (knowns : List Known) (texts : List (List ℕ)) (versions : List Version) → AreKnown knowns texts → AreMade texts versions
     → length (known_after knowns versions) ≡ length (texts ++ texts_of versions)
 known_long knowns texts versions are made =
     zip_long (IsKnownText dks_2) (known_after knowns versions) (texts ++ texts_of versions) (all_known knowns texts versions are made)
 
--- each version's text has the summary of what is known of the version
+-- a version's text is the text of the summary of what the version knows
 pub version_known : (versions : List Version) (number : ℕ) (text : List ℕ) (known : Known) → AreVersions versions → IsVersion versions number text known
     → IsKnownText dks_2 known text
 version_known versions number text known are is =
@@ -136,23 +139,24 @@ version_known versions number text known are is =
         let there = is.there in
         omega (arith, long, texts)
 
--- ---- what is fixed
+-- ---- what the knowledge determines
 
--- texts that know the same are equal
+-- the known files and the known horizon determine the text of their summary
 pub one_known_text : (one two : Known) (text other : List ℕ) → IsKnownText dks_2 one text → IsKnownText dks_2 two other → AreOneKnowledge one two → text ≡ other
 one_known_text one two text other first second same =
     let states = summary_unique one.files two.files same.0 two.horizon first.is.0 second.is.0
     (subst (λ (h : ℕ). IsSummary one.files h first.is.0) same.1 first.is.1) second.is.1 in
     first.is.2 ∙ ap (state_text dks_2) states ∙ sym second.is.2
 
--- dockers of the same files are equal
+-- the known files determine the docker at each place for each day that isn't refused
 pub one_known_docker : (one two : Known) (place : List ℕ) (day : ℕ) (text other : List ℕ) → PrintsKnown one place day text
     → PrintsKnown two place day other → HaveSameFiles one.files two.files → text ≡ other
 one_known_docker one two place day text other first second same =
     docker_of_files dks_2 one two first.state second.state first.good second.good first.is second.is same place day first.allowed second.allowed
     text other first.docker second.docker
 
--- a docker of files with distinct moments is a docker of their plain table
+-- if no two of the known files have the same moment, each docker of these files is the docker of
+-- their plain table
 pub plain_known_docker : (known : Known) (place : List ℕ) (day : ℕ) (text : List ℕ) → PrintsKnown known place day text
     → HaveDistinctMoments known.files → (plain : Table) × IsPlainTable known.files plain × IsDockerText plain place day text
 plain_known_docker known place day text prints distinct =
@@ -163,15 +167,15 @@ plain_known_docker known place day text prints distinct =
           prints.allowed).0 prints.docker,
     )
 
--- ---- of versions
+-- ---- versions
 
--- versions that know the same are equal
+-- what a version knows determines its text
 pub one_version : (versions : List Version) (number another : ℕ) (text other : List ℕ) (known also : Known) → AreVersions versions
     → IsVersion versions number text known → IsVersion versions another other also → AreOneKnowledge known also → text ≡ other
 one_version versions number another text other known also are first second same =
     one_known_text known also text other (version_known versions number text known are first) (version_known versions another other also are second) same
 
--- a docker that is printed from a version is a docker of what the version knows
+-- a docker printed from a version is a docker of what the version knows
 pub version_printed : (versions : List Version) (number : ℕ) (version : List ℕ) (known : Known) → AreVersions versions
     → IsVersion versions number version known → (run : Run) (read : SourcesRead) (place : List ℕ) (day : ℕ) (words : List Text) (text : List ℕ)
     → Prints run (printing place day words) read text → read.first ≡ Some version → PrintsKnown known place day text

@@ -1,4 +1,5 @@
--- What commands know. The texts that they store and print are the summaries of known files under a known horizon. The same holds for the texts that desks save.
+-- What commands know. Each text that they store or print is made from the summary of known files
+-- under a known horizon. The same holds for each text that a desk saves.
 use Rattle.std.specs.Prelude.{◌≡◌, ◌⊎◌, ◌<◌, ℕ, Bool, List, [], ◌∷◌, ◌++◌, length, map, slice_index_or, Some, None, ⊤}
 use Rattle.docker_model.specs.state.Lapse.{IsDayRefused}
 use Rattle.docker_model.specs.state.State.{State, live_table}
@@ -22,21 +23,24 @@ use Rattle.docker_program.specs.Program.{AsksFor, Performs}
 
 -- ---- one command
 
--- the history after a command has read its sources. If its job writes a file, a look at this file comes first. Then come the openings and closings of the files
--- that the job reads
+-- the history after a command has opened, read and closed its sources. If its job writes a file,
+-- the first new event is a look at this file. The openings and closings of the files that the job
+-- reads follow
 abbrev pub history_read : List Event → JobView → SourcesRead → List Event
 history_read before job read =
     with_files_read (names_of job) read (with_look_at (stored_by job) before)
 
--- a run of a command: its words, and its devices before and after. `names_bytes` says whether contracts know which bytes the folder's drafts have taken
+-- a run of a command: its words, and its devices before and after. `names_bytes` says whether
+-- contracts know which bytes the folder's drafts have taken
 pub record Run : Type 0 where
   pub words : List Text
   pub names_bytes : Bool
   pub old : HostView
   pub new : HostView
 
--- a command read all sources of its job, each no further than the result needs, and this is the text of the job's output. If a source is standard input, it
--- held what was left after the job line
+-- a command read all sources of its job, each no further than the result needs, and this is the
+-- text of the job's output. If standard input is a source, it held the bytes that were left after
+-- the job line
 pub record Reads (run : Run) (job : JobView) (read : SourcesRead) (text : List ℕ) : Type 0 where
   pub rest : Bytes
   pub asks : AsksFor run.words run.old.input job rest
@@ -48,7 +52,7 @@ pub record Reads (run : Run) (job : JobView) (read : SourcesRead) (text : List �
   pub is_read : IsReadOf job.task read.first read.second what
   pub is_text : IsOutputText (output_of job.task) what text
 
--- a command stored this text: its draft took the place of the file that the job writes
+-- a command stored this text: a draft with this text replaced the file that the job writes
 pub record Stores (run : Run) (job : JobView) (read : SourcesRead) (text : List ℕ) : Type 0 where
   pub reads : Reads run job read text
   pub name : Text
@@ -57,7 +61,8 @@ pub record Stores (run : Run) (job : JobView) (read : SourcesRead) (text : List 
       (history_read run.old.history job read) run.new.history
   pub unprinted : run.new.output ≡ run.old.output
 
--- a command may have stored this text: its draft failed to take the file's place. The file holds this text or what it held before
+-- a command may have stored this text: replacing the file that the job writes with a draft with
+-- this text failed. The file now holds either this text or what it held before
 pub record MayStore (run : Run) (job : JobView) (read : SourcesRead) (text : List ℕ) : Type 0 where
   pub reads : Reads run job read text
   pub name : Text
@@ -74,18 +79,18 @@ pub record Prints (run : Run) (job : JobView) (read : SourcesRead) (text : List 
   pub history : run.new.history ≡ history_read run.old.history job read
   pub printed : Takes run.old.output text run.new.output
 
--- this event didn't put a draft in the place of a file, and can't have put one there
+-- this event isn't `placed` or `unplaced`: no draft replaced a file, and none may have replaced one
 abbrev pub IsNoStoring : Event → Type 0
 IsNoStoring (placed name bytes) = ⊥
 IsNoStoring (unplaced name bytes) = ⊥
 IsNoStoring _ = ⊤
 
--- no event in this list put a draft in the place of a file, or may have put one there
+-- no event in this list is `placed` or `unplaced`
 abbrev pub AreNoStorings : List Event → Type 0
 AreNoStorings [] = ⊤
 AreNoStorings (event ∷ events) = IsNoStoring event × AreNoStorings events
 
--- no event of the command put a draft in the place of a file, or may have put one there
+-- no event of the command is `placed` or `unplaced`, so the command stored nothing
 pub record StoresNothing (run : Run) : Type 0 where
   pub events : List Event
   pub history : run.new.history ≡ run.old.history ++ events
@@ -111,7 +116,7 @@ IsUndone run = StoresNothing run
 abbrev pub of_file : List (List ℕ) → Known
 of_file file = record { files = file ∷ []; horizon = 0 }
 
--- the knowledge of no files, under this horizon
+-- the knowledge of this horizon, with no files
 abbrev pub of_horizon : ℕ → Known
 of_horizon day = record { files = []; horizon = day }
 
@@ -125,8 +130,8 @@ abbrev pub HoldsKnown : Format → Bytes → Known → Type 0
 HoldsKnown format bytes known =
     (text : List ℕ) × (bytes ≡ Some text) × IsKnownText format known text
 
--- a command has this knowledge, given what its sources held. It knows the files and the horizons of the states that it read, the file that it took or printed,
--- and the horizon that it set
+-- a command has this knowledge, given what its sources held. It knows the files and the horizons of
+-- the states that it read, the file that it took or printed, and the horizon that it set
 abbrev pub Knows : TaskView → Bytes → Bytes → Known → Type 0
 Knows new_task first second known = known ≡ nothing
 Knows check_task first second known = ⊥
@@ -142,7 +147,8 @@ Knows (horizon_task day) first second known =
     (own : Known) × HoldsKnown dks_2 first own × (known ≡ united own (of_horizon day))
 Knows migrate_task first second known = HoldsKnown dks_1 first known
 
--- this text is the docker of the summary of what is known, at this timing point for this day, and the horizon doesn't refuse the day
+-- this text is the docker at this timing point for this day, made from the summary of what is
+-- known. The horizon doesn't refuse the day
 pub record PrintsKnown (known : Known) (place : List ℕ) (day : ℕ) (text : List ℕ) : Type 0 where
   pub good : IsGoodKnown dks_2 known
   pub allowed : ¬ IsDayRefused known.horizon day
@@ -150,7 +156,8 @@ pub record PrintsKnown (known : Known) (place : List ℕ) (day : ℕ) (text : Li
   pub is : IsStateOf known state
   pub docker : IsDockerText (live_table state) place day text
 
--- a command with this knowledge may write this text: the text of the summary of what it knows, a docker of that summary, or the list of the known files
+-- a command with this knowledge may write this text: the text of the summary of what it knows, a
+-- docker of that summary, or the list of the known files
 abbrev pub WritesKnown : TaskView → Known → List ℕ → Type 0
 WritesKnown new_task known text = IsKnownText dks_2 known text
 WritesKnown check_task known text = ⊤
@@ -165,9 +172,10 @@ WritesKnown migrate_task known text = IsKnownText dks_2 known text
 
 -- ---- versions of STATE files
 
--- how a version of a STATE file was made. Earlier versions, of any office, have numbers, which count from 0. A command made the version: `new`; `take` of a
--- file; `merge` with another version; `horizon`; or `migrate` of a text in the older format that has this knowledge. Or a desk saved the version, after the
--- desk's state was read from an earlier version and then gained these things
+-- how a version of a STATE file was made. Either a command made it: `new`, `take`, `merge`,
+-- `horizon` or `migrate`. Or a desk saved it, after reading its state from an earlier version and
+-- gaining these things. A number names an earlier version, of any office, counted from 0. `migrate`
+-- reads a text in the older format that has this knowledge
 pub data Origin : Type 0 where
   begun : Origin
   taken : (own : ℕ) (file : List (List ℕ)) → Origin
@@ -181,7 +189,8 @@ pub record Version : Type 0 where
   pub text : List ℕ
   pub origin : Origin
 
--- a command with this task stored this text, or may have stored it, and the bytes that its sources held have this property
+-- a command with this task stored this text, or may have stored it, and the bytes that its sources
+-- held have this property
 pub record ByCommand (task : TaskView) (Held : Bytes → Bytes → Type 0) (text : List ℕ)
     : Type 0 where
   pub run : Run
@@ -204,7 +213,8 @@ IsMade earlier (migrated known) text =
     ByCommand migrate_task (λ first second. HoldsKnown dks_1 first known) text
 IsMade earlier (saved own gains) text = IsSaved earlier own gains text
 
--- each of these versions was made from earlier versions: from versions before the list, which have these texts, or from versions that precede it in the list
+-- each of these versions was made from earlier versions. Those are the versions that precede it in
+-- the list, and versions with these texts from before the list
 abbrev pub AreMade : List (List ℕ) → List Version → Type 0
 AreMade earlier [] = ⊤
 AreMade earlier (version ∷ versions) = IsMade earlier version.origin version.text
@@ -214,13 +224,14 @@ AreMade earlier (version ∷ versions) = IsMade earlier version.origin version.t
 abbrev pub known_at : List Known → ℕ → Known
 known_at earlier number = slice_index_or earlier number nothing
 
--- what is known after this was gained, given what the earlier versions know
+-- what is known after this gain, given what was known before it and what the earlier versions know
 abbrev pub known_with : List Known → Known → Gain → Known
 known_with earlier known (file_gained file) = united known (of_file file)
 known_with earlier known (version_gained number) = united known (known_at earlier number)
 known_with earlier known (horizon_gained day) = united known (of_horizon day)
 
--- what is known after these things were gained in turn
+-- what is known after these gains, given what was known before them and what the earlier versions
+-- know
 abbrev pub known_once : List Known → Known → List Gain → Known
 known_once earlier known [] = known
 known_once earlier known (gain ∷ gains) =
@@ -235,14 +246,14 @@ known_by earlier (raised own day) = united (known_at earlier own) (of_horizon da
 known_by earlier (migrated known) = known
 known_by earlier (saved own gains) = known_once earlier (known_at earlier own) gains
 
--- what each version knows, in order: first these earlier versions, then the versions of the list
+-- what each version knows, in order. The entries for the earlier versions come first
 abbrev pub known_after : List Known → List Version → List Known
 known_after earlier [] = earlier
 known_after earlier (version ∷ versions) =
     known_after (earlier ++ known_by earlier version.origin ∷ []) versions
 
--- this is a list of all versions of all offices' STATE files, in the order in which they were made. A version may be made from any earlier version, because an
--- older copy may be put back or sent
+-- these are all versions of all offices' STATE files, in the order in which they were made. A
+-- version may be made from any earlier version, because an older copy may be restored or sent
 abbrev pub AreVersions : List Version → Type 0
 AreVersions versions = AreMade [] versions
 

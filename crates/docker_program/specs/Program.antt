@@ -1,4 +1,4 @@
--- What the program does with its words on its devices.
+-- What the program does for its words, on its devices.
 use Rattle.std.specs.Prelude.{◌≡◌, ◌≢◌, ◌↔◌, ℕ, ◌+◌, Bool, List, [], ◌∷◌, length, Option, Some, None, Result, Ok, Err, ◌⊎◌}
 use Rattle.docker_host.specs.History.{Bytes, Event}
 use Rattle.docker_host.specs.FaultSink.{FaultsView, TellsText, faults_of}
@@ -16,7 +16,8 @@ use Rattle.docker_program.specs.SourceNames.{stored_by}
 use Rattle.docker_program.specs.Sources.{Asking, IsNotOpened, IsOpened, IsPrepared, RefusesFile, RefusesState, WantsForSources, asking, with_look_at}
 use Rattle.docker_program.specs.Writing.{Drafting, RefusesDay, WantsToWrite, Writes, WritesPart, Written, drafting, written}
 
--- the words name this job, or the first line of standard input does if there are no words. `rest` is what is then left of standard input
+-- the words name this job; or there are no words, and the first line of standard input names it.
+-- `rest` are the bytes left in standard input after that
 abbrev pub AsksFor : List Text → Bytes → JobView → Bytes → Type 0
 AsksFor [] input job rest = ReadsJob input job rest
 AsksFor (word ∷ words) input job rest = IsJobOf (word ∷ words) job × (rest ≡ input)
@@ -31,12 +32,14 @@ abbrev pub AskForSome : List Text → Bytes → Type 0
 AskForSome [] input = HasJob input
 AskForSome (word ∷ words) input = ¬ NameNoJob (word ∷ words)
 
--- if there are words, the search for a job read nothing from standard input; otherwise it read at most 256 bytes
+-- if there are words, the search for a job read nothing from standard input; otherwise it read at
+-- most 256 bytes
 abbrev pub AsksAtMost : List Text → Bytes → Bytes → Type 0
 AsksAtMost [] input rest = ReadsAtMost 256 input rest
 AsksAtMost (word ∷ words) input rest = rest ≡ input
 
--- a job was requested, and this holds of the job and of what was then left of standard input
+-- the words or standard input named a job, and `Holds` is true of the job and of the bytes that
+-- were then left in standard input
 pub record IsAsked (words : List Text) (input : Bytes)
     (Holds : JobView → Bytes → Type 0) : Type 0 where
   pub job : JobView
@@ -51,14 +54,15 @@ pub record IsNotAsked (words : List Text) (old new : HostView) (Why : Type 0) : 
   pub at_most : AsksAtMost words old.input new.input
   pub unasked : new.history ≡ old.history
 
--- the changes of the folder and of standard input while a job's sources were opened, read and closed, up to the history `now`. If the job writes a file, the
--- history before has a look at this file
+-- the changes of the folder and of standard input while a job's sources were opened, read and
+-- closed. `now` is the folder's history after that. If the job writes a file, the history before
+-- includes the look at this file
 abbrev pub reading : HostView → HostView → JobView → Bytes → List Event → Asking
 reading old new job rest now =
     asking (with_look_at (stored_by job) old.history) now rest new.input
 
--- the program ended after the job's sources were opened, read and closed, or after a source couldn't be opened. `Holds` is true of the changes that were made
--- to the folder and to standard input
+-- the program ended after the job's sources were opened, read and closed, or after a file couldn't
+-- be opened. `Holds` is true of the changes that this made to the folder and to standard input
 abbrev pub EndsReading : HostView → HostView → (Asking → JobView → Type 0)
     → JobView → Bytes → Type 0
 EndsReading old new Holds job rest = Holds (reading old new job rest new.history) job
@@ -67,11 +71,12 @@ EndsReading old new Holds job rest = Holds (reading old new job rest new.history
 abbrev pub from_first_look : Bool → HostView → Drafting
 from_first_look names_bytes old = drafting (length old.history) names_bytes
 
--- the changes of the output and of the folder after this history
+-- the changes of the output device and of the folder after this history
 abbrev pub writing : HostView → HostView → List Event → Written
 writing old new before = written old.output new.output before new.history
 
--- the job read all its sources without a fault, and `Holds` is true of the changes that it then made by writing its output
+-- the job read all its sources without a fault. `Holds` is true of the changes that the job then
+-- made by writing its output
 pub record HasRead (old new : HostView) (Holds : Written → PreparedView → Type 0) (job : JobView)
     (rest : Bytes) : Type 0 where
   pub prepared : PreparedView
@@ -80,7 +85,8 @@ pub record HasRead (old new : HostView) (Holds : Written → PreparedView → Ty
   pub is : IsPrepared (reading old new job rest read) job prepared
   pub holds : Holds (writing old new read) prepared
 
--- the job couldn't read its sources: a file couldn't be opened, or a device failed while it was read
+-- the job couldn't read its sources: a file couldn't be opened, or a device failed while the
+-- sources were read
 abbrev pub FailsToRead : Asking → JobView → Type 0
 FailsToRead asked job = IsNotOpened asked job ⊎ IsOpened asked job
 
@@ -112,8 +118,9 @@ IsWhy words names_bytes old new (Office office.Memory) =
     IsAsked words old.input (WantsMemory names_bytes old new)
 IsWhy words names_bytes old new (Office office.Sink) = ⊥
 
--- the program ended in this way. Without a fault, the job's output was written. With `Sink`, the output or the folder failed, and at most a part of the output
--- was written. With any other fault, nothing was written
+-- the program ended with this fault, if any. Without a fault, the job's output was written. With
+-- `Sink`, the output device or the folder failed, and at most a part of the output was written.
+-- With any other fault, nothing was written
 abbrev pub EndsBy : List Text → Bool → HostView → HostView → Option Fault → Type 0
 EndsBy words names_bytes old new None =
     IsAsked words old.input (HasRead old new (Writes (from_first_look names_bytes old)))
@@ -127,7 +134,8 @@ abbrev pub ending_status : Option Fault → ℕ
 ending_status None = 0
 ending_status (Some fault) = status_of fault
 
--- without a fault, the sink of faults gained nothing. Otherwise it gained the line that reports the fault, or a proper prefix of this line if the sink failed
+-- without a fault, the sink of faults gained nothing. Otherwise it gained the line that reports the
+-- fault, or a proper prefix of this line if the sink failed
 abbrev pub Tells : Option Fault → (old new : FaultsView) → Type 0
 Tells None old new = (new.taken ≡ old.taken) × (new.failures ≡ old.failures)
 Tells (Some fault) old new = TellsText (fault_line fault) old new
@@ -136,8 +144,9 @@ Tells (Some fault) old new = TellsText (fault_line fault) old new
 abbrev pub failures_of : HostView → ℕ
 failures_of host = host.input_failures + host.folder_failures + host.output_failures
 
--- a run of the program with these words ends with this status. The record has the fault that ended the run, if any, the requests to the folder, and what was
--- written. `names_bytes` says whether contracts know which bytes the folder's drafts have taken
+-- a run of the program with these words ends with this status. The fields give the fault that ended
+-- the run, if any, the requests to the folder, and what was written. `names_bytes` says whether
+-- contracts know which bytes the folder's drafts have taken
 pub record Performs (words : List Text) (names_bytes : Bool) (old new : HostView)
     (status : ℕ) : Type 0 where
   pub ending : Option Fault

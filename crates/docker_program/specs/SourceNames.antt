@@ -10,7 +10,8 @@ use Rattle.docker_cmd.specs.Writes.{Output, counts_written, docker_written, file
 use Rattle.docker_program.specs.declared.names.SourceNames as declared
 use Rattle.docker_program.specs.declared.names.SourceNames.TheVariants as code
 
--- the sources of a job, in the order of its words. Standard input may be the only source, or follow a file
+-- the sources of a job, in the order of its words. Standard input may be the only source, or follow
+-- a file
 pub data SourceNames : Type 0 where
   no_source : SourceNames
   standard_input : SourceNames
@@ -18,7 +19,7 @@ pub data SourceNames : Type 0 where
   file_and_input : (name : Text) → SourceNames
   two_files : (name other : Text) → SourceNames
 
--- the definitions' value for a value of the code's type `SourceNames`
+-- converts the code's `SourceNames` to the definitions' `SourceNames`
 abbrev pub names_meant : declared.SourceNames → SourceNames
 names_meant code.None = no_source
 names_meant code.Stdin = standard_input
@@ -34,7 +35,8 @@ is_stdin word = bytes_eq word (codes "stdin")
 abbrev pub file_or_input : Text → SourceNames
 file_or_input word = if is_stdin word then standard_input else one_file word
 
--- two sources: the file with this name, and whatever the second word names. `stdin` as the second word names standard input
+-- two sources: the file with this name, and whatever the second word names. `stdin` as the second
+-- word names standard input
 abbrev pub file_and_word : Text → Text → SourceNames
 file_and_word name word = if is_stdin word then file_and_input name else two_files name word
 
@@ -48,7 +50,8 @@ abbrev pub second_word : List Text → Text
 second_word [] = []
 second_word (word ∷ words) = first_word words
 
--- the source of a job with one source, which this word names. If the job writes a state, the word is the name of STATE, and names a file even if it is `stdin`
+-- the source of a job with one source, which this word names. If the job writes a state, the word
+-- is the name of STATE, and names a file even if it is `stdin`
 abbrev pub only_source : Output → Text → SourceNames
 only_source counts_written word = file_or_input word
 only_source (docker_written place day) word = file_or_input word
@@ -70,7 +73,8 @@ sources_named reads.two_states output words =
 abbrev pub names_of : JobView → SourceNames
 names_of job = sources_named (sources_of job.task) (output_of job.task) job.words
 
--- the name of the file that is written: the first word if the output is a state; None if the output is printed
+-- the name of the file that is written: the first word if the output is a state; None if the output
+-- is printed
 abbrev pub file_stored : Output → List Text → Option Text
 file_stored counts_written words = None
 file_stored (docker_written place day) words = None

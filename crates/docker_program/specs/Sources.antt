@@ -13,8 +13,8 @@ use Rattle.docker_cmd.specs.Words.{Text}
 use Rattle.docker_program.specs.SourceNames.{SourceNames, no_source, standard_input, one_file, file_and_input, two_files, names_of}
 use Rattle.docker_host.specs.declared.folder.OpenFault.{OpenFault}
 
--- the bytes of a job's two sources: what each held before it was read, and what is left of it. For a file, these are the bytes at its opening and at its
--- closing
+-- the bytes of a job's two sources: the bytes that each held before it was read, and the bytes that
+-- are left in it. For a file, these are the bytes at its opening and at its closing
 pub record SourcesRead : Type 0 where
   pub first : Bytes
   pub first_left : Bytes
@@ -26,7 +26,8 @@ abbrev pub with_look_at : Option Text → List Event → List Event
 with_look_at None history = history
 with_look_at (Some name) history = history ++ looked name ∷ []
 
--- the history after the files among these sources were read. All were opened, each once, in the order of the words; then all were closed in this order
+-- the history after the files among these sources were read. Each was opened once, in the order of
+-- the words. Then all were closed in the same order
 abbrev pub with_files_read : SourceNames → SourcesRead → List Event → List Event
 with_files_read no_source read history = history
 with_files_read standard_input read history = history
@@ -38,8 +39,9 @@ with_files_read (two_files name other) read history =
     history ++ opened name read.first ∷ opened other read.second
     ∷ closed read.first_left ∷ closed read.second_left ∷ []
 
--- says what the sources other than files held. If standard input is a source, it held `rest` and has `left` now; otherwise standard input is unchanged. A
--- source that the job doesn't have counts as empty
+-- the bytes of the sources that aren't files. If standard input is a source, it held `rest`, and
+-- `left` is left in it; otherwise standard input is unchanged. A source that the job doesn't have
+-- counts as empty
 abbrev pub AreOthers : SourceNames → SourcesRead → (rest left : Bytes) → Type 0
 AreOthers no_source read rest left =
     (read.first ≡ Some []) × (read.second ≡ Some []) × (left ≡ rest)
@@ -50,8 +52,8 @@ AreOthers (file_and_input name) read rest left =
     (read.second ≡ rest) × (read.second_left ≡ left)
 AreOthers (two_files name other) read rest left = left ≡ rest
 
--- a file among these sources couldn't be opened. If it is the second file, the first file was opened before it, and was then closed unread. The history has no
--- other new events
+-- a file among these sources couldn't be opened. If that was the second file, the first file had
+-- been opened, and was then closed unread. The history has no other new events
 abbrev pub FailsToOpen : SourceNames → (before now : List Event) → Type 0
 FailsToOpen no_source before now = ⊥
 FailsToOpen standard_input before now = ⊥
@@ -60,7 +62,8 @@ FailsToOpen (file_and_input name) before now = now ≡ before ++ unopened name �
 FailsToOpen (two_files name other) before now = (now ≡ before ++ unopened name ∷ [])
     ⊎ ((bytes : Bytes) × (now ≡ before ++ opened name bytes ∷ unopened other ∷ closed bytes ∷ []))
 
--- what happened while a job's sources were opened and read: the folder's history before and now, and what standard input held and has left
+-- what happened while a job's sources were opened and read: the folder's history before and after,
+-- and the bytes of standard input before and after
 pub record Asking : Type 0 where
   pub before : List Event
   pub now : List Event
@@ -76,8 +79,8 @@ pub record IsNotOpened (asked : Asking) (job : JobView) : Type 0 where
   pub fails : FailsToOpen (names_of job) asked.before asked.now
   pub unread : asked.left ≡ asked.rest
 
--- all files that the job reads were opened, and closed after the sources were read. The history has no other new events. Each source was read no further than
--- the result needs
+-- all files that the job reads were opened, and were closed after the sources were read. The
+-- history has no other new events. Each source was read no further than the result needs
 pub record IsOpened (asked : Asking) (job : JobView) : Type 0 where
   pub read : SourcesRead
   pub history : asked.now ≡ with_files_read (names_of job) read asked.before
@@ -85,12 +88,12 @@ pub record IsOpened (asked : Asking) (job : JobView) : Type 0 where
   pub first_few : ReadsFewOfFirst (sources_of job.task) read.first read.first_left
   pub second_few : ReadsFewOfSecond (sources_of job.task) read.first read.second read.second_left
 
--- this is the fault of a file that a source of the job should have held
+-- a source of the job should have held a file, but its text has this fault
 abbrev pub RefusesFile : FileFault → Asking → JobView → Type 0
 RefusesFile fault asked job = (opened : IsOpened asked job)
     × RefusesFileOf (sources_of job.task) opened.read.first opened.read.second fault
 
--- this is the fault of a state that a source of the job should have held
+-- a source of the job should have held a state, but its text has this fault
 abbrev pub RefusesState : StateFault → Asking → JobView → Type 0
 RefusesState fault asked job = (opened : IsOpened asked job)
     × RefusesStateOf (sources_of job.task) opened.read.first opened.read.second fault
@@ -101,14 +104,14 @@ WantsForSources asked job = (opened : IsOpened asked job)
     × WantsFor (sources_of job.task) opened.read.first opened.read.first_left
     opened.read.second opened.read.second_left
 
--- the job read all its sources without a fault, and became this prepared job
+-- the job read all its sources without a fault, and `prepared` is the result
 pub record IsPrepared (asked : Asking) (job : JobView) (prepared : PreparedView) : Type 0 where
   pub opened : IsOpened asked job
   pub job_is : prepared.job ≡ job
   pub read : IsReadOf job.task opened.read.first opened.read.second prepared.read
   pub to_end : HasReadToEnd (sources_of job.task) opened.read.first_left opened.read.second_left
 
--- says what holds after the sources of a job were opened and read with this result
+-- opening and reading the sources of a job ended with this result
 abbrev pub ReadsNamed : Asking → JobView → Result PreparedView OfficeFault → Type 0
 ReadsNamed asked job (Ok prepared) = IsPrepared asked job prepared
 ReadsNamed asked job (Err (office.File fault)) = RefusesFile fault asked job
@@ -118,7 +121,8 @@ ReadsNamed asked job (Err office.Memory) = IsNotOpened asked job ⊎ WantsForSou
 ReadsNamed asked job (Err office.Lapsed) = ⊥
 ReadsNamed asked job (Err office.Sink) = ⊥
 
--- a file among these sources couldn't be opened, nothing was read, and the result is the fault of the opening
+-- a file among these sources couldn't be opened, nothing was read, and the result is the fault of
+-- the opening
 pub record AreNotOpened (names : SourceNames) (asked : Asking)
     (result : Result PreparedView OfficeFault) : Type 0 where
   pub cause : OpenFault
@@ -126,7 +130,8 @@ pub record AreNotOpened (names : SourceNames) (asked : Asking)
   pub fails : FailsToOpen names asked.before asked.now
   pub unread : asked.left ≡ asked.rest
 
--- the files among these sources were opened, and closed after the sources of the job were read with this result
+-- the files among these sources were opened, and closed after the sources of the job were read with
+-- this result
 pub record AreRead (names : SourceNames) (asked : Asking) (job : JobView)
     (result : Result PreparedView OfficeFault) : Type 0 where
   pub read : SourcesRead
@@ -134,7 +139,7 @@ pub record AreRead (names : SourceNames) (asked : Asking) (job : JobView)
   pub others : AreOthers names read asked.rest asked.left
   pub reads : ReadsInOrder job read.first read.first_left read.second read.second_left result
 
--- opening and reading these sources ended with this result. Either a file couldn't be opened; or all files were opened, and were closed after the sources were
--- read
+-- opening and reading these sources ended with this result. Either a file couldn't be opened; or
+-- all files were opened, and were closed after the sources were read
 abbrev pub ReadsBy : SourceNames → Asking → JobView → Result PreparedView OfficeFault → Type 0
 ReadsBy names asked job result = AreNotOpened names asked result ⊎ AreRead names asked job result

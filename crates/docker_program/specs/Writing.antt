@@ -1,5 +1,5 @@
--- How a job writes its output: to the output device, or to a file by a draft. A draft is a new file; once it has the whole output, it takes the place of the
--- old file.
+-- How a job writes its output: to the output device, or to a file by a draft. A draft is a new
+-- file. Once the draft holds the whole output, it replaces the old file.
 use Rattle.std.specs.Prelude.{◌≡◌, ◌⊎◌, ℕ, Bool, List, Option, Some, None, Result, Ok, Err, ⊤}
 use Rattle.docker_host.specs.Asked.{IsDropped, IsStored, IsUndrafted, IsUnplaced}
 use Rattle.docker_host.specs.History.{Bytes, Event}
@@ -9,7 +9,8 @@ use Rattle.docker_cmd.specs.Prepared.{PreparedView, GainsOutput, GainsPart, IsOu
 use Rattle.docker_cmd.specs.Words.{Text}
 use Rattle.docker_program.specs.SourceNames.{stored_by}
 
--- where a job writes: what the output device had taken and has now taken, and the folder's history before and now
+-- the devices to which a job writes, before and after the writing: the bytes that the output device
+-- has taken, and the folder's history
 pub record Written : Type 0 where
   pub output : Bytes
   pub output_now : Bytes
@@ -21,8 +22,9 @@ abbrev pub written : (output output_now : Bytes) (before now : List Event) → W
 written output output_now before now =
     record { output = output; output_now = output_now; before = before; now = now }
 
--- how a file is replaced. `look` is the number of the look from which the draft is made, counted from 0 among the events. `names_bytes` says whether contracts
--- know which bytes the folder's drafts have taken
+-- how a file is replaced. `look` is the number of the look from which the draft is made, counted
+-- from 0 among the events. `names_bytes` says whether contracts know which bytes the folder's
+-- drafts have taken
 pub record Drafting : Type 0 where
   pub look : ℕ
   pub names_bytes : Bool
@@ -35,22 +37,24 @@ drafting look names_bytes = record { look = look; names_bytes = names_bytes }
 abbrev pub IsUnwritten : Written → Type 0
 IsUnwritten written = (written.output_now ≡ written.output) × (written.now ≡ written.before)
 
--- a draft of the job's output took the place of the file with this name
+-- a draft of the job's output replaced the file with this name
 pub record StoresOutput (by : Drafting) (written : Written) (prepared : PreparedView)
     (name : Text) : Type 0 where
   pub text : List ℕ
   pub is : IsOutputText (output_of prepared.job.task) prepared.read text
   pub history : IsStored by.names_bytes name by.look text written.before written.now
 
--- a draft of the job's output failed to take the place of the file with this name. The file holds that output or what it held before
+-- a draft of the job's output failed to replace the file with this name. The file now holds either
+-- the output or what it held before
 pub record MayStoreOutput (by : Drafting) (written : Written) (prepared : PreparedView)
     (name : Text) : Type 0 where
   pub text : List ℕ
   pub is : IsOutputText (output_of prepared.job.task) prepared.read text
   pub history : IsUnplaced by.names_bytes name by.look text written.before written.now
 
--- the job's output was written whole. If the job prints, the output device gained the output, which isn't a docker of a day that the horizon refuses. If the
--- job writes a file, a draft of the output took the file's place. Nothing else changed
+-- the job's output was written whole. If the job prints, the output device gained the output, which
+-- isn't a docker of a day that the horizon refuses. If the job writes a file, a draft of the output
+-- replaced the file. Nothing else changed
 abbrev pub WritesTo : Option Text → Drafting → Written → PreparedView → Type 0
 WritesTo None by written prepared =
     GainsOutput prepared written.output written.output_now × (¬ IsRefused prepared)
@@ -58,8 +62,9 @@ WritesTo None by written prepared =
 WritesTo (Some name) by written prepared =
     StoresOutput by written prepared name × (written.output_now ≡ written.output)
 
--- the job's output wasn't written whole, because a device failed. If the job prints, the output device gained a proper prefix of the output. If the job writes
--- a file, no draft was made, or the draft was given up, or the draft failed to take the file's place. Nothing else changed
+-- the job's output wasn't written whole, because a device failed. If the job prints, the output
+-- device gained a proper prefix of the output. If the job writes a file, no draft was made, or the
+-- draft was discarded, or replacing the file with the draft failed. Nothing else changed
 abbrev pub WritesPartTo : Option Text → Drafting → Written → PreparedView → Type 0
 WritesPartTo None by written prepared =
     GainsPart prepared written.output written.output_now × (written.now ≡ written.before)
@@ -68,8 +73,8 @@ WritesPartTo (Some name) by written prepared =
     ⊎ IsDropped name by.look written.before written.now
     ⊎ MayStoreOutput by written prepared name) × (written.output_now ≡ written.output)
 
--- memory ran out before anything was written. If the job prints, there was no memory for the docker. If the job writes a file, there was no memory for a draft,
--- and no draft was made
+-- memory ran out before anything was written. If the job prints, there was no memory for the
+-- docker. If the job writes a file, there was no memory for a draft, and no draft was made
 abbrev pub WantsToWriteTo : Option Text → Drafting → Written → PreparedView → Type 0
 WantsToWriteTo None by written prepared = PrintsDocker prepared × (written.now ≡ written.before)
 WantsToWriteTo (Some name) by written prepared =
@@ -79,7 +84,8 @@ WantsToWriteTo (Some name) by written prepared =
 abbrev pub Writes : Drafting → Written → PreparedView → Type 0
 Writes by written prepared = WritesTo (stored_by prepared.job) by written prepared
 
--- the job's output wasn't written whole, to the output device or to the file that the job writes, because a device failed
+-- the job's output, to the output device or to the file that the job writes, wasn't written whole
+-- because a device failed
 abbrev pub WritesPart : Drafting → Written → PreparedView → Type 0
 WritesPart by written prepared = WritesPartTo (stored_by prepared.job) by written prepared
 
@@ -87,11 +93,12 @@ WritesPart by written prepared = WritesPartTo (stored_by prepared.job) by writte
 abbrev pub WantsToWrite : Drafting → Written → PreparedView → Type 0
 WantsToWrite by written prepared = WantsToWriteTo (stored_by prepared.job) by written prepared
 
--- the job would print a docker of a day that the horizon refuses, and the folder's history is unchanged
+-- the job would print a docker of a day that the horizon refuses, and the folder's history is
+-- unchanged
 abbrev pub RefusesDay : Written → PreparedView → Type 0
 RefusesDay written prepared = IsRefused prepared × (written.now ≡ written.before)
 
--- says what holds after writing the job's output ended with this result
+-- writing the job's output ended with this result
 abbrev pub EndsWriting : Drafting → Written → PreparedView → Result ⊤ OfficeFault → Type 0
 EndsWriting by written prepared (Ok done) = Writes by written prepared
 EndsWriting by written prepared (Err office.Sink) = WritesPart by written prepared

@@ -27,7 +27,7 @@ pub fn run_words(rt: &HostRuntime, words: &[&str]) -> u8
     perform(rt.alloc(), words, &mut real_host(rt))
 }
 
-/// The real devices: the standard streams and the real files.
+/// Returns the real devices: the standard streams and the real files.
 fn real_host(rt: &HostRuntime) -> Host<InputDevice, RealFolder, OutputDevice, OutputDevice>
     ensures { AreFew result }
 {
@@ -55,8 +55,8 @@ fn run_strings(rt: &HostRuntime, words: &[String]) -> Result<u8, JobFault> {
     Ok(run_words(rt, words.as_slice()))
 }
 
-/// The words after the program's name. Fails with `Usage` if a word isn't valid UTF-8, and with
-/// `Memory` if there is no memory for the words.
+/// Returns the words after the program's name. Fails with `Usage` if a word isn't valid UTF-8, and
+/// with `Memory` if there is no memory for the words.
 pub fn own_words(rt: &HostRuntime) -> Result<Vec<String>, JobFault> {
     let all = match env::args(rt) {
         Ok(all) => all,

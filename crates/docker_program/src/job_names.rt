@@ -6,7 +6,7 @@ ghost use Rattle.docker_program.specs.SourceNames.{file_and_word, file_or_input,
 use crate::names::{STDIN, SourceNames};
 use docker_cmd::{Job, Output, Sources};
 
-/// The sources that the words of a job name.
+/// Returns the sources that the words of a job name.
 pub(crate) fn names(job: &Job) -> SourceNames<'_>
     ensures { names_meant result ≡ names_of job.now }
 {
@@ -21,7 +21,7 @@ pub(crate) fn names(job: &Job) -> SourceNames<'_>
     }
 }
 
-/// The name of the file that the job writes; `None` if the job prints.
+/// Returns the name of the file that the job writes; `None` if the job prints.
 pub(crate) fn stored_name(job: &Job) -> Option<&str>
     ensures { option_map (λ name. name.now) result ≡ stored_by job.now }
 {
@@ -31,8 +31,8 @@ pub(crate) fn stored_name(job: &Job) -> Option<&str>
     }
 }
 
-/// The source of a job with one source, which this word names. If the job writes a state, the word
-/// is the name of STATE, and names a file even if it is `stdin`.
+/// Returns the source of a job with one source, which this word names. If the job writes a state,
+/// the word is the name of STATE, and names a file even if it is `stdin`.
 fn only_source(output: Output, word: &str) -> SourceNames<'_>
     ensures { names_meant result ≡ only_source (output_meant output) word.now }
 {
@@ -42,7 +42,8 @@ fn only_source(output: Output, word: &str) -> SourceNames<'_>
     }
 }
 
-/// The source that a word names: standard input if the word is `stdin`, and otherwise a file.
+/// Returns the source that a word names: standard input if the word is `stdin`, and otherwise a
+/// file.
 fn file_or_input(word: &str) -> SourceNames<'_>
     ensures { names_meant result ≡ file_or_input word.now }
 {
@@ -52,8 +53,8 @@ fn file_or_input(word: &str) -> SourceNames<'_>
     SourceNames::File(word)
 }
 
-/// Two sources: the file with the first name, and whatever the second word names. `stdin` as the
-/// second word names standard input.
+/// Returns two sources: the file with the first name, and whatever the second word names. `stdin`
+/// as the second word names standard input.
 fn file_and_word<'a>(name: &'a str, word: &'a str) -> SourceNames<'a>
     ensures { names_meant result ≡ file_and_word name.now word.now }
 {
@@ -63,7 +64,7 @@ fn file_and_word<'a>(name: &'a str, word: &'a str) -> SourceNames<'a>
     SourceNames::Files(name, word)
 }
 
-/// The first word after the subcommand.
+/// Returns the first word after the subcommand.
 fn first_word(job: &Job) -> &str
     ensures { result.now ≡ first_word job.now.words }
 {
@@ -73,7 +74,7 @@ fn first_word(job: &Job) -> &str
     }
 }
 
-/// The second word after the subcommand.
+/// Returns the second word after the subcommand.
 fn second_word(job: &Job) -> &str
     ensures { result.now ≡ second_word job.now.words }
 {

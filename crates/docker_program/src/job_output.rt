@@ -1,4 +1,4 @@
-//! Writes the output of a job, to the output or to a file.
+//! Writes the output of a job to the output device or to a file.
 ghost use Rattle.std.specs.Prelude.{◌≡◌, ◌+◌, ◌-◌, ◌^◌, ◌<◌, ℕ, IfSome, Some, option_map};
 ghost use Rattle.docker_cmd.specs.FaultLine.{IsCounted, result_status};
 ghost use Rattle.docker_program.specs.SourceNames.{stored_by};
@@ -35,7 +35,7 @@ pub(crate) fn write_output<D: Folder, K: Sink>(
 }
 
 /// Writes the output of a job to the file that was looked at. The output is written to a draft, and
-/// the complete draft takes the file's place.
+/// the complete draft replaces the file.
 fn write_file<D: Folder>(
     prepared: &Prepared<'_>,
     looked: Looked<'_, D::Seen>,

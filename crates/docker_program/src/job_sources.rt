@@ -13,8 +13,8 @@ use docker_host::Folder;
 use std::alloc::Global;
 
 /// Opens the files that a job reads, each once, in the order of its words. Then reads the job's
-/// sources, and closes the files in the order in which they were opened. If standard input is a
-/// source, the bytes that are left in it are read.
+/// sources, and closes the files in the same order. If standard input is a source, the bytes that
+/// are left in it are read.
 pub(crate) fn read_sources<'a, S: Source, D: Folder>(
     alloc: Global,
     job: &'a Job,

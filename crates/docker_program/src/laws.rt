@@ -1,5 +1,5 @@
 //! Laws that hold for each command, and for each list of versions of STATE files. Each law is the
-//! contract of a function that does nothing, and holds for all values that its clauses name.
+//! contract of a function that does nothing. It holds for all values that its clauses name.
 ghost use Rattle.std.specs.Prelude.{◌≡◌, ◌≢◌, ℕ, List, Some};
 ghost use Rattle.docker_model.specs.state.StateText.{dks_2};
 ghost use Rattle.docker_model.specs.state.Summary.{HaveDistinctMoments};
@@ -13,8 +13,8 @@ ghost use Rattle.docker_program.specs.Commands.{AreVersions, IsDone, IsKnownText
 ghost use Rattle.docker_program.specs.Sources.{SourcesRead};
 
 /// A command with status 0 has stored or printed the output of its job, made from what its sources
-/// held. A command with another status has stored nothing, unless a draft of the whole output
-/// failed to take its file's place. In that case the file holds the whole output or what it held
+/// held. A command with another status has stored nothing, unless replacing the file with a draft
+/// of the whole output failed. In that case the file holds either the whole output or what it held
 /// before.
 pub fn commands_store_or_print()
     ensures done { (run : Run) → IsRun run 0 → IsDone run }
@@ -22,9 +22,9 @@ pub fn commands_store_or_print()
 {}
 
 /// Suppose that STATE held the text of the summary of some files under a horizon. Suppose also that
-/// the command took a file, or merged the text of such a summary. Then the command stores the text
-/// of the summary of all these files, under the greatest horizon. If the command prints, it prints
-/// the docker of that summary, or the list of its files.
+/// the command took a file, or merged the text of such a summary. If the command stores a text,
+/// this is the text of the summary of all these files, under the greatest horizon. If it prints, it
+/// prints the docker of that summary, or the list of its files.
 pub fn commands_keep_summaries()
     ensures stored { (run : Run) (job : JobView) (read : SourcesRead) (text : List ℕ)
         (known : Known) → Stores run job read text → Knows job.task read.first read.second known

@@ -1,4 +1,4 @@
-//! Looks at the file that a job writes, before anything is read.
+//! Looks at the file that a job writes, before the job reads anything.
 ghost use Rattle.std.specs.Prelude.{◌≡◌, IfSome, length, option_map};
 ghost use Rattle.docker_program.specs.SourceNames.{stored_by};
 ghost use Rattle.docker_program.specs.Sources.{with_look_at};
@@ -16,8 +16,8 @@ pub(crate) struct Looked<'a, T> {
     pub(crate) seen: T,
 }
 
-/// Looks at the file that the job writes, before anything is read. Returns `None`, and looks at
-/// nothing, if the job prints.
+/// Looks at the file that the job writes, before the job reads anything. Returns `None`, and looks
+/// at nothing, if the job prints.
 pub(crate) fn look_at_stored<'a, D: Folder>(
     job: &'a Job,
     folder: &mut D,

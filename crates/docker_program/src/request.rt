@@ -1,4 +1,4 @@
-//! Finds the job that the program is asked to do.
+//! Finds the job that the words, or the first line of standard input, name.
 ghost use Rattle.std.specs.Prelude.{◌≡◌, ◌-◌, ◌^◌, ◌<◌, [], IfOk, Err};
 ghost use Rattle.cif_device.specs.Device.{CountsFailure};
 ghost use Rattle.docker_cmd.specs.Words.{texts};
@@ -8,7 +8,7 @@ use cif_line::Source;
 use docker_cmd::{Job, JobFault, job, job_line};
 use std::alloc::Global;
 
-/// The job that the words name. Without words, the first line of standard input names it.
+/// Returns the job that the words name. Without words, the first line of standard input names it.
 pub(crate) fn requested_job<S: Source>(
     alloc: Global,
     words: &[&str],

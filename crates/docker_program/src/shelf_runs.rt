@@ -11,7 +11,7 @@ use cif_line::{Bytes, Kept};
 use docker_host::{Host, Shelf};
 use std::alloc::Global;
 
-/// Puts an extract on a shelf, runs `check` on the shelf, and returns what `check` printed: the
+/// Adds an extract to a new shelf, runs `check` on the shelf, and returns what `check` printed: the
 /// numbers of the extract's records and changes. Returns `None` if the status isn't 0, or if memory
 /// ran out.
 pub fn check_on_a_shelf(alloc: Global, extract: &[u8]) -> Option<Vec<u8>>
@@ -41,9 +41,9 @@ pub fn check_on_a_shelf(alloc: Global, extract: &[u8]) -> Option<Vec<u8>>
     Vec::from_slice(alloc, host.output.bytes()).ok()
 }
 
-/// Puts the text of a STATE file and an extract on a shelf, runs `take` on the shelf, and returns
-/// the shelf. The shelf's history has the text that was stored. `room` is the most bytes of a
-/// draft. Returns `None` if the status isn't 0, or if memory ran out.
+/// Adds the text of a STATE file and an extract to a new shelf, runs `take` on the shelf, and
+/// returns the shelf. The shelf's history has the text that was stored. A draft holds at most
+/// `room` bytes. Returns `None` if the status isn't 0, or if memory ran out.
 pub fn take_on_a_shelf(alloc: Global, state: &[u8], extract: &[u8], room: usize) -> Option<Shelf>
     ensures { IfSome result (λ shelf. IsTaken state.now extract.now shelf.events) }
 {

@@ -1,4 +1,4 @@
-//! Tests of commands: what each command writes for the contents of its sources.
+//! Tests of what each command writes, given the contents of its sources.
 
 use crate::compare::{same, same_in, same_of};
 use crate::files::*;
@@ -139,8 +139,8 @@ fn a_file_taken_into_a_state(rt: HostRuntime) {
     same(&rt, docker.bytes(), ASHFELD_0900.as_bytes());
 }
 
-/// The fault of the command with these words if its source has this text. `None` if the command
-/// succeeds.
+/// Returns the fault with which the command with these words ends if its source has this text.
+/// Returns `None` if the command succeeds.
 fn fault_of(rt: &impl Abort, alloc: Global, words: &[&str], first: &[u8]) -> Option<OfficeFault> {
     let job = job(alloc, words).expect(rt, "a job");
     let mut first = Bytes::new(first, 7);

@@ -1,4 +1,4 @@
-//! Tests over devices that fail midway, that are full, or that never end.
+//! Tests with devices that fail midway, that are full, or that never end.
 ghost use Rattle.std.specs.Prelude.{◌<◌};
 
 use crate::compare::same;
@@ -11,8 +11,8 @@ use docker_office::{LedgerOffice, Office, OfficeFault, PlaceOffice, StateCause, 
 use std::alloc::Global;
 use std::process::Abort;
 
-/// Asserts the result and the bytes in the sink when an office sends its state. The sink takes one
-/// byte per write, and only the write with this number fails, counting from 1.
+/// Asserts the result of sending an office's state, and the bytes that the sink then has. The sink
+/// takes one byte per write, and only the write with this number fails, counting from 1.
 fn sends(
     rt: &impl Abort,
     alloc: Global,
@@ -29,7 +29,7 @@ fn sends(
     same(rt, sink.device().bytes(), bytes);
 }
 
-/// The first twenty bytes of a text.
+/// Returns the first twenty bytes of a text.
 fn front_of<'a>(rt: &impl Abort, text: &'a [u8]) -> &'a [u8] {
     text.get(..20).expect(rt, "20 bytes")
 }
@@ -45,32 +45,32 @@ fn a_sink_that_fails_once(rt: HostRuntime) {
     sends(&rt, alloc, &office, 312, Ok(()), text.as_slice());
 }
 
-/// The result when an office takes a file. The source gives one byte per read, and only the read
-/// with this number fails.
+/// Returns the result when an office takes a file. The source gives one byte per read, and only the
+/// read with this number fails.
 fn taken(office: &mut Office, text: &[u8], read: u64) -> Result<(), OfficeFault>
     requires { 0 < read }
 {
     office.take(&mut Fuse::new(Bytes::new(text, 1), read), 1000)
 }
 
-/// The result when an office receives a state. The source gives one byte per read, and only the
-/// read with this number fails.
+/// Returns the result when an office receives a state. The source gives one byte per read, and only
+/// the read with this number fails.
 fn received(office: &mut Office, text: &[u8], read: u64) -> Result<(), OfficeFault>
     requires { 0 < read }
 {
     office.receive(&mut Fuse::new(Bytes::new(text, 1), read), 1000)
 }
 
-/// The result when an office reloads a state. The source gives one byte per read, and only the read
-/// with this number fails.
+/// Returns the result when an office reloads a state. The source gives one byte per read, and only
+/// the read with this number fails.
 fn reloaded(office: &mut Office, text: &[u8], read: u64) -> Result<(), OfficeFault>
     requires { 0 < read }
 {
     office.reload(&mut Fuse::new(Bytes::new(text, 1), read), 1000)
 }
 
-/// The fault when an office for Ashfeld is read from a source whose read with this number fails.
-/// `None` if the office is made.
+/// Returns the fault when an office for Ashfeld is made from a source whose read with this number
+/// fails, or `None` if the office is made.
 fn read_at_place(rt: &impl Abort, alloc: Global, text: &[u8], read: u64) -> Option<OfficeFault>
     requires { 0 < read }
 {
@@ -79,8 +79,8 @@ fn read_at_place(rt: &impl Abort, alloc: Global, text: &[u8], read: u64) -> Opti
     PlaceOffice::read(alloc, place, day, &mut source, 1000).err()
 }
 
-/// The fault when an office with only a ledger is read from a source whose read with this number
-/// fails. `None` if the office is made.
+/// Returns the fault when an office with only a ledger is made from a source whose read with this
+/// number fails, or `None` if the office is made.
 fn read_ledger(alloc: Global, text: &[u8], read: u64) -> Option<OfficeFault>
     requires { 0 < read }
 {
@@ -117,7 +117,8 @@ fn a_source_that_fails_once(rt: HostRuntime) {
     has(&rt, alloc, &office, MORNING_STATE);
 }
 
-/// Asserts that sending a state to a sink with room for 20 bytes fails, and fills the sink.
+/// Asserts that sending a state to a sink with room for 20 bytes fails, and that the sink is then
+/// full.
 fn fills_by_send(rt: &impl Abort, alloc: Global, office: &Office) {
     let text = text_of_parts(rt, alloc, MORNING_STATE);
     let mut kept = Kept::new(alloc, 20).expect(rt, "room");
@@ -128,7 +129,8 @@ fn fills_by_send(rt: &impl Abort, alloc: Global, office: &Office) {
 /// The first 70 bytes of the docker of Ashfeld.
 const FRONT: &[u8] = b"DOCKER ASHFELD 2024-06-10                               \n0900  D 1A10 ";
 
-/// Asserts that printing a docker to a sink with room for 70 bytes fails, and fills the sink.
+/// Asserts that printing a docker to a sink with room for 70 bytes fails, and that the sink is then
+/// full.
 fn fills_by_print(rt: &impl Abort, alloc: Global, office: &Office) {
     let place = place_of(rt, "ASHFELD");
     let day = day_of(rt, "2024-06-10");
@@ -138,8 +140,8 @@ fn fills_by_print(rt: &impl Abort, alloc: Global, office: &Office) {
     same(rt, kept.bytes(), FRONT);
 }
 
-/// Asserts that an office for Ashfeld that prints to a sink with room for 70 bytes fails, and fills
-/// the sink.
+/// Asserts that printing to a sink with room for 70 bytes fails for an office for Ashfeld, and that
+/// the sink is then full.
 fn fills_at_place(rt: &impl Abort, alloc: Global, office: &Office) {
     let (place, day) = (place_of(rt, "ASHFELD"), day_of(rt, "2024-06-10"));
     let office = at_place(rt, alloc, office, place, day);
@@ -149,15 +151,16 @@ fn fills_at_place(rt: &impl Abort, alloc: Global, office: &Office) {
     same(rt, kept.bytes(), FRONT);
 }
 
-/// Asserts that listing files to a sink with room for 10 bytes fails, and fills the sink.
+/// Asserts that listing files to a sink with room for 10 bytes fails, and that the sink is then
+/// full.
 fn fills_by_files(rt: &impl Abort, alloc: Global, office: &Office) {
     let mut kept = Kept::new(alloc, 10).expect(rt, "room");
     same(rt, office.files(&mut kept), Err(OfficeFault::Sink));
     same(rt, kept.bytes(), b"2024-06-09".as_slice());
 }
 
-/// Asserts that an office with only a ledger that lists its files to a sink with room for 10 bytes
-/// fails, and fills the sink.
+/// Asserts that listing files to a sink with room for 10 bytes fails for an office with only a
+/// ledger, and that the sink is then full.
 fn fills_by_ledger(rt: &impl Abort, alloc: Global, office: &Office) {
     let ledger = ledger_of(rt, alloc, office);
     let mut kept = Kept::new(alloc, 10).expect(rt, "room");

@@ -1,4 +1,4 @@
-//! Pseudo-random numbers, the same in each run of the tests.
+//! Pseudo-random numbers, which are the same in each run of the tests.
 ghost use Rattle.std.specs.Prelude.{◌<◌};
 
 /// A linear congruential generator. It returns the upper bits of its numbers.
@@ -8,12 +8,12 @@ pub(crate) struct Dice {
 }
 
 impl Dice {
-    /// A generator that starts from this number.
+    /// Returns a generator that starts from this number.
     pub(crate) fn new(number: u64) -> Dice {
         Dice { number }
     }
 
-    /// The next number below `sides`.
+    /// Returns the next number below `sides`.
     pub(crate) fn roll(&mut self, sides: usize) -> usize
         requires { 0 < sides }
         ensures { result < sides }

@@ -6,7 +6,8 @@ use std::alloc::Global;
 use std::process::Abort;
 use test_records::printed::{ASHFELD_0900, ASHFELD_0905, NONE_AT_ASHFELD, NONE_ON_18_JUNE};
 
-/// A row: the files that an office takes in this order, a place, a day, and the expected docker.
+/// A row: files, a place, a day, and the docker that an office prints after it has taken the files
+/// in this order.
 type Row = (&'static [File], &'static str, &'static str, &'static str);
 
 /// The docker of Ashfeld if the morning train leaves ten minutes earlier.
@@ -69,7 +70,7 @@ fn are_printed(rt: &impl Abort, alloc: Global, rows: &[Row]) {
     }
 }
 
-/// Rows of one train.
+/// Rows with one train.
 const ONE_TRAIN: &[Row] = &[
     (
         &[],
@@ -189,7 +190,7 @@ fn one_train(rt: HostRuntime) {
     are_printed(&rt, rt.alloc(), ONE_TRAIN);
 }
 
-/// Rows of a train that one file changes more than once.
+/// Rows with a train that one file changes more than once.
 const CHANGED: &[Row] = &[
     (&[PUT_AND_REVISED], "ASHFELD", "2024-06-10", NONE_AT_ASHFELD),
     (&[REVISED_AND_PUT], "ASHFELD", "2024-06-10", ASHFELD_0900),
@@ -202,7 +203,7 @@ fn a_train_that_is_changed_again(rt: HostRuntime) {
     are_printed(&rt, rt.alloc(), CHANGED);
 }
 
-/// Rows of two files that are taken in either order.
+/// Rows with two files that are taken in either order.
 const ORDERS: &[Row] = &[
     (&[MORNING, REVISION], "ASHFELD", "2024-06-10", ASHFELD_0905),
     (&[REVISION, MORNING], "ASHFELD", "2024-06-10", ASHFELD_0905),
@@ -241,7 +242,7 @@ fn files_in_any_order(rt: HostRuntime) {
     are_printed(&rt, rt.alloc(), ORDERS);
 }
 
-/// Rows of a train with an overlay, a cancellation and a later schedule.
+/// Rows with a train that has an overlay, a cancellation and a later schedule.
 const WEEKS: &[Row] = &[
     (&[WEEK], "ASHFELD", "2024-06-10", ASHFELD_0900),
     (
@@ -330,7 +331,7 @@ fn a_week(rt: HostRuntime) {
     are_printed(&rt, rt.alloc(), WEEKS);
 }
 
-/// Rows of trains that run past midnight.
+/// Rows with trains that run past midnight.
 const NIGHTS: &[Row] = &[
     (&[NIGHT], "COLWELL", "2024-06-10", NONE_AT_COLWELL),
     (
@@ -381,7 +382,7 @@ fn past_midnight(rt: HostRuntime) {
     are_printed(&rt, rt.alloc(), NIGHTS);
 }
 
-/// Rows of days far away, and of places with a description.
+/// Rows with days far in the past or the future, and with places that have a description.
 const OTHERS: &[Row] = &[
     (
         &[NO_END],
@@ -482,7 +483,7 @@ fn associations(rt: HostRuntime) {
     are_printed(&rt, rt.alloc(), LINKS);
 }
 
-/// Rows of entries with equal stamps.
+/// Rows with entries that have equal stamps.
 const TIES: &[Row] = &[
     (&[MORNING, LONGER], "ASHFELD", "2024-06-10", ASHFELD_0850),
     (&[LONGER, MORNING], "ASHFELD", "2024-06-10", ASHFELD_0850),
@@ -497,7 +498,7 @@ fn equal_stamps(rt: HostRuntime) {
     are_printed(&rt, rt.alloc(), TIES);
 }
 
-/// Rows of a train whose identity changes on the way.
+/// Rows with a train whose identity changes on the way.
 const IDENTITIES: &[Row] = &[
     (
         &[IDENTITY],

@@ -5,8 +5,8 @@ use test_records::*;
 /// The records of a file, in order.
 pub(crate) type File = &'static [&'static [u8]];
 
-/// A train that is put, and then revised to run on Friday 14 June only. So it can't be on a docker
-/// of 10 June.
+/// A train that is put, and then revised to run on Friday 14 June only. So the docker of 10 June
+/// can't list the train.
 pub(crate) const PUT_AND_REVISED: File = &[HD, BS, LO, LT, BS_FRIDAY, LO_0905, LT_0935, ZZ];
 
 /// A train that is revised to run on Friday 14 June only, and then put.
@@ -60,7 +60,7 @@ pub(crate) const PLACE: File = &[HD, TI, ZZ];
 /// A new code for that timing point, a day later.
 pub(crate) const RENAMED: File = &[HD_10B, TA, ZZ];
 
-/// A file with a train, its overlay on two days and its cancellation on a third, and then these
+/// A file with a train, its overlay on two days, its cancellation on a third day, and then these
 /// further records.
 macro_rules! week {
     ($($more:expr),*) => {
@@ -146,8 +146,8 @@ pub(crate) const HALF: File = &[HD, BS, LO_HALF, LT, ZZ];
 /// A train from Ashfeld to Ashfeld that arrives at the time at which it leaves.
 pub(crate) const ROUND: File = &[HD, BS, LO, LT_ASHFELD_0900, ZZ];
 
-/// A file with a train to Colwell, a train from Colwell past midnight, and these further records.
-/// `$first` is the basic schedule of the first train.
+/// A file with a train to Colwell, a train from Colwell past midnight, and then these further
+/// records. `$first` is the basic schedule of the first train.
 macro_rules! two_trains {
     ($first:expr, $($more:expr),*) => {
         &[
@@ -194,8 +194,8 @@ pub(crate) const BASE_CANCELLED: File = two_trains!(BS_C40001, AA_N, BS_C40001_C
 /// The morning train, and its deletion in the same file.
 pub(crate) const WITHDRAWN: File = &[HD, BS, LO, LT, BS_DELETED, ZZ];
 
-/// A deletion of the morning train that is followed by an origin whose time isn't a time of day.
-/// The origin of a deletion isn't checked.
+/// A deletion of the morning train, followed by an origin whose time isn't a time of day. The
+/// origin of a deletion isn't checked.
 pub(crate) const DELETED_AT_NO_TIME: File = &[HD, BS_DELETED, LO_2400, LT, ZZ];
 
 /// An update of the year 2000, without changes.

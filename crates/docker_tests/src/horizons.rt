@@ -14,8 +14,9 @@ fn set(rt: &impl Abort, office: &mut Office, date: &str) {
     office.set_horizon(day_of(rt, date));
 }
 
-/// A row: a horizon to set, and the size of the state's text after it. Then a day that is refused,
-/// the day after it, and the docker of this later day, which has no lines.
+/// A row: a horizon to set, the size of the state's text after the horizon is set, a day that is
+/// refused, and the day after it. The last column is the docker of this later day, which has no
+/// lines.
 type Row = (
     &'static str,
     usize,
@@ -57,8 +58,8 @@ DOCKER ASHFELD 2024-06-24
 END                                                     
 ";
 
-/// Sets the row's horizon. Asserts the size of the state's text, the day that is refused, and the
-/// docker.
+/// Sets the row's horizon. Asserts the size of the state's text, that the row's first day is
+/// refused, and the docker of the second day.
 fn is_after(rt: &impl Abort, alloc: Global, office: &mut Office, row: &Row) {
     let (horizon, bytes, refused, printed, docker) = *row;
     set(rt, office, horizon);

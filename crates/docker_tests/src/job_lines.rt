@@ -1,4 +1,4 @@
-//! Tests of jobs that the first line of a source names.
+//! Tests of jobs that are named by the first line of a source.
 ghost use Rattle.std.specs.Prelude.{None, false};
 
 use crate::compare::{same, same_in};
@@ -44,7 +44,7 @@ fn spaces_around_words(rt: HostRuntime) {
     words_are(&rt, &job, &["state", "stdin"]);
 }
 
-/// A line with the subcommand `day`, this number of spaces, and then this end.
+/// Returns a line with the subcommand `day`, this number of spaces, and then this end.
 fn line_of(rt: &impl Abort, alloc: Global, spaces: usize, end: &[u8]) -> Vec<u8> {
     let mut line = Vec::new(alloc);
     line.extend_from_slice(b"day").expect(rt, "room");

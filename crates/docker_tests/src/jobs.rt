@@ -1,4 +1,4 @@
-//! Tests of jobs that words name.
+//! Tests of jobs that are named by words.
 
 use crate::compare::same_of;
 use cif_line::{Day, Tiploc};
@@ -6,8 +6,7 @@ use docker_cmd::{JobFault, Subcommand, job};
 use std::alloc::Global;
 use std::process::Abort;
 
-/// A row: words, and the job that they name, by its subcommand, its timing point and its day
-/// number.
+/// A row: words, and the subcommand, timing point and day number of the job that they name.
 type Row = (
     &'static [&'static str],
     Subcommand,
@@ -51,7 +50,7 @@ const JOBS: &[Row] = &[
     (&["migrate", "S"], Subcommand::Migrate, None, None),
 ];
 
-/// The code of a timing point.
+/// Returns the code of a timing point.
 fn code_of(tiploc: Option<Tiploc>) -> Option<[u8; 7]> {
     match tiploc {
         Some(tiploc) => Some(*tiploc.bytes()),
@@ -59,7 +58,7 @@ fn code_of(tiploc: Option<Tiploc>) -> Option<[u8; 7]> {
     }
 }
 
-/// The number of a day.
+/// Returns the number of a day.
 fn number_of(day: Option<Day>) -> Option<u16> {
     match day {
         Some(day) => Some(day.number()),
@@ -67,7 +66,7 @@ fn number_of(day: Option<Day>) -> Option<u16> {
     }
 }
 
-/// Asserts that the words of this row name its job.
+/// Asserts that the words of this row name the row's job.
 fn is_job(rt: &impl Abort, alloc: Global, row: &Row) {
     let (words, subcommand, tiploc, day) = *row;
     let job = job(alloc, words).expect(rt, "a job");

@@ -1,5 +1,5 @@
-//! Works out what offices know in a run from its events and replies only, and makes the state of
-//! that knowledge without an office.
+//! Works out what offices know in a run, from the events and replies of the run only. Also makes
+//! the state of that knowledge without an office.
 
 use crate::files::*;
 use crate::offices::text_of;
@@ -48,7 +48,7 @@ const REFUSED: [FileFault; 2] = [
     },
 ];
 
-/// The texts of the files.
+/// Returns the texts of the files.
 pub(crate) fn texts_of_files(rt: &impl Abort, alloc: Global) -> Vec<Vec<u8>> {
     let mut texts = Vec::new(alloc);
     for file in FILES {
@@ -97,7 +97,7 @@ pub(crate) enum Step {
 }
 
 impl Step {
-    /// The office of this event.
+    /// Returns the office of this event.
     fn office(&self) -> usize {
         match self {
             Step::Take { office, .. }
@@ -108,7 +108,7 @@ impl Step {
         }
     }
 
-    /// The message that is delivered or reloaded; `None` for other events.
+    /// Returns the message that is delivered or reloaded; `None` for other events.
     fn message(&self) -> Option<usize> {
         match self {
             Step::Deliver { message, .. } | Step::Reload { message, .. } => Some(*message),
@@ -116,8 +116,8 @@ impl Step {
         }
     }
 
-    /// The fault for which the office refuses the file; `None` if the event doesn't take one of the
-    /// refused files.
+    /// Returns the fault for which the office refuses the file; `None` if the event doesn't take a
+    /// file that is refused.
     fn refusal(&self) -> Option<FileFault> {
         match self {
             Step::Take { file, .. } => REFUSED.get(*file).copied(),
@@ -126,7 +126,7 @@ impl Step {
     }
 }
 
-/// What an office or a message knows: its files, by their indexes, and its horizon.
+/// The knowledge of an office or a message: its files, by their indexes, and its horizon.
 #[derive(Clone, Copy)]
 pub(crate) struct Known {
     files: [bool; FILES.len()],
@@ -134,7 +134,7 @@ pub(crate) struct Known {
 }
 
 impl Known {
-    /// Knowledge of no files, with no horizon.
+    /// Returns the knowledge of no files, with no horizon.
     fn nothing() -> Known {
         Known {
             files: [false; FILES.len()],
@@ -142,21 +142,21 @@ impl Known {
         }
     }
 
-    /// Adds a file to what is known.
+    /// Adds a file to this knowledge.
     fn take(&mut self, file: usize) {
         if let Some(known) = self.files.get_mut(file) {
             *known = true;
         }
     }
 
-    /// Adds a horizon. The greater horizon counts.
+    /// Adds a horizon to this knowledge. The greater horizon counts.
     fn raise(&mut self, horizon: Option<Day>) {
         if self.horizon < horizon {
             self.horizon = horizon;
         }
     }
 
-    /// Adds what another office or a message knows.
+    /// Adds the knowledge of another office or a message to this knowledge.
     fn join(&mut self, other: &Known) {
         for file in 0..FILES.len() {
             self.files[file] |= other.files[file];
@@ -164,7 +164,7 @@ impl Known {
         self.raise(other.horizon);
     }
 
-    /// The state of the known files under the known horizon.
+    /// Returns the state of the known files under the known horizon.
     fn state(&self, rt: &impl Abort, alloc: Global, texts: &[Vec<u8>]) -> State {
         let mut state = State::empty(alloc);
         for (text, known) in texts.iter().zip(self.files.iter()) {
@@ -179,7 +179,7 @@ impl Known {
         state
     }
 
-    /// The text of the state of the known files under the known horizon.
+    /// Returns the text of the state of the known files under the known horizon.
     pub(crate) fn text(&self, rt: &impl Abort, alloc: Global, texts: &[Vec<u8>]) -> Kept {
         let state = self.state(rt, alloc, texts);
         let room = usize::try_from(encoded_len(&state)).expect(rt, "a length");
@@ -189,14 +189,14 @@ impl Known {
     }
 }
 
-/// The state of a file.
+/// Returns the state of a file.
 fn state_of(rt: &impl Abort, alloc: Global, text: &[u8]) -> State {
     let mut source = Bytes::new(text, 4096);
     let file = read_file(alloc, &mut source, MOST_RECORDS).expect(rt, "a file");
     State::of_file(alloc, file).expect(rt, "room")
 }
 
-/// What each office and each message knows.
+/// The knowledge of each office and each message.
 #[derive(Drop)]
 pub(crate) struct Knowledge {
     pub(crate) offices: [Known; OFFICES],
@@ -204,7 +204,8 @@ pub(crate) struct Knowledge {
 }
 
 impl Knowledge {
-    /// The knowledge at the start of a run: no office knows anything, and no message has been sent.
+    /// Returns the knowledge at the start of a run, when no office knows anything and no message
+    /// has been sent.
     pub(crate) fn new(alloc: Global) -> Knowledge {
         Knowledge {
             offices: [Known::nothing(); OFFICES],
@@ -212,7 +213,7 @@ impl Knowledge {
         }
     }
 
-    /// The reply to expect for this event, if memory doesn't run out.
+    /// Returns the reply that is expected for this event if memory doesn't run out.
     pub(crate) fn due(&self, step: &Step) -> Reply {
         if step.office() >= OFFICES {
             return Reply::Refused(RunFault::NoOffice);
@@ -228,14 +229,14 @@ impl Knowledge {
         }
     }
 
-    /// Updates what is known after an event with this reply. A refused event changes nothing.
+    /// Updates the knowledge after an event with this reply. A refused event changes nothing.
     pub(crate) fn follow(&mut self, rt: &impl Abort, step: &Step, reply: Reply) {
         if reply == Reply::Done {
             self.follow_done(rt, step);
         }
     }
 
-    /// Updates what is known after an event that was done.
+    /// Updates the knowledge after an event that was done.
     fn follow_done(&mut self, rt: &impl Abort, step: &Step) {
         let known = self.offices.get_mut(step.office()).expect(rt, "an office");
         match step {

@@ -1,4 +1,4 @@
-//! Helpers for tests: offices over sources and sinks in memory.
+//! Helpers for tests with offices that read from sources and write to sinks in memory.
 
 use crate::compare::{same, same_in};
 use crate::files::File;
@@ -11,7 +11,7 @@ use std::process::Abort;
 /// The most bytes of a text in the worked examples.
 const ROOM: usize = 1000;
 
-/// These lines as one text, each with a line feed.
+/// Returns these lines as one text, each with a line feed.
 pub(crate) fn text_of(rt: &impl Abort, alloc: Global, lines: &[&[u8]]) -> Vec<u8> {
     let mut text = Vec::new(alloc);
     for line in lines {
@@ -28,7 +28,7 @@ pub(crate) fn take(rt: &impl Abort, alloc: Global, office: &mut Office, file: Fi
     office.take(&mut source, 1000).expect(rt, "a file");
 }
 
-/// An office that has taken these files in this order.
+/// Returns an office that has taken these files in this order.
 pub(crate) fn office_of(rt: &impl Abort, alloc: Global, files: &[File]) -> Office {
     let mut office = Office::new(alloc);
     for file in files {
@@ -46,8 +46,8 @@ fn receive_of(rt: &impl Abort, alloc: Global, office: &mut Office, file: File) {
     office.receive(&mut source, 1000).expect(rt, "a state");
 }
 
-/// An office that has received the states of other offices. Each of the other offices has taken one
-/// of these files.
+/// Returns an office that has received the states of other offices. Each of the other offices has
+/// taken one of these files.
 pub(crate) fn merged(rt: &impl Abort, alloc: Global, files: &[File]) -> Office {
     let mut office = Office::new(alloc);
     for file in files {
@@ -56,14 +56,14 @@ pub(crate) fn merged(rt: &impl Abort, alloc: Global, files: &[File]) -> Office {
     office
 }
 
-/// The text that an office sends.
+/// Returns the text that an office sends.
 pub(crate) fn sent(rt: &impl Abort, alloc: Global, office: &Office) -> Kept {
     let mut kept = Kept::new(alloc, ROOM).expect(rt, "room");
     office.send(&mut kept).expect(rt, "the state");
     kept
 }
 
-/// An office for one timing point and one day that has read the state of another office.
+/// Returns an office for one timing point and one day that has read the state of another office.
 pub(crate) fn at_place(
     rt: &impl Abort,
     alloc: Global,
@@ -76,7 +76,7 @@ pub(crate) fn at_place(
     PlaceOffice::read(alloc, place, day, &mut source, 1000).expect(rt, "a state")
 }
 
-/// An office that has read only the ledger of another office.
+/// Returns an office that has read only the ledger of another office.
 pub(crate) fn ledger_of(rt: &impl Abort, alloc: Global, office: &Office) -> LedgerOffice {
     let text = sent(rt, alloc, office);
     let mut source = Bytes::new(text.bytes(), 7);
@@ -95,18 +95,18 @@ pub(crate) fn has(rt: &impl Abort, alloc: Global, office: &Office, parts: Parts)
     has_text(rt, alloc, office, text.as_slice());
 }
 
-/// The timing point with this code.
+/// Returns the timing point with this code.
 pub(crate) fn place_of(rt: &impl Abort, code: &str) -> Tiploc {
     Tiploc::from_text(code).expect(rt, "a TIPLOC")
 }
 
-/// The day with this date.
+/// Returns the day with this date.
 pub(crate) fn day_of(rt: &impl Abort, date: &str) -> Day {
     Day::from_iso(date).expect(rt, "a day")
 }
 
-/// Asserts that an office prints this docker for a place and a day, and that an office for only
-/// this place and day prints it too.
+/// Asserts that an office prints this docker for a place and a day. Also asserts that an office for
+/// only this place and day prints it.
 pub(crate) fn prints(
     rt: &impl Abort,
     alloc: Global,
@@ -125,7 +125,8 @@ pub(crate) fn prints(
     prints_there(rt, alloc, &office, date, docker);
 }
 
-/// Asserts that an office for one place and one day that takes this file prints this docker.
+/// Asserts that an office for one place and one day prints this docker after it has taken this
+/// file.
 pub(crate) fn prints_of_file(
     rt: &impl Abort,
     alloc: Global,
@@ -150,8 +151,8 @@ fn prints_there(rt: &impl Abort, alloc: Global, office: &PlaceOffice, date: &str
     same_in(rt, date, kept.bytes(), docker.as_bytes());
 }
 
-/// Asserts that an office refuses to print a docker of Ashfeld on a day, and that an office for
-/// only this place and day refuses too.
+/// Asserts that an office refuses to print a docker of Ashfeld on a day. Also asserts that an
+/// office for only this place and day refuses to print it.
 pub(crate) fn refuses_day(rt: &impl Abort, alloc: Global, office: &Office, date: &str) {
     let place = place_of(rt, "ASHFELD");
     let day = day_of(rt, date);

@@ -9,7 +9,7 @@ use std::alloc::Global;
 use std::fmt::Display;
 use std::process::Abort;
 
-/// Asserts how a value is printed.
+/// Asserts the text that a value prints.
 fn prints<T: Display + Drop>(rt: &impl Abort, alloc: Global, value: T, wanted: &str) {
     let text = format!(in alloc; "{value}").expect(rt, "the text");
     same(rt, text.as_str(), wanted);

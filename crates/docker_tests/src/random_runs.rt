@@ -1,5 +1,5 @@
-//! A thousand random runs of three offices. At the end of a run, the text of every office and of
-//! every message is the text of the state of what that office or message knows.
+//! A thousand random runs of three offices. At the end of a run, each office and each message has
+//! the text of the state of what that office or message knows.
 ghost use Rattle.docker_office.specs.RunEnds.{HasGoodLimit};
 ghost use Rattle.docker_office.specs.RunMeaning.{event_meant};
 
@@ -21,8 +21,8 @@ const FIRST_HORIZON: usize = 23537;
 
 const HORIZONS: usize = 16;
 
-/// A random event. One event in twelve is at an office that doesn't exist. An event that delivers
-/// or reloads a message may name a message that was never sent.
+/// Returns a random event. One event in twelve is at an office that doesn't exist. An event that
+/// delivers or reloads a message may name a message that was never sent.
 fn random_step(rt: &impl Abort, dice: &mut Dice, sent: u16) -> Step {
     let office = if dice.roll(12) == 0 {
         OFFICES
@@ -45,14 +45,14 @@ fn random_step(rt: &impl Abort, dice: &mut Dice, sent: u16) -> Step {
     }
 }
 
-/// A random day for a horizon.
+/// Returns a random day for a horizon.
 fn random_day(rt: &impl Abort, dice: &mut Dice) -> Day {
     let number = FIRST_HORIZON + dice.roll(HORIZONS);
     let number = u16::try_from(number).expect(rt, "a number");
     Day::from_number(number).expect(rt, "a day")
 }
 
-/// The events of a run.
+/// Returns the events of a run.
 fn random_steps(rt: &impl Abort, alloc: Global, dice: &mut Dice) -> Vec<Step> {
     let mut steps = Vec::new(alloc);
     let mut sent: u16 = 0;
@@ -66,8 +66,8 @@ fn random_steps(rt: &impl Abort, alloc: Global, dice: &mut Dice) -> Vec<Step> {
     steps
 }
 
-/// The event with this index, with the text of its file. If there is no such event, an office that
-/// doesn't exist sends its state.
+/// Returns the event with this index, with the text of its file. If there is no such event, returns
+/// one in which an office that doesn't exist sends its state.
 fn event_at<'a>(steps: &[Step], place: usize, texts: &'a [Vec<u8>]) -> Event<'a>
     ensures { HasGoodLimit (event_meant result) }
 {
@@ -94,7 +94,7 @@ fn event_at<'a>(steps: &[Step], place: usize, texts: &'a [Vec<u8>]) -> Event<'a>
     }
 }
 
-/// The text of a file, or an empty text if there is no such file.
+/// Returns the text of a file, or an empty text if there is no such file.
 fn text_at(texts: &[Vec<u8>], file: usize) -> &[u8] {
     match texts.get(file) {
         Some(text) => text.as_slice(),
@@ -102,7 +102,7 @@ fn text_at(texts: &[Vec<u8>], file: usize) -> &[u8] {
     }
 }
 
-/// The offices, messages and replies that a run of these events leaves.
+/// Returns the offices, messages and replies at the end of a run of these events.
 fn left_by(rt: &impl Abort, alloc: Global, steps: &[Step], texts: &[Vec<u8>]) -> Exchange {
     let events = [
         event_at(steps, 0, texts),
@@ -125,7 +125,7 @@ fn left_by(rt: &impl Abort, alloc: Global, steps: &[Step], texts: &[Vec<u8>]) ->
     run(alloc, OFFICES, &events).expect(rt, "memory")
 }
 
-/// For one kind of event, how often it got each kind of reply.
+/// For one kind of event: how often each kind of reply was given.
 #[derive(Clone, Copy)]
 struct Count {
     done: u32,
@@ -155,7 +155,7 @@ impl Count {
     }
 }
 
-/// For each kind of event, how often it got each kind of reply.
+/// For each kind of event: how often each kind of reply was given.
 #[derive(Clone, Copy)]
 struct Tally {
     takes: Count,
@@ -186,7 +186,7 @@ impl Tally {
         }
     }
 
-    /// Whether each kind of event got every reply that it can get.
+    /// Whether each kind of event got every reply that is possible for it.
     fn is_full(&self) -> bool {
         let all = [
             self.takes,
@@ -235,7 +235,7 @@ fn is_of_known(
     same(rt, (number, text), (number, wanted.bytes()));
 }
 
-/// The text that an office sends.
+/// Returns the text that an office sends.
 fn text_of_office(rt: &impl Abort, alloc: Global, office: &Office) -> Kept {
     let room = usize::try_from(encoded_len(office.state())).expect(rt, "a length");
     let mut kept = Kept::new(alloc, room).expect(rt, "room");

@@ -1,4 +1,4 @@
-//! Tests of files that an office refuses without a change to its state.
+//! Tests of files that an office refuses, which leaves its state unchanged.
 
 use crate::compare::same;
 use crate::files::*;
@@ -35,12 +35,13 @@ const REFUSED: &[Row] = &[
     (&[], 0, 1, FileCause::NoEnd),
 ];
 
-/// The result when an office takes a file of at most `limit` records.
+/// Returns the result when an office takes a file of at most `limit` records.
 fn taken(office: &mut Office, text: &[u8], limit: u16) -> Result<(), OfficeFault> {
     office.take(&mut Bytes::new(text, 9), u32::from(limit))
 }
 
-/// Asserts that an office that knows the revision refuses the file of this row, and doesn't change.
+/// Asserts that an office that knows the revision refuses the file of this row, and that the office
+/// is then unchanged.
 fn is_refused(rt: &impl Abort, alloc: Global, office: &mut Office, row: &Row) {
     let (file, limit, number, cause) = *row;
     let text = text_of(rt, alloc, file);

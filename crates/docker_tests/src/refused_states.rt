@@ -1,4 +1,4 @@
-//! Tests of states that an office refuses without a change to its own state.
+//! Tests of states that an office refuses, which leaves its own state unchanged.
 
 use crate::compare::same;
 use crate::files::*;
@@ -25,8 +25,8 @@ const NEWER: &[Ask] = &[Ask::Receive, Ask::Reload, Ask::Place, Ask::Ledger];
 /// The ways of reading a state in the older format.
 const OLDER: &[Ask] = &[Ask::Migrate];
 
-/// The result when an office reads a text of at most `limit` bytes in this way. The source gives at
-/// most 9 bytes per read.
+/// Returns the result when an office reads a text of at most `limit` bytes in this way. The source
+/// gives at most 9 bytes per read.
 fn read_in(
     rt: &impl Abort,
     alloc: Global,
@@ -47,8 +47,8 @@ fn read_in(
     }
 }
 
-/// Asserts that an office that knows the revision refuses this text for this fault, and doesn't
-/// change.
+/// Asserts that an office that knows the revision refuses this text for this fault, and that the
+/// office is then unchanged.
 fn refuses(rt: &impl Abort, alloc: Global, how: Ask, text: &[u8], limit: u64, fault: StateFault) {
     let mut office = office_of(rt, alloc, &[REVISION]);
     let answer = read_in(rt, alloc, how, &mut office, text, limit);
@@ -70,12 +70,12 @@ fn refuses_by(
     }
 }
 
-/// A fault at this offset.
+/// Returns a fault at this offset.
 fn fault(at: u64, cause: StateCause) -> StateFault {
     StateFault { at, cause }
 }
 
-/// A copy of the text in which these bytes replace the bytes at this offset.
+/// Returns a copy of the text in which these bytes replace the bytes at this offset.
 fn changed(rt: &impl Abort, alloc: Global, text: &[u8], at: usize, bytes: &[u8]) -> Vec<u8> {
     let front = text.get(..at).expect(rt, "an offset");
     let after = at.saturating_add(bytes.len());
@@ -87,8 +87,8 @@ fn changed(rt: &impl Abort, alloc: Global, text: &[u8], at: usize, bytes: &[u8])
     other
 }
 
-/// A change to a text, and the fault that it causes: an offset, the bytes to put there, and the
-/// offset and the cause of the fault.
+/// A change to a text, and the fault that it causes. The columns are an offset in the text, the
+/// bytes that replace the text's bytes at this offset, and the offset and the cause of the fault.
 type Change = (usize, &'static [u8], u64, StateCause);
 
 /// Changes to the text of one file's state. The first four replace bytes of its mark, of its
@@ -112,7 +112,7 @@ const CHANGED: &[Change] = &[
     ),
 ];
 
-/// Asserts that this text, after this change, is refused in these ways.
+/// Asserts that this text, with this change, is refused in each of these ways of reading.
 fn refuses_change(rt: &impl Abort, alloc: Global, ways: &[Ask], text: &[u8], change: &Change) {
     let (offset, bytes, at, cause) = *change;
     let other = changed(rt, alloc, text, offset, bytes);
@@ -120,7 +120,7 @@ fn refuses_change(rt: &impl Abort, alloc: Global, ways: &[Ask], text: &[u8], cha
     refuses_by(rt, alloc, ways, other.as_slice(), 1000, found);
 }
 
-/// Asserts that this text, after each of these changes, is refused in these ways.
+/// Asserts that this text, with each of these changes, is refused in each of these ways of reading.
 fn refuses_changed(rt: &impl Abort, alloc: Global, ways: &[Ask], parts: Parts, changes: &[Change]) {
     let text = text_of_parts(rt, alloc, parts);
     for change in changes {
@@ -154,10 +154,10 @@ fn changed_older_states(rt: HostRuntime) {
     refuses_changed(&rt, rt.alloc(), OLDER, OLD_STATE, OLD_CHANGED);
 }
 
-/// A row: the text after its mark, the most bytes that a text may have, and the fault in the older
-/// format. In order, the texts have an item twice, an item of a full extract above the first item,
-/// and an entry twice. The last two have one byte after the state, and one byte more than the
-/// limit.
+/// A row: the text after its mark, the most bytes that a text may have, and the offset and the
+/// cause of the fault in the older format. In order, the texts have an item twice, an item of a
+/// full extract above the first item, and an entry twice. The last two have one byte after the
+/// state, and one byte more than the limit.
 type Other = (Parts, u64, u64, StateCause);
 
 const OTHERS: &[Other] = &[
@@ -207,7 +207,7 @@ const OTHERS: &[Other] = &[
     (train_after!(ONE, ITEM, ONE), 308, 308, StateCause::Long),
 ];
 
-/// A text of this mark and these parts.
+/// Returns a text with this mark and these parts.
 fn marked(rt: &impl Abort, alloc: Global, mark: &[u8], parts: Parts) -> Vec<u8> {
     let mut text = text_of_parts(rt, alloc, &[mark]);
     let rest = text_of_parts(rt, alloc, parts);
@@ -241,7 +241,8 @@ fn items_and_entries_out_of_place(rt: HostRuntime) {
     }
 }
 
-/// Rows: how many bytes of the text are left, and the offset at which the text is then too short.
+/// Rows: the number of bytes to which a text is cut, and the offset at which the cut text is too
+/// short.
 const CUT: &[(usize, u64)] = &[
     (0, 0),
     (3, 0),
@@ -271,15 +272,16 @@ const OLD_CUT: &[(usize, u64)] = &[
     (308, 39),
 ];
 
-/// Asserts that the first `bytes` bytes of a text are refused in these ways, because the text is
-/// too short at this offset.
+/// Asserts that the first `bytes` bytes of a text are refused in each of these ways of reading,
+/// because the text is too short at this offset.
 fn refuses_front(rt: &impl Abort, alloc: Global, ways: &[Ask], text: &[u8], bytes: usize, at: u64) {
     let front = text.get(..bytes).expect(rt, "a length");
     let found = fault(at, StateCause::Short);
     refuses_by(rt, alloc, ways, front, 1000, found);
 }
 
-/// Asserts that a text that is cut as in each of these rows is refused in these ways.
+/// Asserts that a text that is cut as in each of these rows is refused in each of these ways of
+/// reading.
 fn refuses_cut(rt: &impl Abort, alloc: Global, ways: &[Ask], parts: Parts, cuts: &[(usize, u64)]) {
     let text = text_of_parts(rt, alloc, parts);
     for (bytes, at) in cuts {

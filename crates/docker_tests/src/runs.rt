@@ -1,4 +1,4 @@
-//! Tests of runs of events: the replies, and what is left at the end.
+//! Tests of runs of events: the replies, and the states at the end.
 ghost use Rattle.std.specs.Prelude.{All};
 ghost use Rattle.docker_office.specs.RunEnds.{HasGoodLimit};
 ghost use Rattle.docker_office.specs.RunMeaning.{event_meant, events_meant};
@@ -15,7 +15,7 @@ use std::alloc::Global;
 use std::process::Abort;
 use test_records::printed::{ASHFELD_0900, NONE_ON_18_JUNE};
 
-/// An event: an office takes this text, which may have as many records as any file.
+/// Returns the event that an office takes this text, which may have as many records as any file.
 fn take(office: usize, text: &[u8]) -> Event<'_>
     ensures { HasGoodLimit (event_meant result) }
 {
@@ -26,42 +26,42 @@ fn take(office: usize, text: &[u8]) -> Event<'_>
     }
 }
 
-/// An event: an office sends its state.
+/// Returns the event that an office sends its state.
 fn send<'a>(office: usize) -> Event<'a>
     ensures { HasGoodLimit (event_meant result) }
 {
     Event::Send { office }
 }
 
-/// An event: this message is delivered to an office.
+/// Returns the event that this message is delivered to an office.
 fn deliver<'a>(office: usize, message: usize) -> Event<'a>
     ensures { HasGoodLimit (event_meant result) }
 {
     Event::Deliver { office, message }
 }
 
-/// An event: an office reloads this message.
+/// Returns the event that an office reloads this message.
 fn reload<'a>(office: usize, message: usize) -> Event<'a>
     ensures { HasGoodLimit (event_meant result) }
 {
     Event::Reload { office, message }
 }
 
-/// An event: an office sets this horizon.
+/// Returns the event that an office sets this horizon.
 fn horizon<'a>(office: usize, day: Day) -> Event<'a>
     ensures { HasGoodLimit (event_meant result) }
 {
     Event::Horizon { office, day }
 }
 
-/// The offices, messages and replies that a run of these events leaves.
+/// Returns the offices, messages and replies at the end of a run of these events.
 fn left_by(rt: &impl Abort, alloc: Global, offices: usize, events: &[Event<'_>]) -> Exchange
     requires { All HasGoodLimit (events_meant events.now) }
 {
     run(alloc, offices, events).expect(rt, "memory")
 }
 
-/// The office with this index, at the end of a run.
+/// Returns the office with this index at the end of a run.
 fn office_at<'a>(rt: &impl Abort, left: &'a Exchange, office: usize) -> &'a Office {
     left.offices().get(office).expect(rt, "an office")
 }
@@ -109,7 +109,7 @@ fn no_office(rt: HostRuntime) {
     same(&rt, left.messages().len(), 0);
 }
 
-/// Events at three offices that end with the first office's reload, and then these further events.
+/// Events at three offices. They end with the first office's reload, and then these further events.
 macro_rules! up_to_reload {
     ([$early:expr, $full:expr, $late:expr], $($more:expr),*) => {
         &[
@@ -131,8 +131,8 @@ macro_rules! up_to_reload {
     };
 }
 
-/// What a run of three offices leaves. The last event of the run is refused, because its file has
-/// no trailer.
+/// Returns the end of a run of three offices. The last event of the run is refused, because its
+/// file has no trailer.
 fn three_left(rt: &impl Abort, alloc: Global) -> Exchange {
     let early = text_of(rt, alloc, FIFTH);
     let full = text_of(rt, alloc, SEVENTH);
@@ -172,7 +172,7 @@ fn three_offices(rt: HostRuntime) {
     message_is(&rt, alloc, &left, 4, LATE_STATE);
 }
 
-/// What a run of three offices leaves that ends with the first office's reload.
+/// Returns the end of a run of three offices, whose last event is the first office's reload.
 fn reload_left(rt: &impl Abort, alloc: Global) -> Exchange {
     let early = text_of(rt, alloc, FIFTH);
     let full = text_of(rt, alloc, SEVENTH);
@@ -192,8 +192,8 @@ fn three_offices_up_to_a_reload(rt: HostRuntime) {
     ends(&rt, alloc, &left, 1, LATE_STATE);
 }
 
-/// What a run of two offices leaves. Its last event sets a horizon at a third office, which doesn't
-/// exist.
+/// Returns the end of a run of two offices. Its last event sets a horizon at a third office, which
+/// doesn't exist.
 fn horizon_left(rt: &impl Abort, alloc: Global) -> Exchange {
     let text = text_of(rt, alloc, MORNING);
     let day = day_of(rt, "2024-06-15");
@@ -224,8 +224,8 @@ fn two_offices_and_a_horizon(rt: HostRuntime) {
     prints_there(&rt, alloc, &left, 0, "2024-06-10", ASHFELD_0900);
 }
 
-/// What a run of two offices leaves. The first office sends its state and then sets a horizon;
-/// after that the state is delivered to the second.
+/// Returns the end of a run of two offices. The first office sends its state and then sets a
+/// horizon. After that its message is delivered to the second office.
 fn delivery_left(rt: &impl Abort, alloc: Global) -> Exchange {
     let text = text_of(rt, alloc, MORNING);
     let day = day_of(rt, "2024-06-15");
@@ -246,7 +246,7 @@ fn a_delivery_before_the_horizon(rt: HostRuntime) {
     prints_there(&rt, rt.alloc(), &left, 1, "2024-06-10", ASHFELD_0900);
 }
 
-/// Events at one office that end with the reload of its first message, and then these further
+/// Events at one office. They end with the reload of its first message, and then these further
 /// events.
 macro_rules! up_to_loss {
     ([$text:expr, $revision:expr], $($more:expr),*) => {
@@ -261,7 +261,7 @@ macro_rules! up_to_loss {
     };
 }
 
-/// What a run leaves whose last event is a reload that loses the revision.
+/// Returns the end of a run whose last event is a reload that loses the revision.
 fn lost_left(rt: &impl Abort, alloc: Global) -> Exchange {
     let text = text_of(rt, alloc, MORNING);
     let revision = text_of(rt, alloc, REVISION);
@@ -269,7 +269,7 @@ fn lost_left(rt: &impl Abort, alloc: Global) -> Exchange {
     left_by(rt, alloc, 1, events)
 }
 
-/// What the run leaves if a message with the revision is delivered after the reload.
+/// Returns the end of the run in which a message with the revision is delivered after the reload.
 fn found_left(rt: &impl Abort, alloc: Global) -> Exchange {
     let text = text_of(rt, alloc, MORNING);
     let revision = text_of(rt, alloc, REVISION);
@@ -289,8 +289,8 @@ fn what_a_reload_lost_comes_again(rt: HostRuntime) {
     ends(&rt, alloc, &found, 0, REVISED_STATE);
 }
 
-/// What a run of five offices leaves. The first office takes three files. The last office receives
-/// the same files from the other three offices.
+/// Returns the end of a run of five offices. The first office takes three files. The last office
+/// receives the same files from the other three offices.
 fn five_left(rt: &impl Abort, alloc: Global, files: [File; 3]) -> Exchange {
     let first = text_of(rt, alloc, files[0]);
     let second = text_of(rt, alloc, files[1]);
@@ -312,7 +312,7 @@ fn five_left(rt: &impl Abort, alloc: Global, files: [File; 3]) -> Exchange {
     left_by(rt, alloc, 5, events)
 }
 
-/// The three files in every order. A full extract may come after a later update.
+/// The three files in every order. In some orders, the full extract is taken after a later update.
 const ORDERS: &[[File; 3]] = &[
     [FIFTH, SEVENTH, NINTH],
     [FIFTH, NINTH, SEVENTH],
@@ -322,8 +322,8 @@ const ORDERS: &[[File; 3]] = &[
     [NINTH, SEVENTH, FIFTH],
 ];
 
-/// Asserts that the first office and the last have the state of all three files, if the files come
-/// in this order.
+/// Asserts that the first office and the last have the state of all three files, if the files are
+/// taken in this order.
 fn is_late(rt: &impl Abort, alloc: Global, files: [File; 3]) {
     let left = five_left(rt, alloc, files);
     replies(rt, &left, 12, &[]);

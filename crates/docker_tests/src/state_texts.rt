@@ -4,7 +4,7 @@ use std::alloc::Global;
 use std::process::Abort;
 use test_records::*;
 
-/// The parts of a text, in their order.
+/// The parts of a text, in order.
 pub(crate) type Parts = &'static [&'static [u8]];
 
 /// The mark of the new format, and no horizon.
@@ -189,8 +189,8 @@ pub(crate) const RENAMED_STATE: Parts = &[
     DESCRIBED,
 ];
 
-/// The state that knows two files with equal stamps; the train that runs until a later day wins. It
-/// has 311 bytes.
+/// The state that knows two files with equal stamps. The greater entry is kept: the train that runs
+/// until a later day. It has 311 bytes.
 pub(crate) const LONGER_STATE: Parts = &[
     MARK,
     ONE,
@@ -203,8 +203,8 @@ pub(crate) const LONGER_STATE: Parts = &[
     TO_BRAYTON,
 ];
 
-/// The state that knows two files with equal stamps; the train with the greater bytes wins. It has
-/// 311 bytes.
+/// The state that knows two files with equal stamps. The greater entry is kept: the train with the
+/// greater bytes. It has 311 bytes.
 pub(crate) const LATER_STATE: Parts = &[
     MARK,
     ONE,
@@ -220,7 +220,7 @@ pub(crate) const LATER_STATE: Parts = &[
 /// The state that knows an update and a full extract with equal file stamps: 330 bytes.
 pub(crate) const BOTH_STATE: Parts = train_after!(MARK, TWO, ITEM_FULL, ITEM, ONE);
 
-/// The text of these parts.
+/// Returns the text of these parts.
 pub(crate) fn text_of_parts(rt: &impl Abort, alloc: Global, parts: &[&[u8]]) -> Vec<u8> {
     let mut text = Vec::new(alloc);
     for part in parts {

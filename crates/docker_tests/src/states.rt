@@ -10,8 +10,8 @@ use docker_office::Office;
 use std::alloc::Global;
 use std::process::Abort;
 
-/// A row: files in one order, the same files in another order, the number of bytes of their state's
-/// text, and the parts of that text.
+/// A row: files in one order, the same files in another order, the size of their state's text in
+/// bytes, and the parts of that text.
 type Row = (&'static [File], &'static [File], usize, Parts);
 
 const ROWS: &[Row] = &[
@@ -74,7 +74,7 @@ fn states_in_any_order(rt: HostRuntime) {
     }
 }
 
-/// Rows: files, and what the command `files` lists for their state.
+/// Rows: files, and the list that the command `files` writes for their state.
 const LISTS: &[(&[File], &str)] = &[
     (&[], ""),
     (
@@ -92,8 +92,8 @@ const LISTS: &[(&[File], &str)] = &[
     (&[EARLY], "2000-01-01 0307 DFROC1A U DFROC1Z\n"),
 ];
 
-/// Asserts what an office lists after it has taken these files, and what an office with only its
-/// ledger lists.
+/// Asserts the list of an office that has taken these files, and the list of an office with only
+/// its ledger.
 fn lists(rt: &impl Abort, alloc: Global, files: &[File], wanted: &str) {
     let office = office_of(rt, alloc, files);
     let mut text = Kept::new(alloc, 100).expect(rt, "room");
@@ -123,7 +123,7 @@ fn is_taken(rt: &impl Abort, alloc: Global, text: &[u8], step: usize)
     has(rt, alloc, &office, MORNING_STATE);
 }
 
-/// The text of the morning train, with a carriage return before each line feed.
+/// Returns the text of the morning train, with a carriage return before each line feed.
 fn text_of_returns(rt: &impl Abort, alloc: Global) -> Vec<u8> {
     let mut returns = Vec::new(alloc);
     for record in MORNING {

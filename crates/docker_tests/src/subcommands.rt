@@ -1,4 +1,4 @@
-//! Tests of each subcommand once: the bytes that it reads and the bytes that it writes.
+//! One test of each subcommand: the bytes that it reads and the bytes that it writes.
 
 use crate::commands::written;
 use crate::compare::same_of;

@@ -1,5 +1,5 @@
-//! A function with which the rows compare values. It ends the test if they differ. It is a function
-//! of its own, so that its assertion is proved once for all rows.
+//! The comparison that the tests use. It ends the test if two values differ. An assertion in a
+//! function of its own is proved once for all tests.
 
 use std::fmt::Debug;
 use std::process::Abort;

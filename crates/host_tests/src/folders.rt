@@ -1,4 +1,4 @@
-//! What the rows do with any kind of folder: real files, or files in memory.
+//! What the tests do with any kind of folder: real files, or files in memory.
 ghost use Rattle.std.specs.Prelude.{◌<◌};
 
 use crate::compare::same;
@@ -7,14 +7,14 @@ use docker_host::{Drafted, Folder, OpenFault};
 use std::alloc::Global;
 use std::process::Abort;
 
-/// Asserts that a folder has failed fewer than 100 times, which the contracts of its calls need.
+/// Asserts that a folder has failed fewer than 100 times. The contracts of its calls require that.
 pub(crate) fn has_few_failures<F: Folder>(rt: &impl Abort, folder: &F)
     ensures { F.failures folder.now < 100 }
 {
     assert!(rt; folder.failures() < 100);
 }
 
-/// Reads the rest of a source, at most 10,000 bytes. `None` if the source fails.
+/// Reads the rest of a source, at most 10,000 bytes. Returns `None` if the source fails.
 fn left_of<S: Source>(rt: &impl Abort, alloc: Global, source: &mut S) -> Option<Vec<u8>> {
     let mut text = Vec::new(alloc);
     let mut piece = [0u8; 64];
@@ -29,7 +29,7 @@ fn left_of<S: Source>(rt: &impl Abort, alloc: Global, source: &mut S) -> Option<
     None
 }
 
-/// Opens the named file and reads it to its end. `None` if opening or reading fails.
+/// Opens the named file and reads it to its end. Returns `None` if opening or reading fails.
 pub(crate) fn read<F: Folder>(
     rt: &impl Abort,
     alloc: Global,
@@ -76,8 +76,8 @@ fn finish<F: Folder>(
     folder.complete(made).map_err(|_| OpenFault::Failed)
 }
 
-/// Writes this text to the named file by way of a draft. The draft is refused if the file was
-/// replaced since `seen`.
+/// Writes this text to a draft, which replaces the named file. The draft is refused if the file was
+/// replaced after the look `seen`.
 pub(crate) fn store<F: Folder>(
     rt: &impl Abort,
     folder: &mut F,

@@ -1,5 +1,5 @@
-//! Real files: how they are read and replaced, and when a draft is refused. Rows run in parallel,
-//! so each row uses file names of its own.
+//! Tests of how real files are read and replaced, and when a draft is refused. Tests run in
+//! parallel, so each test uses file names of its own.
 
 use crate::compare::same;
 use crate::folders::{has_few_failures, holds, store, stores};
@@ -12,7 +12,7 @@ use std::process::Abort;
 /// The result of a draft that was refused, or that failed.
 const FAILED: Result<(), OpenFault> = Err(OpenFault::Failed);
 
-/// Writes a file, as if another program did it.
+/// Writes a file, as another program would.
 fn put(rt: &(impl Abort + Files), name: &str, text: &str) {
     assert!(rt; fs::write(rt, name, text).is_ok());
 }

@@ -1,4 +1,5 @@
-//! Shelves, which are files in memory: what they hold, and at which call they fail.
+//! Tests of shelves, which are files in memory: the texts that they hold, and the calls at which
+//! they fail.
 
 use crate::compare::same;
 use crate::folders::{has_few_failures, holds, read, store, stores};
@@ -6,7 +7,7 @@ use docker_host::{Fails, Folder, OpenFault, Shelf};
 use std::alloc::Global;
 use std::process::Abort;
 
-/// A shelf with one file of 300 bytes, and with room for a draft of 1,000 bytes.
+/// Returns a shelf with one file of 300 bytes, and with room for a draft of 1,000 bytes.
 fn shelf_of(rt: &impl Abort, alloc: Global) -> Shelf {
     let mut shelf = Shelf::new(alloc, 1000);
     assert!(rt; shelf.put("F", &[65; 300]).is_ok());
@@ -56,8 +57,8 @@ fn another_text_that_came_since(rt: HostRuntime) {
     same(&rt, shelf.failures(), 1);
 }
 
-/// Asserts how often a shelf has failed after its file was read, if it fails at this call. Asserts
-/// too that the file is read whole once the shelf no longer fails.
+/// Asserts how often a shelf that fails at this call has failed after its file was read. Also
+/// asserts that the file can be read to its end once the shelf no longer fails.
 fn fails_reading(rt: &impl Abort, alloc: Global, fails: Fails, failures: u64) {
     let mut shelf = shelf_of(rt, alloc);
     shelf.fail(fails);
@@ -67,8 +68,8 @@ fn fails_reading(rt: &impl Abort, alloc: Global, fails: Fails, failures: u64) {
     reads(rt, alloc, &mut shelf, Some(300));
 }
 
-/// Asserts that storing a text on a shelf that fails at this call ends in this fault, after this
-/// many failures. Asserts too that the text is stored once the shelf no longer fails.
+/// Asserts that storing a text on a shelf that fails at this call ends with this fault, after this
+/// many failures. Also asserts that the text is stored once the shelf no longer fails.
 fn fails_storing(rt: &impl Abort, alloc: Global, fails: Fails, fault: OpenFault, failures: u64) {
     let mut shelf = shelf_of(rt, alloc);
     shelf.fail(fails);

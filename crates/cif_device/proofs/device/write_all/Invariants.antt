@@ -1,4 +1,4 @@
--- The sink has taken what it had, and then the first `done` bytes of the piece.
+-- The sink has taken the first `done` bytes of the piece.
 use Rattle.std.proofs.Common.{◌≡◌, ◌-◌, ◌≤◌, length, take}
 use Rattle.cif_device.specs.Device.{Takes}
 use Rattle.cif_device.proofs.device.write_all.Given as goal

@@ -5,11 +5,12 @@ use Rattle.docker_cmd.specs.Grammar.{required_rule, words_shape}
 use Rattle.docker_cmd.specs.Tasks.{name_of}
 use Rattle.docker_cmd.proofs.grammar.command_of.Goals as goal
 
--- the subcommand after the arguments with these ids were added
+-- the subcommand with the arguments of these ids
 abbrev of_ids : Text → List Text → App
 of_ids name ids = record { top = words_shape name ids; subs = [] }
 
--- adding the argument of id `i` to the subcommand with the ids before `i` makes the subcommand with the ids up to and including `i`
+-- adding the argument of id `i` to the subcommand with the arguments before `i` gives the
+-- subcommand with the arguments up to and including `i`
 one_more : (name : Text) (ids : List (Bor Text)) (i : ℕ) (d : Bor Text) → i < length ids
     → with_rule (of_ids name (map (λ id. id.now) (take i ids))) (required_rule (slice_index_or ids i d).now)
     ≡ of_ids name (map (λ id. id.now) (take (i + 1) ids))

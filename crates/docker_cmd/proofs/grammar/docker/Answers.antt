@@ -7,16 +7,17 @@ use Rattle.docker_cmd.specs.declared.tasks.Subcommand.{Subcommand}
 use Rattle.docker_cmd.specs.declared.tasks.Subcommand.TheVariants.{New}
 use Rattle.docker_cmd.proofs.grammar.docker.Goals as goal
 
--- the program after these subcommands were added
+-- the program with these subcommands added
 abbrev with_all : App → List Subcommand → App
 with_all app ss = fold with_subcommand app (map shape_of ss)
 
--- adding a list of subcommands with one more subcommand at its end equals adding the list and then this subcommand
+-- adding a list of subcommands that ends with `s` equals adding the list without `s`, and then
+-- adding `s`
 with_last : (app : App) (ss : List Subcommand) (s : Subcommand) → with_all app (ss ++ s ∷ []) ≡ with_subcommand (with_all app ss) (shape_of s)
 with_last app [] s = refl
 with_last app (t ∷ ss) s = with_last (with_subcommand app (shape_of t)) ss s
 
--- the program before any subcommand is added
+-- the program without subcommands
 abbrev start : App
 start = record { top = docker_shape; subs = [] }
 

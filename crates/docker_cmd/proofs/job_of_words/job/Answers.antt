@@ -1,4 +1,5 @@
--- `auto` proves these goals, too. With the answers written out, a wrong body fails without a long search.
+-- `auto` proves these goals, too. With the answers written out, a wrong body fails without a long
+-- search.
 use Rattle.std.proofs.Common.{rules}
 use Rattle.docker_cmd.proofs.job_of_words.job.Goals as goal
 

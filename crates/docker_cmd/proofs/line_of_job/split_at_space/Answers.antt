@@ -1,4 +1,5 @@
--- `auto` proves these goals, too. With the answers written out, a wrong body fails without a long search.
+-- `auto` proves these goals, too. With the answers written out, a wrong body fails without a long
+-- search.
 use Rattle.std.proofs.Common.{rules}
 use Rattle.docker_cmd.proofs.line_of_job.split_at_space.Goals as goal
 

@@ -1,4 +1,4 @@
--- The text of the brand is the copy.
+-- The ghost bytes that `is_text_of` compares are the bytes of the copy.
 use Rattle.std.proofs.Common.{Some}
 use Rattle.docker_desk.proofs.matching.compared_with.Given as goal
 

@@ -1,4 +1,4 @@
--- The bytes of the brand are the bytes that are left in the opened file.
+-- The ghost bytes of the copying source are the bytes left in the opened file.
 use Rattle.docker_desk.proofs.reading.renew_state.Given as goal
 
 abbrev pub ghosts-receive_copied : goal.ghosts-receive_copied

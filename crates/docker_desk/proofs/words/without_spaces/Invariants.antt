@@ -3,7 +3,7 @@ use Rattle.std.specs.Prelude.{IsUtf8}
 use Rattle.docker_desk.specs.Requests.{without_spaces}
 use Rattle.docker_desk.proofs.words.without_spaces.Given as goal
 
--- the rest is the text without some of the spaces that it begins with
+-- without leading spaces, the rest of the text equals the whole text
 abbrev pub invariant-loop-piece : goal.invariant-loop-piece
 invariant-loop-piece l = record {
   same : without_spaces l.rest ≡ without_spaces l.fn.text;

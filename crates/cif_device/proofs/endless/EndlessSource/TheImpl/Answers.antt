@@ -1,4 +1,4 @@
--- A read never fails, and contracts don't know the bytes of the source.
+-- A read never fails, and contracts don't know the bytes left in the source.
 use Rattle.std.proofs.Common.{refl}
 use Rattle.cif_device.proofs.endless.EndlessSource.TheImpl.Goals as goal
 

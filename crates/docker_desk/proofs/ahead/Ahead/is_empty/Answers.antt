@@ -6,7 +6,7 @@ none_of : (xs : List ℕ) → length xs ≡ 0 → xs ≡ []
 none_of [] none = refl
 none_of (x ∷ xs) none = absurd (omega arith)
 
--- how many bytes are left
+-- the number of bytes from index `at` up to `end`, not including `end`, is `end - at`
 left_over : (bytes : List ℕ) (at end : ℕ) → end ≤ length bytes → length (drop at (take end bytes)) ≡ end - at
 left_over bytes at end within = length-drop at (take end bytes) ∙ ap (λ n. n - at) (length-take-le end bytes within)
 
