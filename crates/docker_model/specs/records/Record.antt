@@ -17,12 +17,12 @@ IsRecord bytes = (length bytes ≡ 80) × AllPass is_printable bytes
 abbrev pub IsTextOfLength : ℕ → List ℕ → Type 0
 IsTextOfLength n bytes = (length bytes ≡ n) × AllPass is_printable bytes
 
--- the leftmost column whose byte isn't printable, or `None` if all are printable
+-- the leftmost column whose byte isn't printable, or `None` if all bytes are printable
 abbrev pub leftmost_bad_byte : List ℕ → Option ℕ
 leftmost_bad_byte bytes = option_map (λ i. i + 1) (position (λ b. not (is_printable b)) bytes)
 
 -- the bytes from column `first` to column `last`, both included. For example, columns 1 to 2 of
--- `BSN` are `BS`. For a line that has these columns
+-- `BSN` are `BS`. The line must have these columns
 abbrev pub columns : ℕ → ℕ → List ℕ → List ℕ
 columns first last line = slice_range line (first - 1) last
 
@@ -61,8 +61,8 @@ kind_of line = option_map (λ pair. pair.1) (find (λ pair. bytes_eq pair.0 (col
 abbrev pub HasKind : Kind → List ℕ → Type 0
 HasKind kind line = kind_of line ≡ Some kind
 
--- whether a record of this kind has a location: an origin, an intermediate or a terminating
--- location
+-- whether a record of this kind is a location record: an origin, an intermediate location or a
+-- terminus
 abbrev pub is_location : Option Kind → Bool
 is_location (Some origin_location) = true
 is_location (Some intermediate_location) = true
