@@ -1,5 +1,5 @@
--- The cause of a record at fault, from the place of the reader before the record. The causes are
--- tested in the order of their ranks.
+-- The cause of a record at fault, given the reader's place in the file before the record. The
+-- causes are tested in the order of their ranks.
 use Rattle.std.specs.Prelude.{Bool, true, false, ℕ, Some, None, List, length, Option, is_none, ◌==◌, nat_le}
 use Rattle.std.proofs.Common.{cond}
 use Rattle.docker_model.specs.records.Record.{kind_of, leftmost_bad_byte}
@@ -52,12 +52,12 @@ cause_of limit count place line = cond (nat_le limit count) too_many (end_cause 
 abbrev pub cause_of_long : ℕ → ℕ → Place → FileCause
 cause_of_long limit count place = cond (nat_le limit count) too_many (cond (is_after_end place) after_trailer bad_length)
 
--- why a record can't continue a schedule at this stage: the first of `bad_kind`, `bad_place`,
--- `bad_field` and `third_midnight` that holds
+-- the reason why a record can't continue a schedule at this stage: the first of `bad_kind`,
+-- `bad_place`, `bad_field` and `third_midnight` that applies
 abbrev pub schedule_cause : Stage → List ℕ → FileCause
 schedule_cause stage line = cond (is_none (kind_of line)) bad_kind (cond (is_none (stage_after stage (kind_of line))) bad_place (field_cause line))
 
--- why a record can't be the first record of a schedule, which must be a basic schedule: the first
--- of `bad_kind`, `bad_place` and `bad_field` that holds
+-- the reason why a record can't be the first record of a schedule, which must be a basic schedule:
+-- the first of `bad_kind`, `bad_place` and `bad_field` that applies
 abbrev pub first_line_cause : List ℕ → FileCause
 first_line_cause line = cond (is_none (kind_of line)) bad_kind (cond (is_basic_kind (kind_of line)) (field_cause line) bad_place)

@@ -30,7 +30,7 @@ pub fn permanent_lines_are_permanent()
 {}
 
 /// Two summaries of the same files have the same permanent docker for each place and each day that
-/// neither summary refuses. Their horizons may differ.
+/// neither horizon refuses. The horizons may differ.
 pub fn known_files_fix_permanent_dockers()
     ensures { (files others : List (List (List ℕ))) (horizon theirs : ℕ) (one two : State)
         → AreFiles files → AreFiles others → HaveSameFiles files others → IsDay horizon

@@ -1,6 +1,6 @@
--- Receiving a state from a stream. The entries of the received state are offered one by one. An
--- offered entry that the commit will put into the state is staged, which means that it is kept
--- apart. At the end all staged entries are committed together.
+-- The steps in which a state is received from a stream. The entries of the received state are
+-- offered one by one. An offered entry that the commit will put into the state is staged, which
+-- means that it is kept apart. At the end all staged entries are committed together.
 use Rattle.std.specs.Prelude.{◌≡◌, ◌↔◌, ◌⊎◌, List, ◌++◌, Option, Some, None, Contains, ⊤}
 use Rattle.docker_model.specs.file.Change.{Key}
 use Rattle.docker_model.specs.state.Order.{IsStrictlyAscending, IsBelow}
@@ -19,7 +19,7 @@ pub record IsToStage (own : State) (floor : Option FileStamp) (key : Key) (entry
   pub kept : IsKept floor entry.stamp.file
   pub greater : (other : Entry) → Contains own.entries (key, other) → IsBelow entry_cmp other entry
 
--- the entry is greater than the other entry, or there is no other entry
+-- the entry is greater than the other entry, or the other entry is `None`
 abbrev pub IsGreaterThan : Option Entry → Entry → Type 0
 IsGreaterThan None entry = ⊤
 IsGreaterThan (Some mine) entry = IsBelow entry_cmp mine entry
