@@ -21,8 +21,8 @@ next_chosen uid day found (schedule_key key) (schedule_body lines) =
 next_chosen uid day found _ _ = found
 
 -- `found` is the choice from these rows: of the group's associations in the rows that run on the
--- base train's start day, the association that comes first in the order of choice. If there is no
--- such association, `found` is `None`
+-- base train's start day, the first in the order of choice. If there is no such association,
+-- `found` is `None`
 abbrev pub IsLinkSoFar : Group → ℕ → List Row → Option Link → Type 0
 IsLinkSoFar group day rows found = IsBest (on (λ (link : Link). link.key) association_choice_cmp) (is_linked group day) (associations_in rows) found
 

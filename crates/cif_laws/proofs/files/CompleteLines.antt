@@ -1,4 +1,4 @@
--- A text whose bytes are still being read: its complete lines, each ended by a line feed, and the
+-- A text whose bytes are still being read has complete lines, each ended by a line feed, and an
 -- incomplete line after them.
 use Rattle.std.proofs.Common.{ℕ, ◌<◌, List, length, Bool, arith, ◌≡◌, ◌+◌, [], ◌∷◌, ◌++◌, refl, ap, sym}
 use Rattle.std.proofs.Common.{◌∙◌, true, false, map, append-nil, ◌≤◌, subst, cond, length-append}
@@ -44,7 +44,7 @@ without_last_append [] piece pieces = refl
 without_last_append (first ∷ []) piece pieces = refl
 without_last_append (first ∷ second ∷ front) piece pieces = ap (λ rest. first ∷ rest) (without_last_append (second ∷ front) piece pieces)
 
--- these pieces, with these bytes put before the first piece
+-- these pieces, with these bytes put at the front of the first piece
 abbrev pub going_on : List ℕ → Lines → Lines
 going_on bytes [] = bytes ∷ []
 going_on bytes (piece ∷ pieces) = (bytes ++ piece) ∷ pieces
@@ -65,8 +65,8 @@ go_on_empty : (pieces : Lines) → 0 < length pieces → pieces ≡ going_on [] 
 go_on_empty [] some = absurd (omega arith)
 go_on_empty (piece ∷ pieces) some = refl
 
--- the pieces of a text with appended bytes: the first of the new bytes extend the last piece, and
--- each separator in them begins a new piece
+-- when bytes are appended to a text, the first piece of these bytes extends the last piece of the
+-- text. The other pieces of these bytes follow as new pieces
 pub split_append : (p : ℕ → Bool) (text more : List ℕ) → slice_split p (text ++ more) ≡ but_last (slice_split p text) ++ going_on (last_of (slice_split p text))
     (slice_split p more)
 split_append p [] more = go_on_empty (slice_split p more) (some_pieces p more)
@@ -170,10 +170,10 @@ complete_lines_ended text front plain = complete_lines_cut text front [] plain
 pub open_line_ended : (text front : List ℕ) → HasNoFeed front → open_line (text ++ (front ++ 10 ∷ [])) ≡ []
 open_line_ended text front plain = open_line_cut text front [] plain
 
--- ---- the lines of a longer text
+-- ---- the lines of a text after bytes are appended
 
--- how appending bytes changes a text: the bytes before their first line feed extend the incomplete
--- line, and each line feed completes a line
+-- when the bytes `more` are appended to a text, the bytes before the first line feed in `more`
+-- extend the incomplete line. Each line feed in `more` completes a line
 pub record GoesOn (text more : List ℕ) : Type 0 where
   pub first : List ℕ
   pub pieces : Lines

@@ -81,7 +81,7 @@ schedule_key_good line is kind good =
       indicator = letter_at line fields.indicator;
     }
 
--- ---- a record keeps its key and its good fields when its transaction is set to N
+-- ---- setting the transaction of a record to N preserves its key and its good fields
 
 same_association : (line : List ℕ) → association_named (as_new line) ≡ association_named line
 same_association line = λ i. association_key (record {
@@ -159,7 +159,7 @@ new_basic_fields line is kind good kept = fields_good basic_schedule (as_new lin
           ),
         )
 
--- ---- what single records do
+-- ---- the changes of single records
 
 kept_or : (a b : Bool) → (a || b) ≡ false → a ≡ false
 kept_or true b h = h
@@ -243,8 +243,8 @@ new_is_schedule lines schedule kept =
     sound (inl deletion) = let bad : false ≡ true = sym kept ∙ deletion in cc
     sound (inr good) = inr good
 
--- a schedule before these records ends before the first of these records: there are no records, or
--- the first record can't follow a basic schedule
+-- the schedule that precedes these records is complete: there are no records, or the first of them
+-- can't follow a basic schedule
 abbrev pub StopsHere : List (List ℕ) → Type 0
 StopsHere [] = ⊤
 StopsHere (line ∷ lines) = follows_basic (kind_of line) ≡ false

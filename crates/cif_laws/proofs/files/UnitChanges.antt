@@ -93,7 +93,7 @@ schedule_then n basic others rest is stops =
     follow : AllByRecursion Follows others
     follow = others_follow basic others is
 
--- the changes of a unit and the records after it are the changes of the unit followed by the
+-- the changes of a unit followed by other records are the changes of the unit, followed by the
 -- changes of those records
 pub unit_then : (n : ℕ) (unit rest : List (List ℕ)) → IsUnit unit → StopsHere rest → changes_from n (unit ++ rest) ≡ changes_of_unit n unit ++ changes_from
     (n + length unit) rest

@@ -120,7 +120,7 @@ exact_schedule_key a b e =
       indicator = exact_unsigned a.indicator b.indicator q.1 i;
     }
 
--- the fields of a key. A field that keys of this kind don't have is empty or 0
+-- the fields of a key. For a kind of key that doesn't have the field, the result is empty or 0
 abbrev code_in : Key → List ℕ
 code_in (tiploc_key code) = code
 code_in _ = []

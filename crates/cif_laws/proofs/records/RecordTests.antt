@@ -1,4 +1,5 @@
--- Tests of a record, and how often a schedule passes midnight, counted record by record.
+-- Tests of a record, and the number of times that a schedule passes midnight, counted record by
+-- record.
 use Rattle.std.proofs.Common.{ℕ, List, ◌≡◌, refl, true, ◌+◌, [], ◌∷◌, length, ◌∙◌, cond, arith, Bool, false}
 use Rattle.std.proofs.Common.{suc, ◌≤◌, Some, None, sym, ap, eqb-true, ◌++◌, map, subst, ◌*◌, ◌⊎◌, inl, inr}
 use Rattle.std.specs.Prelude.{not, option_map, nat_lt, ◌==◌, ◌↔◌, Option, slice_index, ◌||◌}
@@ -69,7 +70,7 @@ record_iff_test line = (
       (eqb-true (length line) 80 parts.0, printable_by_none line (none_by_test (leftmost_bad_byte line) parts.1)),
 )
 
--- ---- how often a schedule passes midnight
+-- ---- the number of times that a schedule passes midnight
 
 -- the number of falls in a concatenation is the number in the first list, plus the number in the
 -- second list after the last time of the first. A fall is a time that is earlier than the time
@@ -129,7 +130,7 @@ times_append lines more =
     ap (map (λ (time : Occasion × ℕ). time.1)) (flat_map-append times_of lines more) ∙ map-append (λ (time : Occasion × ℕ). time.1) (flat_map times_of lines)
     (flat_map times_of more)
 
--- appending records never lowers how often a schedule passes midnight
+-- appending records never lowers the number of times that a schedule passes midnight
 pub fewer_midnights : (lines more : List (List ℕ)) → midnights lines ≤ midnights (lines ++ more)
 fewer_midnights lines more =
     subst (λ times. midnights lines ≤ fall_count times) (sym (times_append lines more)) (fewer_falls (times_along lines) (times_along more))

@@ -1,5 +1,5 @@
--- The cause of a record that can't continue a schedule, from the stage before the record. The
--- record has the same cause in a file.
+-- The cause of a record that can't continue a schedule, given the reader's stage before the record.
+-- The record has the same cause in a file.
 use Rattle.std.proofs.Common.{◌≡◌, ℕ, List, refl, ap, ◌<◌, ◌⊎◌, inl, inr, sym, ◌∙◌, ◌≤◌, None}
 use Rattle.std.proofs.Common.{arith, [], ◌∷◌, Bool, true, false, cond, Some, ◌++◌, subst, length}
 use Rattle.std.specs.Prelude.{unwrap_or, Option, is_none, is_some, option_map, ◌&&◌, ◌==◌}
@@ -53,7 +53,7 @@ one_schedule_cause earlier line first second is_first is_second = by (cases_orde
 
 -- ---- the first line
 
--- if the condition of each cause of a lower rank is false, no cause of a lower rank holds
+-- no cause of a lower rank applies, if the condition of each of these causes is false
 none_below : (earlier : Lines) (line : List ℕ) (rank : ℕ) → rank ≤ 7 → (4 < rank → ¬ (kind_of line ≡ None)) → (5 < rank → ¬ IsOutOfSchedule earlier line)
     → (6 < rank → leftmost_bad_field line ≡ None)
     → (other : FileCause) → cause_rank other < rank → ¬ HoldsInSchedule earlier line other
@@ -250,8 +250,8 @@ no_unit_by_kind (Some terminating_location) line h = refl
 no_unit_by_kind (Some change_en_route) line h = refl
 no_unit_by_kind _ line h = cc
 
--- at this stage the record can only belong to the schedule: the schedule may not end here, or the
--- record begins no unit
+-- at this stage the record can only belong to the schedule: the schedule may not end before the
+-- record, or the record begins no unit
 abbrev pub IsOfSchedule : Stage → Lines → List ℕ → Type 0
 IsOfSchedule stage lines line = (may_end stage lines ≡ false) ⊎ (unit_by_kind (kind_of line) line ≡ None)
 
@@ -264,8 +264,8 @@ no_other stage lines line (inr none) = by (may_end stage lines)
     by true = none
     by false = refl
 
--- if a record can only belong to the schedule, its next place is the place with the schedule's next
--- stage
+-- if a record can only belong to the schedule, it leads in the file to the place with the
+-- schedule's next stage
 pub next_place_of_stage : (stage : Stage) (lines : Lines) (line : List ℕ) → IsOfSchedule stage lines line
     → next_place (in_schedule stage lines) line ≡ option_map (λ next. place_in next (lines ++ line ∷ [])) (next_stage stage lines line)
 next_place_of_stage stage lines line of =
@@ -313,7 +313,7 @@ cause_in_schedule limit count stage lines line under is of =
     by (Some next) = refl
 
 -- after a schedule that may end, a record that can't follow a basic schedule has the same cause as
--- between units
+-- a record between units
 pub cause_behind_schedule : (limit count : ℕ) (stage : Stage) (lines : Lines) (line : List ℕ) → count < limit → IsRecord line → may_end stage lines ≡ true
     → follows_basic (kind_of line) ≡ false
     → cause_of limit count (in_schedule stage lines) line ≡ cause_of limit count between_units line
