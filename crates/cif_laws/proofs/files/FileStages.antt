@@ -440,8 +440,8 @@ one_place records first second one two = let both_are : Some first ≡ Some seco
 pub place_of_more : (records : Lines) (place : Place) (line : List ℕ) → IsPlaceOf records place → place_at (records ++ line ∷ []) ≡ next_place place line
 place_of_more records place line found = place_from_append records before_header place (line ∷ []) found ∙ some_then (next_place place line)
 
--- if records lead to a place, then adding one more record still gives the beginning of a file if
--- and only if the added record leads from that place to a next one
+-- if records lead to a place, then with one more record they begin a file if and only if the added
+-- record leads from that place to a next place
 pub begins_next_iff : (records : Lines) (place : Place) (line : List ℕ) → IsPlaceOf records place → BeginsFile (records ++ line ∷ [])
     ↔ ((next : Place) × IsNext place line next)
 begins_next_iff records place line found = (

@@ -148,9 +148,8 @@ test_by_sound_next lines line (inr good) = by (is_deletion (first_record lines))
     by true = refl
     by false = and_true (has_good_fields line) _ (test_by_none (leftmost_bad_field line) good.fields) (le-leb (midnights (lines ++ line ∷ [])) 2 good.falls)
 
--- the test `is_sound_next` can be computed from three values that a reader keeps: whether the
--- schedule is a deletion, the number of times that the schedule has passed midnight, and the last
--- time
+-- the test `is_sound_next` can be computed from three values: whether the schedule is a deletion,
+-- the number of times that the schedule has passed midnight, and the last time
 pub sound_next_by_count : (lines : Lines) (line : List ℕ)
     → is_sound_next lines line
     ≡ (is_deletion (first_record lines) || (has_good_fields line && nat_le (midnights lines + falls_after (last_of (times_along lines))
@@ -681,8 +680,8 @@ no_lines_begin =
       fields = witness_fields basic_schedule;
     })))
 
--- if records lead to a stage, then adding one more record still gives the beginning of a schedule
--- if and only if the added record has a next stage
+-- if records lead to a stage, then with one more record they begin a schedule if and only if the
+-- added record has a next stage
 pub begins_more_iff : (basic : List ℕ) (rest : Lines) (stage : Stage) (line : List ℕ) → stage_of (basic ∷ rest) ≡ Some stage
     → BeginsSchedule (basic ∷ rest ++ line ∷ []) ↔ ((next : Stage) × IsNextLine stage (basic ∷ rest) line next)
 begins_more_iff basic rest stage line at = (

@@ -1,4 +1,5 @@
--- The test of whether a schedule calls at a place, and the indexes made from the rows of a table.
+-- Two subjects: the test of whether a schedule calls at a place, and the indexes made from the rows
+-- of a table.
 use Rattle.std.proofs.Common.{◌≡◌, ℕ, List, [], ◌∷◌, refl, ap, sym, ◌∙◌, subst, inl, inr, ◌⊎◌, Some, None, Bool, true, false, Contains}
 use Rattle.std.specs.Prelude.{Option, ◌↔◌, filter, ◌&&◌, ◌||◌}
 use Rattle.std.specs.Str.{bytes_eq}

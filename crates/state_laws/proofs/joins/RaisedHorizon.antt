@@ -1,6 +1,5 @@
--- Setting a horizon. Setting a horizon that isn't greater than the state's leaves the state
--- unchanged. A horizon may be set after a join instead of before it. Without a horizon no entry
--- lapses.
+-- Setting a horizon that isn't greater than the state's leaves the state unchanged. A horizon may
+-- be set after a join instead of before the join. Without a horizon no entry lapses.
 use Rattle.std.proofs.Common.{◌≡◌, ℕ, ◌≤◌, List, [], ◌∷◌, Contains, subst, ap, sym, ◌∙◌, arith}
 use Rattle.std.specs.Prelude.{Option, ◌↔◌, max}
 use Rattle.std.proofs.Math.Nat.{le-max_left, max-eq_left, max-zero, zero-max}
@@ -20,7 +19,7 @@ use Rattle.state_laws.proofs.states.KeptEntries.{lapse_ascends, entries_stay}
 
 -- ---- when nothing lapses
 
--- if no body ended before a horizon, the lapse under this horizon changes only the horizon
+-- if no body ended before a horizon, the lapse under this horizon changes only the state's horizon
 pub lapsed_already : (horizon : ℕ) (state : State) → HaveLapsed horizon state.entries
     → lapse_state horizon state ≡ record { horizon = horizon; ledger = state.ledger; entries = state.entries }
 lapsed_already horizon state all = λ i. record {
