@@ -213,8 +213,8 @@ module _ (limit : ℕ) (earlier : Lines) (place : Place) (line : List ℕ) (foun
           (at_begins there.0 (earlier ++ witness kind ∷ [])
           (next_at place earlier (witness kind) there.0 at (witness_next place earlier kind there.0 at there.1)))
 
-  -- if a record has good fields and a kind that may come at the place, but leads to no next place,
-  -- its schedule passes midnight for the third time at this record
+  -- let the fields of a record be good, and let its kind be one that may come at the place. If the
+  -- record leads to no next place, the schedule passes midnight for the third time at this record
   third : (next : Place) → IsRecord line → place_by_kind place (kind_of line) line ≡ Some next → HasGoodFields line → next_place place line ≡ None
       → HasThirdFall earlier line
   third next is told fields nowhere = by place at unsound

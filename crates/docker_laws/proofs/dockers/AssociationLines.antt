@@ -56,7 +56,7 @@ module _ (live : Table) (trains : List ℕ → ℕ → Option Train) (links : Gr
       by None none = inr (none, refl)
       by (Some train) runs = inl (train.key, train.lines, runs, refl)
 
-  -- ---- associations that may give a line
+  -- ---- associations that may have a docker line
 
   counts : (key : AssociationKey) (line : List ℕ) (start : ℕ) → live (association_key key) ≡ Some (association_body line)
       → counts_as (links (group_of key) start) key ≡ true

@@ -1,5 +1,5 @@
--- The events of a schedule, computed by a walk over its records. The walk keeps the number of falls
--- and the last change en route. A fall is a time that is earlier than the time before it.
+-- The events of a schedule can be computed by a walk over its records. The walk keeps the number of
+-- falls and the last change en route. A fall is a time that is earlier than the time before it.
 use Rattle.std.proofs.Common.{◌≡◌, ℕ, zero, suc, ◌+◌, ◌<◌, ◌≤◌, Bool, true, false, cond, List, [], ◌∷◌, ◌++◌, map, length, get_or}
 use Rattle.std.proofs.Common.{take, refl, ap, sym, ◌∙◌, subst, arith, Contains, Some, None, append_assoc, append-nil, length-append}
 use Rattle.std.specs.Prelude.{Option, ◌↔◌, nat_lt, filter, codes}
@@ -82,12 +82,13 @@ times_split front line rest =
 
 -- ---- the record and the train identity at an event
 
--- the record of an event is the record that the walk has reached
+-- if the index of an event's record is the number of records before `line`, the event's record is
+-- `line`
 pub line_here : (front : List (List ℕ)) (line : List ℕ) (rest : List (List ℕ)) (event : Event) → event.place ≡ length front
     → event_line (front ++ line ∷ rest) event ≡ line
 line_here front line rest event is = ap (λ n. get_or (front ++ line ∷ rest) n []) is ∙ get_or-append_seam front line rest []
 
--- the train identity at an event is computed from the last change en route before the event's
+-- the train identity at an event can be computed from the last change en route before the event's
 -- record
 pub identity_here : (front rest : List (List ℕ)) (event : Event) → event.place ≡ length front → event_identity (front ++ rest) event ≡ changed_identity
     (last_change front) (first_record (front ++ rest))

@@ -72,7 +72,7 @@ association_over one other group day key line same is = record {
 -- ---- from the docker of one table to the docker of another
 
 -- the table `other` has all schedules and associations on which the docker of the place in `one`
--- depends. These are all schedules of each UID that matters to the docker, and all associations of
+-- depends. These are all schedules of each UID on which the docker depends, and all associations of
 -- each group at the place
 record Covers (one other : Table) (place : List ℕ) : Type 0 where
   calls : (key : ScheduleKey) (lines : List (List ℕ)) → one (schedule_key key) ≡ Some (schedule_body lines) → CallsAt place lines
@@ -143,7 +143,7 @@ list_over one other place day forth back lines is = record {
 -- ---- a table and its excerpt
 
 module _ (place : List ℕ) (live part : Table) (is : IsExcerpt place live part) where
-  -- the excerpt equals the table at each key that the place needs
+  -- the excerpt equals the table at each key that the docker of the place needs
   pub same_where_needed : (key : Key) → IsNeeded live place key → part key ≡ live key
   same_where_needed key needed = by (is key)
     where

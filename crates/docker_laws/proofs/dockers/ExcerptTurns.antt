@@ -1,5 +1,5 @@
--- The walk that computes an excerpt, as a loop. The loop keeps three values: the kept entries, the
--- run, and a flag that says whether the run is needed.
+-- A loop can compute an excerpt. It keeps three values: the kept entries, the run, and a flag that
+-- says whether the run is needed.
 use Rattle.std.proofs.Common.{◌≡◌, ℕ, List, [], ◌∷◌, ◌++◌, subst, refl, ap, sym, ◌∙◌, Bool, true, false, cond, Contains}
 use Rattle.std.specs.Prelude.{◌||◌, ◌↔◌}
 use Rattle.docker_model.specs.file.Change.{Key, schedule_key, ScheduleKey}

@@ -1,5 +1,5 @@
--- A walk over entries in key order keeps an entry if and only if the place needs its key. The test
--- `is_needed` decides this from the entries.
+-- A walk over entries in key order keeps an entry if and only if the docker of the place needs its
+-- key. The test `is_needed` decides this from the entries.
 use Rattle.std.proofs.Common.{◌≡◌, ℕ, List, [], ◌∷◌, ◌++◌, subst, inl, inr, ◌⊎◌, refl, ap, sym, ◌∙◌}
 use Rattle.std.proofs.Common.{Bool, true, false, cond, Some, None, Contains, append-nil, append_assoc}
 use Rattle.std.specs.Prelude.{◌↔◌, Option, ◌||◌, filter}
@@ -122,7 +122,7 @@ same_tests true b to back = sym (to refl)
 same_tests false true to back = back refl
 same_tests false false to back = refl
 
--- ---- the position of a walk
+-- ---- the invariant of a walk
 
 -- The invariant of the walk. The list of all entries is `done`, followed by the run of `so_far` and
 -- by `rest`. The kept entries are the needed entries of `done`. All entries of the run have one
@@ -478,7 +478,7 @@ module _ (place : List ℕ) (all : List Keyed) (order : AllLater Below all) wher
     apart = λ z y other in_done behind of_z of_y. nil-Contains z in_done;
   }
 
-  -- the kept entries of a walk over all entries are the entries that the place needs
+  -- a walk over all entries keeps the entries whose keys the docker of the place needs
   pub walk_keeps : kept_after_run place (kept_so_far place all) ≡ filter (λ (entry : Keyed). is_needed place all entry.0) all
   walk_keeps = from_here all [] nothing_kept at_first
 

@@ -1,5 +1,5 @@
--- The summary of one file, computed entry by entry, is the summary of the file. The join of an
--- empty state with a valid state is the valid state.
+-- The state that is computed from one file entry by entry is the summary of the file. The join of
+-- an empty state with a valid state is the valid state.
 use Rattle.std.proofs.Common.{◌≡◌, ℕ, List, [], ◌∷◌, length, append-nil, refl, ap, sym, ◌∙◌, subst, inl}
 use Rattle.std.proofs.Common.{inr, ◌⊎◌, Some, None, Bool, true, false, Contains, All, ◌≤◌, arith}
 use Rattle.std.specs.Prelude.{Option, ◌↔◌, ◌==◌}
@@ -46,7 +46,7 @@ not_itself a less = let tied = tied_itself key_total a in cc
 -- ---- one more entry
 
 -- after an older entry is inserted, each entry of the list was in the list before, or is the
--- inserted entry, and then no entry before had its key
+-- inserted entry. In the second case no entry had its key before
 member_forth : (entry : Keyed) (entries : List Keyed) → AreAscending entries → (z : Keyed) → Contains (with_earlier entry entries) z
     → Contains entries z ⊎ ((entry ≡ z) × NoEntry entries entry.0)
 member_forth entry [] up z among = inr (Contains-single entry z among, λ other inside. nil-Contains (entry.0, other) inside)
@@ -101,7 +101,7 @@ member_still entry (first ∷ entries) z among =
     by Greater rest (inl same) = subst (Contains (first ∷ with_earlier entry entries)) same (cons-Contains-first first (with_earlier entry entries))
     by Greater rest (inr inside) = cons-Contains first (with_earlier entry entries) z (rest inside)
 
--- an older entry is inserted if no entry in the list has its key
+-- an older entry is inserted if no entry in the list has the same key
 member_new : (entry : Keyed) (entries : List Keyed) → NoEntry entries entry.0 → Contains (with_earlier entry entries) entry
 member_new entry [] none = cons-Contains-first entry []
 member_new entry (first ∷ entries) none =

@@ -46,8 +46,9 @@ partner_after indicator start day is = by (indicator == 78) (indicator == 80) is
 
 -- ---- from the docker of one table to the docker of another
 
--- the table `other` has each train of `one` with an event on the day. It also has each association
--- whose base train is one of these trains, and the identities of the associated trains
+-- the table `other` has each train of `one` with an event on the day. For each of these trains,
+-- `other` also has the associations with this base train, and the identities of the associated
+-- trains
 pub record CarriesOver (one other : Table) (day : ℕ) : Type 0 where
   pub trains : (uid : List ℕ) (start : ℕ) (key : ScheduleKey) (lines : List (List ℕ)) → TrainRuns one uid start key lines → (event : Event)
       → event_day start lines event ≡ day → TrainRuns other uid start key lines

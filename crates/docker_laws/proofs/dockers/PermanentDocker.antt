@@ -31,8 +31,8 @@ use Rattle.docker_laws.proofs.runs.RunEnd.{greater_prints, one_text}
 
 -- ---- changes
 
--- taking the permanent table commutes with a change of a permanent key. A change of a key in the
--- short-term plan leaves the permanent table unchanged
+-- if a change is of a permanent key, making the change commutes with leaving out the short-term
+-- plan. A change of any other key leaves the permanent table unchanged
 after_one : (table : Table) (change : Change)
     → permanent_table (after_change table change)
     ≡ cond (is_permanent change.key) (after_change (permanent_table table) change) (permanent_table table)

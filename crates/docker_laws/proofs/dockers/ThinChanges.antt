@@ -76,8 +76,8 @@ module _ (place : List ℕ) (day : ℕ) where
           nothing (after_change table change) none ∙ sym (nothing table none)
       by false h = left_at place day (after_change table change) table key (after_there table change key h)
 
-  -- thinning commutes with a change whose key may matter: the thinned table after the thin form of
-  -- the change equals the thinning of the table after the change
+  -- thinning commutes with a change whose key may matter. If `left` is the thinned table, then
+  -- `left` after the thin form of the change is the thinning of the table after the change
   step_kept : (table left : Table) (change : Change) (key : Key) → may_matter place change.key ≡ true → left key ≡ thinned place day table key
       → after_change left (thin_change place day change) key ≡ thinned place day (after_change table change) key
   step_kept table left change key matters same = by (is_of key change) refl
@@ -260,7 +260,7 @@ module _ (place : List ℕ) (day : ℕ) where
             ∙ sym (same_elsewhere key h)
             ∙ sym (all_more key)
 
--- ---- what may be kept
+-- ---- which thin changes may be kept
 
 -- if one list is a sublist of another, mapping both with the same function gives a sublist of the
 -- mapped list
@@ -372,7 +372,7 @@ thinning_more place day all kept (change ∷ more) is =
         (onward (kept ++ thin_change place day change ∷ []) (thinning_kept place day all kept change is h)))
     by false h onward = subst Goal (sym h) (onward kept (thinning_elsewhere place day all kept change is h))
 
--- ---- the thin form of an act, case by case
+-- ---- the thin form of an act in each case
 
 module _ (place : List ℕ) (day : ℕ) (lines : List (List ℕ)) where
   -- the thin form of a put of a schedule that can't count is a deletion

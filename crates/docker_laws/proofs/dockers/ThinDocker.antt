@@ -60,7 +60,7 @@ stand_in_by_first place day whole lines same none no_other = record {
     by (inl calls) = absurd (elsewhere whole none calls)
     by (inr calls) = absurd (elsewhere lines no_other calls)
 
--- the records that the place needs may replace the schedule
+-- the records that the docker of the place needs may replace the schedule
 pub needed_stand_in : (place : List ℕ) (day : ℕ) (lines : List (List ℕ)) → IsStandIn place day lines (lines_for place lines)
 needed_stand_in place day lines = by (calls_at place lines) refl
   where
@@ -199,7 +199,7 @@ list_over one other place day forth back lines is = record {
   );
 }
 
--- ---- a table and one that may replace it
+-- ---- two tables, one of which may replace the other
 
 module _ (place : List ℕ) (day : ℕ) (live part : Table) (stands : StandsFor place day live part) where
   stands_forth : HasFewMidnights live → Covers live part place day
@@ -256,14 +256,15 @@ module _ (place : List ℕ) (day : ℕ) (live part : Table) (stands : StandsFor 
 -- ---- a table and the thinned table
 
 module _ (place : List ℕ) (day : ℕ) (live : Table) where
-  -- the thinned table has, at the key of a live schedule that runs near the day, the records of
-  -- this schedule that the place needs
+  -- if a schedule in the table runs near the day, the thinned table has, at the same key, those
+  -- records of the schedule that the docker of the place needs
   schedule_left : (key : ScheduleKey) (lines : List (List ℕ)) → live (schedule_key key) ≡ Some (schedule_body lines)
       → runs_near day (first_record lines) ≡ true → thinned place day live (schedule_key key) ≡ Some (schedule_body (lines_for place lines))
   schedule_left key lines is_live runs =
       ap (option_and_then (thin_body place day)) is_live ∙ (λ i. cond (runs i) (Some (schedule_body (lines_for place lines))) None)
 
-  -- a schedule in the thinned table has the records that the place needs of a live schedule
+  -- each schedule in the thinned table consists of the records that the docker of the place needs,
+  -- from a schedule at the same key of the table
   schedule_was : (key : ScheduleKey) (lines : List (List ℕ)) → thinned place day live (schedule_key key) ≡ Some (schedule_body lines)
       → (whole : List (List ℕ)) × (live (schedule_key key) ≡ Some (schedule_body whole)) × (lines_for place whole ≡ lines)
   schedule_was key lines is = by (then_some (thin_body place day) (live (schedule_key key)) (schedule_body lines) is)

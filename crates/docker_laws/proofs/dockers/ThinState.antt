@@ -83,7 +83,7 @@ live_of_summary file whole summary key =
       is = λ other. refl;
     }
 
--- ---- the changes kept of a file
+-- ---- the kept changes of a file
 
 module _ (place : List ℕ) (day : ℕ) (file : List (List ℕ)) (kept : List Change) (is : IsThinning place day (changes file) kept) where
   -- of two kept changes of one key, the later change has the higher record number

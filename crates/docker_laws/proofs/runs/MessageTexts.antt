@@ -53,7 +53,7 @@ counts_fit format state short =
 
 -- ---- ops
 
--- the op of an act is never `lapsed`, so each format can hold it
+-- the op of an act is never `lapsed`, so each format can hold the op
 act_told : (act : Act) → TellsOp dks_1 (op_of act)
 act_told delete = tt
 act_told (put body) = tt

@@ -1,6 +1,5 @@
--- Worked examples of the orders of keys and of their bytes. In three examples the two orders
--- differ: without the tag, with the low byte of a number first, and for keys that no record can
--- have.
+-- Worked examples of key order and byte order. In three examples the two orders differ: without the
+-- tag, with the low byte of a number first, and for keys that no record can have.
 use Rattle.std.proofs.Common.{◌≡◌, ℕ, List, ◌∷◌, refl}
 use Rattle.std.specs.Prelude.{codes}
 use Rattle.std.specs.Int.{w16, to_le_bytes}
