@@ -1,5 +1,5 @@
 //! Laws of files, their texts, their faults and their changes. A law is a function with an empty
-//! body whose contract states a fact. The fact holds for all values of its variables.
+//! body. Its contract states a fact, which holds for all values of the variables.
 ghost use Rattle.std.specs.Prelude.{◌≡◌, ℕ, ◌+◌, ◌*◌, List, [], ◌∷◌, ◌++◌, ◌↔◌, ◌≤◌, ◌⊎◌, All, Contains, length};
 ghost use Rattle.std.specs.List.{AllPairs};
 ghost use Rattle.docker_model.specs.records.Record.{IsRecord};

@@ -1,6 +1,6 @@
 //! Laws of excerpts, which leave out entries of a state that the dockers of one place, or of one
-//! day, don't need. A law is a function with an empty body whose contract states a fact. The fact
-//! holds for all values of its variables.
+//! day, don't need. A law is a function with an empty body. Its contract states a fact, which holds
+//! for all values of the variables.
 ghost use Rattle.std.specs.Prelude.{◌≡◌, ℕ, List, [], ◌∷◌, ◌++◌, ◌↔◌, ◌||◌, ◌⊎◌, Contains, filter, Bool, true, false, if◌then◌else◌};
 ghost use Rattle.docker_model.specs.file.Change.{Key, schedule_key, ScheduleKey};
 ghost use Rattle.docker_model.specs.state.Stamp.{LedgerItem, Stamp};
@@ -29,8 +29,8 @@ pub fn excerpt_has_one_docker()
         → IsExcerpt place live part → HasGoodBodies live → HasGoodBodies part }
 {}
 
-/// An excerpt of a valid state for a place is valid, refuses dockers on the same days, and has the
-/// same dockers of the place. The relation "is an excerpt of" is reflexive and transitive.
+/// An excerpt of a valid state for a place is valid and has the same dockers of the place, and its
+/// horizon refuses the same days. The relation "is an excerpt of" is reflexive and transitive.
 pub fn excerpt_of_state()
     ensures valid { (place : List ℕ) (state part : State)
         → IsValid state → IsExcerptState place state part → IsValid part }
@@ -213,7 +213,8 @@ pub fn some_of_entries()
 {}
 
 /// Schedules that run on no start day near a day may be left out of a valid state. The state
-/// without them is valid, refuses dockers on the same days, and has the same dockers on the day.
+/// without them is valid and has the same dockers on the day, and its horizon refuses the same
+/// days.
 pub fn near_state_has_one_docker()
     ensures valid { (day : ℕ) (state : State) → IsValid state → IsValid (near_state day state) }
     ensures refused { (day other : ℕ) (state : State)
@@ -226,8 +227,8 @@ pub fn near_state_has_one_docker()
         ↔ IsDockerText (live_table (near_state day state)) place day text }
 {}
 
-/// The excerpt of a valid state for a place and a day is valid and refuses dockers on the same
-/// days. It has the same docker of the place on the day.
+/// The excerpt of a valid state for a place and a day is valid and has the same docker of the place
+/// on the day. Its horizon refuses the same days.
 pub fn excerpt_on_has_one_docker()
     ensures valid { (place : List ℕ) (day : ℕ) (state : State)
         → IsValid state → IsValid (excerpt_on place day state) }

@@ -1,6 +1,6 @@
 //! Laws of thinning, which drops the changes of a file that the docker of one place on one day
-//! doesn't need. Each change is judged by itself. A law is a function with an empty body whose
-//! contract states a fact. The fact holds for all values of its variables.
+//! doesn't need. Each change is judged by itself. A law is a function with an empty body. Its
+//! contract states a fact, which holds for all values of the variables.
 ghost use Rattle.std.specs.Prelude.{◌≡◌, ℕ, ◌-◌, ◌^◌, ◌<◌, ◌≤◌, Contains, List, [], ◌∷◌, ◌++◌, ◌↔◌, ◌||◌, ◌&&◌, length, fold, true, false};
 ghost use Rattle.std.specs.Str.{bytes_eq};
 ghost use Rattle.docker_model.specs.records.Record.{IsRecord, columns, is_location, kind_of, HasKind, origin_location, terminating_location};
@@ -60,8 +60,8 @@ pub fn stand_in_has_one_docker()
         → HasGoodBodies live → StandsFor place day live (thinned place day live) }
 {}
 
-/// For the docker of a place and a day, a schedule may be replaced by the records that the docker
-/// of the place needs. If the schedule doesn't call at the place, it may be replaced by any records
+/// For the docker of a place and a day, a schedule may be replaced by those of its records that
+/// this docker needs. If the schedule doesn't call at the place, it may be replaced by any records
 /// that have the same first record and don't call at the place. The first record followed by any
 /// good origin and any good terminus is a schedule with the same key.
 pub fn stand_in_of_a_schedule()

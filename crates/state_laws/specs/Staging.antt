@@ -13,8 +13,8 @@ use Rattle.docker_model.specs.state.State.{State, AreAscending}
 abbrev pub HasNoEntryOf : List (Key × Entry) → Key → Type 0
 HasNoEntryOf entries key = (entry : Entry) → ¬ Contains entries (key, entry)
 
--- the offered entry is to be staged. It isn't below the floor of both ledgers, and it is greater
--- than the state's entry at its key, if the state has such an entry
+-- the offered entry is to be staged: the entry isn't below the floor of the two ledgers together.
+-- If the state has an entry at the same key, the offered entry is greater
 pub record IsToStage (own : State) (floor : Option FileStamp) (key : Key) (entry : Entry) : Type 0 where
   pub kept : IsKept floor entry.stamp.file
   pub greater : (other : Entry) → Contains own.entries (key, other) → IsBelow entry_cmp other entry

@@ -1,5 +1,5 @@
-//! Laws of the two indexes of a live table. A law is a function with an empty body whose contract
-//! states a fact. The fact holds for all values of its variables.
+//! Laws of the two indexes of a live table. A law is a function with an empty body. Its contract
+//! states a fact, which holds for all values of the variables.
 ghost use Rattle.std.specs.Prelude.{◌≡◌, ℕ, List, ◌↔◌, Contains};
 ghost use Rattle.std.specs.List.{flat_map};
 ghost use Rattle.docker_model.specs.state.Order.{IsStrictlyAscending};

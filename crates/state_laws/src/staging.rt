@@ -1,6 +1,6 @@
 //! Laws of receiving a state from a stream: the entries that are staged, and the state after a
-//! commit. A law is a function with an empty body whose contract states a fact. The fact holds for
-//! all values of its variables.
+//! commit. A law is a function with an empty body. Its contract states a fact, which holds for all
+//! values of the variables.
 ghost use Rattle.std.specs.Prelude.{◌≡◌, ◌+◌, List, [], ◌∷◌, ◌++◌, ◌↔◌, Contains, Option, Some};
 ghost use Rattle.docker_model.specs.file.Change.{Key};
 ghost use Rattle.docker_model.specs.state.Stamp.{LedgerItem, FileStamp, IsFloor, IsKept};

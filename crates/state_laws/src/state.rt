@@ -1,5 +1,5 @@
 //! Laws of states: summaries, joins, horizons, and the table of a summary. A law is a function with
-//! an empty body whose contract states a fact. The fact holds for all values of its variables.
+//! an empty body. Its contract states a fact, which holds for all values of the variables.
 ghost use Rattle.std.specs.Prelude.{◌≡◌, ℕ, ◌+◌, List, ◌++◌, ◌↔◌, ◌≤◌, All, Contains, Option, length, map, max};
 ghost use Rattle.docker_model.specs.file.Change.{Key};
 ghost use Rattle.docker_model.specs.state.Stamp.{FileStamp, IsFloor};

@@ -1,5 +1,6 @@
--- An excerpt of a valid state for a place is valid, refuses dockers on the same days, and has the
--- same dockers of the place. The entries whose keys are needed for these dockers are an excerpt.
+-- An excerpt of a valid state for a place is valid and has the same dockers of the place, and its
+-- horizon refuses the same days. The entries whose keys are needed for these dockers are an
+-- excerpt.
 use Rattle.std.proofs.Common.{◌++◌, ◌≡◌, ℕ, List, [], ◌∷◌, subst, inl, inr, ◌⊎◌, refl, ap, sym, ◌∙◌, Bool, true, false, cond, Some, None}
 use Rattle.std.specs.Prelude.{Option, ◌↔◌, ◌&&◌, ◌||◌, filter, find, option_and_then}
 use Rattle.std.specs.List.{list_any}
@@ -143,7 +144,7 @@ excerpt_again place state part smaller is further = record {
     by key (inl same) = inner key same (is.live key)
     by key (inr none) = inr (none.0, λ needed. none.1 (needed_still key needed))
 
--- an excerpt refuses dockers on the same days as its state
+-- the horizon of an excerpt refuses the same days as the horizon of the state
 pub excerpt_refuses : (place : List ℕ) (state part : State) (day : ℕ) → IsExcerptState place state part
     → IsDayRefused state.horizon day ↔ IsDayRefused part.horizon day
 excerpt_refuses place state part day is =

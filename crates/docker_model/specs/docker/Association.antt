@@ -54,9 +54,9 @@ IsPartnerIdentity live uid None identity = identity ≡ codes "????"
 IsPartnerIdentity live uid (Some day) identity = IsIdentityOn live uid identity day
 
 -- this is a docker line of an association, for the place and the day. The association is the chosen
--- association of its group on the base train's start day. It isn't a cancellation. Its category is
--- a join, a division or a next working, and its date indicator is S, a space, N or P. The base
--- train's first event with the association's TIPLOC and suffix is at the place, on the day
+-- association of its group on the base train's start day. The association isn't a cancellation. Its
+-- category is a join, a division or a next working, and its date indicator is S, a space, N or P.
+-- The base train's first event with the association's TIPLOC and suffix is at the place, on the day
 pub record IsAssociationLine (live : Table) (place : List ℕ) (day : ℕ) (line : DockerLine) : Type 0 where
   pub start : ℕ
   pub key : AssociationKey

@@ -10,9 +10,9 @@ use Rattle.docker_model.specs.file.Change.{association_key, schedule_key, Associ
 use Rattle.docker_model.specs.state.Order.{IsAtMost}
 use Rattle.docker_model.specs.state.Table.{Table}
 
--- whether a day is in a range of dates, and its weekday is marked in the days run. The first date,
--- the last date and the days run are fields of a schedule or an association, and have six, six and
--- seven bytes
+-- whether a day is in a range of dates, and the day's weekday is marked in the days run. The first
+-- date, the last date and the days run are fields of a schedule or an association, and have six,
+-- six and seven bytes
 abbrev pub runs_within : List ℕ → List ℕ → List ℕ → ℕ → Bool
 runs_within first last days day =
     nat_le (date_number first) day && nat_le day (end_number last) && runs_on_weekday days (weekday_of day)
@@ -63,9 +63,9 @@ pub record IsRunning (live : Table) (uid : List ℕ) (day : ℕ) (key : Schedule
   pub is_live : live (schedule_key key) ≡ Some (schedule_body lines)
   pub runs_then : IsTrue (schedule_runs (first_record lines) day)
 
--- this is the chosen schedule of the UID on the day: of all schedules of the UID that run on the
--- day, it comes first in the order of choice. For example, an overlay is chosen before a permanent
--- schedule, and a cancellation before both
+-- this is the chosen schedule of the UID on the day. Of all schedules of the UID that run on the
+-- day, this schedule comes first in the order of choice. For example, an overlay is chosen before a
+-- permanent schedule, and a cancellation before both
 pub record IsChosen (live : Table) (uid : List ℕ) (day : ℕ) (key : ScheduleKey) (lines : List (List ℕ)) : Type 0 where
   pub running : IsRunning live uid day key lines
   pub first : (other : ScheduleKey) (others : List (List ℕ)) → IsRunning live uid day other others → IsAtMost schedule_choice_cmp key other
@@ -95,8 +95,8 @@ pub record IsAssociated (live : Table) (group : Group) (day : ℕ) (key : Associ
   pub is_live : live (association_key key) ≡ Some (association_body line)
   pub runs_then : IsTrue (association_runs line day)
 
--- this is the chosen association of the group on the day: of all associations of the group that run
--- on the day, it comes first in the order of choice
+-- this is the chosen association of the group on the day. Of all associations of the group that run
+-- on the day, this association comes first in the order of choice
 pub record IsChosenAssociation (live : Table) (group : Group) (day : ℕ) (key : AssociationKey) (line : List ℕ) : Type 0 where
   pub associated : IsAssociated live group day key line
   pub first : (other : AssociationKey) (others : List ℕ) → IsAssociated live group day other others → IsAtMost association_choice_cmp key other

@@ -61,8 +61,8 @@ public_by_kind (Some intermediate_location) departure line = shown_public (colum
 public_by_kind (Some terminating_location) arrival line = shown_public (columns 16 19 line)
 public_by_kind _ _ line = spaces 4
 
--- the TIPLOC of the first record with this record identity in a schedule. For example, for `LO` it
--- is the train's origin, and for `LT` its destination
+-- the TIPLOC of the first record with this record identity in a schedule. For example, for `LO` the
+-- result is the train's origin, and for `LT` the train's destination
 abbrev pub tiploc_of_first : List ℕ → List (List ℕ) → List ℕ
 tiploc_of_first identity lines = columns 3 9 (unwrap_or (find (λ line. has_identity identity line) lines) [])
 

@@ -39,13 +39,13 @@ abbrev pub description_in : Option Body → List ℕ
 description_in (Some (tiploc_body bytes)) = columns 10 35 bytes
 description_in _ = spaces 26
 
--- the 56 columns of a docker's heading: the place, the day and the place's TPS description. For a
--- day from 0 to 36524
+-- the 56 columns of a docker's heading: the place, the day and the place's TPS description. The day
+-- must be from 0 to 36524
 abbrev pub heading : Table → List ℕ → ℕ → List ℕ
 heading live place day =
     codes "DOCKER " ++ place ++ spaces 1 ++ day_text day ++ spaces 1 ++ description_in (live (tiploc_key place)) ++ spaces 4
 
--- the 56 columns of a docker's last line
+-- the last line of a docker: `END`, padded with spaces to 56 columns
 abbrev pub last_line : List ℕ
 last_line = codes "END" ++ spaces 53
 
@@ -53,8 +53,8 @@ last_line = codes "END" ++ spaces 53
 abbrev pub ended : List ℕ → List ℕ
 ended text = text ++ 10 ∷ []
 
--- the docker's text: its heading, these lines and the last line, each followed by a line feed. For
--- a day from 0 to 36524
+-- the docker's text: its heading, these lines and the last line, each followed by a line feed. The
+-- day must be from 0 to 36524
 abbrev pub docker_text : Table → List ℕ → ℕ → List DockerLine → List ℕ
 docker_text live place day lines =
     ended (heading live place day) ++ flat_map (λ line. ended (line_text line)) lines ++ ended last_line

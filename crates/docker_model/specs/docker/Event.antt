@@ -20,7 +20,7 @@ pub record Event : Type 0 where
 abbrev pub placed_times : List (List ℕ) → List (ℕ × (Occasion × ℕ))
 placed_times lines = flat_map (λ placed. map (λ time. (placed.0, time)) (times_of placed.1)) (enumerate_from 0 lines)
 
--- the events of a schedule: one for each time in it, numbered from 1
+-- the events of a schedule: one event for each time in the schedule, numbered from 1
 abbrev pub events_of : List (List ℕ) → List Event
 events_of lines =
     map (λ counted. record { number = counted.0; place = counted.1.0; occasion = counted.1.1.0; time = counted.1.1.1 })
@@ -33,7 +33,7 @@ abbrev pub falls_to : List (List ℕ) → ℕ → ℕ
 falls_to lines number = fall_count (take number (times_along lines))
 
 -- the day of an event, for a train that starts on this day. For example, if a train starts on day
--- 10, its events after one midnight are on day 11
+-- 10, the events after the first midnight, up to the second, are on day 11
 abbrev pub event_day : ℕ → List (List ℕ) → Event → ℕ
 event_day start lines event = start + falls_to lines event.number
 

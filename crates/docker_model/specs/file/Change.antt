@@ -38,7 +38,7 @@ pub data Body : Type 0 where
   association_body : (line : List ℕ) → Body
   schedule_body : (lines : List (List ℕ)) → Body
 
--- what a change does to its key: it deletes the key, or puts a body at the key
+-- the act of a change: a deletion of its key, or a put of a body at its key
 pub data Act : Type 0 where
   delete : Act
   put : (body : Body) → Act

@@ -48,7 +48,7 @@ pub record EndsInSchedule (records lines : List (List ℕ)) : Type 0 where
   pub last : All (λ line. ¬ HasKind basic_schedule line) others
 
 -- the schedule at the end of the earlier records passes midnight at most twice, but with this
--- record appended it passes midnight a third time
+-- record appended the schedule passes midnight a third time
 abbrev pub HasThirdFall : List (List ℕ) → List ℕ → Type 0
 HasThirdFall earlier line =
     (lines : List (List ℕ)) × EndsInSchedule earlier lines × (midnights lines ≤ 2) × (2 < midnights (lines ++ line ∷ []))
@@ -79,8 +79,8 @@ pub record FileFault : Type 0 where
   pub cause : FileCause
 
 -- this is the fault of the first record at fault. The records before that record are within the
--- limit and begin a file. With that record appended, they exceed the limit or no longer begin a
--- file
+-- limit and begin a file. With that record appended, the records exceed the limit or no longer
+-- begin a file
 pub record IsRecordFault (limit : ℕ) (records : List (List ℕ)) (fault : FileFault) : Type 0 where
   pub earlier : List (List ℕ)
   pub line : List ℕ

@@ -20,7 +20,8 @@ two_digits field i = 10 * (slice_index field i - 48) + (slice_index field (i + 1
 abbrev pub full_year : ℕ → ℕ
 full_year n = if nat_le 60 n then 1900 + n else 2000 + n
 
--- whether the calendar has this year, month and day. For example, it has no 29 February 2023
+-- whether the calendar has this year, month and day. For example, the calendar has no 29 February
+-- 2023
 abbrev pub is_calendar_day : ℕ → ℕ → ℕ → Bool
 is_calendar_day year month day = is_in_range 1 12 month && is_in_range 1 (days_in_month (pos year) month) day
 

@@ -5,7 +5,7 @@ use Rattle.std.specs.Prelude.{◌-◌, slice_range, slice_index, [], ◌∷◌, 
 use Rattle.std.specs.List.{AllPass}
 use Rattle.std.specs.Str.{bytes_eq}
 
--- whether a record may hold this byte: it is from a space to a tilde
+-- whether a record may hold this byte: the byte is from a space to a tilde
 abbrev pub is_printable : ℕ → Bool
 is_printable b = nat_le 0x20 b && nat_le b 0x7E
 
@@ -45,7 +45,8 @@ pub data Kind : Type 0 where
   change_en_route : Kind
   trailer : Kind
 
--- each record identity with its kind: the first two columns of a record decide its kind
+-- the table of record identities, each with its kind. The identity is the first two columns of a
+-- record
 abbrev pub identities : List (List ℕ × Kind)
 identities =
     (codes "HD", header) ∷ (codes "TI", tiploc_insert) ∷ (codes "TA", tiploc_amend) ∷ (codes "TD", tiploc_delete)

@@ -26,7 +26,7 @@ pub data Refusal : Type 0 where
   no_memory : Refusal
   bad_file : (fault : FileFault) → Refusal
 
--- the reply to an event: it was done, or it was refused and has no effect
+-- the reply to an event: the event was done, or it was refused and has no effect
 pub data Reply : Type 0 where
   done : Reply
   refused : (why : Refusal) → Reply
@@ -104,7 +104,7 @@ abbrev pub IsMessage : KnownSets → ℕ → Type 0
 IsMessage known message = message < length known.messages
 
 -- this reply is allowed when an office takes a file. The reply is `done` if the text is a file, and
--- the text's fault if the text isn't a file. In either case it may also be out of memory
+-- the text's fault if the text isn't a file. In either case the reply may also be out of memory
 abbrev pub IsFileReply : ℕ → List ℕ → Reply → Type 0
 IsFileReply limit text done = IsFileText limit text (lines_of text)
 IsFileReply limit text (refused (bad_file fault)) = IsFileFault limit text fault

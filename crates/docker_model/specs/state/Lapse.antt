@@ -13,8 +13,8 @@ lapse horizon deleted = deleted
 lapse horizon lapsed = lapsed
 lapse horizon (put_with body) = if nat_lt (body_end body) horizon then lapsed else put_with body
 
--- the op is unchanged by the lapse under the horizon: it isn't a put of a body that ended before
--- that day
+-- the op is unchanged by the lapse under the horizon: the op isn't a put of a body that ended
+-- before the horizon
 abbrev pub HasNotToLapse : ℕ → Op → Type 0
 HasNotToLapse horizon deleted = ⊤
 HasNotToLapse horizon lapsed = ⊤
@@ -32,7 +32,7 @@ lapse_keyed horizon entry = (entry.0, lapse_entry horizon entry.1)
 abbrev pub lapse_entries : ℕ → List (Key × Entry) → List (Key × Entry)
 lapse_entries horizon entries = map (lapse_keyed horizon) entries
 
--- this body, or `None` if it ended before the horizon
+-- this body, or `None` if the body ended before the horizon
 abbrev pub unlapsed : ℕ → Body → Option Body
 unlapsed horizon body = if nat_lt (body_end body) horizon then None else Some body
 

@@ -1,5 +1,5 @@
 -- Ops and entries, and the orders of keys, bodies, ops and entries. An op is the value of an entry:
--- its key is deleted, lapsed, or put with a body.
+-- a deletion, a lapse, or a put of a body.
 use Rattle.std.specs.Prelude.{ℕ, if◌then◌else◌, List, Option, Some, None}
 use Rattle.std.specs.List.{concat}
 use Rattle.std.specs.declared.cmp.Ordering.{Ordering}
@@ -63,8 +63,8 @@ body_bytes (schedule_body lines) = concat lines
 abbrev pub readable_end : List ℕ → ℕ
 readable_end field = if is_end_date field then end_number field else no_end_number
 
--- the end number of a body: the last day on which it runs, or 65535 for no end. A TIPLOC has no
--- end. The lines of the body must be records
+-- the end number of a body: the last day of its schedule or association, or 65535 for no end. A
+-- TIPLOC has no end. The lines of the body must be records
 abbrev pub body_end : Body → ℕ
 body_end (tiploc_body bytes) = no_end_number
 body_end (association_body line) = readable_end (columns 22 27 line)

@@ -123,7 +123,7 @@ pub record IsValid (state : State) : Type 0 where
   pub entries : AreEntries state.ledger state.entries
   pub have_lapsed : HaveLapsed state.horizon state.entries
 
--- the entry of a key in a state, or `None` if the state has no entry for it
+-- the entry of a key in a state, or `None` if the state has no entry for the key
 abbrev pub entry_at : State → Key → Option Entry
 entry_at state key = option_and_then (λ (entry : Key × Entry). Some entry.1) (find (λ entry. is_eq (key_cmp entry.0 key)) state.entries)
 
