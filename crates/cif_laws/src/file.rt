@@ -67,8 +67,8 @@ pub fn keys_of_record_differ()
         → ¬ (first.key ≡ second.key)) (changes file) }
 {}
 
-/// Each of these questions has a decided answer: whether records begin some file, whether they are
-/// a file, whether they begin some schedule, and whether they are a schedule.
+/// It is decidable whether records begin some file, whether they are a file, whether they begin
+/// some schedule, and whether they are a schedule.
 pub fn begins_or_not()
     ensures file { (records : List (List ℕ)) → BeginsFile records ⊎ ¬ BeginsFile records }
     ensures schedule { (lines : List (List ℕ)) → BeginsSchedule lines ⊎ ¬ BeginsSchedule lines }

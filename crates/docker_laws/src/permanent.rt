@@ -1,5 +1,5 @@
 //! Laws of permanent dockers, which are dockers of a table without the short-term plan. A law is a
-//! function with an empty body whose contract states a fact. The fact holds for all values of its
+//! function with an empty body. Its contract states a fact, which holds for all values of the
 //! variables.
 ghost use Rattle.std.specs.Prelude.{◌≡◌, ℕ, List, ◌↔◌, filter, fold};
 ghost use Rattle.docker_model.specs.file.Change.{Change};

@@ -418,7 +418,7 @@ file_or_fault limit text = by (pass_or_fault limit (lines_of text))
         ended false h = inr (record { number = length (lines_of text) + 1; cause = no_end }, inr (no_end_behind limit (lines_of text) pass.0 pass.1 h pass.2))
     by (inr fault) = inr (fault.0, inl fault.1)
 
--- it is decided whether records are a file
+-- it is decidable whether records are a file
 pub file_or_not : (records : Lines) → IsFile records ⊎ ¬ IsFile records
 file_or_not records = by (place_at records) refl
   where

@@ -450,7 +450,7 @@ begins_next_iff records place line found = (
   λ told. (begins_iff_place (records ++ line ∷ [])).1 (told.0, place_of_more records place line found ∙ test_by_next place line told.0 told.1),
 )
 
--- it is decided whether records begin a file
+-- it is decidable whether records begin a file
 pub begins_file_or_not : (records : Lines) → BeginsFile records ⊎ ¬ BeginsFile records
 begins_file_or_not records = by (place_at records) refl
   where

@@ -1,4 +1,4 @@
--- It is decided whether records are a schedule, and whether they begin some schedule.
+-- It is decidable whether records are a schedule, and whether they begin some schedule.
 use Rattle.std.proofs.Common.{◌≡◌, ℕ, List, length, true, Some, [], ◌∷◌, ◌⊎◌, inr, inl, ◌+◌, ◌++◌, ap, refl, sym, subst, ◌≤◌, IsTrue, All}
 use Rattle.std.proofs.Common.{Bool, false, arith, if◌then◌else◌, nat_lt, map, ◌||◌, None, cond, not, find, ◌∙◌, codes, append-nil, lit≤}
 use Rattle.std.specs.Prelude.{⊤, slice_index, ◌==◌, option_map, Option}
@@ -25,15 +25,15 @@ use Rattle.cif_laws.proofs.lists.BoolsAndOptions.{both}
 abbrev AreRecords : Lines → Type 0
 AreRecords lines = AllByRecursion IsRecord lines
 
--- it is decided whether bytes are a record
+-- it is decidable whether bytes are a record
 pub record_decided : (line : List ℕ) → Decided (IsRecord line)
 record_decided line = both_decided (nat_decided (length line) 80) (All_decided (λ b. is_printable b ≡ true) (λ b. bool_decided (is_printable b)) line)
 
--- it is decided whether a record has this kind
+-- it is decidable whether a record has this kind
 pub has_kind_decided : (kind : Kind) (line : List ℕ) → Decided (HasKind kind line)
 has_kind_decided kind line = kind_decided (kind_of line) (Some kind)
 
--- it is decided whether a record has good fields
+-- it is decidable whether a record has good fields
 pub good_fields_decided : (line : List ℕ) → Decided (HasGoodFields line)
 good_fields_decided line = none_decided (leftmost_bad_field line)
 
@@ -213,7 +213,7 @@ is_schedule lines is =
         subst (λ xs. AreRecords (is.basic ∷ xs ++ is.journey) → ScheduleHere (is.basic ∷ xs ++ is.journey)) (sym one.1)
         (λ r. ((r, (is.kind, is.fields)), inr (one.2, part))) records
 
--- it is decided whether records are a schedule
+-- it is decidable whether records are a schedule
 pub schedule_decided : (lines : Lines) → Decided (IsSchedule lines)
 schedule_decided lines = decided_along (schedule_is lines) (is_schedule lines) (schedule_here_decided lines)
 
@@ -467,7 +467,7 @@ begins_of_front (basic ∷ lines) here = by lines here.0.0 here.1
           ),
         )
 
--- it is decided whether records begin some schedule
+-- it is decidable whether records begin some schedule
 pub begins_decided : (lines : Lines) → Decided (BeginsSchedule lines)
 begins_decided lines =
     decided_along (begins_of_front lines) (λ begins. front_of_schedule lines begins.0 (is_schedule (lines ++ begins.0) begins.1)) (front_here_decided lines)

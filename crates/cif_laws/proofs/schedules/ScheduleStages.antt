@@ -696,7 +696,7 @@ begins_more_iff basic rest stage line at = (
       ),
 )
 
--- it is decided whether records begin a schedule
+-- it is decidable whether records begin a schedule
 pub begins_schedule_or_not : (lines : Lines) → BeginsSchedule lines ⊎ ¬ BeginsSchedule lines
 begins_schedule_or_not [] = inl no_lines_begin
 begins_schedule_or_not (basic ∷ rest) = by (stage_of (basic ∷ rest)) refl
@@ -705,7 +705,7 @@ begins_schedule_or_not (basic ∷ rest) = by (stage_of (basic ∷ rest)) refl
     by None h = inr (λ begins. let at = (begins_iff_stage basic rest).0 begins in let bad : None ≡ Some at.0 = sym h ∙ at.1 in cc)
     by (Some stage) h = inl ((begins_iff_stage basic rest).1 (stage, h))
 
--- it is decided whether records are a schedule
+-- it is decidable whether records are a schedule
 pub schedule_or_not : (lines : Lines) → IsSchedule lines ⊎ ¬ IsSchedule lines
 schedule_or_not lines = by (stage_of lines) refl
   where

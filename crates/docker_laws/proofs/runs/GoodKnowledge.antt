@@ -59,7 +59,7 @@ file_good format text limit low file =
 pub horizon_good : (format : Format) (day : ℕ) → IsHorizonOf format day → IsGoodKnown format (record { files = []; horizon = day })
 horizon_good format day is = (no_files_good, is)
 
--- ---- along a run
+-- ---- the knowledge after a run
 
 good_at : {A : Type 0} (P : A → Type 0) (xs : List A) (i : ℕ) (d : A) → All P xs → P d → P (get_or xs i d)
 good_at P [] i d all one = one

@@ -90,7 +90,7 @@ file_stamp_in bytes = record {
 abbrev pub item_in : List ℕ → LedgerItem
 item_in bytes = record { stamp = file_stamp_in bytes; indicator = slice_index bytes 11; last_reference = slice_range bytes 12 19 }
 
--- converts 23 bytes to the key of an association that they encode
+-- converts 23 bytes to the association key that they encode
 abbrev pub association_key_in : List ℕ → Key
 association_key_in bytes = association_key (record {
   base = slice_range bytes 0 6;
@@ -101,7 +101,7 @@ association_key_in bytes = association_key (record {
   indicator = slice_index bytes 22;
 })
 
--- converts 9 bytes to the key of a schedule that they encode
+-- converts 9 bytes to the schedule key that they encode
 abbrev pub schedule_key_in : List ℕ → Key
 schedule_key_in bytes = schedule_key (record {
   uid = slice_range bytes 0 6;
