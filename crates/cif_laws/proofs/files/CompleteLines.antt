@@ -13,7 +13,7 @@ use Rattle.docker_model.specs.file.Text.{last_piece, without_empty_last, lines_o
 use Rattle.docker_model.specs.file.FaultSoFar.{last_of, sure_lines}
 use Rattle.cif_laws.specs.CompleteLines.{but_last, open_line, complete_lines, pieces_of, line_left, feeds, HasNoFeed}
 
--- ---- pieces
+-- ---- appended bytes extend the last piece of a text, or begin new pieces
 
 some_pieces : (p : ℕ → Bool) (text : List ℕ) → 0 < length (slice_split p text)
 some_pieces p text = let size = length-slice_split p text in omega arith
@@ -81,7 +81,7 @@ split_append p (b ∷ text) more = by (p b) refl (split_append p text more)
         slice_split-cons_no p b (text ++ more) h ∙ ap (onto_first b) rest ∙ at_byte b (slice_split p text) (slice_split p more) (some_pieces p text)
         ∙ (λ i. but_last (sym (slice_split-cons_no p b text h) i) ++ going_on (last_of (sym (slice_split-cons_no p b text h) i)) (slice_split p more))
 
--- ---- lines
+-- ---- the lines of a text are its complete lines and its incomplete line
 
 -- the lines of a text are its complete lines, followed by the incomplete line if it isn't empty
 pub lines_of_told : (text : List ℕ) → lines_of text ≡ complete_lines text ++ line_left (open_line text)
@@ -113,7 +113,7 @@ length_complete_lines text =
 pub sure_lines_is : (text : List ℕ) → sure_lines text ≡ length (complete_lines text) + (if nat_le 82 (length (open_line text)) then 1 else 0)
 sure_lines_is text = ap (λ n. n + (if nat_le 82 (length (open_line text)) then 1 else 0)) (sym (length_complete_lines text))
 
--- ---- a text that grows
+-- ---- bytes extend the incomplete line, and a line feed completes it
 
 -- appending bytes without a line feed leaves the complete lines unchanged
 pub complete_lines_plain : (text piece : List ℕ) → HasNoFeed piece → complete_lines (text ++ piece) ≡ complete_lines text
@@ -170,7 +170,7 @@ complete_lines_ended text front plain = complete_lines_cut text front [] plain
 pub open_line_ended : (text front : List ℕ) → HasNoFeed front → open_line (text ++ (front ++ 10 ∷ [])) ≡ []
 open_line_ended text front plain = open_line_cut text front [] plain
 
--- ---- the lines of a text after bytes are appended
+-- ---- appending bytes preserves the complete lines
 
 -- when the bytes `more` are appended to a text, the bytes before the first line feed in `more`
 -- extend the incomplete line. Each line feed in `more` completes a line

@@ -29,7 +29,7 @@ use Rattle.cif_laws.proofs.schedules.ScheduleStages.{HasShape, details_of, IsSou
 use Rattle.cif_laws.proofs.files.FileStages.{next_by_test, stage_stops, IsWithin, IsAt, next_at, at_of_place, witness_next, at_begins}
 use Rattle.cif_laws.proofs.files.FileStages.{begins_iff_place, file_iff_place, place_of_more, begins_next_iff, one_place}
 
--- ---- after a trailer
+-- ---- records that include a trailer lead to the place `after_end`
 
 end_by_test : (place : Place) → is_after_end place ≡ true → place ≡ after_end
 end_by_test after_end h = refl
@@ -103,7 +103,7 @@ same_place_by_kind (in_schedule stage lines) kind first second = by (stage_after
         ended false = refl
 same_place_by_kind after_end kind first second = refl
 
--- ---- a schedule passes midnight a third time
+-- ---- which record makes a schedule pass midnight a third time
 
 no_basic : (line : List ℕ) → Follows line → ¬ HasKind basic_schedule line
 no_basic line follows basic = let bad : false ≡ true = sym (ap follows_basic basic) ∙ follows in cc
@@ -170,7 +170,7 @@ third_fall stage lines records line within fields test = (lines, ends_in_schedul
         subst (λ n. n ≤ 2) (sym (ap midnights front.whole ∙ midnights_of_journey front.basic front.extra front.journey front.kind
         (details_of stage front.extra front.journey front.shape))) good.falls
 
--- ---- the cause of a record at fault
+-- ---- `cause_of` is the cause of a record at fault
 
 module _ (limit : ℕ) (earlier : Lines) (place : Place) (line : List ℕ) (found : IsPlaceOf earlier place) where
   at : IsAt place earlier

@@ -53,7 +53,7 @@ IsAt between_units records = IsBetween records
 IsAt (in_schedule stage lines) records = IsWithin stage lines records
 IsAt after_end records = IsFile records
 
--- ---- the parts of the test of the next record
+-- ---- a record leads to a next place if and only if it passes each part of the test
 
 -- the record is sound at this place, and by its kind it leads to the place `next`
 pub record IsNext (place : Place) (line : List ℕ) (next : Place) : Type 0 where
@@ -75,7 +75,7 @@ pub test_by_next : (place : Place) (line : List ℕ) (next : Place) → IsNext p
 test_by_next place line next told =
     (λ i. cond (and_true (is_record line) _ ((record_iff_test line).0 told.is) told.sound i) (place_by_kind place (kind_of line) line) None) ∙ told.place_is
 
--- ---- one more record
+-- ---- one more record preserves the structure
 
 between_more : (records unit : Lines) → IsBetween records → IsUnit unit → IsBetween (records ++ unit)
 between_more records unit between is = record {
@@ -458,7 +458,7 @@ begins_file_or_not records = by (place_at records) refl
     by None h = inr (λ begins. let at = (begins_iff_place records).0 begins in let bad : None ≡ Some at.0 = sym h ∙ at.1 in cc)
     by (Some place) h = inl ((begins_iff_place records).1 (place, h))
 
--- ---- the stage of the schedule at a place
+-- ---- a place inside a schedule has the stage of the schedule's records
 
 -- if the place is inside a schedule, its stage is the stage of that schedule's records, and the
 -- journey isn't complete

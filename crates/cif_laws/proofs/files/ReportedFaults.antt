@@ -49,7 +49,7 @@ no_begin earlier line apart begins =
     let told = (begins_next_iff earlier reached.0 line reached.1).0 begins in
     apart told.1.is.0
 
--- ---- the first elements of a list
+-- ---- the elements of a prefix are the first elements of the list
 
 -- an element is in the prefix if its index is below the length of the prefix
 within_front : (front more earlier : Lines) (line : List ℕ) (later : Lines) → front ++ more ≡ earlier ++ line ∷ later → length earlier < length front
@@ -306,7 +306,7 @@ passes_no_fault limit text fault passes told = by told.is.here
         none (begins_front (told.is.earlier ++ told.is.line ∷ []) within.0
         (subst BeginsFile (take_told text passes.2 ∙ within.1 ∙ sym (append_assoc told.is.earlier (told.is.line ∷ []) within.0)) passes.0))
 
--- ---- the fault that a reader of a text in pieces finds
+-- ---- which fault a reader reports while it reads a text in pieces
 
 -- if a line doesn't have 80 bytes, its cause doesn't depend on its bytes
 pub cause_of_length : (limit count : ℕ) (place : Place) (line : List ℕ) → length line ≢ 80 → cause_of limit count place line ≡ cause_of_long limit count place

@@ -20,7 +20,7 @@ use Rattle.cif_laws.proofs.records.Columns.{good_fields}
 use Rattle.cif_laws.proofs.lists.BoolsAndOptions.{both, test_by_none, none_by_test, and_true, either}
 use Rattle.cif_laws.proofs.records.GoodFields.{clock_minute}
 
--- ---- a record
+-- ---- bytes are a record if and only if they pass the test `is_record`
 
 abbrev printable_front : List ℕ → ℕ
 printable_front bytes = prefix_len (λ b. not (not (is_printable b))) bytes
@@ -70,7 +70,7 @@ record_iff_test line = (
       (eqb-true (length line) 80 parts.0, printable_by_none line (none_by_test (leftmost_bad_byte line) parts.1)),
 )
 
--- ---- the number of times that a schedule passes midnight
+-- ---- how often a schedule passes midnight can be computed record by record
 
 -- the number of falls in a concatenation is the number in the first list, plus the number in the
 -- second list after the last time of the first. A fall is a time that is earlier than the time

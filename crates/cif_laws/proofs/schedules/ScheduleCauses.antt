@@ -25,7 +25,7 @@ use Rattle.cif_laws.proofs.schedules.ScheduleStages.{IsSound, IsFront, details_o
 use Rattle.cif_laws.proofs.schedules.ScheduleStages.{schedule_out_of_place, schedule_in_place, IsNoNextLine, no_next_line}
 use Rattle.cif_laws.proofs.files.FileStages.{stage_stops, tracked_place}
 
--- ---- one cause
+-- ---- a record that can't continue a schedule has at most one cause
 
 column_in : (earlier : Lines) (line : List ℕ) (cause : FileCause) → HoldsInSchedule earlier line cause → column_told (cause_rank cause) line ≡ column_of cause
 unfolding column_of column_told
@@ -51,7 +51,7 @@ one_schedule_cause earlier line first second is_first is_second = by (cases_orde
     by (inr (inl below)) = absurd (is_second.first first below is_first.holds)
     by (inr (inr above)) = absurd (is_first.first second above is_second.holds)
 
--- ---- the first line
+-- ---- a record that can't be the first record has the cause `first_line_cause`
 
 -- no cause of a lower rank applies, if the condition of each of these causes is false
 none_below : (earlier : Lines) (line : List ℕ) (rank : ℕ) → rank ≤ 7 → (4 < rank → ¬ (kind_of line ≡ None)) → (5 < rank → ¬ IsOutOfSchedule earlier line)
@@ -137,7 +137,7 @@ first_line_fault line is test = by (kind_of line) refl
     }
     by (Some kind) h = placed kind h (is_basic_kind (Some kind)) refl
 
--- ---- a later record
+-- ---- a later record that can't continue the schedule has the cause `schedule_cause`
 
 -- if a record has a next stage, the records up to and including this record begin a schedule
 pub begins_next_stage : (lines : Lines) (stage : Stage) (line : List ℕ) (next : Stage) → stage_of lines ≡ Some stage → next_stage stage lines line ≡ Some next
@@ -239,7 +239,7 @@ goes_on_or_fault (basic ∷ rest) line begins is = by ((begins_iff_stage basic r
         staged None h = inr (schedule_cause at.0 line, schedule_fault (basic ∷ rest) at.0 line at.1 is h)
         staged (Some next) h = inl (begins_next_stage (basic ∷ rest) at.0 line next at.1 h)
 
--- ---- a record of a file inside a schedule
+-- ---- a record inside a schedule has the same cause in the file
 
 -- a record that can follow a basic schedule begins no unit
 pub no_unit_by_kind : (kind : Option Kind) (line : List ℕ) → follows_basic kind ≡ true → unit_by_kind kind line ≡ None

@@ -60,7 +60,7 @@ details_of after_details extra journey shape = shape.0
 details_of in_journey extra journey shape = shape.0
 details_of after_journey extra journey shape = shape.0
 
--- ---- the first record
+-- ---- the first record leads to the stage `after_basic`
 
 basic_by_test : (kind : Option Kind) → is_basic_kind kind ≡ true → kind ≡ Some basic_schedule
 basic_by_test (Some basic_schedule) h = refl
@@ -98,7 +98,7 @@ front_of_basic line told = record {
   sound = inr (record { fields = All-from_recursion HasGoodFields [] tt; falls = omega arith });
 }
 
--- ---- the number of times that a schedule passes midnight
+-- ---- a schedule passes midnight as often as its journey
 
 -- extra details have no times
 details_no_times : (extra journey : Lines) → AreExtraDetails extra → times_along (extra ++ journey) ≡ times_along journey
@@ -117,7 +117,7 @@ pub midnights_of_journey : (basic : List ℕ) (extra journey : Lines) → HasKin
 midnights_of_journey basic extra journey kind details =
     ap fall_count (times_of_journey basic extra journey kind details)
 
--- ---- one more record
+-- ---- one more record leads to the next stage
 
 -- a record of extra details has no bad field
 pub no_extra_fields : (line : List ℕ) → HasKind extra_details line → HasGoodFields line
@@ -291,7 +291,7 @@ next_front stage lines line next front test = by (kind_of line) refl (next_line_
           sound = front.sound;
         }
 
--- ---- the end
+-- ---- records that may end at their stage are a schedule
 
 -- if a basic schedule passes the test `may_lack`, its journey may be missing
 pub lack_by_test : (basic : List ℕ) → may_lack basic ≡ true → MayLackJourney basic
@@ -477,7 +477,7 @@ front_begins stage lines front = by stage lines front
     by in_journey l f = inside l f
     by after_journey l f = ended l f
 
--- ---- the stage after records
+-- ---- the stage after records determines their structure
 
 front_from : (rest : Lines) (stage : Stage) (done : Lines) (final : Stage) → IsFront stage done → stage_from stage done rest ≡ Some final
     → IsFront final (done ++ rest)

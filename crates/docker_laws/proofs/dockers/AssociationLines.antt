@@ -56,7 +56,7 @@ module _ (live : Table) (trains : List ℕ → ℕ → Option Train) (links : Gr
       by None none = inr (none, refl)
       by (Some train) runs = inl (train.key, train.lines, runs, refl)
 
-  -- ---- associations that may have a docker line
+  -- ---- an association may have a docker line if and only if it passes `is_in_force`
 
   counts : (key : AssociationKey) (line : List ℕ) (start : ℕ) → live (association_key key) ≡ Some (association_body line)
       → counts_as (links (group_of key) start) key ≡ true
@@ -107,7 +107,7 @@ module _ (live : Table) (trains : List ℕ → ℕ → Option Train) (links : Gr
       counted : counts_as (links (group_of key) start) key ≡ true
       counted = by (links (group_of key) start) (tell_links (group_of key) start)
 
-  -- ---- the line
+  -- ---- the docker has each line of an association, and no other lines of associations
 
   made_at : (key : AssociationKey) (line : List ℕ) (start : ℕ) → key.location ≡ place → IsInForce live start key line → (occasion : Occasion)
       → category_occasion (columns 35 36 line) ≡ Some occasion

@@ -19,7 +19,7 @@ Placed = ℕ × (Occasion × ℕ)
 abbrev as_event : ℕ × Placed → Event
 as_event counted = record { number = counted.0; place = counted.1.0; occasion = counted.1.1.0; time = counted.1.1.1 }
 
--- ---- numbers
+-- ---- the numbers of the events are strictly increasing
 
 from_here : {A : Type 0} (n : ℕ) (xs : List A) (z : ℕ × A) → Contains (enumerate_from n xs) z → n ≤ z.0
 from_here n [] z among = absurd (nil-Contains z among)
@@ -49,7 +49,7 @@ one_event lines a b in_a in_b same = by (one_before (λ (x y : Event). x.number 
     by (inr (inl below)) = absurd (omega arith)
     by (inr (inr above)) = absurd (omega arith)
 
--- ---- the record of an event
+-- ---- the record of each event contains the event's occasion and time
 
 -- a member of `enumerate_from n xs` has the number `n + k` and the element of `xs` at index `k`,
 -- for some `k`
@@ -124,7 +124,7 @@ at_a_line lines event among = by (Contains-map as_event (enumerate_from 1 (place
         let inside : Contains (placed_times lines) counted.1 = (stands.0, stands.2, stands.3) in
         at counted.1 (sym (ap (λ (e : Event). e.place) same), sym (ap (λ (e : Event). (e.occasion, e.time)) same)) (time_of_placed lines counted.1 inside)
 
--- ---- the occasion of an event
+-- ---- each event is an arrival, a pass or a departure, at a location record
 
 -- the occasion is an event of a train: an arrival, a pass or a departure
 abbrev pub IsOfTrain : Occasion → Type 0

@@ -31,7 +31,7 @@ use Rattle.docker_laws.proofs.dockers.GoodBodies.{live_entry}
 use Rattle.docker_laws.proofs.dockers.ExcerptDocker.{same_where_needed}
 use Rattle.state_laws.proofs.indexes.CallsTest.{any_forth, calls_test}
 
--- ---- an excerpt of a state
+-- ---- an excerpt of a valid state is valid
 
 -- a sublist of good entries of a ledger is good
 pub some_entries : (ledger : List LedgerItem) (some all : List Keyed) → AreEntries ledger all → IsSublist some all → AreEntries ledger some
@@ -150,7 +150,7 @@ pub excerpt_refuses : (place : List ℕ) (state part : State) (day : ℕ) → Is
 excerpt_refuses place state part day is =
     (subst (λ horizon. IsDayRefused horizon day) (sym is.horizon), subst (λ horizon. IsDayRefused horizon day) is.horizon)
 
--- ---- the entries whose keys pass a test
+-- ---- leaving out the keys that fail a test leaves the bodies at all other keys unchanged
 
 module _ (test : Key → Bool) where
   -- a search for a key that passes the test finds the same entry among the entries that pass
@@ -197,7 +197,7 @@ module _ (test : Key → Bool) where
   pub live_dropped : (state : State) (key : Key) → test key ≡ false → live_table (with_passing state) key ≡ None
   live_dropped state key fails = live_none (with_passing state) key (find_dropped key fails state.entries)
 
--- ---- the keys that the docker of a place needs, found from the entries
+-- ---- the keys that the docker of a place needs can be found from the entries
 
 -- whether the entry is a live schedule of the UID that calls at the place
 abbrev pub calls_as : List ℕ → List ℕ → Keyed → Bool

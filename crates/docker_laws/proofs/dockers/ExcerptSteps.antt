@@ -29,7 +29,7 @@ use Rattle.state_laws.proofs.indexes.CallsTest.{any_back, any_forth, calls_test,
 use Rattle.docker_laws.proofs.dockers.ExcerptState.{calls_as, names_as, is_name, is_needed, needed_passes, some_entries, or_left, or_right}
 use Rattle.docker_laws.proofs.dockers.ExcerptWalk.{false_true, uid_once, above_uid, name_of, walk_keeps}
 
--- ---- what holds at each point of a walk
+-- ---- a property that each step preserves holds at each point of a walk
 
 fold_more : {A B : Type 0} (f : B → A → B) (first : B) (xs ys : List A) → fold f first (xs ++ ys) ≡ fold f (fold f first xs) ys
 fold_more f first [] ys = refl
@@ -190,7 +190,7 @@ module _ (place : List ℕ) where
       let is = above_uid r.0 key of.0 (member_of (λ (e : Keyed). IsBelow key_cmp e.0 key) entries r above inside) (of.1 r among) in
       false_true (sym (never is.0) ∙ is.1))
 
-  -- ---- the UIDs of associated trains in the kept entries
+  -- ---- the kept entries have the UIDs of all associated trains at the place
 
   abbrev at_place : List Keyed → List Keyed
   at_place entries = filter (λ (entry : Keyed). is_here place entry.0) entries
@@ -269,7 +269,7 @@ module _ (place : List ℕ) where
       filter-append (λ (e : Keyed). is_here place e.0) entries ((schedule_key key, entry) ∷ []) ∙ append-nil (at_place entries) in
       names_so_far (entries ++ (schedule_key key, entry) ∷ []) ∙ ap names_in same ∙ sym (names_so_far entries)
 
--- ---- one step
+-- ---- each step of the walk keeps, drops or postpones an entry
 
 module _ (place : List ℕ) (so_far : ExcerptSoFar) where
   -- a schedule of the run's UID is appended to the run
@@ -380,7 +380,7 @@ calls_more place run entry =
 pub names_with : (xs : List Keyed) (entry : Keyed) → names_in (xs ++ entry ∷ []) ≡ names_in xs ++ names_in (entry ∷ [])
 names_with xs entry = filter_map-append (λ (e : Keyed). name_in e.0 e.1.op) xs (entry ∷ [])
 
--- ---- the kept entries at the end
+-- ---- at the end, an entry is kept if and only if the docker of the place needs its key
 
 -- at the key of an entry, the live table has the body of that entry
 live_of : (state : State) → AreAscending state.entries → (key : Key) (entry : Entry) → Contains state.entries (key, entry)

@@ -31,7 +31,7 @@ end_reached horizon day last bound from to = by (is_end_date last)
 
 module _ (horizon : ℕ) (bound : horizon ≤ no_end_number) (live : Table) where
   module _ (day : ℕ) (from : horizon ≤ day) where
-    -- ---- schedules
+    -- ---- both tables choose the same schedules
     running_forth : (uid : List ℕ) (key : ScheduleKey) (lines : List (List ℕ)) → IsRunning live uid day key lines
         → IsRunning (lapse_table horizon live) uid day key lines
     running_forth uid key lines is = record {
@@ -71,7 +71,7 @@ module _ (horizon : ℕ) (bound : horizon ≤ no_end_number) (live : Table) wher
       λ is. record { chosen = (chosen_iff uid key lines).1 is.chosen; no_cancellation = is.no_cancellation },
     )
 
-    -- ---- associations
+    -- ---- both tables choose the same associations
     associated_forth : (group : Group) (key : AssociationKey) (line : List ℕ) → IsAssociated live group day key line
         → IsAssociated (lapse_table horizon live) group day key line
     associated_forth group key line is = record {

@@ -29,7 +29,7 @@ use Rattle.docker_laws.proofs.dockers.LapsedDocker.{docker_text_iff}
 use Rattle.docker_laws.proofs.dockers.PrintedDocker.{day_bound, plain_bodies}
 use Rattle.docker_laws.proofs.runs.RunEnd.{greater_prints, one_text}
 
--- ---- changes
+-- ---- leaving out the short-term plan commutes with applying changes
 
 -- if a change is of a permanent key, making the change commutes with leaving out the short-term
 -- plan. A change of any other key leaves the permanent table unchanged
@@ -85,7 +85,7 @@ permanent_along table (change ∷ changes) = permanent_along (after_change table
     by true same = ap (λ (t : Table). fold after_change t kept) same
     by false same = ap (λ (t : Table). fold after_change t kept) same
 
--- ---- lines
+-- ---- each line of a permanent docker has the STP indicator P
 
 -- each line of a permanent docker has the STP indicator P
 pub permanent_line : (live : Table) (place : List ℕ) (day : ℕ) (line : DockerLine) → IsDockerLine (permanent_table live) place day line → line.indicator ≡ 80
@@ -96,7 +96,7 @@ permanent_line live place day line (inr association) =
     let is = (was_counted is_permanent live (association_key association.key) _ association.chosen.associated.is_live).0 in
     ap (λ (it : DockerLine). it.indicator) association.is ∙ eqb-true association.key.indicator 80 is
 
--- ---- the lapse
+-- ---- the lapse commutes with leaving out the short-term plan
 
 -- the lapse commutes with leaving out the short-term plan
 lapses_alike : (horizon : ℕ) (live : Table) → permanent_table (lapse_table horizon live) ≡ lapse_table horizon (permanent_table live)

@@ -58,7 +58,7 @@ pub thin_shorter : (lines : List (List ℕ)) → length (thin_lines lines) ≤ l
 thin_shorter [] = omega arith
 thin_shorter (basic ∷ others) = let rest = ends_shorter others in omega arith
 
--- ---- the ends of a schedule
+-- ---- the ends of a journey are its origin and its terminus
 
 end_by : (line : List ℕ) (lines : List (List ℕ)) (b : Bool) → is_end (kind_of line) ≡ b → ends_in (line ∷ lines) ≡ cond b (line ∷ ends_in lines) (ends_in lines)
 end_by line lines b h = λ i. cond (h i) (line ∷ ends_in lines) (ends_in lines)
@@ -116,7 +116,7 @@ few_ends first last origin terminus =
     (sym (λ i. times_by_kind (origin i) first ++ (times_by_kind (terminus i) last ++ [])))
     (few_by (scheduled_time (columns 11 15 first)) (scheduled_time (columns 11 15 last)))
 
--- ---- the schedule
+-- ---- the thin records of a schedule are a schedule
 
 module _ (lines : List (List ℕ)) (is : IsSchedule lines) where
   same_lines : is.basic ∷ is.extra ++ is.journey ≡ lines
@@ -207,7 +207,7 @@ module _ (lines : List (List ℕ)) (is : IsSchedule lines) where
       by (inl journey) = subst (λ ends. IsSchedule (is.basic ∷ ends)) (sym (ends_of_journey is.journey journey)) (with_ends journey)
       by (inr none) = subst (λ ends. IsSchedule (is.basic ∷ ends)) (sym (ap ends_in none.0)) (alone none.1)
 
--- ---- other ends
+-- ---- a schedule with another origin and terminus is a schedule
 
 -- the basic schedule with any good origin and any good terminus is a schedule
 with_any_ends : (lines : List (List ℕ)) → IsSchedule lines → (first last : List ℕ) → IsRecord first → IsRecord last → HasKind origin_location first
@@ -248,7 +248,7 @@ any_ends_of_key key lines is first last first_is last_is origin terminus first_g
   key_is = is.key_is;
 }
 
--- ---- the body
+-- ---- the thinned body belongs to the same key
 
 -- the thin records are a schedule of the same key
 pub thin_of_key : (key : ScheduleKey) (lines : List (List ℕ)) → IsScheduleOf key lines → IsScheduleOf key (thin_lines lines)

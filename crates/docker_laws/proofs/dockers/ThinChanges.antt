@@ -35,7 +35,7 @@ is_of key change = is_eq (key_cmp change.key key)
 abbrev left_by : Act → Option Body
 left_by act = body_of (op_of act)
 
--- ---- one change
+-- ---- thinning commutes with one change
 
 -- the body after the thin form of an act is the thinned body after the act
 thin_left : (place : List ℕ) (day : ℕ) (act : Act) → left_by (thin_act place day act) ≡ option_and_then (thin_body place day) (left_by act)
@@ -93,7 +93,7 @@ module _ (place : List ℕ) (day : ℕ) where
           ∙ same
           ∙ sym (left_at place day (after_change table change) table key (after_there table change key h))
 
-  -- ---- all changes
+  -- ---- thinning commutes with all changes of a list
 
   -- the changes of keys that may matter
   abbrev matter : List Change → List Change
@@ -127,7 +127,7 @@ module _ (place : List ℕ) (day : ℕ) where
   thin_enough : (changes : List Change) → AreEnough place day changes (thin_changes place day changes)
   thin_enough changes = kept_from changes empty_table empty_table (λ key. sym (none_or (may_matter place key)))
 
--- ---- change by change
+-- ---- a thinning can be made change by change
 
 -- the table after changes with one change appended is the table after these changes and then that
 -- change
@@ -399,7 +399,7 @@ near_of_new day line = λ i. list_any
     (λ start. runs_within (new_columns line 10 15 (omega arith) i) (new_columns line 16 21 (omega arith) i) (new_columns line 22 28 (omega arith) i) start)
     (near_starts day)
 
--- ---- the greatest key of the kept changes
+-- ---- no change of a key above the greatest kept key is kept
 
 -- no kept change has a key above the highest kept key
 pub none_above : (highest key : Key) (kept : List Change) → AreAtMost highest kept → IsBelow key_cmp highest key → HasNoChangeOf key kept

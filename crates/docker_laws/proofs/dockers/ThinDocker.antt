@@ -30,7 +30,7 @@ use Rattle.docker_laws.specs.Excerpt.{IsExcerpt}
 use Rattle.docker_laws.proofs.dockers.ExcerptDocker.{excerpt_list_iff, excerpt_text_iff}
 use Rattle.docker_laws.proofs.dockers.ThinBody.{first_of_thin, thin_elsewhere, needed_is_body}
 
--- ---- records that may replace a schedule
+-- ---- which records may replace a schedule
 
 -- the relation `IsStandIn` is symmetric
 turned : (place : List ℕ) (day : ℕ) (one other : List (List ℕ)) → IsStandIn place day one other → IsStandIn place day other one
@@ -68,7 +68,7 @@ needed_stand_in place day lines = by (calls_at place lines) refl
     by true h = record { runs = λ start near. refl; identity = refl; calls = λ either. refl }
     by false h = stand_in_by_first place day lines (thin_lines lines) (first_of_thin lines) h (thin_elsewhere place lines h)
 
--- ---- two tables with the same docker for a place and a day
+-- ---- two tables have the same docker if each has all parts that the docker needs
 
 -- the table `other` has all parts of `one` that the docker needs: each schedule that runs near the
 -- day, and each association at the place
@@ -199,7 +199,7 @@ list_over one other place day forth back lines is = record {
   );
 }
 
--- ---- two tables, one of which may replace the other
+-- ---- if one table may replace another, both have the same docker
 
 module _ (place : List ℕ) (day : ℕ) (live part : Table) (stands : StandsFor place day live part) where
   stands_forth : HasFewMidnights live → Covers live part place day
@@ -253,7 +253,7 @@ module _ (place : List ℕ) (day : ℕ) (live part : Table) (stands : StandsFor 
     λ told. (told.0, (stand_in_list_iff few few_part told.0).1 told.1, told.2 ∙ stand_in_text_same told.0),
   )
 
--- ---- a table and the thinned table
+-- ---- the thinned table may replace the table
 
 module _ (place : List ℕ) (day : ℕ) (live : Table) where
   -- if a schedule in the table runs near the day, the thinned table has, at the same key, those

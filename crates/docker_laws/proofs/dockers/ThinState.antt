@@ -36,7 +36,7 @@ use Rattle.docker_laws.proofs.dockers.GoodBodies.{good_bodies}
 use Rattle.docker_laws.proofs.dockers.ThinBody.{needed_is_body}
 use Rattle.docker_laws.proofs.dockers.ThinDocker.{thin_list_iff, thin_text_iff}
 
--- ---- the live table
+-- ---- the live table of the state equals the table after its changes
 
 module _ (file : List (List ℕ)) (kept : List Change) (state : State) (of : IsStateOfChanges file kept state) where
   abbrev entries : List Keyed
@@ -83,7 +83,7 @@ live_of_summary file whole summary key =
       is = λ other. refl;
     }
 
--- ---- the kept changes of a file
+-- ---- each kept change is the thin form of a change of the file
 
 module _ (place : List ℕ) (day : ℕ) (file : List (List ℕ)) (kept : List Change) (is : IsThinning place day (changes file) kept) where
   -- of two kept changes of one key, the later change has the higher record number
@@ -192,7 +192,7 @@ module _ (place : List ℕ) (day : ℕ) (file : List (List ℕ)) (is_file : IsFi
         (λ entry among. subst (λ horizon. HasNotToLapse horizon entry.1.op) (sym of.horizon) (no_lapse entry.1.op));
   }
 
-  -- ---- the summary of the file
+  -- ---- the state has the same docker as the summary of the file
 
   module _ (whole : State) (summary : IsSummary (file ∷ []) 0 whole) where
     whole_good : HasGoodBodies (live_table whole)

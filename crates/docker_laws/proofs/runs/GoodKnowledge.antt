@@ -16,7 +16,7 @@ use Rattle.docker_model.specs.run.Run.{nothing, united, office_known, message_kn
 use Rattle.docker_model.specs.run.Knowledge.{AreFiles, IsGoodKnown, IsGoodEvent}
 use Rattle.state_laws.proofs.states.Lapse.{max_most}
 
--- ---- what two offices know together
+-- ---- the knowledge of two offices together is good
 
 -- if a format allows two horizons, it allows the greater of them
 max_good : (format : Format) (a b : ℕ) → IsHorizonOf format a → IsHorizonOf format b → IsHorizonOf format (max a b)
@@ -59,7 +59,7 @@ file_good format text limit low file =
 pub horizon_good : (format : Format) (day : ℕ) → IsHorizonOf format day → IsGoodKnown format (record { files = []; horizon = day })
 horizon_good format day is = (no_files_good, is)
 
--- ---- the knowledge after a run
+-- ---- the knowledge after a run of good events is good
 
 good_at : {A : Type 0} (P : A → Type 0) (xs : List A) (i : ℕ) (d : A) → All P xs → P d → P (get_or xs i d)
 good_at P [] i d all one = one

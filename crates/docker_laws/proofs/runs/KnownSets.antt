@@ -22,7 +22,7 @@ sets_more offices events replies event reply same =
     ap (fold after_reply (none_known offices)) (zip_more events replies event reply same)
     ∙ fold-append after_reply (none_known offices) (zip events replies) ((event, reply) ∷ [])
 
--- ---- replies
+-- ---- appending an event with an allowed reply gives allowed replies
 
 -- the number of replies equals the number of events
 pub replies_long : (known : KnownSets) (events : List RunEvent) (replies : List Reply) → AreReplies known events replies → length events ≡ length replies
@@ -49,7 +49,7 @@ pub replies_more : (offices : ℕ) (events : List RunEvent) (replies : List Repl
     (events ++ event ∷ []) (replies ++ reply ∷ [])
 replies_more offices events replies event reply are is = replies_after (none_known offices) events replies event reply are is
 
--- ---- the number of offices and messages
+-- ---- a run preserves the number of offices, and each state that is sent is one more message
 
 offices_stay : (known : KnownSets) (event : RunEvent) (reply : Reply) → length (after_reply known (event, reply)).offices ≡ length known.offices
 offices_stay known event (refused why) = refl

@@ -59,9 +59,7 @@ one_linked live place a b one two = same_list rows_total a b one.ascending two.a
 pub one_of_uid : (live : Table) (uid : List ℕ) (a b : List Row) → AreOfUid live uid a → AreOfUid live uid b → a ≡ b
 one_of_uid live uid a b one two = same_list rows_total a b one.ascending two.ascending (λ row. through (one.members row.0 row.1) (two.members row.0 row.1))
 
--- ---- lists in ascending order, by `AllLater`
-
--- ---- the rows that an index finds
+-- ---- an index determines the rows for a place
 
 -- the keys in the index rows for one place are strictly ascending
 at_place_ascends : {K : Type 0} (cmp : K → K → Ordering) (wrap : K → Key) → ((a b : K) → cmp a b ≡ Less → key_cmp (wrap a) (wrap b) ≡ Less)

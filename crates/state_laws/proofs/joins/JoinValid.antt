@@ -134,7 +134,7 @@ lapsed_is_valid horizon state day valid = record {
 pub raised_is_valid : (horizon : ℕ) (state : State) → IsDay horizon → IsValid state → IsValid (raise_horizon horizon state)
 raised_is_valid horizon state day valid = lapsed_is_valid (max state.horizon horizon) state (max_most state.horizon horizon last_day valid.horizon day) valid
 
--- ---- the floor of a ledger
+-- ---- the ledger of a valid state has exactly one floor
 
 -- the ledger of a state has at most one floor
 pub one_floor : (state : State) (first second : Option FileStamp) → IsFloor state.ledger first → IsFloor state.ledger second → first ≡ second

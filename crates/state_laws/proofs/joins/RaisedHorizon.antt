@@ -17,7 +17,7 @@ use Rattle.state_laws.proofs.states.Lapse.{entry_twice, entry_stays, lapse_none}
 use Rattle.state_laws.proofs.states.LapsedGreatest.{lapsed_from, lapsed_to}
 use Rattle.state_laws.proofs.states.KeptEntries.{lapse_ascends, entries_stay}
 
--- ---- when nothing lapses
+-- ---- setting a horizon that isn't greater leaves a valid state unchanged
 
 -- if no body ended before a horizon, the lapse under this horizon changes only the state's horizon
 pub lapsed_already : (horizon : ℕ) (state : State) → HaveLapsed horizon state.entries
@@ -43,7 +43,7 @@ pub set_last : (state : State) → IsValid state → raise_horizon state.horizon
 set_last state valid =
     ap (λ h. lapse_state h (without_horizon state)) (zero-max state.horizon) ∙ lapsed_already state.horizon (without_horizon state) valid.have_lapsed
 
--- ---- a horizon that is set after a join
+-- ---- a horizon may be set after a join instead of before
 
 -- joining with a state without its horizon, and then setting this horizon, equals joining with the
 -- state

@@ -22,7 +22,7 @@ use Rattle.state_laws.proofs.states.OneJoin.{floor_unique}
 use Rattle.cif_laws.proofs.lists.Later.{later_append}
 use Rattle.state_laws.proofs.joins.StagedJoin.{commit_is_join}
 
--- ---- the entry that a state has at a key
+-- ---- `entry_at` returns the entry that a state has at a key
 
 Some_is : {A : Type 0} (a b : A) → Some a ≡ Some b → a ≡ b
 Some_is a b h = cc
@@ -64,7 +64,7 @@ to_stage_by_get own up floor key entry = by (entry_at own key) refl
       },
     )
 
--- ---- staging step by step
+-- ---- entries are staged one by one
 
 -- before the first offer no entry is staged
 pub nothing_staged : (own : State) (floor : Option FileStamp) → IsStaged own floor [] []
@@ -118,7 +118,7 @@ module _ (own : State) (floor : Option FileStamp) (offered staged : List (Key ×
       back k e to_stage (inr here) =
           absurd (out (subst (λ (v : Key × Entry). IsToStage own floor v.0 v.1) (sym (Contains-single (key, entry) (k, e) here)) to_stage))
 
--- ---- all entries
+-- ---- after all offers, the commit gives the join
 
 -- after all entries of a received state are offered and the staged entries are committed, the state
 -- is the join with the received state without its horizon

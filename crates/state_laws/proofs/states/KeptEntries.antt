@@ -65,7 +65,7 @@ lapses_or_not horizon (put_with body) = by (below_or horizon body)
     by (inl below) = inl (put_lapses horizon body below)
     by (inr above) = inr above
 
--- ---- entries in key order
+-- ---- the lapse preserves the key order of entries
 
 above_lapsed : (horizon : ℕ) (first : Keyed) (entries : List Keyed) → AllByRecursion (IsBelow (on (λ (entry : Keyed). entry.0) key_cmp) first) entries
     → AllByRecursion (IsBelow (on (λ (entry : Keyed). entry.0) key_cmp) (lapse_keyed horizon first)) (lapse_entries horizon entries)

@@ -24,7 +24,7 @@ use Rattle.cif_laws.proofs.lists.AllOf.{all_append, all_map, all_weaker}
 use Rattle.cif_laws.proofs.files.ChangeOrder.{Apart, changes_apart}
 use Rattle.cif_laws.proofs.orders.AtMost.{less_not_greater, at_most_trans}
 
--- ---- the table after a list of entries
+-- ---- after a list of entries, the table has the body of each key's last entry
 
 -- a key with its entry
 abbrev pub Keyed : Type 0
@@ -92,7 +92,7 @@ last_there (entry ∷ entries) table key up = by (last_there entries (step table
     by (inl none) = first_alone entry entries table key (is_eq (key_cmp entry.0 key)) refl none
     by (inr last) = inr (not_first entry entries table key up.0 last)
 
--- ---- the entries of files
+-- ---- the table after files is the table after the entries of their changes
 
 -- the entry that a change of a file leaves, with its key
 abbrev pub entry_of_change : List (List ℕ) → Change → Keyed
@@ -291,7 +291,7 @@ suffix_ascends (first ∷ files) up = by (list_any is_full files) (suffix_ascend
     by true rest = rest
     by false rest = up
 
--- ---- files under the floor
+-- ---- a file isn't below the floor if and only if no full extract is newer
 
 full_item : (file : List (List ℕ)) → is_full file ≡ true → IsFull (ledger_item_of file)
 full_item file full = eqb-true (ledger_item_of file).indicator 70 full
@@ -316,7 +316,7 @@ not_dropped files ordered same (Some stamp) is file kept above =
     at_most_trans file_stamp_total (file_stamp_of above.0) stamp (file_stamp_of file) high kept
     (file_stamp_total.antisymm (file_stamp_of above.0) (file_stamp_of file) ∙ ap ordering_reverse above.3)
 
--- ---- entries of the files that count
+-- ---- the files that count have the entries of the last full extract and the files after it
 
 module _ (files ordered : List (List (List ℕ))) (order : IsInMomentOrder files ordered) (floor : Option FileStamp)
     (is_floor : IsFloor (map ledger_item_of files) floor) where
@@ -349,7 +349,7 @@ module _ (files ordered : List (List (List ℕ))) (order : IsInMomentOrder files
         entry_is = ap (λ (pair : Keyed). pair.1) change.2;
       }
 
--- ---- the entry of a key in a state
+-- ---- a search for a key in a state finds the only entry of the key
 
 -- a search finds an entry of the key in the list
 abbrev pub Found : List Keyed → Key → Type 0
