@@ -37,7 +37,7 @@ event_lines place day start key lines =
     map (line_of_event key start lines)
     (filter (λ event. bytes_eq (columns 3 9 (event_line lines event)) place && (event_day start lines event == day)) (events_of lines))
 
--- whether there is a train, and it runs by the schedule with this key
+-- whether there is a train, and that train runs by the schedule with this key
 abbrev pub runs_by : Option Train → ScheduleKey → Bool
 runs_by None key = false
 runs_by (Some train) key = is_eq (schedule_key_cmp train.key key)
@@ -48,7 +48,7 @@ abbrev pub schedule_lines : (List ℕ → ℕ → Option Train) → List ℕ →
 schedule_lines trains place day key lines =
     flat_map (λ start. if runs_by (trains key.uid start) key then event_lines place day start key lines else []) (start_days day)
 
--- whether there is a chosen association, and it has this key
+-- whether there is a chosen association, and that association has this key
 abbrev pub counts_as : Option Link → AssociationKey → Bool
 counts_as None key = false
 counts_as (Some link) key = is_eq (association_key_cmp link.key key)

@@ -60,7 +60,7 @@ abbrev pub is_running : List ℕ → ℕ → Train → Bool
 is_running uid day train = bytes_eq train.key.uid uid && schedule_runs (first_record train.lines) day
 
 -- whether this schedule is the choice for the UID on the day. Of the UID's schedules in the list
--- that run on the day, it comes first in the order of choice
+-- that run on the day, this schedule comes first in the order of choice
 abbrev pub is_choice : List Train → List ℕ → ℕ → Train → Bool
 is_choice trains uid day train =
     is_running uid day train
@@ -91,7 +91,7 @@ abbrev pub is_linked : Group → ℕ → Link → Bool
 is_linked group day link = is_of_group group link.key && association_runs link.line day
 
 -- whether this association is the choice for the group on the day. Of the group's associations in
--- the list that run on the day, it comes first in the order of choice
+-- the list that run on the day, this association comes first in the order of choice
 abbrev pub is_link_choice : List Link → Group → ℕ → Link → Bool
 is_link_choice links group day link =
     is_linked group day link

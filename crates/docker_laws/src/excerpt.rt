@@ -243,8 +243,8 @@ pub fn excerpt_on_has_one_docker()
         ↔ IsDockerText (live_table (excerpt_on place day state)) place day text }
 {}
 
-/// The entries that may count on a day can be found entry by entry. If an appended entry may count,
-/// it is appended to these entries, and otherwise they are unchanged.
+/// The entries that may count on a day can be found entry by entry. An appended entry is appended
+/// to the result if the entry may count, and otherwise the result is unchanged.
 pub fn near_by_entry()
     ensures none { (day : ℕ) → near_entries day [] ≡ [] }
     ensures stays { (day : ℕ) (entries : List (Key × Entry)) (entry : Key × Entry)

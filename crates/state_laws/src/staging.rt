@@ -43,9 +43,9 @@ pub fn staging_and_commit_is_join()
         → first ≡ second }
 {}
 
-/// The horizon of a received state may be set last. Setting it on the state without its horizon
-/// gives the state. Setting it on the join with the state without its horizon gives the join with
-/// the state.
+/// The horizon of a received state may be set last. If the horizon of a state is removed and set
+/// again, the result is the same state. If a state is joined without its horizon, and the horizon
+/// is set afterwards, the result is the join with the state.
 pub fn horizon_is_set_last()
     ensures state { (state : State) → IsValid state
         → raise_horizon state.horizon (without_horizon state) ≡ state }

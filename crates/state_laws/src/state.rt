@@ -83,8 +83,8 @@ pub fn summary_is_valid()
 {}
 
 /// The lapse of ops is monotone, so the lapse of the greatest op is the greatest op after the
-/// lapse. It is idempotent. The lapse under one horizon and then under another equals the lapse
-/// under the greater horizon. The lapse under the horizon 0 leaves each op unchanged.
+/// lapse. The lapse is idempotent. The lapse under one horizon and then under another equals the
+/// lapse under the greater horizon. The lapse under the horizon 0 leaves each op unchanged.
 pub fn laws_of_lapse()
     ensures order { (horizon : ℕ) (first second : Op) → IsAtMost op_cmp first second
         → IsAtMost op_cmp (lapse horizon first) (lapse horizon second) }

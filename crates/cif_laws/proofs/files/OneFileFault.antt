@@ -10,7 +10,7 @@ use Rattle.docker_model.specs.file.Text.{lines_of}
 use Rattle.docker_model.specs.file.FileFault.{FileFault, IsRecordFault, FileCause, bad_byte, bad_field, too_many, after_trailer, bad_length, bad_kind}
 use Rattle.docker_model.specs.file.FileFault.{bad_place, third_midnight, no_end, cause_rank, HoldsOf, IsCause, IsUnended, IsFileFault, IsFileText}
 
--- the first of these lines, or `line` if there are no lines. The proof uses it to compare the
+-- the first of these lines, or `line` if there are no lines. Proofs use this value to compare the
 -- indexes of two records of one list
 head_or : List ℕ → Lines → List ℕ
 head_or line [] = line

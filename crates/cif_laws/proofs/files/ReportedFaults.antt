@@ -368,7 +368,7 @@ fault_at_long limit text place found within long =
     })
 
 -- at the end of a text, an incomplete line that isn't empty is the last line. If that line leads to
--- no next place or is beyond the limit, it is at fault
+-- no next place or is beyond the limit, the line is at fault
 pub fault_at_end : (limit : ℕ) (text : List ℕ) (place : Place) → IsPlaceOf (complete_lines text) place → length (complete_lines text) ≤ limit
     → 0 < length (open_line text)
     → (limit ≤ length (complete_lines text)) ⊎ (next_place place (strip_carriage_return (open_line text)) ≡ None)

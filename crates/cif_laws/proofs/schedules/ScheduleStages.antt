@@ -123,7 +123,7 @@ midnights_of_journey basic extra journey kind details =
 pub no_extra_fields : (line : List ℕ) → HasKind extra_details line → HasGoodFields line
 no_extra_fields line kind = fields_good extra_details line kind tt
 
--- the next record has good fields, and the schedule passes midnight at most twice up to it
+-- the next record has good fields, and the schedule passes midnight at most twice up to this record
 pub record IsSoundNext (lines : Lines) (line : List ℕ) : Type 0 where
   pub fields : HasGoodFields line
   pub falls : midnights (lines ++ line ∷ []) ≤ 2
@@ -179,8 +179,8 @@ sound_more stage lines line front test = by (sound_next_by_test lines line test)
           falls = omega arith;
         })
 
--- the parts of the test of the next record: it is a record, it is sound, and `next` is the next
--- stage by its kind
+-- the parts of the test of the next line: the line is a record, the record is sound, and `next` is
+-- the next stage by the record's kind
 pub record IsNextLine (stage : Stage) (lines : Lines) (line : List ℕ) (next : Stage) : Type 0 where
   pub is : IsRecord line
   pub sound : is_sound_next lines line ≡ true

@@ -461,7 +461,8 @@ module _ (place : List ℕ) (state : State) (up : AreAscending state.entries) wh
   passes_needed (schedule_key key) h =
       concerned_back key.uid (either (list_any (names_as place key.uid) state.entries) (list_any (calls_as place key.uid) state.entries) h)
 
-  -- an entry is in the excerpt if and only if it is in the state and the place needs its key
+  -- an entry is in the excerpt if and only if it is in the state and the docker of the place needs
+  -- its key
   pub excerpt_members : (key : Key) (entry : Entry)
       → Contains (excerpt_for place state).entries (key, entry) ↔ (Contains state.entries (key, entry) × IsNeeded (live_table state) place key)
   excerpt_members key entry =

@@ -214,7 +214,7 @@ module _ (place : List ℕ) (day : ℕ) where
         → thinned place day (after_change (table_of changes) change) key ≡ thinned place day (table_of changes) key
     same_elsewhere key h = left_at place day (after_change (table_of changes) change) (table_of changes) key (after_there (table_of changes) change key h)
 
-    -- if the thin form of a change is a deletion, it may be dropped if no change of its key is kept
+    -- a change whose thin form is a deletion may be dropped if no change of the same key is kept
     enough_dropped : thin_act place day change.act ≡ delete → HasNoChangeOf change.key kept → AreEnough place day (changes ++ change ∷ []) kept
     enough_dropped deletes none key = by (is_of key change) refl
       where
@@ -224,7 +224,7 @@ module _ (place : List ℕ) (day : ℕ) where
             untouched kept empty_table key of_key ∙ sym (none_left deletes key h) ∙ sym (all_more key)
         by false h = so_far key ∙ sym (same_elsewhere key h) ∙ sym (all_more key)
 
-    -- if the thin form of a change is a deletion, the kept changes of its key may be removed
+    -- after a change whose thin form is a deletion, the kept changes of the same key may be removed
     enough_removed : thin_act place day change.act ≡ delete → AreEnough place day (changes ++ change ∷ []) (without change.key kept)
     enough_removed deletes key = by (is_of key change) refl
       where
@@ -322,14 +322,14 @@ module _ (place : List ℕ) (day : ℕ) where
       enough = enough_kept place day changes kept change is.enough matters;
     }
 
-    -- if the thin form of a change is a deletion, it may be dropped if no change of its key is kept
+    -- a change whose thin form is a deletion may be dropped if no change of the same key is kept
     pub thinning_dropped : thin_act place day change.act ≡ delete → HasNoChangeOf change.key kept → IsThinning place day (changes ++ change ∷ []) kept
     thinning_dropped deletes none = record {
       some = still_some kept (sublist_itself kept);
       enough = enough_dropped place day changes kept change is.enough deletes none;
     }
 
-    -- if the thin form of a change is a deletion, the kept changes of its key may be removed
+    -- after a change whose thin form is a deletion, the kept changes of the same key may be removed
     pub thinning_removed : thin_act place day change.act ≡ delete → IsThinning place day (changes ++ change ∷ []) (without change.key kept)
     thinning_removed deletes = record {
       some = still_some (without change.key kept) (sublist_filter (λ (other : Change). not (is_of change.key other)) kept);

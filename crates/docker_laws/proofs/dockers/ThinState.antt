@@ -1,5 +1,5 @@
--- The state of the kept changes of a file is valid. For the place and the day it has the same
--- docker as the summary of the file.
+-- The state of the kept changes of a file is valid. For the place and the day, this state has the
+-- same docker as the summary of the file.
 use Rattle.std.proofs.Common.{◌≡◌, ℕ, ◌-◌, ◌^◌, ◌<◌, ◌≤◌, List, [], ◌∷◌, length, map, subst, inl, inr, ◌⊎◌}
 use Rattle.std.proofs.Common.{refl, ap, sym, ◌∙◌, Bool, true, false, cond, Some, None, Contains, All, arith}
 use Rattle.std.specs.Prelude.{Option, option_and_then, ◌↔◌, fold}

@@ -25,8 +25,8 @@ use Rattle.state_laws.proofs.states.SummaryLaws.{summary_unique, lapsed_summary}
 use Rattle.state_laws.proofs.states.OneJoin.{docker_unique}
 use Rattle.cif_laws.proofs.lists.ZipSteps.{zip_at}
 
--- if an exchange has possible replies, and its states and messages match what is known, it is a
--- possible result of the run
+-- if the replies of an exchange are allowed, and its states and messages match what is known, the
+-- exchange is a possible result of the run
 pub holds_at_end : (format : Format) (offices : ℕ) (events : List RunEvent) (exchange : Exchange) → AreReplies (none_known offices) events exchange.replies
     → Holds format (sets_of offices events exchange) exchange.states exchange.messages → IsRun format offices events exchange
 holds_at_end format offices events exchange replies holds = record { replies = replies; states = holds.states_are; messages = holds.messages_are }

@@ -1,5 +1,5 @@
--- The lapse is monotone: it preserves the order of ops and entries. It is idempotent. The lapse
--- under one horizon and then under another equals the lapse under the greater horizon.
+-- The lapse is monotone: it preserves the order of ops and entries. The lapse is idempotent. The
+-- lapse under one horizon and then under another equals the lapse under the greater horizon.
 use Rattle.std.proofs.Common.{◌≡◌, ℕ, ◌<◌, ◌≤◌, subst, inl, inr, ◌⊎◌, refl, ap, sym, ◌∙◌, Bool, true, false, cond, arith}
 use Rattle.std.specs.Prelude.{max, nat_lt}
 use Rattle.std.specs.declared.cmp.Ordering.{Ordering}
