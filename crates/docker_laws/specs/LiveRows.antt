@@ -77,7 +77,8 @@ abbrev pub unless_cancelled : Option Train → Option Train
 unless_cancelled None = None
 unless_cancelled (Some train) = if train.key.indicator == 67 then None else Some train
 
--- the UID's train that starts on the day, from these rows, or `None` if no train runs
+-- the UID's train that starts on the day, from these rows, or `None` if no train of the UID starts
+-- on that day
 abbrev pub train_in : List Row → List ℕ → ℕ → Option Train
 train_in rows uid day = unless_cancelled (chosen_in rows uid day)
 

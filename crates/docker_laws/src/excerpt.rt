@@ -71,8 +71,8 @@ pub fn walk_leaves_excerpt()
 {}
 
 /// The walk that computes an excerpt can stop after any entry and continue from there, with the
-/// same result. The kept entries followed by the run are a sublist of the entries passed, and they
-/// are good if all entries passed are good.
+/// same result. The kept entries followed by the run are a sublist of the entries passed. They may
+/// be the entries of a state with the same ledger, if the entries passed may.
 pub fn excerpt_in_a_walk()
     ensures none { (place : List ℕ) → kept_so_far place [] ≡ nothing_kept }
     ensures more { (place : List ℕ) (entries : List (Key × Entry)) (entry : Key × Entry)
@@ -193,7 +193,7 @@ pub fn excerpt_in_a_loop()
 {}
 
 /// A valid state with a sublist of its entries is valid. An entry that may follow the entries of a
-/// state may also follow a sublist of these entries. Among good entries, each entry may follow the
+/// state may also follow a sublist of these entries. Each entry of a valid state may follow the
 /// entries before it.
 pub fn some_of_entries()
     ensures more { (state : State) (key : Key) (entry : Entry)

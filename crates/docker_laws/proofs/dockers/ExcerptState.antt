@@ -33,7 +33,7 @@ use Rattle.state_laws.proofs.indexes.CallsTest.{any_forth, calls_test}
 
 -- ---- an excerpt of a valid state is valid
 
--- a sublist of good entries of a ledger is good
+-- if entries may be the entries of a state with a ledger, so may a sublist of these entries
 pub some_entries : (ledger : List LedgerItem) (some all : List Keyed) → AreEntries ledger all → IsSublist some all → AreEntries ledger some
 some_entries ledger some all are is = (
   sublist_all (IsGoodEntry ledger) some all is are.0,
@@ -51,7 +51,8 @@ still_here state part key stamp is same here = (
   subst (λ ledger. IsStampIn ledger stamp) (sym same) here.1,
 )
 
--- good entries with an appended entry that may follow them are good
+-- if an entry may follow the entries of a state, a state may also have these entries with that
+-- entry appended
 pub entries_more : (state : State) (key : Key) (entry : Entry) → AreEntries state.ledger state.entries → IsStampHere state key entry.stamp
     → IsOpOf key entry.op
     → AreEntries state.ledger (state.entries ++ (key, entry) ∷ [])
@@ -63,7 +64,7 @@ entries_more state key entry are here of = (
       (recursion_from_All (λ (e : Keyed). IsBelow key_cmp e.0 key) state.entries here.0.1),
 )
 
--- among good entries each entry may follow the entries before it
+-- each entry of a state may follow the entries before it
 pub entry_behind : (state : State) (key : Key) (entry : Entry) (rest : List Keyed) → AreEntries state.ledger (state.entries ++ (key, entry) ∷ rest)
     → IsStampHere state key entry.stamp × IsOpOf key entry.op
 entry_behind state key entry rest are =

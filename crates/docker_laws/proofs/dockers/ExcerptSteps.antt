@@ -120,7 +120,8 @@ module _ (place : List ℕ) where
   pub so_far_within : (entries : List Keyed) → IsSublist ((kept_so_far place entries).kept ++ (kept_so_far place entries).run) entries
   so_far_within = all_along place Within (λ done so_far x here. within_more done so_far x.0 x.1 here) tt
 
-  -- if all entries passed are good, the kept entries followed by the run are good
+  -- if the entries passed may be the entries of a state, so may the kept entries followed by the
+  -- run
   pub so_far_good : (ledger : List LedgerItem) (entries : List Keyed) → AreEntries ledger entries
       → AreEntries ledger ((kept_so_far place entries).kept ++ (kept_so_far place entries).run)
   so_far_good ledger entries are =

@@ -91,7 +91,8 @@ module _ (place : List ℕ) (entries kept run : List Keyed) (needed : Bool) (has
   pub kept_within : IsSublist (kept ++ run) entries
   kept_within = subst (λ (so_far : ExcerptSoFar). IsSublist (so_far.kept ++ so_far.run) entries) has.so_far (so_far_within place entries)
 
-  -- if all entries passed are good, the kept entries followed by the run are good
+  -- if the entries passed may be the entries of a state, so may the kept entries followed by the
+  -- run
   pub kept_good : (ledger : List LedgerItem) → AreEntries ledger entries → AreEntries ledger (kept ++ run)
   kept_good ledger are = subst (λ (so_far : ExcerptSoFar). AreEntries ledger (so_far.kept ++ so_far.run)) has.so_far (so_far_good place ledger entries are)
 

@@ -237,7 +237,8 @@ with_any_ends lines is first last first_is last_is origin terminus first_good la
       });
     })
 
--- the basic schedule with any good origin and any good terminus is a schedule of the same key
+-- the basic schedule, with any origin and any terminus that have good fields, is a schedule of the
+-- same key
 pub any_ends_of_key : (key : ScheduleKey) (lines : List (List ℕ)) → IsScheduleOf key lines → (first last : List ℕ) → IsRecord first → IsRecord last
     → HasKind origin_location first → HasKind terminating_location last → HasGoodFields first → HasGoodFields last
     → IsScheduleOf key (first_record lines ∷ first ∷ last ∷ [])

@@ -263,8 +263,7 @@ module _ (place : List ℕ) (day : ℕ) (live : Table) where
   schedule_left key lines is_live runs =
       ap (option_and_then (thin_body place day)) is_live ∙ (λ i. cond (runs i) (Some (schedule_body (lines_for place lines))) None)
 
-  -- each schedule in the thinned table consists of the records that the docker of the place needs,
-  -- from a schedule at the same key of the table
+  -- each schedule in the thinned table is `lines_for` of a schedule at the same key of the table
   schedule_was : (key : ScheduleKey) (lines : List (List ℕ)) → thinned place day live (schedule_key key) ≡ Some (schedule_body lines)
       → (whole : List (List ℕ)) × (live (schedule_key key) ≡ Some (schedule_body whole)) × (lines_for place whole ≡ lines)
   schedule_was key lines is = by (then_some (thin_body place day) (live (schedule_key key)) (schedule_body lines) is)

@@ -112,7 +112,7 @@ thin_op place day key (put body) good = by (may_count day (put_with body))
 
 -- ---- the state is valid
 
--- a ledger of one good item is good
+-- a ledger with only one well-formed item is well formed
 ledger_of_one : (item : LedgerItem) → IsGoodItem item → IsLedger (item ∷ [])
 ledger_of_one item good = by good.indicator
   where

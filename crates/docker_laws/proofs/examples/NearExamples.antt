@@ -5,7 +5,7 @@ use Rattle.jiff_core.specs.Calendar.{days_from_civil, day_count, days_of_years, 
 use Rattle.docker_laws.specs.NearDay.{near_entries, excerpt_on}
 use Rattle.docker_laws.proofs.examples.ExcerptExamples.{place, alone}
 
--- on 9 June, the day before the schedule's first day, the schedule may count: its train may be the
+-- on 9 June, the day before the schedule's first day, the schedule may count. Its train may be the
 -- associated train of a train on 9 June, and start a day later
 partner_tomorrow : (excerpt_on place 23536 alone).entries ≡ alone.entries
 unfolding days_from_civil day_count days_of_years days_of_months
