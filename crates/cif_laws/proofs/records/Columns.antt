@@ -62,7 +62,7 @@ one_column line n some =
 pub printable_column : (line : List ℕ) (n : ℕ) → IsRecord line → n - 1 < 80 → is_printable (column n line) ≡ true
 printable_column line n is within = let size = is.0 in is.1 (n - 1) 0 (omega arith)
 
--- ---- setting the transaction to N leaves all other columns unchanged
+-- ---- setting the transaction to N preserves the kind of a record and its later columns
 
 drop_set : (i k : ℕ) (xs : List ℕ) (y : ℕ) → i < k → drop k (set xs i y) ≡ drop k xs
 drop_set i k [] y below = refl

@@ -75,8 +75,8 @@ all_changes =
     ∷ change_of 6 (schedule_key stops_key) (put (schedule_body stops)) ∷ change_of 9 (schedule_key short_key) (put (schedule_body way_round))
     ∷ change_of 13 (schedule_key (key_of (codes "C40003") 23528 80)) (put (schedule_body long_ago)) ∷ []
 
--- for COLWELL on 11 June these changes are kept: its TIPLOC, its association, the train that calls
--- at COLWELL, the overlay in its thin form, and a deletion
+-- for COLWELL on 11 June these changes are kept: the TIPLOC of COLWELL, its association, the train
+-- that calls at COLWELL, the overlay in its thin form, and a deletion
 kept_of_all : thin_changes place 23538 all_changes
     ≡ change_of 3 (tiploc_key (codes "COLWELL")) (put (tiploc_body (spaces 63))) ∷ change_of 4 (association_key link_key) (put (association_body link))
     ∷ change_of 6 (schedule_key stops_key) (put (schedule_body stops)) ∷ change_of 9 (schedule_key short_key) (put (schedule_body short))

@@ -16,7 +16,7 @@ use Rattle.docker_model.specs.run.Run.{nothing, united, office_known, message_kn
 use Rattle.docker_model.specs.run.Knowledge.{AreFiles, IsGoodKnown, IsGoodEvent}
 use Rattle.state_laws.proofs.states.Lapse.{max_most}
 
--- ---- the knowledge of two offices together is good
+-- ---- if the knowledge of each of two offices is good, their knowledge together is good
 
 -- if a format allows two horizons, it allows the greater of them
 max_good : (format : Format) (a b : ℕ) → IsHorizonOf format a → IsHorizonOf format b → IsHorizonOf format (max a b)
@@ -123,7 +123,7 @@ module _ (format : Format) where
       good_along (after_reply known (event, reply)) events replies (good_after known event reply good (All-head (IsGoodEvent format) event events each) are.0)
       (All-tail (IsGoodEvent format) event events each) are.1
 
-  -- after a run of good events all knowledge is good
+  -- after a run of good events, the knowledge of each office and each message is good
   pub good_in_run : (offices : ℕ) (events : List RunEvent) (replies : List Reply) → All (IsGoodEvent format) events
       → AreReplies (none_known offices) events replies
       → AllGood format (known_sets offices events replies)
