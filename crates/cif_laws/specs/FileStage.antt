@@ -1,5 +1,6 @@
--- The place of a reader in a file, after some records. The place determines which records may
--- follow, and whether the records are a file.
+-- The place of a reader in a file, such as between two units. The records of a file, read one by
+-- one, lead the reader from place to place. The place determines which records may follow, and
+-- whether the records are a file. Such a place isn't a timing point.
 use Rattle.std.specs.Prelude.{ℕ, List, [], ◌∷◌, Some, None, Bool, true, false, ◌++◌, ◌≡◌, Option, is_some, ◌&&◌, option_and_then}
 use Rattle.std.proofs.Common.{cond}
 use Rattle.docker_model.specs.records.Record.{Lines, Kind, tiploc_insert, tiploc_amend, tiploc_delete, association, basic_schedule, trailer, header, kind_of}
@@ -14,8 +15,8 @@ pub data Place : Type 0 where
   in_schedule : (stage : Stage) → (lines : Lines) → Place
   after_end : Place
 
--- the place after a record of this kind that begins a unit, or that is the trailer; `None` for any
--- other kind
+-- the place to which a record of this kind leads from between two units, or `None` if the record
+-- can't begin a unit and isn't a trailer
 abbrev pub unit_by_kind : Option Kind → List ℕ → Option Place
 unit_by_kind (Some tiploc_insert) line = Some between_units
 unit_by_kind (Some tiploc_amend) line = Some between_units
@@ -25,8 +26,8 @@ unit_by_kind (Some basic_schedule) line = Some (in_schedule after_basic (line �
 unit_by_kind (Some trailer) line = Some after_end
 unit_by_kind _ line = None
 
--- the place after these records of a schedule: inside the schedule, or between units if its journey
--- is complete
+-- the place to which these records of a schedule lead: inside the schedule, or between units if its
+-- journey is complete
 abbrev pub place_in : Stage → Lines → Place
 place_in after_journey lines = between_units
 place_in stage lines = in_schedule stage lines
@@ -41,8 +42,8 @@ abbrev pub is_header_kind : Option Kind → Bool
 is_header_kind (Some header) = true
 is_header_kind _ = false
 
--- the place after one more record, from its kind only, or `None` if no record of this kind may
--- follow
+-- the place to which one more record leads, judged only by its kind, or `None` if no record of this
+-- kind may follow
 abbrev pub place_by_kind : Place → Option Kind → List ℕ → Option Place
 place_by_kind before_header kind line = cond (is_header_kind kind) (Some between_units) None
 place_by_kind between_units kind line = unit_by_kind kind line
@@ -50,25 +51,28 @@ place_by_kind (in_schedule stage lines) kind line =
     in_stage_or (lines ++ line ∷ []) (stage_after stage kind) (cond (may_end stage lines) (unit_by_kind kind line) None)
 place_by_kind after_end kind line = None
 
--- whether a record at this place is sound: it has good fields and, in a schedule, the schedule
--- doesn't pass midnight for the third time at the record. In a deletion neither is checked
+-- whether a record that follows at this place is sound: its fields are good, and it isn't the
+-- record at which a schedule passes midnight for the third time. In a deletion neither is checked
 abbrev pub is_sound_at : Place → List ℕ → Bool
 is_sound_at (in_schedule stage lines) line = cond (is_some (stage_after stage (kind_of line))) (is_sound_next lines line) (has_good_fields line)
 is_sound_at _ line = has_good_fields line
 
--- the place after one more record, or `None` if no file continues with this record
+-- the place to which one more record leads from this place, or `None` if no file continues with
+-- this record
 abbrev pub next_place : Place → List ℕ → Option Place
 next_place place line = cond (is_record line && is_sound_at place line) (place_by_kind place (kind_of line) line) None
 
--- the place after more records, or `None` if no file continues with these records
+-- the place to which these records lead from this place, or `None` if no file continues with these
+-- records
 abbrev pub place_from : Place → Lines → Option Place
 place_from place [] = Some place
 place_from place (line ∷ rest) = option_and_then (λ next. place_from next rest) (next_place place line)
 
--- the place after these records, or `None` if no file begins with these records
+-- the place to which these records lead from the beginning of a file, or `None` if no file begins
+-- with these records
 abbrev pub place_at : Lines → Option Place
 place_at records = place_from before_header records
 
--- this is the place of a reader after these records, the first records of a file
+-- these records, read from the beginning of a file, lead to this place
 abbrev pub IsPlaceOf : Lines → Place → Type 0
 IsPlaceOf records place = place_at records ≡ Some place

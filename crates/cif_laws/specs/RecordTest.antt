@@ -1,4 +1,4 @@
--- Tests of whether bytes are a record, and of whether its fields are good.
+-- Two tests of bytes: whether they are a record, and whether the fields of a record are good.
 use Rattle.std.specs.Prelude.{ℕ, List, length, Bool, is_none, ◌==◌, ◌&&◌}
 use Rattle.docker_model.specs.records.Record.{leftmost_bad_byte}
 use Rattle.docker_model.specs.records.Field.{leftmost_bad_field}

@@ -1,5 +1,5 @@
--- The stage of a reader in a schedule, after some records. The stage determines which records may
--- follow, and whether the records are a schedule.
+-- The stage of a reader in a schedule, after some of its records. The stage determines which
+-- records may follow, and whether the records are a schedule.
 use Rattle.std.specs.Prelude.{Some, None, ℕ, List, Bool, true, false, [], ◌∷◌, ◌++◌, Option, ◌==◌, ◌||◌, ◌&&◌, nat_le, option_and_then}
 use Rattle.std.proofs.Common.{cond}
 use Rattle.docker_model.specs.records.Record.{Kind, extra_details, origin_location, intermediate_location}
@@ -17,7 +17,7 @@ pub data Stage : Type 0 where
   in_journey : Stage
   after_journey : Stage
 
--- the stage after one more record, from its kind only, or `None` if no record of this kind
+-- the stage after one more record, judged only by its kind, or `None` if no record of this kind
 -- continues the schedule
 abbrev pub stage_after : Stage → Option Kind → Option Stage
 stage_after after_basic (Some extra_details) = Some after_details
@@ -32,14 +32,14 @@ stage_after _ _ = None
 abbrev pub may_lack : List ℕ → Bool
 may_lack basic = is_deletion basic || (column 80 basic == 67)
 
--- whether these records may be a complete schedule, at this stage
+-- whether these records may be a complete schedule at this stage
 abbrev pub may_end : Stage → Lines → Bool
 may_end after_journey lines = true
 may_end in_journey lines = false
 may_end _ lines = may_lack (first_record lines)
 
--- whether the next record is sound: it has good fields, and the schedule doesn't pass midnight for
--- the third time at the record. In a deletion neither is checked
+-- whether the next record is sound: its fields are good, and the schedule doesn't pass midnight for
+-- the third time at this record. In a deletion neither is checked
 abbrev pub is_sound_next : Lines → List ℕ → Bool
 is_sound_next lines line = is_deletion (first_record lines) || (has_good_fields line && nat_le (midnights (lines ++ line ∷ [])) 2)
 

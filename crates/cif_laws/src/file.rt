@@ -1,5 +1,5 @@
 //! Laws of files, their texts, their faults and their changes. A law is a function with an empty
-//! body whose contract states a fact. The fact holds for all values of its variables.
+//! body. Its contract states a fact, which holds for all values of the variables.
 ghost use Rattle.std.specs.Prelude.{◌≡◌, ℕ, ◌+◌, ◌*◌, List, [], ◌∷◌, ◌++◌, ◌↔◌, ◌≤◌, ◌⊎◌, All, Contains, length};
 ghost use Rattle.std.specs.List.{AllPairs};
 ghost use Rattle.docker_model.specs.records.Record.{IsRecord};
@@ -67,8 +67,8 @@ pub fn keys_of_record_differ()
         → ¬ (first.key ≡ second.key)) (changes file) }
 {}
 
-/// It is decided whether records begin some file, whether they are a file, whether they begin some
-/// schedule, and whether they are a schedule.
+/// It is decidable whether records begin some file, whether they are a file, whether they begin
+/// some schedule, and whether they are a schedule.
 pub fn begins_or_not()
     ensures file { (records : List (List ℕ)) → BeginsFile records ⊎ ¬ BeginsFile records }
     ensures schedule { (lines : List (List ℕ)) → BeginsSchedule lines ⊎ ¬ BeginsSchedule lines }

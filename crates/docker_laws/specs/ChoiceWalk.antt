@@ -8,23 +8,25 @@ use Rattle.docker_model.specs.docker.Choice.{schedule_choice_cmp, association_ch
 use Rattle.docker_laws.specs.LiveRows.{Link, schedules_in, associations_in, is_running, is_linked}
 use Rattle.docker_laws.specs.Best.{IsBest, with_one_more}
 
--- of the UID's schedules in these rows that run on the day, this schedule comes first in the order
--- of choice
+-- `found` is the choice from these rows: of the UID's schedules in the rows that run on the day,
+-- the schedule that comes first in the order of choice. If there is no such schedule, `found` is
+-- `None`
 abbrev pub IsChosenSoFar : List ℕ → ℕ → List Row → Option Train → Type 0
 IsChosenSoFar uid day rows found = IsBest (on (λ (train : Train). train.key) schedule_choice_cmp) (is_running uid day) (schedules_in rows) found
 
--- the chosen schedule after one more row
+-- the chosen schedule after one more row is appended
 abbrev pub next_chosen : List ℕ → ℕ → Option Train → Key → Body → Option Train
 next_chosen uid day found (schedule_key key) (schedule_body lines) =
     with_one_more (on (λ (train : Train). train.key) schedule_choice_cmp) (is_running uid day) found (record { key = key; lines = lines })
 next_chosen uid day found _ _ = found
 
--- of the group's associations in these rows that run on the base train's start day, this
--- association comes first in the order of choice
+-- `found` is the choice from these rows: of the group's associations in the rows that run on the
+-- base train's start day, the first in the order of choice. If there is no such association,
+-- `found` is `None`
 abbrev pub IsLinkSoFar : Group → ℕ → List Row → Option Link → Type 0
 IsLinkSoFar group day rows found = IsBest (on (λ (link : Link). link.key) association_choice_cmp) (is_linked group day) (associations_in rows) found
 
--- the chosen association after one more row
+-- the chosen association after one more row is appended
 abbrev pub next_link : Group → ℕ → Option Link → Key → Body → Option Link
 next_link group day found (association_key key) (association_body line) =
     with_one_more (on (λ (link : Link). link.key) association_choice_cmp) (is_linked group day) found (record { key = key; line = line })

@@ -14,7 +14,8 @@ counted_table counts table key = if counts key then table key else None
 abbrev pub counted_rows : (Key → Bool) → List Row → List Row
 counted_rows counts rows = filter (λ (row : Row). counts row.0) rows
 
--- the table has a list of rows, and each of its bodies is well formed and belongs to its key
+-- the table can be written as a list of rows, and each body in the table is well formed and belongs
+-- to its key
 pub record IsOfGoodRows (live : Table) : Type 0 where
   pub rows : List Row
   pub are : AreRowsOf live rows

@@ -5,19 +5,20 @@ use Rattle.std.specs.List.{enumerate_from, last_or}
 use Rattle.docker_model.specs.file.Journey.{Occasion, times_of}
 use Rattle.docker_model.specs.docker.Event.{Event, has_identity}
 
--- the events of one record. The record has these times and is at this place in the schedule, and
--- its first event has this number
+-- the events of one record with these times. The first event has this number, and `place` is the
+-- index of the record in the schedule, counted from 0
 abbrev pub events_here : ℕ → ℕ → List (Occasion × ℕ) → List Event
 events_here number place times =
     map (λ counted. record { number = counted.0; place = place; occasion = counted.1.0; time = counted.1.1 }) (enumerate_from number times)
 
--- the events of the last records of a schedule. The first of the records is at this place, counted
--- from 0, and the first event has this number
+-- the events of the last records of a schedule. The first event has this number, and `place` is the
+-- index of the first of these records in the schedule, counted from 0
 abbrev pub events_from : ℕ → ℕ → List (List ℕ) → List Event
 events_from number place [] = []
 events_from number place (line ∷ lines) = events_here number place (times_of line) ++ events_from (number + length (times_of line)) (place + 1) lines
 
--- 1 if this time is earlier than the last time, and otherwise 0
+-- 1 if the time is a fall, which means that it is earlier than the time before it, and otherwise 0.
+-- The result is 0 if there is no time before it
 abbrev pub fall_at : Option ℕ → ℕ → ℕ
 fall_at None time = 0
 fall_at (Some last) time = if nat_lt time last then 1 else 0

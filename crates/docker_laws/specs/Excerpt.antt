@@ -6,35 +6,35 @@ use Rattle.docker_model.specs.state.Table.{Table}
 use Rattle.state_laws.specs.Index.{IsCalling, IsLinked}
 use Rattle.docker_model.specs.state.State.{State, live_table}
 
--- a live schedule of the UID calls at the place
+-- a schedule of the UID is in the live table and calls at the place
 pub record HasCall (live : Table) (place uid : List ℕ) : Type 0 where
   pub key : ScheduleKey
   pub lines : List (List ℕ)
   pub uid_is : key.uid ≡ uid
   pub calling : IsCalling live place key lines
 
--- a live association at the place has the UID as its associated train
+-- an association at the place is in the live table and has the UID as its associated train
 pub record IsNamed (live : Table) (place uid : List ℕ) : Type 0 where
   pub key : AssociationKey
   pub line : List ℕ
   pub associated_is : key.associated ≡ uid
   pub linked : IsLinked live place key line
 
--- the UID matters to the docker of the place. A schedule of the UID calls at the place, or the UID
--- is the associated train of an association at the place. All schedules of the UID are needed,
--- since together they determine by which schedule the train runs
+-- the docker of the place may depend on the schedules of this UID. A schedule of the UID calls at
+-- the place, or the UID is the associated train of an association at the place. All schedules of
+-- the UID are needed, since together they determine by which schedule the train runs
 abbrev pub IsConcerned : Table → List ℕ → List ℕ → Type 0
 IsConcerned live place uid = HasCall live place uid ⊎ IsNamed live place uid
 
 -- the docker of the place may depend on this key. The key is the place's TIPLOC, an association at
--- the place, or a schedule of a UID that matters to the docker
+-- the place, or a schedule whose UID satisfies `IsConcerned`
 abbrev pub IsNeeded : Table → List ℕ → Key → Type 0
 IsNeeded live place (tiploc_key code) = code ≡ place
 IsNeeded live place (association_key key) = key.location ≡ place
 IsNeeded live place (schedule_key key) = IsConcerned live place key.uid
 
--- `part` is an excerpt of `live` for the place: it may have no body at a key that the place doesn't
--- need, and equals `live` at all other keys
+-- `part` is an excerpt of `live` for the place. At each key, `part` equals `live`, or `part` has no
+-- body and the docker of the place doesn't depend on the key
 abbrev pub IsExcerpt : List ℕ → Table → Table → Type 0
 IsExcerpt place live part = (key : Key) → (part key ≡ live key) ⊎ ((part key ≡ None) × ¬ IsNeeded live place key)
 
@@ -45,9 +45,9 @@ IsSublist [] ys = ⊤
 IsSublist (x ∷ xs) [] = ⊥
 IsSublist (x ∷ xs) (y ∷ ys) = ((x ≡ y) × IsSublist xs ys) ⊎ IsSublist (x ∷ xs) ys
 
--- `part` is an excerpt of the state for the place: it has the same horizon and the same ledger, and
--- its entries are a sublist of the state's entries. Its live table is an excerpt of the state's
--- live table
+-- `part` is an excerpt of the state for the place. The horizon and the ledger are the same, and the
+-- entries of `part` are a sublist of the state's entries. The live table of `part` is an excerpt of
+-- the state's live table
 pub record IsExcerptState (place : List ℕ) (state part : State) : Type 0 where
   pub horizon : part.horizon ≡ state.horizon
   pub ledger : part.ledger ≡ state.ledger

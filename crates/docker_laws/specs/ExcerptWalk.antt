@@ -30,12 +30,12 @@ abbrev pub has_uid : List ℕ → Key → Bool
 has_uid uid (schedule_key key) = bytes_eq key.uid uid
 has_uid uid _ = false
 
--- the UID of the associated train, if the entry is a live association
+-- the UID of the associated train if the entry puts an association, and otherwise `None`
 abbrev pub name_in : Key → Op → Option (List ℕ)
 name_in (association_key key) (put_with (association_body line)) = Some key.associated
 name_in _ _ = None
 
--- the UIDs of the associated trains in all live associations among these entries
+-- the UIDs of the associated trains in all associations that these entries put
 abbrev pub names_in : List (Key × Entry) → List (List ℕ)
 names_in entries = filter_map (λ entry. name_in entry.0 entry.1.op) entries
 
@@ -44,17 +44,17 @@ abbrev pub is_call : List ℕ → Op → Bool
 is_call place (put_with (schedule_body lines)) = calls_at place lines
 is_call place _ = false
 
--- whether the run's UID is among these UIDs. It isn't if the run is empty
+-- whether the run's UID is among these UIDs. For an empty run the result is false
 abbrev pub is_run_named : List (List ℕ) → List (Key × Entry) → Bool
 is_run_named names [] = false
 is_run_named names (first ∷ run) = list_any (λ name. has_uid name first.0) names
 
--- whether a live schedule of the run calls at the place
+-- whether some entry of the run puts a schedule that calls at the place
 abbrev pub is_run_calling : List ℕ → List (Key × Entry) → Bool
 is_run_calling place run = list_any (λ entry. is_call place entry.1.op) run
 
 -- whether the run is needed: its UID is the associated train of a kept association, or one of its
--- live schedules calls at the place
+-- entries puts a schedule that calls at the place
 abbrev pub is_run_needed : List ℕ → ExcerptSoFar → Bool
 is_run_needed place so_far = is_run_named (names_in so_far.kept) so_far.run || is_run_calling place so_far.run
 

@@ -8,16 +8,17 @@ use Rattle.docker_model.specs.state.Op.{Entry, key_cmp}
 use Rattle.docker_model.specs.state.State.{State}
 use Rattle.docker_model.specs.state.Summary.{entry_of}
 
--- the list `first ∷ entries` with one entry inserted, by the order of its key and the first key. An
--- entry with a lower key is put at the front. An entry with an equal key isn't inserted. If the key
--- is higher, `rest` is the list after the first entry
+-- the list `first ∷ entries` after an entry is inserted in key order. The first argument says how
+-- the key of the inserted entry compares with the first key. A lower key is put at the front. An
+-- equal key isn't inserted. A higher key belongs later in the list, and `rest` is `entries` with
+-- that key inserted
 abbrev pub placed : Ordering → Key × Entry → Key × Entry → List (Key × Entry) → List (Key × Entry) → List (Key × Entry)
 placed Less entry first entries rest = entry ∷ first ∷ entries
 placed Equal entry first entries rest = first ∷ entries
 placed Greater entry first entries rest = first ∷ rest
 
--- entries in key order, with one older entry inserted. The older entry is left out if the list
--- already has an entry with its key
+-- entries in key order after one older entry is inserted. The older entry is left out if the list
+-- already has an entry with the same key
 abbrev pub with_earlier : Key × Entry → List (Key × Entry) → List (Key × Entry)
 with_earlier entry [] = entry ∷ []
 with_earlier entry (first ∷ entries) = placed (key_cmp entry.0 first.0) entry first entries (with_earlier entry entries)

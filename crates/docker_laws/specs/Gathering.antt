@@ -37,7 +37,7 @@ event_lines place day start key lines =
     map (line_of_event key start lines)
     (filter (λ event. bytes_eq (columns 3 9 (event_line lines event)) place && (event_day start lines event == day)) (events_of lines))
 
--- whether this train runs by the schedule with this key
+-- whether there is a train, and that train runs by the schedule with this key
 abbrev pub runs_by : Option Train → ScheduleKey → Bool
 runs_by None key = false
 runs_by (Some train) key = is_eq (schedule_key_cmp train.key key)
@@ -48,7 +48,7 @@ abbrev pub schedule_lines : (List ℕ → ℕ → Option Train) → List ℕ →
 schedule_lines trains place day key lines =
     flat_map (λ start. if runs_by (trains key.uid start) key then event_lines place day start key lines else []) (start_days day)
 
--- whether the chosen association has this key
+-- whether there is a chosen association, and that association has this key
 abbrev pub counts_as : Option Link → AssociationKey → Bool
 counts_as None key = false
 counts_as (Some link) key = is_eq (association_key_cmp link.key key)
@@ -63,8 +63,8 @@ abbrev pub partner_identity : (List ℕ → ℕ → Option Train) → List ℕ �
 partner_identity trains uid None = codes "????"
 partner_identity trains uid (Some day) = identity_of (trains uid day)
 
--- the docker line of an association, for this event of the base train. The list is empty if the
--- event is on another day, or if there is no event
+-- a list of only one line, the docker line of an association for this event of the base train. The
+-- list is empty if there is no event, or if the event is on another day
 abbrev pub line_at : (List ℕ → ℕ → Option Train) → ℕ → ℕ → AssociationKey → List ℕ → Occasion → Train → Option Event → List DockerLine
 line_at trains day start key line occasion base None = []
 line_at trains day start key line occasion base (Some event) =
@@ -73,17 +73,17 @@ line_at trains day start key line occasion base (Some event) =
     (partner_identity trains key.associated (partner_start (column 37 line) start)) ∷ []
     else []
 
--- the docker line of an association with this occasion and this base train. The list is empty if
--- there is no occasion, or if no base train runs
+-- a list of at most one line, the docker line of an association with this occasion and this base
+-- train. The list is empty if there is no occasion, or if no base train runs
 abbrev pub line_with : (List ℕ → ℕ → Option Train) → ℕ → ℕ → AssociationKey → List ℕ → Option Occasion → Option Train → List DockerLine
 line_with trains day start key line None base = []
 line_with trains day start key line (Some occasion) None = []
 line_with trains day start key line (Some occasion) (Some base) =
     line_at trains day start key line occasion base (first_event_at base.lines key.location key.suffix)
 
--- whether the association may have a docker line for this start day of the base train. It may if it
--- is the chosen association of its group, isn't a cancellation, and its date indicator is S, a
--- space, N or P
+-- whether the association may have a docker line for this start day of the base train. That is so
+-- if the association is the chosen association of its group, isn't a cancellation, and has the date
+-- indicator S, a space, N or P
 abbrev pub is_in_force : (Group → ℕ → Option Link) → ℕ → AssociationKey → List ℕ → Bool
 is_in_force links start key line =
     counts_as (links (group_of key) start) key && not (key.indicator == 67) && is_date_indicator (column 37 line)
@@ -108,8 +108,9 @@ row_lines trains links place day _ _ = []
 abbrev pub gathered : (List ℕ → ℕ → Option Train) → (Group → ℕ → Option Link) → List ℕ → ℕ → List Row → List DockerLine
 gathered trains links place day rows = flat_map (λ row. row_lines trains links place day row.0 row.1) rows
 
--- a walk over these rows can find each docker line of the place. The rows are live and in key
--- order, and include each schedule that calls at the place and each association at the place
+-- a walk over these rows can find each docker line of the place. Each row is in the live table, and
+-- the rows are in key order. The rows include each schedule that calls at the place and each
+-- association at the place
 pub record IsWalk (live : Table) (place : List ℕ) (rows : List Row) : Type 0 where
   pub ascending : AreInKeyOrder rows
   pub each : (key : Key) (body : Body) → Contains rows (key, body) → live key ≡ Some body

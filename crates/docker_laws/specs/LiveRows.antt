@@ -12,13 +12,13 @@ use Rattle.docker_model.specs.docker.Choice.{Train, Group, group_of, schedule_ru
 use Rattle.docker_model.specs.docker.Choice.{association_choice_cmp, IsRunning, IsChosen, TrainRuns, IsChosenAssociation}
 use Rattle.docker_model.specs.docker.Association.{RunsNot}
 
--- the rows are live, and include every schedule of the UID
+-- each row is in the live table, and the rows include every schedule of the UID
 pub record HasSchedulesOf (live : Table) (uid : List ℕ) (rows : List Row) : Type 0 where
   pub each : (key : Key) (body : Body) → Contains rows (key, body) → live key ≡ Some body
   pub all : (key : ScheduleKey) (lines : List (List ℕ)) → key.uid ≡ uid → live (schedule_key key) ≡ Some (schedule_body lines)
       → Contains rows (schedule_key key, schedule_body lines)
 
--- the rows are live, and include every association of the group
+-- each row is in the live table, and the rows include every association of the group
 pub record HasAssociationsOf (live : Table) (group : Group) (rows : List Row) : Type 0 where
   pub each : (key : Key) (body : Body) → Contains rows (key, body) → live key ≡ Some body
   pub all : (key : AssociationKey) (line : List ℕ) → group_of key ≡ group → live (association_key key) ≡ Some (association_body line)
@@ -59,24 +59,26 @@ associations_in rows = filter_map (λ row. association_of row.0 row.1) rows
 abbrev pub is_running : List ℕ → ℕ → Train → Bool
 is_running uid day train = bytes_eq train.key.uid uid && schedule_runs (first_record train.lines) day
 
--- whether the schedule is the choice for the UID on the day. It runs on the day, and no other
--- running schedule of the UID comes before it in the order of choice
+-- whether this schedule is the choice for the UID on the day. Of the UID's schedules in the list
+-- that run on the day, this schedule comes first in the order of choice
 abbrev pub is_choice : List Train → List ℕ → ℕ → Train → Bool
 is_choice trains uid day train =
     is_running uid day train
     && list_all (λ other. not (is_running uid day other && is_gt (schedule_choice_cmp train.key other.key))) trains
 
 -- the chosen schedule of the UID on the day, from these rows, or `None` if no schedule of the UID
--- runs
+-- runs on the day
 abbrev pub chosen_in : List Row → List ℕ → ℕ → Option Train
 chosen_in rows uid day = find (is_choice (schedules_in rows) uid day) (schedules_in rows)
 
--- the train that runs by the chosen schedule, or `None` if the chosen schedule is a cancellation
+-- the train that runs by the chosen schedule, or `None` if there is no chosen schedule or it is a
+-- cancellation
 abbrev pub unless_cancelled : Option Train → Option Train
 unless_cancelled None = None
 unless_cancelled (Some train) = if train.key.indicator == 67 then None else Some train
 
--- the UID's train that starts on the day, from these rows, or `None` if no train runs
+-- the UID's train that starts on the day, from these rows, or `None` if no train of the UID starts
+-- on that day
 abbrev pub train_in : List Row → List ℕ → ℕ → Option Train
 train_in rows uid day = unless_cancelled (chosen_in rows uid day)
 
@@ -89,15 +91,15 @@ is_of_group group key =
 abbrev pub is_linked : Group → ℕ → Link → Bool
 is_linked group day link = is_of_group group link.key && association_runs link.line day
 
--- whether the association is the choice for the group: it runs on the day, and no other running
--- association of the group comes before it in the order of choice
+-- whether this association is the choice for the group on the day. Of the group's associations in
+-- the list that run on the day, this association comes first in the order of choice
 abbrev pub is_link_choice : List Link → Group → ℕ → Link → Bool
 is_link_choice links group day link =
     is_linked group day link
     && list_all (λ other. not (is_linked group day other && is_gt (association_choice_cmp link.key other.key))) links
 
 -- the chosen association of the group on the base train's start day, from these rows, or `None` if
--- no association of the group runs
+-- no association of the group runs on that day
 abbrev pub link_in : List Row → Group → ℕ → Option Link
 link_in rows group day = find (is_link_choice (associations_in rows) group day) (associations_in rows)
 
@@ -107,7 +109,8 @@ abbrev pub IsTrainOn : Table → List ℕ → ℕ → Option Train → Type 0
 IsTrainOn live uid day None = RunsNot live uid day
 IsTrainOn live uid day (Some train) = TrainRuns live uid day train.key train.lines
 
--- the function returns the table's train for each UID and each day
+-- for each UID and each day, the function returns the train of the UID that starts on the day, or
+-- `None` if there is no such train
 abbrev pub TellsTrains : Table → (List ℕ → ℕ → Option Train) → Type 0
 TellsTrains live trains = (uid : List ℕ) (day : ℕ) → IsTrainOn live uid day (trains uid day)
 
@@ -117,7 +120,7 @@ abbrev pub IsLinkOn : Table → Group → ℕ → Option Link → Type 0
 IsLinkOn live group day None = (key : AssociationKey) (line : List ℕ) → ¬ IsChosenAssociation live group day key line
 IsLinkOn live group day (Some link) = IsChosenAssociation live group day link.key link.line
 
--- the function returns the table's chosen association for each group and each start day of the base
--- train
+-- for each group and each start day of the base train, the function returns the chosen association
+-- of the group, or `None` if there is no such association
 abbrev pub TellsLinks : Table → (Group → ℕ → Option Link) → Type 0
 TellsLinks live links = (group : Group) (day : ℕ) → IsLinkOn live group day (links group day)

@@ -1,5 +1,5 @@
--- Tables with the same docker for one place and one day. They may have different records for the
--- schedules that don't call at the place.
+-- Two tables with the same docker for one place and one day. The tables may have different records
+-- for schedules that don't call at the place.
 use Rattle.std.specs.Prelude.{◌≡◌, ℕ, ◌⊎◌, true, List, Some, Contains}
 use Rattle.docker_model.specs.records.Record.{columns}
 use Rattle.docker_model.specs.file.Journey.{CallsAt}
@@ -10,16 +10,16 @@ use Rattle.docker_model.specs.docker.Choice.{schedule_runs}
 use Rattle.docker_laws.specs.NearDay.{near_starts, runs_near}
 
 -- `lines` may replace the schedule `whole` in the docker of the place and the day. Both run on the
--- same start days near the day, and have the same train identity. If one of the two calls at the
--- place, they are equal
+-- same start days near the day, and have the same train identity. If `whole` or `lines` calls at
+-- the place, both are equal
 pub record IsStandIn (place : List ℕ) (day : ℕ) (whole lines : List (List ℕ)) : Type 0 where
   pub runs : (start : ℕ) → Contains (near_starts day) start → schedule_runs (first_record whole) start ≡ schedule_runs (first_record lines) start
   pub identity : columns 33 36 (first_record whole) ≡ columns 33 36 (first_record lines)
   pub calls : CallsAt place whole ⊎ CallsAt place lines → whole ≡ lines
 
 -- `part` may replace `live` in the docker of the place and the day. Both have the same body at the
--- place's TIPLOC, and the same associations at the place. Each schedule of one table that runs near
--- the day has, at the same key of the other table, a schedule that may replace it
+-- place's TIPLOC, and the same associations at the place. For each schedule of one table that runs
+-- near the day, the other table has, at the same key, a schedule that may replace it
 pub record StandsFor (place : List ℕ) (day : ℕ) (live part : Table) : Type 0 where
   pub tiploc : part (tiploc_key place) ≡ live (tiploc_key place)
   pub associations : (key : AssociationKey) → key.location ≡ place → part (association_key key) ≡ live (association_key key)

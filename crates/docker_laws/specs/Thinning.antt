@@ -30,19 +30,19 @@ abbrev pub thin_lines : List (List ℕ) → List (List ℕ)
 thin_lines [] = []
 thin_lines (basic ∷ others) = basic ∷ filter (λ line. is_end (kind_of line)) others
 
--- the records of a schedule that the place needs: all records if the schedule calls at the place,
--- and otherwise the thin records
+-- the records of a schedule that the docker of the place needs: all records if the schedule calls
+-- at the place, and otherwise the thin records
 abbrev pub lines_for : List ℕ → List (List ℕ) → List (List ℕ)
 lines_for place lines = if calls_at place lines then lines else thin_lines lines
 
--- the body that the place needs: only the thin records of a schedule that doesn't call at the
--- place, and any other body unchanged
+-- the body that the docker of the place needs: the thin records of a schedule that doesn't call at
+-- the place, and any other body unchanged
 abbrev pub body_for : List ℕ → Body → Body
 body_for place (schedule_body lines) = schedule_body (lines_for place lines)
 body_for place body = body
 
--- whether the docker of the place may depend on this key, by the key itself: it is the place's
--- TIPLOC, an association at the place, or any schedule
+-- whether the docker of the place may depend on this key, judged only by the key: the key is the
+-- place's TIPLOC, an association at the place, or any schedule
 abbrev pub may_matter : List ℕ → Key → Bool
 may_matter place (tiploc_key code) = bytes_eq code place
 may_matter place (association_key key) = bytes_eq key.location place
@@ -56,8 +56,8 @@ thin_body place day body = if may_count day (put_with body) then Some (body_for 
 abbrev pub thinned : List ℕ → ℕ → Table → Table
 thinned place day live key = if may_matter place key then option_and_then (thin_body place day) (live key) else None
 
--- the thin form of an act. A put of a schedule that can't count on the day becomes a deletion, and
--- any other put becomes a put of the body that the place needs
+-- the thin form of an act. A put of a schedule that can't count on the day becomes a deletion. Any
+-- other put becomes a put of the body that the docker of the place needs
 abbrev pub thin_act : List ℕ → ℕ → Act → Act
 thin_act place day delete = delete
 thin_act place day (put body) = if may_count day (put_with body) then put (body_for place body) else delete
@@ -66,7 +66,7 @@ thin_act place day (put body) = if may_count day (put_with body) then put (body_
 abbrev pub thin_change : List ℕ → ℕ → Change → Change
 thin_change place day change = record { number = change.number; key = change.key; act = thin_act place day change.act }
 
--- the changes whose keys may matter at the place, each in its thin form
+-- the thin forms of the changes whose keys may matter at the place
 abbrev pub thin_changes : List ℕ → ℕ → List Change → List Change
 thin_changes place day changes = map (thin_change place day) (filter (λ (change : Change). may_matter place change.key) changes)
 
@@ -85,7 +85,7 @@ pub record IsThinning (place : List ℕ) (day : ℕ) (changes kept : List Change
   pub some : IsSublist kept (map (thin_change place day) changes)
   pub enough : AreEnough place day changes kept
 
--- no change in the list has this key
+-- no change in the list is a change of this key
 abbrev pub HasNoChangeOf : Key → List Change → Type 0
 HasNoChangeOf key changes = (change : Change) → Contains changes change → ¬ (change.key ≡ key)
 
@@ -93,12 +93,12 @@ HasNoChangeOf key changes = (change : Change) → Contains changes change → ¬
 abbrev pub AreAtMost : Key → List Change → Type 0
 AreAtMost highest changes = (change : Change) → Contains changes change → IsAtMost key_cmp change.key highest
 
--- the changes whose key isn't this key
+-- the list without the changes of this key
 abbrev pub without : Key → List Change → List Change
 without key changes = filter (λ (change : Change). not (is_eq (key_cmp change.key key))) changes
 
--- this is the state of some changes of a file, which may be thin. The state has the file's ledger
--- item and, at each key, the greatest of the entries that the changes leave
+-- this is the state after some changes of a file. The changes may be thin. The state has the file's
+-- ledger item and, at each key, the greatest of the entries that the changes leave
 pub record IsStateOfChanges (file : List (List ℕ)) (changes : List Change) (state : State) : Type 0 where
   pub horizon : state.horizon ≡ 0
   pub ledger : state.ledger ≡ ledger_item_of file ∷ []

@@ -1,6 +1,6 @@
-//! Laws of excerpts: which entries of a state the dockers of one place and one day don't need. A
-//! law is a function with an empty body whose contract states a fact. The fact holds for all values
-//! of its variables.
+//! Laws of excerpts, which leave out entries of a state that the dockers of one place, or of one
+//! day, don't need. A law is a function with an empty body. Its contract states a fact, which holds
+//! for all values of the variables.
 ghost use Rattle.std.specs.Prelude.{◌≡◌, ℕ, List, [], ◌∷◌, ◌++◌, ◌↔◌, ◌||◌, ◌⊎◌, Contains, filter, Bool, true, false, if◌then◌else◌};
 ghost use Rattle.docker_model.specs.file.Change.{Key, schedule_key, ScheduleKey};
 ghost use Rattle.docker_model.specs.state.Stamp.{LedgerItem, Stamp};
@@ -29,8 +29,8 @@ pub fn excerpt_has_one_docker()
         → IsExcerpt place live part → HasGoodBodies live → HasGoodBodies part }
 {}
 
-/// An excerpt of a valid state for a place is valid, refuses the same days, and has the same
-/// dockers of the place. The relation "is an excerpt of" is reflexive and transitive.
+/// An excerpt of a valid state for a place is valid and has the same dockers of the place, and its
+/// horizon refuses the same days. The relation "is an excerpt of" is reflexive and transitive.
 pub fn excerpt_of_state()
     ensures valid { (place : List ℕ) (state part : State)
         → IsValid state → IsExcerptState place state part → IsValid part }
@@ -52,8 +52,8 @@ pub fn excerpt_of_state()
 {}
 
 /// The result of a walk over a state's entries in key order is an excerpt of the state. An entry of
-/// the state is in the excerpt if and only if the place needs its key. The excerpt of a valid state
-/// is valid, and has the same dockers of the place.
+/// the state is in the excerpt if and only if the docker of the place may depend on its key. The
+/// excerpt of a valid state is valid, and has the same dockers of the place.
 pub fn walk_leaves_excerpt()
     ensures is { (place : List ℕ) (state : State)
         → AreAscending state.entries → IsExcerptState place state (excerpt_for place state) }
@@ -70,8 +70,9 @@ pub fn walk_leaves_excerpt()
         ↔ IsDockerText (live_table (excerpt_for place state)) place day text }
 {}
 
-/// The walk that computes an excerpt, entry by entry, from its start or from any entry on. The kept
-/// entries followed by the run are a sublist of the entries passed.
+/// The walk that computes an excerpt can stop after any entry and continue from there, with the
+/// same result. The kept entries followed by the run are a sublist of the entries passed. They may
+/// be the entries of a state with the same ledger, if the entries passed may.
 pub fn excerpt_in_a_walk()
     ensures none { (place : List ℕ) → kept_so_far place [] ≡ nothing_kept }
     ensures more { (place : List ℕ) (entries : List (Key × Entry)) (entry : Key × Entry)
@@ -96,10 +97,11 @@ pub fn excerpt_in_a_walk()
         ++ (kept_so_far place entries).run) }
 {}
 
-/// One step of the walk that computes an excerpt. When the walk reaches a TIPLOC or an association,
-/// its run is empty, because TIPLOCs and associations are before all schedules in key order. A
-/// TIPLOC or an association is kept if it is at the place. A schedule with the run's UID is
-/// appended to the run. A schedule with another UID ends the run and begins the next run.
+/// Each step of the walk that computes an excerpt handles one entry. When the walk reaches a TIPLOC
+/// or an association, its run is empty, because TIPLOCs and associations are before all schedules
+/// in key order. A TIPLOC or an association is kept if it is at the place. A schedule with the
+/// run's UID is appended to the run. A schedule with another UID ends the run and begins the next
+/// run.
 pub fn excerpt_by_entry()
     ensures no_run { (place : List ℕ) (state : State) (key : Key)
         → IsAboveEntries state key → ((uid : List ℕ) → has_uid uid key ≡ false)
@@ -118,8 +120,8 @@ pub fn excerpt_by_entry()
         ≡ record { kept = kept_after_run place so_far; run = (schedule_key key, entry) ∷ [] } }
 {}
 
-/// The end of a run: the whole run is kept if it is needed, and dropped otherwise. A run is needed
-/// if its UID is the associated train of a live association at the place, or if one of its live
+/// At its end, a run is kept as a whole if it is needed, and dropped otherwise. A run is needed if
+/// its UID is the associated train of a live association at the place, or if one of its live
 /// schedules calls at the place.
 pub fn run_of_one_uid()
     ensures keeps { (place : List ℕ) (so_far : ExcerptSoFar)
@@ -150,9 +152,9 @@ pub fn run_of_one_uid()
         → Contains (kept_so_far place entries).run one → has_uid uid one.0 ≡ true }
 {}
 
-/// The same walk as a loop. The loop keeps three values: the kept entries, the run, and a flag that
-/// says whether the run is needed. At the start both lists are empty, and at the end the loop has
-/// the entries of the excerpt.
+/// A loop computes the excerpt. It keeps three values: the kept entries, the run, and a flag that
+/// says whether the run is needed. At the start both lists are empty. At the end the entries of the
+/// excerpt are the kept entries, followed by the run if it is needed.
 pub fn excerpt_in_a_loop()
     ensures first { (place : List ℕ) → HasKept place [] [] [] false }
     ensures alone { (place : List ℕ) (state : State) (kept run : List (Key × Entry))
@@ -190,9 +192,9 @@ pub fn excerpt_in_a_loop()
         → AreEntries ledger entries → AreEntries ledger (kept ++ run) }
 {}
 
-/// Sublists of a state's entries. An entry that may follow the entries of the state may also follow
-/// a sublist of these entries. Among good entries, each entry may follow the entries before it. A
-/// valid state with a sublist of its entries is valid.
+/// A valid state with a sublist of its entries is valid. An entry that may follow the entries of a
+/// state may also follow a sublist of these entries. Each entry of a valid state may follow the
+/// entries before it.
 pub fn some_of_entries()
     ensures more { (state : State) (key : Key) (entry : Entry)
         → AreEntries state.ledger state.entries → IsStampHere state key entry.stamp
@@ -210,8 +212,9 @@ pub fn some_of_entries()
         → part.ledger ≡ state.ledger → IsSublist part.entries state.entries → IsValid part }
 {}
 
-/// A valid state without the schedules that run on no start day near a day is valid, refuses the
-/// same days, and has the same dockers on the day.
+/// Schedules that run on no start day near a day may be left out of a valid state. The state
+/// without them is valid and has the same dockers on the day, and its horizon refuses the same
+/// days.
 pub fn near_state_has_one_docker()
     ensures valid { (day : ℕ) (state : State) → IsValid state → IsValid (near_state day state) }
     ensures refused { (day other : ℕ) (state : State)
@@ -224,8 +227,8 @@ pub fn near_state_has_one_docker()
         ↔ IsDockerText (live_table (near_state day state)) place day text }
 {}
 
-/// The excerpt of a valid state for a place and a day is valid, refuses the same days, and has the
-/// same docker of the place on the day.
+/// The excerpt of a valid state for a place and a day is valid and has the same docker of the place
+/// on the day. Its horizon refuses the same days.
 pub fn excerpt_on_has_one_docker()
     ensures valid { (place : List ℕ) (day : ℕ) (state : State)
         → IsValid state → IsValid (excerpt_on place day state) }
@@ -240,7 +243,8 @@ pub fn excerpt_on_has_one_docker()
         ↔ IsDockerText (live_table (excerpt_on place day state)) place day text }
 {}
 
-/// The entries that may count on a day, computed entry by entry.
+/// The entries that may count on a day can be found entry by entry. An appended entry is appended
+/// to the result if the entry may count, and otherwise the result is unchanged.
 pub fn near_by_entry()
     ensures none { (day : ℕ) → near_entries day [] ≡ [] }
     ensures stays { (day : ℕ) (entries : List (Key × Entry)) (entry : Key × Entry)

@@ -1,5 +1,5 @@
 //! Laws of permanent dockers, which are dockers of a table without the short-term plan. A law is a
-//! function with an empty body whose contract states a fact. The fact holds for all values of its
+//! function with an empty body. Its contract states a fact, which holds for all values of the
 //! variables.
 ghost use Rattle.std.specs.Prelude.{◌≡◌, ℕ, List, ◌↔◌, filter, fold};
 ghost use Rattle.docker_model.specs.file.Change.{Change};
@@ -14,8 +14,8 @@ ghost use Rattle.docker_model.specs.docker.Permanent.{is_permanent, permanent_ta
 ghost use Rattle.docker_model.specs.run.Knowledge.{AreFiles, HaveSameFiles};
 ghost use Rattle.docker_laws.specs.Gathering.{IsDockerLine};
 
-/// Leaving out the short-term plan after some changes equals leaving it out first and then applying
-/// only the changes of permanent keys.
+/// Leaving out the short-term plan after some changes equals leaving out the plan first and then
+/// applying only the changes of permanent keys.
 pub fn permanent_table_of_changes()
     ensures { (table : Table) (changes : List Change)
         → permanent_table (fold after_change table changes) ≡ fold after_change
@@ -30,7 +30,7 @@ pub fn permanent_lines_are_permanent()
 {}
 
 /// Two summaries of the same files have the same permanent docker for each place and each day that
-/// neither summary refuses. Their horizons may differ.
+/// neither horizon refuses. The horizons may differ.
 pub fn known_files_fix_permanent_dockers()
     ensures { (files others : List (List (List ℕ))) (horizon theirs : ℕ) (one two : State)
         → AreFiles files → AreFiles others → HaveSameFiles files others → IsDay horizon

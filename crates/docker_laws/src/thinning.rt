@@ -1,6 +1,6 @@
-//! Laws of thinning: which changes of a file may be dropped for the docker of one place on one day.
-//! Each change is judged by itself. A law is a function with an empty body whose contract states a
-//! fact. The fact holds for all values of its variables.
+//! Laws of thinning, which drops the changes of a file that the docker of one place on one day
+//! doesn't need. Each change is judged by itself. A law is a function with an empty body. Its
+//! contract states a fact, which holds for all values of the variables.
 ghost use Rattle.std.specs.Prelude.{◌≡◌, ℕ, ◌-◌, ◌^◌, ◌<◌, ◌≤◌, Contains, List, [], ◌∷◌, ◌++◌, ◌↔◌, ◌||◌, ◌&&◌, length, fold, true, false};
 ghost use Rattle.std.specs.Str.{bytes_eq};
 ghost use Rattle.docker_model.specs.records.Record.{IsRecord, columns, is_location, kind_of, HasKind, origin_location, terminating_location};
@@ -60,10 +60,10 @@ pub fn stand_in_has_one_docker()
         → HasGoodBodies live → StandsFor place day live (thinned place day live) }
 {}
 
-/// Which records may replace a schedule for a place and a day. The records that the place needs may
-/// replace it. If a schedule doesn't call at the place, it may be replaced by any records that have
-/// the same first record and don't call at the place. The first record followed by any good origin
-/// and any good terminus is a schedule with the same key.
+/// For the docker of a place and a day, a schedule may be replaced by the records that `lines_for`
+/// gives. If the schedule doesn't call at the place, it may be replaced by any records that have
+/// the same first record and don't call at the place. The first record followed by any origin and
+/// any terminus with good fields is a schedule with the same key.
 pub fn stand_in_of_a_schedule()
     ensures needed { (place : List ℕ) (day : ℕ) (lines : List (List ℕ))
         → IsStandIn place day lines (lines_for place lines) }
@@ -77,9 +77,9 @@ pub fn stand_in_of_a_schedule()
         → IsScheduleOf key (first_record lines ∷ first ∷ last ∷ []) }
 {}
 
-/// The body that a place needs belongs to the same key. The thin records of a schedule are a
-/// schedule with the same key and the same first record. The thin records are at most three, and
-/// call only at places where the schedule calls.
+/// The body that the docker of a place needs belongs to the same key as the whole body. The thin
+/// records of a schedule are a schedule with the same key and the same first record. There are at
+/// most three thin records, and they call only at places where the schedule calls.
 pub fn thin_body_is_of_its_key()
     ensures schedule { (lines : List (List ℕ)) → IsSchedule lines → IsSchedule (thin_lines lines) }
     ensures of_key { (key : ScheduleKey) (lines : List (List ℕ))
@@ -92,8 +92,8 @@ pub fn thin_body_is_of_its_key()
         → calls_at place lines ≡ false → calls_at place (thin_lines lines) ≡ false }
 {}
 
-/// The thin records of a schedule, and whether the schedule calls at a place, computed record by
-/// record.
+/// The thin records of a schedule, and whether the schedule calls at a place, can be computed
+/// record by record.
 pub fn thin_lines_in_a_walk()
     ensures first { (basic : List ℕ) → thin_lines (basic ∷ []) ≡ basic ∷ [] }
     ensures end { (basic : List ℕ) (others : List (List ℕ)) (line : List ℕ)
@@ -107,10 +107,10 @@ pub fn thin_lines_in_a_walk()
         || (is_location (kind_of line) && bytes_eq (columns 3 9 line) place)) }
 {}
 
-/// The thin form of an act, case by case. A put of a schedule becomes a deletion if the schedule
-/// runs on no start day near the day. Otherwise, if the schedule doesn't call at the place, the put
-/// becomes a put of its thin records. Any other act is unchanged. Whether a schedule runs near the
-/// day doesn't depend on its transaction.
+/// A put of a schedule becomes a deletion in its thin form if the schedule runs on no start day
+/// near the day. Otherwise, if the schedule doesn't call at the place, the put becomes a put of the
+/// thin records. Any other act is unchanged. Whether a schedule runs near the day doesn't depend on
+/// its transaction.
 pub fn thin_act_by_case()
     ensures deletes { (place : List ℕ) (day : ℕ) → thin_act place day delete ≡ delete }
     ensures tiploc { (place : List ℕ) (day : ℕ) (bytes : List ℕ)
@@ -130,10 +130,10 @@ pub fn thin_act_by_case()
         → runs_near day (as_new line) ≡ runs_near day line }
 {}
 
-/// Which changes may be kept, change by change. A change of a key that can't matter at the place
-/// may be dropped, and any other change may be kept in its thin form. A deletion may be dropped if
-/// no change of its key is kept. When a key is deleted or put again, the kept changes of that key
-/// may be removed.
+/// A thinning can be made change by change. A change of a key that can't matter at the place may be
+/// dropped, and any other change may be kept in its thin form. A deletion may be dropped if no
+/// change of its key is kept. When a key is deleted or put again, the kept changes of that key may
+/// be removed.
 pub fn thinning_change_by_change()
     ensures first { (place : List ℕ) (day : ℕ) → IsThinning place day [] [] }
     ensures elsewhere { (place : List ℕ) (day : ℕ) (all kept : List Change) (change : Change)

@@ -1,6 +1,6 @@
 -- The two indexes of a live table. The index of calls lists the schedules that call at each place,
--- and the index of associations lists the associations at each place. Also the rows of a UID's
--- schedules.
+-- and the index of associations lists the associations at each place. The rows of a UID's schedules
+-- are defined here too.
 use Rattle.std.specs.Prelude.{◌≡◌, ℕ, ◌↔◌, List, [], ◌∷◌, map, filter, Some, None, Contains, ◌⊎◌}
 use Rattle.std.specs.Str.{bytes_eq}
 use Rattle.std.specs.declared.cmp.Ordering.{Ordering}
@@ -30,7 +30,7 @@ abbrev pub linked_cmp : LinkedRow → LinkedRow → Ordering
 linked_cmp a b = ordering_then (bytes_cmp a.0 b.0) (association_key_cmp a.1 b.1)
 
 -- the index rows of calls for one row of the table. A TIPLOC occurs once for each location record
--- of the schedule that has it
+-- of the schedule that has this TIPLOC
 abbrev pub calls_of : Key → Body → List CallingRow
 calls_of (schedule_key key) (schedule_body lines) = map (λ line. (columns 3 9 line, key)) (filter (λ line. is_location (kind_of line)) lines)
 calls_of _ _ = []
@@ -41,12 +41,12 @@ abbrev pub links_of : Key → Body → List LinkedRow
 links_of (association_key key) (association_body line) = (key.location, key) ∷ []
 links_of _ _ = []
 
--- the schedule is live and calls at the place
+-- the schedule is in the live table and calls at the place
 pub record IsCalling (live : Table) (place : List ℕ) (key : ScheduleKey) (lines : List (List ℕ)) : Type 0 where
   pub is_live : live (schedule_key key) ≡ Some (schedule_body lines)
   pub calls : CallsAt place lines
 
--- the association is live and at the place
+-- the association is in the live table and at the place
 pub record IsLinked (live : Table) (place : List ℕ) (key : AssociationKey) (line : List ℕ) : Type 0 where
   pub is_live : live (association_key key) ≡ Some (association_body line)
   pub here : key.location ≡ place
@@ -63,21 +63,21 @@ pub record IsLinkedIndex (live : Table) (index : List LinkedRow) : Type 0 where
   pub ascending : IsStrictlyAscending linked_cmp index
   pub members : (place : List ℕ) (key : AssociationKey) → Contains index (place, key) ↔ ((line : List ℕ) × IsLinked live place key line)
 
--- these rows are the live schedules that call at the place, in key order
+-- these rows are the schedules in the live table that call at the place, in key order
 pub record AreCalling (live : Table) (place : List ℕ) (rows : List Row) : Type 0 where
   pub ascending : AreInKeyOrder rows
   pub members : (key : Key) (body : Body) → Contains rows (key, body)
       ↔ ((schedule : ScheduleKey) × (lines : List (List ℕ)) × (key ≡ schedule_key schedule) × (body ≡ schedule_body lines)
       × IsCalling live place schedule lines)
 
--- these rows are the live associations at the place, in key order
+-- these rows are the associations in the live table at the place, in key order
 pub record AreLinked (live : Table) (place : List ℕ) (rows : List Row) : Type 0 where
   pub ascending : AreInKeyOrder rows
   pub members : (key : Key) (body : Body) → Contains rows (key, body)
       ↔ ((association : AssociationKey) × (line : List ℕ) × (key ≡ association_key association) × (body ≡ association_body line)
       × IsLinked live place association line)
 
--- these rows are the live schedules of the UID, in key order
+-- these rows are the schedules of the UID in the live table, in key order
 pub record AreOfUid (live : Table) (uid : List ℕ) (rows : List Row) : Type 0 where
   pub ascending : AreInKeyOrder rows
   pub members : (key : Key) (body : Body) → Contains rows (key, body)

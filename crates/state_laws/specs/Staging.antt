@@ -1,6 +1,6 @@
--- Receiving a state from a stream. The entries of the received state are offered one by one. An
--- offered entry that the commit will put into the state is staged, which means that it is kept
--- apart. At the end all staged entries are committed together.
+-- The steps in which a state is received from a stream. The entries of the received state are
+-- offered one by one. An offered entry that the commit will put into the state is staged, which
+-- means that it is kept apart. At the end all staged entries are committed together.
 use Rattle.std.specs.Prelude.{◌≡◌, ◌↔◌, ◌⊎◌, List, ◌++◌, Option, Some, None, Contains, ⊤}
 use Rattle.docker_model.specs.file.Change.{Key}
 use Rattle.docker_model.specs.state.Order.{IsStrictlyAscending, IsBelow}
@@ -13,13 +13,13 @@ use Rattle.docker_model.specs.state.State.{State, AreAscending}
 abbrev pub HasNoEntryOf : List (Key × Entry) → Key → Type 0
 HasNoEntryOf entries key = (entry : Entry) → ¬ Contains entries (key, entry)
 
--- the offered entry is to be staged. It isn't below the floor of both ledgers, and it is greater
--- than the state's entry at its key, if the state has such an entry
+-- the offered entry is to be staged: the entry isn't below the floor of the two ledgers together.
+-- If the state has an entry at the same key, the offered entry is greater
 pub record IsToStage (own : State) (floor : Option FileStamp) (key : Key) (entry : Entry) : Type 0 where
   pub kept : IsKept floor entry.stamp.file
   pub greater : (other : Entry) → Contains own.entries (key, other) → IsBelow entry_cmp other entry
 
--- the entry is greater than the other entry, or there is no other entry
+-- the entry is greater than the other entry, or the other entry is `None`
 abbrev pub IsGreaterThan : Option Entry → Entry → Type 0
 IsGreaterThan None entry = ⊤
 IsGreaterThan (Some mine) entry = IsBelow entry_cmp mine entry

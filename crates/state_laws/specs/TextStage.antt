@@ -1,4 +1,4 @@
--- The point of a reader after each part of a state's text.
+-- The point that a reader reaches after each part of a state's text.
 use Rattle.std.specs.Prelude.{ℕ, List, length, nat_le, if◌then◌else◌, [], ◌∷◌, ◌++◌, slice_index}
 use Rattle.std.proofs.Common.{zero, suc}
 use Rattle.std.specs.Int.{w32, from_be_bytes, w16, w64}

@@ -1,5 +1,5 @@
-//! Laws of the two indexes of a live table. A law is a function with an empty body whose contract
-//! states a fact. The fact holds for all values of its variables.
+//! Laws of the two indexes of a live table. A law is a function with an empty body. Its contract
+//! states a fact, which holds for all values of the variables.
 ghost use Rattle.std.specs.Prelude.{◌≡◌, ℕ, List, ◌↔◌, Contains};
 ghost use Rattle.std.specs.List.{flat_map};
 ghost use Rattle.docker_model.specs.state.Order.{IsStrictlyAscending};
@@ -10,8 +10,10 @@ ghost use Rattle.state_laws.specs.Row.{Row, AreRowsOf};
 ghost use Rattle.state_laws.specs.Index.{CallingRow, LinkedRow, calling_cmp, linked_cmp, calls_of, links_of, IsCallingIndex, IsLinkedIndex};
 ghost use Rattle.state_laws.specs.Index.{IsFromEither, IsCallingFromEither, IsLinkedFromEither, AreCalling, AreLinked, AreOfUid};
 
-/// A live table has at most one index of each kind, and at most one list of rows for each walk. The
-/// index rows of all rows of the table, sorted and without duplicates, are the index.
+/// A live table has at most one index of calls and at most one index of associations. It has at
+/// most one list of rows for the schedules that call at a place, for the associations at a place,
+/// and for the schedules of a UID. The index rows of all rows of the table, sorted and without
+/// duplicates, are the index.
 pub fn one_index()
     ensures calling { (live : Table) (first second : List CallingRow)
         → IsCallingIndex live first → IsCallingIndex live second → first ≡ second }

@@ -1,6 +1,6 @@
 //! Laws of the definitions in `docker_model` for states, their texts, their indexes, and receiving
-//! a state, by subject. A law is a function with an empty body whose contract states a fact. The
-//! fact holds for all values of its variables.
+//! a state, by subject. A law is a function with an empty body. Its contract states a fact, which
+//! holds for all values of the variables.
 #![tactic(auto)]
 
 pub mod index;

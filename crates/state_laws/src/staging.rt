@@ -1,6 +1,6 @@
-//! Laws of receiving a state from a stream: which entries are staged, and the state after a commit.
-//! A law is a function with an empty body whose contract states a fact. The fact holds for all
-//! values of its variables.
+//! Laws of receiving a state from a stream: the entries that are staged, and the state after a
+//! commit. A law is a function with an empty body. Its contract states a fact, which holds for all
+//! values of the variables.
 ghost use Rattle.std.specs.Prelude.{◌≡◌, ◌+◌, List, [], ◌∷◌, ◌++◌, ◌↔◌, Contains, Option, Some};
 ghost use Rattle.docker_model.specs.file.Change.{Key};
 ghost use Rattle.docker_model.specs.state.Stamp.{LedgerItem, FileStamp, IsFloor, IsKept};
@@ -11,9 +11,10 @@ ghost use Rattle.state_laws.specs.Staging.{IsGreaterThan, IsToStage, IsStaged, I
 ghost use Rattle.state_laws.specs.LawTerms.{HoldsOnceCommitted};
 
 /// A state is received in three steps: all its entries are offered for staging, the staged entries
-/// are committed, and then its horizon is set. The result is the join with the received state. The
-/// state after the commit is the join with the received state without its horizon. It equals the
-/// join with the state of the received items and the staged entries.
+/// are committed, and then its horizon is set. The result is the join with the received state.
+/// Before the horizon is set, the result is the join with the received state without its horizon.
+/// That join equals the join with the state that has the received ledger items and the staged
+/// entries.
 pub fn staging_and_commit_is_join()
     ensures join { (own received : State) (floor : Option FileStamp) (staged : List (Key × Entry))
         (after : State)
@@ -42,9 +43,9 @@ pub fn staging_and_commit_is_join()
         → first ≡ second }
 {}
 
-/// The horizon of a received state may be set last. Setting it on the state without its horizon
-/// gives the state. Setting it on the join with the state without its horizon gives the join with
-/// the state.
+/// The horizon of a received state may be set last. If the horizon of a state is removed and set
+/// again, the result is the same state. If a state is joined without its horizon, and the horizon
+/// is set afterwards, the result is the join with the state.
 pub fn horizon_is_set_last()
     ensures state { (state : State) → IsValid state
         → raise_horizon state.horizon (without_horizon state) ≡ state }

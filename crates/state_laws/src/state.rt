@@ -1,5 +1,5 @@
 //! Laws of states: summaries, joins, horizons, and the table of a summary. A law is a function with
-//! an empty body whose contract states a fact. The fact holds for all values of its variables.
+//! an empty body. Its contract states a fact, which holds for all values of the variables.
 ghost use Rattle.std.specs.Prelude.{◌≡◌, ℕ, ◌+◌, List, ◌++◌, ◌↔◌, ◌≤◌, All, Contains, Option, length, map, max};
 ghost use Rattle.docker_model.specs.file.Change.{Key};
 ghost use Rattle.docker_model.specs.state.Stamp.{FileStamp, IsFloor};
@@ -83,8 +83,8 @@ pub fn summary_is_valid()
 {}
 
 /// The lapse of ops is monotone, so the lapse of the greatest op is the greatest op after the
-/// lapse. It is idempotent. The lapse under one horizon and then under another equals the lapse
-/// under the greater horizon. The lapse under the horizon 0 leaves each op unchanged.
+/// lapse. The lapse is idempotent. The lapse under one horizon and then under another equals the
+/// lapse under the greater horizon. The lapse under the horizon 0 leaves each op unchanged.
 pub fn laws_of_lapse()
     ensures order { (horizon : ℕ) (first second : Op) → IsAtMost op_cmp first second
         → IsAtMost op_cmp (lapse horizon first) (lapse horizon second) }

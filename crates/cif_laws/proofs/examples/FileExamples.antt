@@ -75,7 +75,7 @@ basic_is_cause (bad_field at) below holds = omega arith
 basic_is_cause third_midnight below holds = omega arith
 basic_is_cause no_end below holds = holds
 
--- a basic schedule as the first record has the cause `bad_place`
+-- the text with only a basic schedule has the fault `bad_place` at record 1
 pub basic_first : IsFileFault 10 (f2_basic ++ 10 ∷ []) (record { number = 1; cause = bad_place })
 basic_first = inl (record {
   earlier = [];

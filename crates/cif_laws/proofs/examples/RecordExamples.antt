@@ -98,8 +98,8 @@ night_times = refl
 one_midnight : midnights night_schedule ≡ 1
 one_midnight = refl
 
--- a line may end with a line feed, or with a carriage return and a line feed, and the last line
--- needs no line end
+-- a line may end with a line feed, or with a carriage return and a line feed. The last line needs
+-- no line end
 line_ends : map lines_of ((codes "ab" ++ 10 ∷ codes "c" ++ 10 ∷ []) ∷ (codes "ab" ++ 13 ∷ 10 ∷ codes "c" ++ 13 ∷ 10 ∷ []) ∷ (codes "ab" ++ 10 ∷ codes "c") ∷
     (codes "ab" ++ 10 ∷ codes "c" ++ 13 ∷ []) ∷ [])
     ≡ (codes "ab" ∷ codes "c" ∷ []) ∷ (codes "ab" ∷ codes "c" ∷ []) ∷ (codes "ab" ∷ codes "c" ∷ []) ∷ (codes "ab" ∷ codes "c" ∷ []) ∷ []
@@ -116,7 +116,7 @@ changes_of_rename : changes rename
     ∷ record { number = 2; key = tiploc_key (codes "ASHFLDN"); act = put (tiploc_body (columns 10 72 rename_amend)) } ∷ []
 changes_of_rename = refl
 
--- an amendment that states the same code again puts the key once
+-- an amendment whose new code equals the old code puts the key once
 changes_of_same_code : changes (f2_header ∷ ta (codes "ASHFELD") (codes "ASHFIELD CENTRAL") (codes "ASHFELD") ∷ zz ∷ [])
     ≡ record {
       number = 2;
@@ -125,8 +125,8 @@ changes_of_same_code : changes (f2_header ∷ ta (codes "ASHFELD") (codes "ASHFI
     } ∷ []
 changes_of_same_code = refl
 
--- two amendments, one before and one after a schedule of three records: the change of each unit has
--- the number of its first record
+-- an amendment, a schedule of three records and another amendment: the change of each unit has the
+-- number of the unit's first record
 numbers_of_units : map (λ (change : Change). change.number) (changes_of_units 2 ((rename_amend ∷ []) ∷ f2_schedule ∷ (rename_amend ∷ []) ∷ []))
     ≡ 2 ∷ 2 ∷ 3 ∷ 6 ∷ 6 ∷ []
 numbers_of_units = refl
@@ -139,7 +139,8 @@ change_of_deletion : changes_of_unit 2 (bs (codes "D") (codes "C10001") (codes "
     ≡ record { number = 2; key = schedule_named f2_basic; act = delete } ∷ []
 change_of_deletion = refl
 
--- a journey passes midnight a third time if its last arrival is at 00:01, but not if it is at 00:06
+-- a journey passes midnight a third time if its last arrival is at 00:01, but not if its last
+-- arrival is at 00:06
 abbrev late_schedule : List ℕ → List (List ℕ)
 late_schedule arrives =
     bs (codes "N") (codes "C20001") (codes "240610") (codes "240610") (codes "1000000") (codes "2B20") (codes "P")

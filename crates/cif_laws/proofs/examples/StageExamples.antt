@@ -1,4 +1,4 @@
--- Worked places of a reader in files, and worked causes of faults.
+-- Worked examples of the places of a reader in files, and of the causes of faults.
 use Rattle.std.proofs.Common.{◌≡◌, ℕ, List, [], ◌∷◌, ◌++◌, refl, Some, None}
 use Rattle.std.specs.Prelude.{codes}
 use Rattle.docker_model.specs.file.FileFault.{too_many, after_trailer, bad_length, bad_byte, bad_kind, bad_place, bad_field, third_midnight}
@@ -22,7 +22,7 @@ no_header = refl
 whole_schedule : stage_of f2_schedule ≡ Some after_journey
 whole_schedule = refl
 
--- if several causes hold for a record, the cause with the lowest rank is reported
+-- if several causes apply to a record, the cause with the lowest rank is reported
 over_limit : cause_of 5 5 after_end zz ≡ too_many
 over_limit = refl
 

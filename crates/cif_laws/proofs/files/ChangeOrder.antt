@@ -11,7 +11,7 @@ use Rattle.docker_model.specs.file.Change.{keeps_code, acts_by_kind, changes_of_
 use Rattle.cif_laws.proofs.lists.Later.{AllLater, later_append_all, later_weaker_always, pairs_from_later}
 use Rattle.cif_laws.proofs.lists.AllOf.{all_append, all_weaker}
 
--- the second change belongs to a later record or has another key
+-- the second change belongs to a later record than the first, or has another key
 abbrev pub Apart : Change → Change → Type 0
 Apart first second = (first.number < second.number) ⊎ ¬ (first.key ≡ second.key)
 

@@ -1,4 +1,4 @@
--- A text whose bytes are still being read: its complete lines, each ended by a line feed, and the
+-- A text whose bytes are still being read has complete lines, each ended by a line feed, and an
 -- incomplete line after them.
 use Rattle.std.proofs.Common.{ℕ, ◌<◌, List, length, Bool, arith, ◌≡◌, ◌+◌, [], ◌∷◌, ◌++◌, refl, ap, sym}
 use Rattle.std.proofs.Common.{◌∙◌, true, false, map, append-nil, ◌≤◌, subst, cond, length-append}
@@ -13,7 +13,7 @@ use Rattle.docker_model.specs.file.Text.{last_piece, without_empty_last, lines_o
 use Rattle.docker_model.specs.file.FaultSoFar.{last_of, sure_lines}
 use Rattle.cif_laws.specs.CompleteLines.{but_last, open_line, complete_lines, pieces_of, line_left, feeds, HasNoFeed}
 
--- ---- pieces
+-- ---- appended bytes extend the last piece of a text, or begin new pieces
 
 some_pieces : (p : ℕ → Bool) (text : List ℕ) → 0 < length (slice_split p text)
 some_pieces p text = let size = length-slice_split p text in omega arith
@@ -44,7 +44,7 @@ without_last_append [] piece pieces = refl
 without_last_append (first ∷ []) piece pieces = refl
 without_last_append (first ∷ second ∷ front) piece pieces = ap (λ rest. first ∷ rest) (without_last_append (second ∷ front) piece pieces)
 
--- these pieces, with these bytes put before the first piece
+-- these pieces, with these bytes put at the front of the first piece
 abbrev pub going_on : List ℕ → Lines → Lines
 going_on bytes [] = bytes ∷ []
 going_on bytes (piece ∷ pieces) = (bytes ++ piece) ∷ pieces
@@ -65,8 +65,8 @@ go_on_empty : (pieces : Lines) → 0 < length pieces → pieces ≡ going_on [] 
 go_on_empty [] some = absurd (omega arith)
 go_on_empty (piece ∷ pieces) some = refl
 
--- the pieces of a text with appended bytes: the first of the new bytes extend the last piece, and
--- each separator in them begins a new piece
+-- when bytes are appended to a text, the first piece of these bytes extends the last piece of the
+-- text. The other pieces of these bytes follow as new pieces
 pub split_append : (p : ℕ → Bool) (text more : List ℕ) → slice_split p (text ++ more) ≡ but_last (slice_split p text) ++ going_on (last_of (slice_split p text))
     (slice_split p more)
 split_append p [] more = go_on_empty (slice_split p more) (some_pieces p more)
@@ -81,7 +81,7 @@ split_append p (b ∷ text) more = by (p b) refl (split_append p text more)
         slice_split-cons_no p b (text ++ more) h ∙ ap (onto_first b) rest ∙ at_byte b (slice_split p text) (slice_split p more) (some_pieces p text)
         ∙ (λ i. but_last (sym (slice_split-cons_no p b text h) i) ++ going_on (last_of (sym (slice_split-cons_no p b text h) i)) (slice_split p more))
 
--- ---- lines
+-- ---- the lines of a text are its complete lines and its incomplete line
 
 -- the lines of a text are its complete lines, followed by the incomplete line if it isn't empty
 pub lines_of_told : (text : List ℕ) → lines_of text ≡ complete_lines text ++ line_left (open_line text)
@@ -113,7 +113,7 @@ length_complete_lines text =
 pub sure_lines_is : (text : List ℕ) → sure_lines text ≡ length (complete_lines text) + (if nat_le 82 (length (open_line text)) then 1 else 0)
 sure_lines_is text = ap (λ n. n + (if nat_le 82 (length (open_line text)) then 1 else 0)) (sym (length_complete_lines text))
 
--- ---- a text that grows
+-- ---- bytes extend the incomplete line, and a line feed completes it
 
 -- appending bytes without a line feed leaves the complete lines unchanged
 pub complete_lines_plain : (text piece : List ℕ) → HasNoFeed piece → complete_lines (text ++ piece) ≡ complete_lines text
@@ -170,10 +170,10 @@ complete_lines_ended text front plain = complete_lines_cut text front [] plain
 pub open_line_ended : (text front : List ℕ) → HasNoFeed front → open_line (text ++ (front ++ 10 ∷ [])) ≡ []
 open_line_ended text front plain = open_line_cut text front [] plain
 
--- ---- the lines of a longer text
+-- ---- appending bytes preserves the complete lines
 
--- how appending bytes changes a text: the bytes before their first line feed extend the incomplete
--- line, and each line feed completes a line
+-- when the bytes `more` are appended to a text, the bytes before the first line feed in `more`
+-- extend the incomplete line. Each line feed in `more` completes a line
 pub record GoesOn (text more : List ℕ) : Type 0 where
   pub first : List ℕ
   pub pieces : Lines

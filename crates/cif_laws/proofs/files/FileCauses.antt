@@ -1,5 +1,5 @@
--- The cause of a record at fault, from the place of the reader before the record. A text that isn't
--- the text of a file has a fault.
+-- The cause of a record at fault, given the reader's place in the file before the record. A text
+-- that isn't the text of a file has a fault.
 use Rattle.std.proofs.Common.{◌≡◌, refl, true, [], ◌∷◌, Some, None, ℕ, ◌+◌, List, ◌++◌, sym, ◌∙◌, Bool, false, cond, ◌⊎◌, inl, inr}
 use Rattle.std.proofs.Common.{Contains, ap, subst, ◌<◌, ◌≤◌, length, arith, eqb-true, append_assoc, append-nil, length-append}
 use Rattle.std.specs.Prelude.{Any, Option, is_some, ◌&&◌, ◌||◌, nat_le, is_none, ◌==◌}
@@ -29,7 +29,7 @@ use Rattle.cif_laws.proofs.schedules.ScheduleStages.{HasShape, details_of, IsSou
 use Rattle.cif_laws.proofs.files.FileStages.{next_by_test, stage_stops, IsWithin, IsAt, next_at, at_of_place, witness_next, at_begins}
 use Rattle.cif_laws.proofs.files.FileStages.{begins_iff_place, file_iff_place, place_of_more, begins_next_iff, one_place}
 
--- ---- after a trailer
+-- ---- records that include a trailer lead to the place `after_end`
 
 end_by_test : (place : Place) → is_after_end place ≡ true → place ≡ after_end
 end_by_test after_end h = refl
@@ -54,7 +54,7 @@ trailer_place (in_schedule stage lines) next line found = by (may_end stage line
     by false h = let none : None ≡ Some next = (λ i. cond (sym h i) (Some after_end) None) ∙ reached in cc
 trailer_place after_end next line found = cc
 
--- if one of the records is a trailer, the place after the records is after the trailer
+-- records that include a trailer can lead only to the place `after_end`
 trailer_leads : (records : Lines) (place final : Place) (line : List ℕ) → place_from place records ≡ Some final → Contains records line → HasKind trailer line
     → final ≡ after_end
 trailer_leads [] place final line found among kind = absurd (nil-Contains line among)
@@ -78,14 +78,14 @@ trailer_among records is =
     (let among = Contains-append_right (is.first ∷ flat_map (λ unit. unit) is.units) (is.last ∷ []) is.last (cons-Contains-first is.last []) in
     (among.0, is.last, among.1, among.2, is.trailer_kind))
 
--- ---- which kinds are in place
+-- ---- which kinds of record may come at a place
 
 same_unit_by_kind : (kind : Option Kind) (first second : List ℕ) → is_some (unit_by_kind kind first) ≡ is_some (unit_by_kind kind second)
 same_unit_by_kind None first second = refl
 same_unit_by_kind (Some basic_schedule) first second = refl
 same_unit_by_kind (Some _) first second = refl
 
--- whether a record is in place depends only on the record's kind
+-- whether a record may come at a place depends only on the record's kind
 pub same_place_by_kind : (place : Place) (kind : Option Kind) (first second : List ℕ) → is_some (place_by_kind place kind first) ≡ is_some
     (place_by_kind place kind second)
 same_place_by_kind before_header kind first second = refl
@@ -103,7 +103,7 @@ same_place_by_kind (in_schedule stage lines) kind first second = by (stage_after
         ended false = refl
 same_place_by_kind after_end kind first second = refl
 
--- ---- a schedule that passes midnight a third time
+-- ---- which record makes a schedule pass midnight a third time
 
 no_basic : (line : List ℕ) → Follows line → ¬ HasKind basic_schedule line
 no_basic line follows basic = let bad : false ≡ true = sym (ap follows_basic basic) ∙ follows in cc
@@ -170,13 +170,13 @@ third_fall stage lines records line within fields test = (lines, ends_in_schedul
         subst (λ n. n ≤ 2) (sym (ap midnights front.whole ∙ midnights_of_journey front.basic front.extra front.journey front.kind
         (details_of stage front.extra front.journey front.shape))) good.falls
 
--- ---- the cause of a record at fault
+-- ---- `cause_of` is the cause of a record at fault
 
 module _ (limit : ℕ) (earlier : Lines) (place : Place) (line : List ℕ) (found : IsPlaceOf earlier place) where
   at : IsAt place earlier
   at = at_of_place earlier place found
 
-  -- if the condition of each cause of a lower rank is false, no cause of a lower rank holds
+  -- no cause of a lower rank applies, if the condition of each of these causes is false
   none_below : (rank : ℕ) → rank ≤ 7 → (0 < rank → ¬ (limit ≤ length earlier)) → (1 < rank → ¬ Any (HasKind trailer) earlier) → (2 < rank → length line ≡ 80)
       → (3 < rank → leftmost_bad_byte line ≡ None) → (4 < rank → ¬ (kind_of line ≡ None)) → (5 < rank → ¬ IsOutOfPlace earlier line)
       → (6 < rank → leftmost_bad_field line ≡ None)
@@ -191,7 +191,7 @@ module _ (limit : ℕ) (earlier : Lines) (place : Place) (line : List ℕ) (foun
   none_below rank most r0 r1 r2 r3 r4 r5 r6 third_midnight below holds = absurd (omega arith)
   none_below rank most r0 r1 r2 r3 r4 r5 r6 no_end below holds = holds
 
-  -- if a record has no next place by its kind, it is out of place
+  -- if the kind of a record may not come at the place, the record is out of place
   pub out_of_place : place_by_kind place (kind_of line) line ≡ None → IsOutOfPlace earlier line
   out_of_place none next same begins =
       let told = (begins_next_iff earlier place next found).0 begins in
@@ -199,7 +199,7 @@ module _ (limit : ℕ) (earlier : Lines) (place : Place) (line : List ℕ) (foun
       ∙ ap is_some told.1.place_is in
       let bad : false ≡ true = (λ i. is_some (sym none i)) ∙ same_place_by_kind place (kind_of line) line next ∙ some in cc
 
-  -- if a record has a next place by its kind, it isn't out of place
+  -- if the kind of a record may come at the place, the record isn't out of place
   pub in_place : (next : Place) → ¬ (kind_of line ≡ None) → place_by_kind place (kind_of line) line ≡ Some next → ¬ IsOutOfPlace earlier line
   in_place next known told out = by (kind_of line) refl
     where
@@ -213,8 +213,8 @@ module _ (limit : ℕ) (earlier : Lines) (place : Place) (line : List ℕ) (foun
           (at_begins there.0 (earlier ++ witness kind ∷ [])
           (next_at place earlier (witness kind) there.0 at (witness_next place earlier kind there.0 at there.1)))
 
-  -- if a record is in place and has good fields, but has no next place, its schedule passes
-  -- midnight for the third time at this record
+  -- let the fields of a record be good, and let its kind be one that may come at the place. If the
+  -- record leads to no next place, the schedule passes midnight for the third time at this record
   third : (next : Place) → IsRecord line → place_by_kind place (kind_of line) line ≡ Some next → HasGoodFields line → next_place place line ≡ None
       → HasThirdFall earlier line
   third next is told fields nowhere = by place at unsound
@@ -240,7 +240,8 @@ module _ (limit : ℕ) (earlier : Lines) (place : Place) (line : List ℕ) (foun
           staged None t = let bad : true ≡ false = sym good ∙ t in cc
       by _ here test = let bad : true ≡ false = sym good ∙ test in cc
 
-  -- each cause, from the last to the first, is the record's cause if no cause of a lower rank holds
+  -- each cause, from the last to the first, is the record's cause if no cause of a lower rank
+  -- applies
   field_is : ¬ (limit ≤ length earlier) → ¬ Any (HasKind trailer) earlier → length line ≡ 80 → leftmost_bad_byte line ≡ None → ¬ (kind_of line ≡ None)
       → (next : Place) → place_by_kind place (kind_of line) line ≡ Some next → next_place place line ≡ None → IsCause limit earlier line (field_cause line)
   field_is r0 r1 r2 r3 r4 next told nowhere = by (leftmost_bad_field line) refl
@@ -331,7 +332,7 @@ module _ (limit : ℕ) (earlier : Lines) (place : Place) (line : List ℕ) (foun
       by false h (inl over) = let under = leb-false limit (length earlier) h in absurd (omega arith)
       by false h (inr nowhere) = let under = leb-false limit (length earlier) h in end_is (λ over. omega arith) nowhere
 
-  -- the first record that has no next place, or is beyond the limit, is the record at fault
+  -- the first record that leads to no next place, or is beyond the limit, is the record at fault
   pub record_fault : (records later : Lines) → records ≡ earlier ++ line ∷ later → length earlier ≤ limit → (limit ≤ length earlier)
       ⊎ (next_place place line ≡ None)
       → IsRecordFault limit records (record { number = length earlier + 1; cause = cause_of limit (length earlier) place line })
@@ -353,7 +354,7 @@ module _ (limit : ℕ) (earlier : Lines) (place : Place) (line : List ℕ) (foun
           let reached = (begins_iff_place (earlier ++ line ∷ [])).0 begins in
           let bad : None ≡ Some reached.0 = sym nowhere ∙ sym (place_of_more earlier place line found) ∙ reached.1 in cc)
 
--- if records have a place that isn't after the trailer, their fault is `no_end`
+-- if records lead to a place other than `after_end`, their fault is `no_end`
 pub no_end_behind : (limit : ℕ) (records : Lines) (place : Place) → IsPlaceOf records place → is_after_end place ≡ false → length records ≤ limit
     → IsUnended limit records (record { number = length records + 1; cause = no_end })
 no_end_behind limit records place found open_end within = record {
@@ -368,7 +369,7 @@ no_end_behind limit records place found open_end within = record {
 
 -- ---- a text is the text of a file, or has a fault
 
--- no record is at fault: the records are within the limit and have a place
+-- no record is at fault: the records are within the limit and lead to a place
 abbrev pub Pass : ℕ → Lines → Type 0
 Pass limit records = (place : Place) × IsPlaceOf records place × (length records ≤ limit)
 
@@ -399,7 +400,7 @@ pass_from (line ∷ rest) limit records earlier place found within whole =
         let size = length-append earlier (line ∷ []) in
         later next (place_of_more earlier place line found ∙ told) (omega arith)
 
--- no record is at fault, or the records have a record fault
+-- no record is at fault, or one of the records is at fault
 pub pass_or_fault : (limit : ℕ) (records : Lines) → Pass limit records ⊎ HasRecordFault limit records
 pass_or_fault limit records = pass_from records limit records [] before_header refl (omega arith) refl
 
@@ -417,7 +418,7 @@ file_or_fault limit text = by (pass_or_fault limit (lines_of text))
         ended false h = inr (record { number = length (lines_of text) + 1; cause = no_end }, inr (no_end_behind limit (lines_of text) pass.0 pass.1 h pass.2))
     by (inr fault) = inr (fault.0, inl fault.1)
 
--- it is decided whether records are a file
+-- it is decidable whether records are a file
 pub file_or_not : (records : Lines) → IsFile records ⊎ ¬ IsFile records
 file_or_not records = by (place_at records) refl
   where

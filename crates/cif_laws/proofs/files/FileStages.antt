@@ -26,7 +26,7 @@ use Rattle.cif_laws.proofs.schedules.ScheduleStages.{IsFront, front_of_basic, sc
 use Rattle.cif_laws.proofs.schedules.ScheduleStages.{witness, witness_kind, witness_record, witness_fields, witness_sound}
 use Rattle.cif_laws.proofs.schedules.ScheduleStages.{next_line_by_test, IsNextLine, first_line_iff_test, stage_of_schedule, stage_of_more}
 
--- ---- the form of the records read, for each place
+-- ---- the structure of the records that lead to each place
 
 -- the records are a header and complete units
 pub record IsBetween (records : Lines) : Type 0 where
@@ -45,22 +45,23 @@ pub record IsWithin (stage : Stage) (lines records : Lines) : Type 0 where
   pub between : IsBetween before
   pub front : IsFront stage lines
 
--- the records have the form for this place
+-- the records have the structure that belongs to this place: no records, a header and complete
+-- units, an incomplete schedule after these, or a whole file
 abbrev pub IsAt : Place → Lines → Type 0
 IsAt before_header records = records ≡ []
 IsAt between_units records = IsBetween records
 IsAt (in_schedule stage lines) records = IsWithin stage lines records
 IsAt after_end records = IsFile records
 
--- ---- the parts of the test of the next record
+-- ---- a record leads to a next place if and only if it passes each part of the test
 
--- the record is sound at the place, and `next` is the next place by its kind
+-- the record is sound at this place, and by its kind it leads to the place `next`
 pub record IsNext (place : Place) (line : List ℕ) (next : Place) : Type 0 where
   pub is : IsRecord line
   pub sound : is_sound_at place line ≡ true
   pub place_is : place_by_kind place (kind_of line) line ≡ Some next
 
--- a record that has a next place passes each part of the test
+-- a record that leads to a next place passes each part of the test
 pub next_by_test : (place : Place) (line : List ℕ) (next : Place) → next_place place line ≡ Some next → IsNext place line next
 next_by_test place line next found = by (is_record line && is_sound_at place line) refl found
   where
@@ -69,12 +70,12 @@ next_by_test place line next found = by (is_record line && is_sound_at place lin
     by true h told = let parts = both (is_record line) _ h in record { is = (record_iff_test line).1 parts.0; sound = parts.1; place_is = told }
     by false h told = cc
 
--- a record that passes each part of the test has this next place
+-- a record that passes each part of the test leads to this next place
 pub test_by_next : (place : Place) (line : List ℕ) (next : Place) → IsNext place line next → next_place place line ≡ Some next
 test_by_next place line next told =
     (λ i. cond (and_true (is_record line) _ ((record_iff_test line).0 told.is) told.sound i) (place_by_kind place (kind_of line) line) None) ∙ told.place_is
 
--- ---- one more record
+-- ---- one more record preserves the structure
 
 between_more : (records unit : Lines) → IsBetween records → IsUnit unit → IsBetween (records ++ unit)
 between_more records unit between is = record {
@@ -89,8 +90,8 @@ between_more records unit between is = record {
   each = all_append IsUnit between.units (unit ∷ []) between.each (is, tt);
 }
 
--- after complete units and one more record of this kind, the records have the form for the next
--- place
+-- if the records are a header and complete units, one more record of this kind gives records with
+-- the structure of the next place
 unit_more : (records : Lines) (kind : Kind) (line : List ℕ) (next : Place) → IsBetween records → IsRecord line → HasKind kind line → HasGoodFields line
     → unit_by_kind (Some kind) line ≡ Some next
     → IsAt next (records ++ line ∷ [])
@@ -126,7 +127,8 @@ unit_more records trailer line next between is kind fields found =
     })
 unit_more records _ line next between is kind fields found = cc
 
--- after complete units and one more record, the records have the form for the next place
+-- if the records are a header and complete units, one more record gives records with the structure
+-- of the next place
 unit_more_of : (records : Lines) (line : List ℕ) (next : Place) → IsBetween records → IsRecord line → HasGoodFields line
     → unit_by_kind (kind_of line) line ≡ Some next → IsAt next (records ++ line ∷ [])
 unit_more_of records line next between is fields found = by (kind_of line) refl found
@@ -155,8 +157,8 @@ within_more stage lines records line next within found = record {
   front = next_front stage lines line next within.front found;
 }
 
--- if records have the form for a place, and one more record has a next place, the records with that
--- record have the form for the next place
+-- if records have the structure of a place, one more record that leads from there to a next place
+-- gives records with the structure of the next place
 pub next_at : (place : Place) (records : Lines) (line : List ℕ) (next : Place) → IsAt place records → next_place place line ≡ Some next
     → IsAt next (records ++ line ∷ [])
 next_at before_header records line next at found = by (next_by_test before_header line next found) (kind_of line) refl
@@ -213,13 +215,14 @@ at_from (line ∷ rest) place records final at found =
     subst (IsAt final) (append_assoc records (line ∷ []) rest)
     (at_from rest step.0 (records ++ line ∷ []) final (next_at place records line step.0 at step.1) step.2)
 
--- records that have a place have the form for that place
+-- records that lead to a place have the structure of that place
 pub at_of_place : (records : Lines) (place : Place) → IsPlaceOf records place → IsAt place records
 at_of_place records place found = at_from records before_header [] place refl found
 
--- ---- records that have a place begin some file
+-- ---- records that lead to a place begin some file
 
--- for each kind that may follow there is a good record that has a next place
+-- for each kind of record that may come at a place, there is a good record of this kind that leads
+-- to a next place
 pub witness_next : (place : Place) (records : Lines) (kind : Kind) (next : Place) → IsAt place records → place_by_kind place (Some kind)
     (witness kind) ≡ Some next → next_place place (witness kind) ≡ Some next
 witness_next place records kind next at found = test_by_next place (witness kind) next (record {
@@ -258,7 +261,7 @@ journey_begins lines records at =
     begins_front records (witness terminating_location ∷ [])
     (between_begins (records ++ witness terminating_location ∷ []) (leads (in_schedule in_journey lines) records terminating_location between_units at refl))
 
--- records with the form for a place begin some file
+-- records with the structure of a place begin some file
 pub at_begins : (place : Place) (records : Lines) → IsAt place records → BeginsFile records
 at_begins before_header records at =
     begins_front records (witness header ∷ []) (between_begins (records ++ witness header ∷ []) (leads before_header records header between_units at refl))
@@ -273,7 +276,7 @@ at_begins (in_schedule in_journey lines) records at = journey_begins lines recor
 at_begins (in_schedule after_journey lines) records at = between_begins records (within_ended after_journey lines records at refl)
 at_begins after_end records at = file_begins records at
 
--- ---- the place after the records of a file
+-- ---- the records of a whole file lead to the place `after_end`
 
 place_from_append : (front : Lines) (place middle : Place) (more : Lines) → place_from place front ≡ Some middle
     → place_from place (front ++ more) ≡ place_from middle more
@@ -282,8 +285,7 @@ place_from_append (line ∷ front) place middle more found =
     let step = then_some (λ next. place_from next front) (next_place place line) middle found in
     (λ i. option_and_then (λ next. place_from next (front ++ more)) (step.1 i)) ∙ place_from_append front step.0 middle more step.2
 
--- if a record has a next stage in a schedule, its next place in the file is the place with that
--- stage
+-- if a record has a next stage in a schedule, it leads to the place in the file with that stage
 pub next_of_stage : (stage : Stage) (lines : Lines) (line : List ℕ) (next : Stage) → next_stage stage lines line ≡ Some next
     → next_place (in_schedule stage lines) line ≡ Some (place_in next (lines ++ line ∷ []))
 next_of_stage stage lines line next found =
@@ -350,8 +352,8 @@ stage_stops in_journey (Some change_en_route) h = cc
 stage_stops in_journey (Some terminating_location) h = cc
 stage_stops _ _ h = refl
 
--- after a schedule that may end, a record that can't follow a basic schedule has the same next
--- place as between units
+-- after a schedule that may end, a record that can't follow a basic schedule leads to the same
+-- place as from between units
 pub next_behind : (stage : Stage) (lines : Lines) (line : List ℕ) → may_end stage lines ≡ true → follows_basic (kind_of line) ≡ false
     → next_place (in_schedule stage lines) line ≡ next_place between_units line
 next_behind stage lines line may anew =
@@ -397,7 +399,7 @@ units_pass (unit ∷ units) last each is end =
     ∙ unit_passes unit (flat_map (λ u. u) units ++ last ∷ []) each.0 (units_stop units last each.1 end) (omega arith)
     ∙ units_pass units last each.1 is end
 
--- the place after the records of a file is after the trailer
+-- the records of a whole file lead to the place `after_end`
 pub place_of_file : (file : Lines) → IsFile file → IsPlaceOf file after_end
 place_of_file file is =
     ap place_at is.whole
@@ -418,27 +420,28 @@ place_from_front (line ∷ front) rest place final found =
     let more = place_from_front front rest step.0 final step.2 in
     (more.0, (λ i. option_and_then (λ next. place_from next front) (step.1 i)) ∙ more.1)
 
--- records begin a file if and only if they have a place
+-- records begin a file if and only if they lead to a place
 pub begins_iff_place : (records : Lines) → BeginsFile records ↔ ((place : Place) × IsPlaceOf records place)
 begins_iff_place records = (
   λ begins. place_from_front records begins.0 before_header after_end (place_of_file (records ++ begins.0) begins.1),
   λ at. at_begins at.0 records (at_of_place records at.0 at.1),
 )
 
--- records are a file if and only if their place is after the trailer
+-- records are a file if and only if they lead to the place `after_end`
 pub file_iff_place : (records : Lines) → IsFile records ↔ IsPlaceOf records after_end
 file_iff_place records = (place_of_file records, at_of_place records after_end)
 
--- records have at most one place
+-- records lead to at most one place
 pub one_place : (records : Lines) (first second : Place) → IsPlaceOf records first → IsPlaceOf records second → first ≡ second
 one_place records first second one two = let both_are : Some first ≡ Some second = sym one ∙ two in cc
 
--- the place after records and one more record is the next place of that record
+-- if records lead to a place, then with one more record they lead to the `next_place` of that place
+-- and record
 pub place_of_more : (records : Lines) (place : Place) (line : List ℕ) → IsPlaceOf records place → place_at (records ++ line ∷ []) ≡ next_place place line
 place_of_more records place line found = place_from_append records before_header place (line ∷ []) found ∙ some_then (next_place place line)
 
--- if records have a place, then they and one more record begin a file if and only if that record
--- has a next place
+-- if records lead to a place, then with one more record they begin a file if and only if the added
+-- record leads from that place to a next place
 pub begins_next_iff : (records : Lines) (place : Place) (line : List ℕ) → IsPlaceOf records place → BeginsFile (records ++ line ∷ [])
     ↔ ((next : Place) × IsNext place line next)
 begins_next_iff records place line found = (
@@ -447,7 +450,7 @@ begins_next_iff records place line found = (
   λ told. (begins_iff_place (records ++ line ∷ [])).1 (told.0, place_of_more records place line found ∙ test_by_next place line told.0 told.1),
 )
 
--- it is decided whether records begin a file
+-- it is decidable whether records begin a file
 pub begins_file_or_not : (records : Lines) → BeginsFile records ⊎ ¬ BeginsFile records
 begins_file_or_not records = by (place_at records) refl
   where
@@ -455,7 +458,7 @@ begins_file_or_not records = by (place_at records) refl
     by None h = inr (λ begins. let at = (begins_iff_place records).0 begins in let bad : None ≡ Some at.0 = sym h ∙ at.1 in cc)
     by (Some place) h = inl ((begins_iff_place records).1 (place, h))
 
--- ---- the stage of the schedule at a place
+-- ---- a place inside a schedule has the stage of the schedule's records
 
 -- if the place is inside a schedule, its stage is the stage of that schedule's records, and the
 -- journey isn't complete
@@ -510,7 +513,7 @@ tracked_from (line ∷ rest) place final tracked found =
     let step = then_some (λ next. place_from next rest) (next_place place line) final found in
     tracked_from rest step.0 final (next_tracked place line step.0 tracked (next_by_test place line step.0 step.1)) step.2
 
--- if records have a place inside a schedule, the stage of the place is the stage of that schedule's
--- records
+-- if records lead to a place inside a schedule, the stage of the place is the stage of that
+-- schedule's records
 pub tracked_place : (records : Lines) (place : Place) → IsPlaceOf records place → IsTracked place
 tracked_place records place found = tracked_from records before_header place tt found

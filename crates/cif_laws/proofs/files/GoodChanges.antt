@@ -28,7 +28,7 @@ use Rattle.cif_laws.proofs.records.GoodFields.{date_is_day, tiploc_starts, new_t
 abbrev pub IsGoodAct : Key × Act → Type 0
 IsGoodAct act = IsGoodKey act.0 × IsOpOf act.0 (op_of act.1)
 
--- ---- keys
+-- ---- the key of a record with good fields is well formed
 
 letter_at : (line : List ℕ) → is_stp_indicator (columns 80 80 line) ≡ true → is_stp_letter (column 80 line) ≡ true
 letter_at line is = ap is_stp_letter (sym (one_column line 80 (omega arith))) ∙ is
@@ -81,7 +81,7 @@ schedule_key_good line is kind good =
       indicator = letter_at line fields.indicator;
     }
 
--- ---- a record keeps its key and its good fields when its transaction is set to N
+-- ---- setting the transaction of a record to N preserves its key and its good fields
 
 same_association : (line : List ℕ) → association_named (as_new line) ≡ association_named line
 same_association line = λ i. association_key (record {
@@ -159,7 +159,7 @@ new_basic_fields line is kind good kept = fields_good basic_schedule (as_new lin
           ),
         )
 
--- ---- what single records do
+-- ---- the changes of a single record are well formed
 
 kept_or : (a b : Bool) → (a || b) ≡ false → a ≡ false
 kept_or true b h = h
@@ -209,7 +209,7 @@ single_acts line following is (inr (inr (inr kind))) good =
       tt,
     )
 
--- ---- schedules
+-- ---- the changes of a schedule are well formed
 
 -- a schedule that isn't a deletion is still a schedule after its transaction is set to N
 pub new_is_schedule : (lines : List (List ℕ)) (schedule : IsSchedule lines) → is_deletion schedule.basic ≡ false
@@ -243,8 +243,8 @@ new_is_schedule lines schedule kept =
     sound (inl deletion) = let bad : false ≡ true = sym kept ∙ deletion in cc
     sound (inr good) = inr good
 
--- a schedule before these records ends before the first of these records: there are no records, or
--- the first record can't follow a basic schedule
+-- the schedule that precedes these records is complete: there are no records, or the first of them
+-- can't follow a basic schedule
 abbrev pub StopsHere : List (List ℕ) → Type 0
 StopsHere [] = ⊤
 StopsHere (line ∷ lines) = follows_basic (kind_of line) ≡ false
@@ -324,7 +324,7 @@ schedule_acts lines schedule rest stops few =
       tt,
     )
 
--- ---- files
+-- ---- the changes of a file are well formed
 
 -- the key of the change and the body that the change puts are well formed
 abbrev pub IsGoodChange : Change → Type 0

@@ -1,5 +1,5 @@
--- A bound on the number of bytes that determine no fault: at most 82 for each complete line with
--- its line feed, and at most 81 for the incomplete line.
+-- Bytes that determine no fault have a bounded number: at most 82 for each complete line with its
+-- line feed, and at most 81 for the incomplete line.
 use Rattle.std.proofs.Common.{◌≡◌, ℕ, List, length, [], ◌∷◌, Some, ◌+◌, ◌<◌, arith, refl, ap, Bool, true, false, ◌*◌, ◌≤◌, map, ◌⊎◌, inl, inr}
 use Rattle.std.specs.Prelude.{◌==◌}
 use Rattle.std.specs.List.{AllByRecursion, onto_first, slice_split}
@@ -18,7 +18,7 @@ use Rattle.cif_laws.proofs.files.ReportedFaults.{strip_long, TellsNoFault, fault
 abbrev Has80 : List ℕ → Type 0
 Has80 line = length line ≡ 80
 
--- if records have a place, each record has 80 bytes
+-- if records lead to a place, each record has 80 bytes
 records_of_80 : (records : Lines) (place final : Place) → place_from place records ≡ Some final → AllByRecursion Has80 records
 records_of_80 [] place final reached = tt
 records_of_80 (line ∷ rest) place final reached =
@@ -35,7 +35,7 @@ unfolding bytes_in
 bytes_more b [] some = absurd (omega arith)
 bytes_more b (piece ∷ pieces) some = omega arith
 
--- for the pieces of a text, this number is the length of the text plus one, since no line feed
+-- for the pieces of a text, `bytes_in` is the length of the text plus one, since no line feed
 -- follows the last piece
 bytes_of_split : (p : ℕ → Bool) (text : List ℕ) → bytes_in (slice_split p text) ≡ length text + 1
 unfolding bytes_in
@@ -50,7 +50,7 @@ bytes_of_split p (b ∷ text) = by (p b) refl (bytes_of_split p text)
         let more = bytes_more b (slice_split p text) (omega arith) in
         omega arith
 
--- the number for all pieces is the number for all pieces but the last, plus the length of the last
+-- `bytes_in` of some pieces is `bytes_in` of all pieces but the last, plus the length of the last
 -- piece, plus one
 bytes_but_last : (pieces : Lines) → 0 < length pieces → bytes_in pieces ≡ bytes_in (but_last pieces) + length (last_of pieces) + 1
 unfolding bytes_in
@@ -58,7 +58,7 @@ bytes_but_last [] some = absurd (omega arith)
 bytes_but_last (piece ∷ []) some = omega arith
 bytes_but_last (piece ∷ next ∷ pieces) some = let rest = bytes_but_last (next ∷ pieces) (omega arith) in omega arith
 
--- if the line of each piece has 80 bytes, this number is at most 82 for each piece
+-- if the line in each piece has 80 bytes, `bytes_in` is at most 82 for each piece
 few_bytes : (pieces : Lines) → AllByRecursion Has80 (map strip_carriage_return pieces) → bytes_in pieces ≤ 82 * length pieces
 unfolding bytes_in
 few_bytes [] all = omega arith

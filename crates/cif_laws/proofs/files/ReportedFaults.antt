@@ -21,9 +21,9 @@ use Rattle.cif_laws.proofs.files.FileStages.{next_by_test, begins_iff_place, beg
 use Rattle.cif_laws.proofs.files.FileCauses.{Pass, HasRecordFault, pass_or_fault, record_fault}
 use Rattle.cif_laws.proofs.files.CompleteLines.{GoesOn, goes_on, lines_of_told, lines_of_open, sure_lines_is, sure_lines_grow, complete_lines_cut}
 
--- ---- a piece of more than 81 bytes is no record
+-- ---- the line in a piece of more than 81 bytes is no record
 
--- the line of a piece is at most one byte shorter than the piece
+-- the line in a piece is at most one byte shorter than the piece
 pub strip_long : (piece : List ℕ) → length piece ≤ length (strip_carriage_return piece) + 1
 strip_long piece = by (slice_index piece (length piece - 1) == 13)
   where
@@ -31,11 +31,11 @@ strip_long piece = by (slice_index piece (length piece - 1) == 13)
     by true = let size = length-take-le (length piece - 1) piece (omega arith) in omega arith
     by false = omega arith
 
--- the line of a piece of more than 81 bytes doesn't have 80 bytes
+-- the line in a piece of more than 81 bytes doesn't have 80 bytes
 pub not_80 : (piece : List ℕ) → 82 ≤ length piece → length (strip_carriage_return piece) ≢ 80
 not_80 piece long is = let most = strip_long piece in absurd (omega arith)
 
--- a line that doesn't have 80 bytes has no next place
+-- a line that doesn't have 80 bytes leads to no next place
 pub no_next_place : (place : Place) (line : List ℕ) → length line ≢ 80 → next_place place line ≡ None
 no_next_place place line apart = by (next_place place line) refl
   where
@@ -49,7 +49,7 @@ no_begin earlier line apart begins =
     let told = (begins_next_iff earlier reached.0 line reached.1).0 begins in
     apart told.1.is.0
 
--- ---- the first elements of a list
+-- ---- the elements of a prefix are the first elements of the list
 
 -- an element is in the prefix if its index is below the length of the prefix
 within_front : (front more earlier : Lines) (line : List ℕ) (later : Lines) → front ++ more ≡ earlier ++ line ∷ later → length earlier < length front
@@ -64,8 +64,8 @@ within_front (first ∷ front) more (second ∷ earlier) line later e below =
     let rest = within_front front more earlier line later tails (omega arith) in
     (rest.0, λ i. heads i ∷ rest.1 i)
 
--- if the index of an element is the length of a prefix, the element is the element that follows
--- this prefix
+-- if the index of an element is the length of a prefix, the element is the first element after this
+-- prefix
 behind_front : (front : Lines) (last : List ℕ) (earlier : Lines) (line : List ℕ) (later : Lines) → front ++ last ∷ [] ≡ earlier ++ line ∷ later
     → length earlier ≡ length front
     → (earlier ≡ front) × (line ≡ last)
@@ -79,9 +79,9 @@ behind_front (first ∷ front) last (second ∷ earlier) line later e same =
     let rest = behind_front front last earlier line later tails (omega arith) in
     (λ i. sym heads i ∷ rest.0 i, rest.1)
 
--- ---- a determined fault is preserved
+-- ---- appending bytes preserves a determined fault
 
--- two lines that don't have 80 bytes have the same cause at the same place
+-- after the same earlier records, two lines that don't have 80 bytes have the same cause
 cause_stays : (limit : ℕ) (earlier : Lines) (line other : List ℕ) (cause : FileCause) → length line ≢ 80 → length other ≢ 80 → IsCause limit earlier line cause
     → IsCause limit earlier other cause
 cause_stays limit earlier line other cause one two is = by cause is
@@ -126,13 +126,13 @@ fault_in_front limit front records more fault whole is = record {
   cause = is.cause;
 }
 
--- if the first piece isn't empty, it is kept as the first piece
+-- if the first piece isn't empty, `without_empty_last` keeps it as the first piece
 first_left : (piece : List ℕ) (pieces : Lines) → 0 < length piece → (others : Lines) × (without_empty_last (piece ∷ pieces) ≡ piece ∷ others)
 first_left [] [] some = absurd (omega arith)
 first_left (b ∷ bytes) [] some = ([], refl)
 first_left piece (next ∷ pieces) some = (without_empty_last (next ∷ pieces), refl)
 
--- a fault that bytes determine is also determined after more bytes are appended
+-- a fault that bytes determine is still determined after more bytes are appended
 pub fault_stays : (limit : ℕ) (text more : List ℕ) (fault : FileFault) → IsFaultSoFar limit text fault → IsFaultSoFar limit (text ++ more) fault
 fault_stays limit text more fault told =
     record {
@@ -306,7 +306,7 @@ passes_no_fault limit text fault passes told = by told.is.here
         none (begins_front (told.is.earlier ++ told.is.line ∷ []) within.0
         (subst BeginsFile (take_told text passes.2 ∙ within.1 ∙ sym (append_assoc told.is.earlier (told.is.line ∷ []) within.0)) passes.0))
 
--- ---- for a reader that gets a text in pieces
+-- ---- which fault a reader reports while it reads a text in pieces
 
 -- if a line doesn't have 80 bytes, its cause doesn't depend on its bytes
 pub cause_of_length : (limit count : ℕ) (place : Place) (line : List ℕ) → length line ≢ 80 → cause_of limit count place line ≡ cause_of_long limit count place
@@ -314,8 +314,8 @@ cause_of_length limit count place line apart =
     λ i. cond (nat_le limit count) too_many
     (cond (is_after_end place) after_trailer (cond (ne_eqb (length line) 80 apart i) (byte_cause place line) bad_length))
 
--- if the complete lines are within the limit and have a place, and the incomplete line has at most
--- 81 bytes, the bytes determine no fault
+-- if the complete lines are within the limit and lead to a place, and the incomplete line has at
+-- most 81 bytes, the bytes determine no fault
 pub no_fault_told : (limit : ℕ) (text : List ℕ) (place : Place) → IsPlaceOf (complete_lines text) place → length (complete_lines text) ≤ limit
     → length (open_line text) ≤ 81
     → (fault : FileFault) → ¬ IsFaultSoFar limit text fault
@@ -326,7 +326,7 @@ no_fault_told limit text place found within short fault =
       short = short;
     }))
 
--- a complete line that has no next place is at fault, whatever follows
+-- a complete line that leads to no next place is at fault, whatever follows
 pub fault_at_feed : (limit : ℕ) (text front rest : List ℕ) (place : Place) → HasNoFeed front → IsPlaceOf (complete_lines text) place
     → length (complete_lines text) ≤ limit
     → (limit ≤ length (complete_lines text)) ⊎ (next_place place (strip_carriage_return (open_line text ++ front)) ≡ None)
@@ -367,8 +367,8 @@ fault_at_long limit text place found within long =
       told = omega arith;
     })
 
--- at the end of a text, an incomplete line that isn't empty is the last line. If that line has no
--- next place or is beyond the limit, it is at fault
+-- at the end of a text, an incomplete line that isn't empty is the last line. If that line leads to
+-- no next place or is beyond the limit, the line is at fault
 pub fault_at_end : (limit : ℕ) (text : List ℕ) (place : Place) → IsPlaceOf (complete_lines text) place → length (complete_lines text) ≤ limit
     → 0 < length (open_line text)
     → (limit ≤ length (complete_lines text)) ⊎ (next_place place (strip_carriage_return (open_line text)) ≡ None)

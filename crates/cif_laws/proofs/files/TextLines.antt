@@ -35,8 +35,8 @@ piece_is piece = by (slice_index piece (length piece - 1) == 13) refl
     by true h = inr (last_is piece (eqb-true _ _ h) ∙ (λ i. cond (sym h i) (take (length piece - 1) piece) piece ++ 13 ∷ []))
     by false h = inl (λ i. cond (sym h i) (take (length piece - 1) piece) piece)
 
--- if a text consists of some lines, then a piece followed by a line feed and this text consists of
--- the line in the piece and these lines
+-- if a text consists of some lines, then putting a piece and a line feed before the text puts the
+-- line in this piece before these lines
 one_more : (piece : List ℕ) (lines : List (List ℕ)) (rest : List ℕ) → IsTextOf lines rest → IsTextOf (strip_carriage_return piece ∷ lines) (piece ++ 10 ∷ rest)
 one_more piece [] rest told = by (piece_is piece)
   where
@@ -75,8 +75,8 @@ pieces_text (piece ∷ next ∷ pieces) =
 pub text_of_lines : (text : List ℕ) → IsTextOf (lines_of text) text
 text_of_lines text = subst (IsTextOf (lines_of text)) (join_with_byte-slice_split 10 text) (pieces_text (slice_split (λ b. b == 10) text))
 
--- splitting a text into lines leaves this line unchanged: it isn't empty, has no line feed, and
--- doesn't end with a carriage return
+-- a plain line isn't empty, has no line feed, and doesn't end with a carriage return, so splitting
+-- a text into lines leaves it unchanged
 pub record IsPlain (line : List ℕ) : Type 0 where
   pub some : 0 < length line
   pub no_feed : All (λ b. (b == 10) ≡ false) line

@@ -15,7 +15,7 @@ use Rattle.cif_laws.proofs.files.GoodChanges.{StopsHere, Follows, rest_is, sched
 abbrev change_of_act : ℕ → Key × Act → Change
 change_of_act n act = record { number = n; key = act.0; act = act.1 }
 
--- ---- the first record of a unit
+-- ---- the first record of a unit determines the changes, with the rest of a schedule
 
 -- if the acts of a record don't depend on the records after it, neither do its changes
 alike_by : (n : ℕ) (kind : Kind) (line : List ℕ) (following others : List (List ℕ)) → HasKind kind line
@@ -37,7 +37,7 @@ basic_alike : (n : ℕ) (basic : List ℕ) (following others : List (List ℕ)) 
 basic_alike n basic following others is run =
     (λ i. map (change_of_act n) (acts_by_kind (is i) basic following)) ∙ ap (λ lines. change_of_schedule n basic lines ∷ []) run
 
--- ---- the records after a basic schedule
+-- ---- the records after a basic schedule have no changes
 
 -- a record that can follow a basic schedule has no changes
 follower_changes_nothing : (kind : Option Kind) (line : List ℕ) (following : List (List ℕ)) → follows_basic kind ≡ true → acts_by_kind kind line following ≡ []
@@ -57,7 +57,7 @@ behind_followers n (line ∷ lines) rest all =
     ∙ behind_followers (n + 1) lines rest all.1
     ∙ ap (λ k. changes_from k rest) (omega arith)
 
--- ---- units
+-- ---- the changes of units are the changes of each unit, in order
 
 -- each record of a schedule after the first can follow a basic schedule
 others_follow : (basic : List ℕ) (others : List (List ℕ)) → IsSchedule (basic ∷ others) → AllByRecursion Follows others
@@ -93,7 +93,7 @@ schedule_then n basic others rest is stops =
     follow : AllByRecursion Follows others
     follow = others_follow basic others is
 
--- the changes of a unit and the records after it are the changes of the unit followed by the
+-- the changes of a unit followed by other records are the changes of the unit, followed by the
 -- changes of those records
 pub unit_then : (n : ℕ) (unit rest : List (List ℕ)) → IsUnit unit → StopsHere rest → changes_from n (unit ++ rest) ≡ changes_of_unit n unit ++ changes_from
     (n + length unit) rest

@@ -1,4 +1,4 @@
--- Decided facts. A fact is decided if there is a proof of the fact or of its negation.
+-- Decidable facts. A fact is decidable if there is a proof of the fact or of its negation.
 use Rattle.std.proofs.Common.{◌≡◌, ℕ, suc, ◌<◌, ◌≤◌, List, [], ◌∷◌, length, refl, ap, sym, ◌∙◌, subst, inl, inr}
 use Rattle.std.proofs.Common.{◌⊎◌, arith, Bool, true, false, nat_le, ◌==◌, ◌≢◌, if◌then◌else◌, All, Some, None}
 use Rattle.std.specs.Prelude.{Option}
@@ -12,17 +12,17 @@ use Rattle.std.proofs.lemmas.Map.Lookups.{CmpEqualImpliesEq}
 use Rattle.docker_model.specs.records.Record.{Kind, header, tiploc_insert, tiploc_amend, tiploc_delete, association, basic_schedule, extra_details}
 use Rattle.docker_model.specs.records.Record.{origin_location, intermediate_location, terminating_location, change_en_route, trailer}
 
--- the fact is decided: there is a proof of the fact or of its negation
+-- the fact is decidable: there is a proof of the fact or of its negation
 abbrev pub Decided : Type 0 → Type 0
 Decided P = P ⊎ ¬ P
 
--- the conjunction of two decided facts is decided
+-- the conjunction of two decidable facts is decidable
 pub both_decided : {P Q : Type 0} → Decided P → Decided Q → Decided (P × Q)
 both_decided (inl p) (inl q) = inl (p, q)
 both_decided (inl p) (inr none) = inr (λ h. none h.1)
 both_decided (inr none) q = inr (λ h. none h.0)
 
--- the disjunction of two decided facts is decided
+-- the disjunction of two decidable facts is decidable
 pub either_decided : {P Q : Type 0} → Decided P → Decided Q → Decided (P ⊎ Q)
 either_decided (inl p) q = inl (inl p)
 either_decided (inr never) (inl q) = inl (inr q)
@@ -32,22 +32,22 @@ either_decided {P} {Q} (inr never) (inr none) = inr by
     by (inl p) = never p
     by (inr q) = none q
 
--- the negation of a decided fact is decided
+-- the negation of a decidable fact is decidable
 pub not_decided : {P : Type 0} → Decided P → Decided (¬ P)
 not_decided (inl p) = inr (λ none. none p)
 not_decided (inr none) = inl none
 
--- a fact that is equivalent to a decided fact is decided
+-- a fact that is equivalent to a decidable fact is decidable
 pub decided_along : {P Q : Type 0} → (P → Q) → (Q → P) → Decided P → Decided Q
 decided_along to back (inl p) = inl (to p)
 decided_along to back (inr none) = inr (λ q. none (back q))
 
--- it is decided whether a test passes
+-- it is decidable whether a test passes
 pub bool_decided : (b : Bool) → Decided (b ≡ true)
 bool_decided true = inl refl
 bool_decided false = inr (λ e. cc)
 
--- it is decided whether two numbers are equal
+-- it is decidable whether two numbers are equal
 pub nat_decided : (a b : ℕ) → Decided (a ≡ b)
 nat_decided a b = by (eqb_tells a b)
   where
@@ -55,7 +55,7 @@ nat_decided a b = by (eqb_tells a b)
     by (inl told) = inl told.1
     by (inr told) = inr told.1
 
--- it is decided whether a number is at most another
+-- it is decidable whether a number is at most another
 pub le_decided : (a b : ℕ) → Decided (a ≤ b)
 le_decided a b = by (leb_tells a b)
   where
@@ -63,12 +63,12 @@ le_decided a b = by (leb_tells a b)
     by (inl told) = inl told.1
     by (inr told) = let above = told.1 in inr (λ low. omega arith)
 
--- it is decided whether a number is below another
+-- it is decidable whether a number is below another
 pub lt_decided : (a b : ℕ) → Decided (a < b)
 lt_decided a b = le_decided (suc a) b
 
--- if a property is decided for each value, it is decided whether all elements of a list have the
--- property
+-- if a property is decidable for each value, it is decidable whether all elements of a list have
+-- the property
 pub all_decided : {A : Type 0} (P : A → Type 0) → ((x : A) → Decided (P x)) → (xs : List A) → Decided (AllByRecursion P xs)
 all_decided P test [] = inl tt
 all_decided P test (x ∷ xs) = both_decided (test x) (all_decided P test xs)
@@ -77,29 +77,30 @@ all_decided P test (x ∷ xs) = both_decided (test x) (all_decided P test xs)
 pub All_decided : {A : Type 0} (P : A → Type 0) → ((x : A) → Decided (P x)) → (xs : List A) → Decided (All P xs)
 All_decided P test xs = decided_along (All-from_recursion P xs) (recursion_from_All P xs) (all_decided P test xs)
 
--- it is decided whether a comparison is `Less`
+-- it is decidable whether a comparison is `Less`
 pub less_decided : (o : Ordering) → Decided (o ≡ Less)
 less_decided Less = inl refl
 less_decided Equal = inr (λ e. cc)
 less_decided Greater = inr (λ e. cc)
 
--- it is decided whether a comparison is `Equal`
+-- it is decidable whether a comparison is `Equal`
 pub equal_decided : (o : Ordering) → Decided (o ≡ Equal)
 equal_decided Less = inr (λ e. cc)
 equal_decided Equal = inl refl
 equal_decided Greater = inr (λ e. cc)
 
--- in a total order that distinguishes different values, it is decided whether two values are equal
+-- in a total order that distinguishes different values, it is decidable whether two values are
+-- equal
 pub same_decided : {A : Type 0} {cmp : A → A → Ordering} → IsTotalOrder cmp → CmpEqualImpliesEq cmp → (a b : A) → Decided (a ≡ b)
 same_decided {A} {cmp} total exact a b =
     decided_along (exact a b) (λ same. subst (λ x. cmp a x ≡ Equal) same (tied_itself total a)) (equal_decided (cmp a b))
 
--- it is decided whether an option is `None`
+-- it is decidable whether an option is `None`
 pub none_decided : {A : Type 0} (o : Option A) → Decided (o ≡ None)
 none_decided None = inl refl
 none_decided (Some x) = inr (λ e. cc)
 
--- it is decided whether a list is empty
+-- it is decidable whether a list is empty
 pub empty_decided : {A : Type 0} (xs : List A) → Decided (xs ≡ [])
 empty_decided [] = inl refl
 empty_decided (x ∷ xs) = inr (λ e. (let size = ap length e in omega arith))
@@ -143,7 +144,7 @@ kind_again (Some terminating_location) = refl
 kind_again (Some change_en_route) = refl
 kind_again (Some trailer) = refl
 
--- it is decided whether two kinds of record are equal
+-- it is decidable whether two kinds of record are equal
 pub kind_decided : (first second : Option Kind) → Decided (first ≡ second)
 kind_decided first second =
     decided_along (λ same. sym (kind_again first) ∙ ap kind_at same ∙ kind_again second) (ap kind_rank) (nat_decided (kind_rank first) (kind_rank second))

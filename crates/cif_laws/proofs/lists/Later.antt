@@ -1,4 +1,4 @@
--- Lists in which each member is related to each later one, by any relation.
+-- Lists in which each member is related to each later member, by any relation.
 use Rattle.std.proofs.Common.{arith, List, [], ◌∷◌, ◌≡◌, sym, ◌∙◌, subst, inl, inr, ◌⊎◌, Contains, Bool, true, false, cond, map, ◌++◌}
 use Rattle.std.specs.Prelude.{⊤, filter}
 use Rattle.std.specs.List.{AllByRecursion, AllPairs, flat_map}
@@ -8,7 +8,7 @@ use Rattle.cif_laws.proofs.lists.AllOf.{all_append, all_map, all_weaker}
 use Rattle.cif_laws.proofs.lists.Membership.{Contains-cons, nil-Contains, below_by_recursion, cons-Contains}
 use Rattle.cif_laws.proofs.lists.Membership.{cons-Contains-first, each_member, Contains-flat_map}
 
--- each member is related to each later one
+-- each member is related to each later member
 abbrev pub AllLater : {A : Type 0} → (A → A → Type 0) → List A → Type 0
 AllLater R [] = ⊤
 AllLater R (x ∷ xs) = AllByRecursion (R x) xs × AllLater R xs
@@ -34,7 +34,7 @@ later_weaker R S (x ∷ xs) to later = (
   later_weaker R S xs (λ a b in_a in_b. to a b (cons-Contains x xs a in_a) (cons-Contains x xs b in_b)) later.1,
 )
 
--- filtering a list preserves the relation of each member to each later one
+-- filtering a list preserves the relation of each member to each later member
 pub later_filter : {A : Type 0} (R : A → A → Type 0) (test : A → Bool) (xs : List A) → AllLater R xs → AllLater R (filter test xs)
 later_filter R test [] later = tt
 later_filter {A} R test (x ∷ xs) later = by (test x) (later_filter R test xs later.1)

@@ -13,7 +13,7 @@ use Rattle.docker_model.specs.state.Order.{IsBelow, IsStrictlyAscending}
 use Rattle.cif_laws.proofs.lists.Membership.{below_by_recursion, each_member}
 use Rattle.cif_laws.proofs.lists.Later.{AllLater}
 
--- no element ties with a later one
+-- no element ties with a later element
 abbrev pub AreApart : {A : Type 0} → (A → A → Ordering) → List A → Type 0
 AreApart cmp xs = AllLater (λ a b. ¬ (cmp a b ≡ Equal)) xs
 

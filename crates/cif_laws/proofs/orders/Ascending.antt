@@ -1,4 +1,4 @@
--- A strictly ascending list is determined by its members.
+-- Two strictly ascending lists with the same members are equal.
 use Rattle.std.proofs.Common.{◌≡◌, List, [], ◌∷◌, refl, inl, inr, sym, ◌∙◌, subst, Contains, ◌⊎◌, ◌++◌}
 use Rattle.std.specs.Prelude.{◌↔◌}
 use Rattle.std.specs.List.{AllByRecursion}
@@ -63,7 +63,8 @@ pub ascending_of : {A : Type 0} (cmp : A → A → Ordering) (xs : List A) → A
 ascending_of cmp [] up = tt
 ascending_of cmp (x ∷ xs) up = (up.0, ascending_of cmp xs up.1)
 
--- appending an element above all others to an ascending list preserves its order
+-- appending an element above all others to a strictly ascending list gives a strictly ascending
+-- list
 pub ascending_last : {A : Type 0} (cmp : A → A → Ordering) (xs : List A) (y : A) → IsStrictlyAscending cmp xs → AllByRecursion (λ x. IsBelow cmp x y) xs
     → IsStrictlyAscending cmp (xs ++ y ∷ [])
 ascending_last cmp [] y up below = (tt, tt)

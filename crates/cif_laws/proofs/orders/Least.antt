@@ -1,4 +1,5 @@
--- The least member of a list among those that pass a test. It exists if any member passes the test.
+-- The least member of a list that passes a test. There is a least member if any member passes the
+-- test.
 use Rattle.std.proofs.Common.{◌≡◌, List, [], ◌∷◌, refl, ap, sym, ◌∙◌, subst, inl, inr, ◌⊎◌, Some, None, Bool, true, false, Contains}
 use Rattle.std.specs.Prelude.{find, ◌&&◌, not}
 use Rattle.std.specs.List.{list_all}

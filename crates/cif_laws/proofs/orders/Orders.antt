@@ -120,7 +120,7 @@ exact_schedule_key a b e =
       indicator = exact_unsigned a.indicator b.indicator q.1 i;
     }
 
--- the fields of a key. A field that keys of this kind don't have is empty or 0
+-- the fields of a key. For a kind of key that doesn't have the field, the result is empty or 0
 abbrev code_in : Key → List ℕ
 code_in (tiploc_key code) = code
 code_in _ = []
@@ -172,8 +172,8 @@ exact_key (schedule_key a) (tiploc_key b) e = cc
 exact_key (schedule_key a) (association_key b) e = cc
 exact_key (schedule_key a) (schedule_key b) e = ap schedule_key (exact_schedule_key a b e)
 
--- the order of bodies is total. It can't distinguish two schedules whose different lines have the
--- same concatenation
+-- the order of bodies is total. This order can't distinguish two schedules whose different lines
+-- have the same concatenation
 pub body_total : IsTotalOrder body_cmp
 body_total = then_total (on_total body_end nat_cmp_total) (then_total (on_total body_bytes nat_list_cmp_total) (on_total body_tag nat_cmp_total))
 

@@ -1,5 +1,5 @@
--- Records of 80 bytes for the examples, built from their fields. Each argument is padded with
--- spaces to the width of its field.
+-- Functions that build records of 80 bytes from their fields, for the examples. Each argument is
+-- padded with spaces to the width of its field.
 use Rattle.std.proofs.Common.{ℕ, ◌-◌, List, [], ◌∷◌, ◌++◌, length, replicate}
 use Rattle.std.specs.Prelude.{codes}
 

@@ -1,4 +1,4 @@
--- The columns of a record and its good fields, also after its transaction is set to N.
+-- The columns of a record and its good fields, before and after its transaction is set to N.
 use Rattle.std.proofs.Common.{◌≡◌, ℕ, zero, suc, ◌+◌, ◌-◌, ◌<◌, ◌≤◌, List, [], ◌∷◌, take, drop, set, get_or, subst, refl}
 use Rattle.std.proofs.Common.{ap, sym, ◌∙◌, Bool, true, false, cond, Some, None, arith, length-drop, length-set}
 use Rattle.std.specs.Prelude.{not, option_map, find, slice_index}
@@ -62,7 +62,7 @@ one_column line n some =
 pub printable_column : (line : List ℕ) (n : ℕ) → IsRecord line → n - 1 < 80 → is_printable (column n line) ≡ true
 printable_column line n is within = let size = is.0 in is.1 (n - 1) 0 (omega arith)
 
--- ---- a record after its transaction is set to N
+-- ---- setting the transaction to N preserves the kind of a record and its later columns
 
 drop_set : (i k : ℕ) (xs : List ℕ) (y : ℕ) → i < k → drop k (set xs i y) ≡ drop k xs
 drop_set i k [] y below = refl

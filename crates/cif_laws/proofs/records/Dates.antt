@@ -12,7 +12,7 @@ use Rattle.docker_model.specs.records.Date.{is_calendar_day, day_number, year_of
 use Rattle.docker_model.specs.records.PrintedTime.{day_text, date_text}
 use Rattle.cif_laws.proofs.lists.BoolsAndOptions.{and_true as and_both, both}
 
--- a year, month and day pass the test `is_calendar_day` if and only if they are a date of the
+-- a year, a month and a day pass the test `is_calendar_day` if and only if they are a date of the
 -- crate's calendar
 pub is_calendar_day-IsDate : (year month day : ℕ) → year ≤ 9999 → (is_calendar_day year month day ≡ true) ↔ IsDate (pos year) (pos month) (pos day)
 is_calendar_day-IsDate year month day low = (
@@ -33,7 +33,7 @@ is_calendar_day-IsDate year month day low = (
       and_both _ _ (and_both _ _ (le-leb 1 month m1) (le-leb month 12 m2)) (and_both _ _ (le-leb 1 day d1) (le-leb day _ d2)),
 )
 
--- if the first `k` numbers of a range pass a test and the other numbers of the range don't,
+-- if the first `k` numbers of a range pass a test and the other numbers of the range fail it,
 -- `count_by` is `k`
 count_prefix : (p : ℕ → Bool) (a n k : ℕ) → k ≤ n → ((i : ℕ) → i < k → p (a + i) ≡ true) → ((i : ℕ) → k ≤ i → i < n → p (a + i) ≡ false)
     → count_by p (range_with_len a n) ≡ k
@@ -105,7 +105,8 @@ from_1960 y m d year low month day =
 abs_is : (z : ℤ) (n : ℕ) → z ≡ pos n → unsigned_abs z ≡ n
 abs_is z n e = ap unsigned_abs e
 
--- a day number is the crate's count of days, minus its count for 1 January 1960
+-- a day number is the crate's count of days for the date, minus the crate's count for 1 January
+-- 1960
 pub day_number-day_count : (y m d : ℕ) → 1960 ≤ y → y ≤ 9999 → 1 ≤ m → 1 ≤ d → day_number y m d + 4_368_300 ≡ day_count (pos y) m d
 day_number-day_count y m d year low month day =
     let start = from_1960 y m d year low month day in

@@ -15,7 +15,7 @@ use Rattle.docker_model.specs.records.Field.{is_tiploc, is_new_tiploc}
 use Rattle.cif_laws.proofs.records.Dates.{is_calendar_day-IsDate, day_number-day_count}
 use Rattle.cif_laws.proofs.lists.BoolsAndOptions.{both, either}
 
--- ---- days
+-- ---- the number of a good date is from 0 to 36524
 
 digit_at : (field : List ℕ) (i : ℕ) → list_all is_ascii_digit field ≡ true → slice_index field i ≤ 57
 digit_at [] i all = omega arith
@@ -63,7 +63,7 @@ date_day_first_is_day field is =
     let year = year_is (two_digits field 4) (pair_below field 4 parts.0) in
     day_within (full_year (two_digits field 4)) (two_digits field 2) (two_digits field 0) year.0 year.1 parts.1
 
--- ---- times and TIPLOCs
+-- ---- the values of good times, TIPLOCs and letters are within their bounds
 
 -- the minute of a good clock time is below 1440
 pub clock_minute : (field : List ℕ) → is_clock field ≡ true → minute_of field < 1440

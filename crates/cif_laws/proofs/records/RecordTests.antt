@@ -1,4 +1,5 @@
--- Tests of a record, and how often a schedule passes midnight, counted record by record.
+-- Tests of a record, and the number of times that a schedule passes midnight, counted record by
+-- record.
 use Rattle.std.proofs.Common.{ℕ, List, ◌≡◌, refl, true, ◌+◌, [], ◌∷◌, length, ◌∙◌, cond, arith, Bool, false}
 use Rattle.std.proofs.Common.{suc, ◌≤◌, Some, None, sym, ap, eqb-true, ◌++◌, map, subst, ◌*◌, ◌⊎◌, inl, inr}
 use Rattle.std.specs.Prelude.{not, option_map, nat_lt, ◌==◌, ◌↔◌, Option, slice_index, ◌||◌}
@@ -19,7 +20,7 @@ use Rattle.cif_laws.proofs.records.Columns.{good_fields}
 use Rattle.cif_laws.proofs.lists.BoolsAndOptions.{both, test_by_none, none_by_test, and_true, either}
 use Rattle.cif_laws.proofs.records.GoodFields.{clock_minute}
 
--- ---- a record
+-- ---- bytes are a record if and only if they pass the test `is_record`
 
 abbrev printable_front : List ℕ → ℕ
 printable_front bytes = prefix_len (λ b. not (not (is_printable b))) bytes
@@ -69,11 +70,11 @@ record_iff_test line = (
       (eqb-true (length line) 80 parts.0, printable_by_none line (none_by_test (leftmost_bad_byte line) parts.1)),
 )
 
--- ---- how often a schedule passes midnight
+-- ---- how often a schedule passes midnight can be computed record by record
 
--- the number of falls in a concatenation is the number in the first list, plus the number in the
--- second list after the last time of the first. A fall is a time that is earlier than the time
--- before it
+-- the number of falls in a concatenation is the sum of two numbers. The first number counts the
+-- falls in the first list. The second number counts the falls in the second list after the first
+-- list's last time. A fall is a time that is earlier than the time before it
 pub fall_count-append : (times later : List ℕ) → fall_count (times ++ later) ≡ fall_count times + falls_after (last_of times) later
 fall_count-append [] later = omega arith
 fall_count-append (time ∷ []) later = omega arith
@@ -129,7 +130,7 @@ times_append lines more =
     ap (map (λ (time : Occasion × ℕ). time.1)) (flat_map-append times_of lines more) ∙ map-append (λ (time : Occasion × ℕ). time.1) (flat_map times_of lines)
     (flat_map times_of more)
 
--- appending records never lowers how often a schedule passes midnight
+-- appending records never lowers the number of times that a schedule passes midnight
 pub fewer_midnights : (lines more : List (List ℕ)) → midnights lines ≤ midnights (lines ++ more)
 fewer_midnights lines more =
     subst (λ times. midnights lines ≤ fall_count times) (sym (times_append lines more)) (fewer_falls (times_along lines) (times_along more))

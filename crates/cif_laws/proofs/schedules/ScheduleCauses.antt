@@ -1,5 +1,5 @@
--- The cause of a record that can't continue a schedule, from the stage before the record. The
--- record has the same cause in a file.
+-- The cause of a record that can't continue a schedule, given the reader's stage before the record.
+-- The record has the same cause in a file.
 use Rattle.std.proofs.Common.{◌≡◌, ℕ, List, refl, ap, ◌<◌, ◌⊎◌, inl, inr, sym, ◌∙◌, ◌≤◌, None}
 use Rattle.std.proofs.Common.{arith, [], ◌∷◌, Bool, true, false, cond, Some, ◌++◌, subst, length}
 use Rattle.std.specs.Prelude.{unwrap_or, Option, is_none, is_some, option_map, ◌&&◌, ◌==◌}
@@ -25,7 +25,7 @@ use Rattle.cif_laws.proofs.schedules.ScheduleStages.{IsSound, IsFront, details_o
 use Rattle.cif_laws.proofs.schedules.ScheduleStages.{schedule_out_of_place, schedule_in_place, IsNoNextLine, no_next_line}
 use Rattle.cif_laws.proofs.files.FileStages.{stage_stops, tracked_place}
 
--- ---- one cause
+-- ---- a record that can't continue a schedule has at most one cause
 
 column_in : (earlier : Lines) (line : List ℕ) (cause : FileCause) → HoldsInSchedule earlier line cause → column_told (cause_rank cause) line ≡ column_of cause
 unfolding column_of column_told
@@ -51,9 +51,9 @@ one_schedule_cause earlier line first second is_first is_second = by (cases_orde
     by (inr (inl below)) = absurd (is_second.first first below is_first.holds)
     by (inr (inr above)) = absurd (is_first.first second above is_second.holds)
 
--- ---- the first line
+-- ---- a record that can't be the first record has the cause `first_line_cause`
 
--- if the condition of each cause of a lower rank is false, no cause of a lower rank holds
+-- no cause of a lower rank applies, if the condition of each of these causes is false
 none_below : (earlier : Lines) (line : List ℕ) (rank : ℕ) → rank ≤ 7 → (4 < rank → ¬ (kind_of line ≡ None)) → (5 < rank → ¬ IsOutOfSchedule earlier line)
     → (6 < rank → leftmost_bad_field line ≡ None)
     → (other : FileCause) → cause_rank other < rank → ¬ HoldsInSchedule earlier line other
@@ -137,7 +137,7 @@ first_line_fault line is test = by (kind_of line) refl
     }
     by (Some kind) h = placed kind h (is_basic_kind (Some kind)) refl
 
--- ---- a later record
+-- ---- a later record that can't continue the schedule has the cause `schedule_cause`
 
 -- if a record has a next stage, the records up to and including this record begin a schedule
 pub begins_next_stage : (lines : Lines) (stage : Stage) (line : List ℕ) (next : Stage) → stage_of lines ≡ Some stage → next_stage stage lines line ≡ Some next
@@ -239,7 +239,7 @@ goes_on_or_fault (basic ∷ rest) line begins is = by ((begins_iff_stage basic r
         staged None h = inr (schedule_cause at.0 line, schedule_fault (basic ∷ rest) at.0 line at.1 is h)
         staged (Some next) h = inl (begins_next_stage (basic ∷ rest) at.0 line next at.1 h)
 
--- ---- a record of a file inside a schedule
+-- ---- a record inside a schedule has the same cause in the file
 
 -- a record that can follow a basic schedule begins no unit
 pub no_unit_by_kind : (kind : Option Kind) (line : List ℕ) → follows_basic kind ≡ true → unit_by_kind kind line ≡ None
@@ -250,8 +250,8 @@ no_unit_by_kind (Some terminating_location) line h = refl
 no_unit_by_kind (Some change_en_route) line h = refl
 no_unit_by_kind _ line h = cc
 
--- at this stage the record can only belong to the schedule: the schedule may not end here, or the
--- record begins no unit
+-- at this stage the record can only belong to the schedule: the schedule may not end before the
+-- record, or the record begins no unit
 abbrev pub IsOfSchedule : Stage → Lines → List ℕ → Type 0
 IsOfSchedule stage lines line = (may_end stage lines ≡ false) ⊎ (unit_by_kind (kind_of line) line ≡ None)
 
@@ -264,8 +264,8 @@ no_other stage lines line (inr none) = by (may_end stage lines)
     by true = none
     by false = refl
 
--- if a record can only belong to the schedule, its next place is the place with the schedule's next
--- stage
+-- if a record can only belong to the schedule, it leads in the file to the place with the
+-- schedule's next stage
 pub next_place_of_stage : (stage : Stage) (lines : Lines) (line : List ℕ) → IsOfSchedule stage lines line
     → next_place (in_schedule stage lines) line ≡ option_map (λ next. place_in next (lines ++ line ∷ [])) (next_stage stage lines line)
 next_place_of_stage stage lines line of =
@@ -313,7 +313,7 @@ cause_in_schedule limit count stage lines line under is of =
     by (Some next) = refl
 
 -- after a schedule that may end, a record that can't follow a basic schedule has the same cause as
--- between units
+-- a record between units
 pub cause_behind_schedule : (limit count : ℕ) (stage : Stage) (lines : Lines) (line : List ℕ) → count < limit → IsRecord line → may_end stage lines ≡ true
     → follows_basic (kind_of line) ≡ false
     → cause_of limit count (in_schedule stage lines) line ≡ cause_of limit count between_units line

@@ -1,4 +1,4 @@
--- It is decided whether records are a schedule, and whether they begin some schedule.
+-- It is decidable whether records are a schedule, and whether they begin some schedule.
 use Rattle.std.proofs.Common.{◌≡◌, ℕ, List, length, true, Some, [], ◌∷◌, ◌⊎◌, inr, inl, ◌+◌, ◌++◌, ap, refl, sym, subst, ◌≤◌, IsTrue, All}
 use Rattle.std.proofs.Common.{Bool, false, arith, if◌then◌else◌, nat_lt, map, ◌||◌, None, cond, not, find, ◌∙◌, codes, append-nil, lit≤}
 use Rattle.std.specs.Prelude.{⊤, slice_index, ◌==◌, option_map, Option}
@@ -25,22 +25,22 @@ use Rattle.cif_laws.proofs.lists.BoolsAndOptions.{both}
 abbrev AreRecords : Lines → Type 0
 AreRecords lines = AllByRecursion IsRecord lines
 
--- it is decided whether bytes are a record
+-- it is decidable whether bytes are a record
 pub record_decided : (line : List ℕ) → Decided (IsRecord line)
 record_decided line = both_decided (nat_decided (length line) 80) (All_decided (λ b. is_printable b ≡ true) (λ b. bool_decided (is_printable b)) line)
 
--- it is decided whether a record has this kind
+-- it is decidable whether a record has this kind
 pub has_kind_decided : (kind : Kind) (line : List ℕ) → Decided (HasKind kind line)
 has_kind_decided kind line = kind_decided (kind_of line) (Some kind)
 
--- it is decided whether a record has good fields
+-- it is decidable whether a record has good fields
 pub good_fields_decided : (line : List ℕ) → Decided (HasGoodFields line)
 good_fields_decided line = none_decided (leftmost_bad_field line)
 
 within_decided : (line : List ℕ) → Decided (IsWithinJourney line)
 within_decided line = either_decided (has_kind_decided intermediate_location line) (has_kind_decided change_en_route line)
 
--- the records are the rest of a journey after its origin, by recursion
+-- the records are the rest of a journey after its origin. The definition is by recursion
 abbrev WholeCalls : Lines → Type 0
 WholeCalls [] = ⊥
 WholeCalls (line ∷ lines) = (HasKind terminating_location line × (lines ≡ [])) ⊎ (IsWithinJourney line × WholeCalls lines)
@@ -61,7 +61,7 @@ front_of_calls_decided (line ∷ lines) =
     either_decided (both_decided (has_kind_decided terminating_location line) (empty_decided lines))
     (both_decided (within_decided line) (front_of_calls_decided lines))
 
--- the records are a journey, by recursion
+-- the records are a journey. The definition is by recursion
 abbrev JourneyHere : Lines → Type 0
 JourneyHere [] = ⊥
 JourneyHere (first ∷ lines) = HasKind origin_location first × WholeCalls lines
@@ -107,8 +107,8 @@ journey_here_decided : (lines : Lines) → Decided (JourneyHere lines)
 journey_here_decided [] = inr (λ h. h)
 journey_here_decided (first ∷ lines) = both_decided (has_kind_decided origin_location first) (whole_calls_decided lines)
 
--- the records after the extra details are sound: the schedule is a deletion, or they have good
--- fields and pass midnight at most twice
+-- the records after the extra details are sound: the schedule is a deletion, or the records have
+-- good fields and pass midnight at most twice
 abbrev SoundHere : List ℕ → Lines → Type 0
 SoundHere basic lines = IsTrue (is_deletion basic) ⊎ (AllByRecursion HasGoodFields lines × (midnights lines ≤ 2))
 
@@ -134,8 +134,8 @@ extra_and_journey_decided : (basic : List ℕ) (lines : Lines) → Decided (Extr
 extra_and_journey_decided basic [] = inr (λ h. h)
 extra_and_journey_decided basic (extra ∷ lines) = both_decided (has_kind_decided extra_details extra) (journey_part_decided basic lines)
 
--- the record is a basic schedule with good fields. This file states each part of a schedule by
--- recursion
+-- the record is a basic schedule with good fields. Each part of a schedule has such a definition by
+-- recursion in this file
 abbrev BasicHere : List ℕ → Type 0
 BasicHere basic = HasKind basic_schedule basic × HasGoodFields basic
 
@@ -213,7 +213,7 @@ is_schedule lines is =
         subst (λ xs. AreRecords (is.basic ∷ xs ++ is.journey) → ScheduleHere (is.basic ∷ xs ++ is.journey)) (sym one.1)
         (λ r. ((r, (is.kind, is.fields)), inr (one.2, part))) records
 
--- it is decided whether records are a schedule
+-- it is decidable whether records are a schedule
 pub schedule_decided : (lines : Lines) → Decided (IsSchedule lines)
 schedule_decided lines = decided_along (schedule_is lines) (is_schedule lines) (schedule_here_decided lines)
 
@@ -352,7 +352,7 @@ midnights_last : (lines : Lines) → AllByRecursion HasGoodFields lines → midn
 midnights_last lines good =
     ap fall_count (times_along-append lines (last_terminus ∷ [])) ∙ falls_last (times_along lines) (small_along lines good)
 
--- the records after the extra details may begin a journey, by recursion
+-- the records after the extra details may begin a journey. The definition is by recursion
 abbrev FrontPart : List ℕ → Lines → Type 0
 FrontPart basic [] = ⊤
 FrontPart basic (first ∷ lines) = (HasKind origin_location first × FrontOfCalls lines) × SoundHere basic (first ∷ lines)
@@ -380,7 +380,8 @@ front_here_decided (basic ∷ lines) =
     both_decided (both_decided (records_decided (basic ∷ lines)) (basic_decided basic))
     (either_decided (front_part_decided basic lines) (extra_and_front_decided basic lines))
 
--- records that begin a schedule have the form `FrontHere`
+-- a prefix of the rest of a journey satisfies `FrontOfCalls`. The lemmas below prove this for the
+-- other parts of a schedule
 front_of_whole : (lines rest : Lines) → WholeCalls (lines ++ rest) → FrontOfCalls lines
 front_of_whole [] rest calls = tt
 front_of_whole (line ∷ lines) rest (inl told) = inl (told.0, nothing lines told.1)
@@ -412,7 +413,7 @@ front_of_schedule (basic ∷ lines) rest here = ((all_front IsRecord (basic ∷ 
     by [] (inr part) = inl tt
     by (extra ∷ others) (inr part) = inr (part.0, front_of_part basic others rest part.1)
 
--- the records `rest` complete a prefix to a whole schedule
+-- the records `rest` complete the records `lines` to a whole schedule
 record Ending (basic : List ℕ) (lines : Lines) : Type 0 where
   rest : Lines
   records : AreRecords rest
@@ -466,7 +467,7 @@ begins_of_front (basic ∷ lines) here = by lines here.0.0 here.1
           ),
         )
 
--- it is decided whether records begin some schedule
+-- it is decidable whether records begin some schedule
 pub begins_decided : (lines : Lines) → Decided (BeginsSchedule lines)
 begins_decided lines =
     decided_along (begins_of_front lines) (λ begins. front_of_schedule lines begins.0 (is_schedule (lines ++ begins.0) begins.1)) (front_here_decided lines)

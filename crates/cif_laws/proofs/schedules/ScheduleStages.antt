@@ -23,14 +23,14 @@ use Rattle.cif_laws.proofs.lists.BoolsAndOptions.{both, none_by_test, test_by_no
 use Rattle.cif_laws.proofs.records.RecordTests.{record_iff_test, no_times, no_times_before, midnights_step, last_time}
 use Rattle.cif_laws.proofs.records.RecordTests.{no_fall_last, times_append, along_within, fewer_midnights}
 
--- ---- the form of the records read, for each stage
+-- ---- the structure of the records read, for each stage
 
 -- the records are an origin, then any number of intermediate locations and changes en route
 abbrev pub IsOpenJourney : Lines → Type 0
 IsOpenJourney journey =
     (first : List ℕ) × (between : Lines) × (journey ≡ first ∷ between) × HasKind origin_location first × AllByRecursion IsWithinJourney between
 
--- the extra details and the journey read have the form for this stage
+-- the extra details and the journey read have the structure that belongs to this stage
 abbrev pub HasShape : Stage → Lines → Lines → Type 0
 HasShape after_basic extra journey = (extra ≡ []) × (journey ≡ [])
 HasShape after_details extra journey = AreExtraDetails extra × (journey ≡ [])
@@ -41,7 +41,7 @@ HasShape after_journey extra journey = AreExtraDetails extra × IsJourney journe
 abbrev pub IsSound : List ℕ → Lines → Type 0
 IsSound basic journey = (is_deletion basic ≡ true) ⊎ IsSoundJourney journey
 
--- the records are a schedule, complete or not, at this stage
+-- the records are a schedule, complete or incomplete, that a reader has read to this stage
 pub record IsFront (stage : Stage) (lines : Lines) : Type 0 where
   pub basic : List ℕ
   pub extra : Lines
@@ -60,7 +60,7 @@ details_of after_details extra journey shape = shape.0
 details_of in_journey extra journey shape = shape.0
 details_of after_journey extra journey shape = shape.0
 
--- ---- the first record
+-- ---- the first record leads to the stage `after_basic`
 
 basic_by_test : (kind : Option Kind) → is_basic_kind kind ≡ true → kind ≡ Some basic_schedule
 basic_by_test (Some basic_schedule) h = refl
@@ -98,7 +98,7 @@ front_of_basic line told = record {
   sound = inr (record { fields = All-from_recursion HasGoodFields [] tt; falls = omega arith });
 }
 
--- ---- how often a schedule passes midnight
+-- ---- a schedule passes midnight as often as its journey
 
 -- extra details have no times
 details_no_times : (extra journey : Lines) → AreExtraDetails extra → times_along (extra ++ journey) ≡ times_along journey
@@ -117,13 +117,13 @@ pub midnights_of_journey : (basic : List ℕ) (extra journey : Lines) → HasKin
 midnights_of_journey basic extra journey kind details =
     ap fall_count (times_of_journey basic extra journey kind details)
 
--- ---- one more record
+-- ---- one more record leads to the next stage
 
 -- a record of extra details has no bad field
 pub no_extra_fields : (line : List ℕ) → HasKind extra_details line → HasGoodFields line
 no_extra_fields line kind = fields_good extra_details line kind tt
 
--- the next record has good fields, and the schedule passes midnight at most twice up to it
+-- the next record has good fields, and the schedule passes midnight at most twice up to this record
 pub record IsSoundNext (lines : Lines) (line : List ℕ) : Type 0 where
   pub fields : HasGoodFields line
   pub falls : midnights (lines ++ line ∷ []) ≤ 2
@@ -148,8 +148,8 @@ test_by_sound_next lines line (inr good) = by (is_deletion (first_record lines))
     by true = refl
     by false = and_true (has_good_fields line) _ (test_by_none (leftmost_bad_field line) good.fields) (le-leb (midnights (lines ++ line ∷ [])) 2 good.falls)
 
--- the test `is_sound_next` can be computed from three values that a reader keeps: whether the
--- schedule is a deletion, how often the schedule has passed midnight, and the last time
+-- the test `is_sound_next` can be computed from three values: whether the schedule is a deletion,
+-- the number of times that the schedule has passed midnight, and the last time
 pub sound_next_by_count : (lines : Lines) (line : List ℕ)
     → is_sound_next lines line
     ≡ (is_deletion (first_record lines) || (has_good_fields line && nat_le (midnights lines + falls_after (last_of (times_along lines))
@@ -179,8 +179,8 @@ sound_more stage lines line front test = by (sound_next_by_test lines line test)
           falls = omega arith;
         })
 
--- the parts of the test of the next record: it is a record, it is sound, and `next` is the next
--- stage by its kind
+-- the parts of the test of the next line: the line is a record, the record is sound, and `next` is
+-- the next stage by the record's kind
 pub record IsNextLine (stage : Stage) (lines : Lines) (line : List ℕ) (next : Stage) : Type 0 where
   pub is : IsRecord line
   pub sound : is_sound_next lines line ≡ true
@@ -213,7 +213,8 @@ journey_more journey line so_far is = (
   all_append IsWithinJourney so_far.1 (line ∷ []) so_far.4 (is, tt),
 )
 
--- after one more record the schedule has the form for the next stage by the record's kind
+-- one more record gives a schedule with the structure of the next stage, judged by the record's
+-- kind
 shape_more : (stage : Stage) (kind : Kind) (next : Stage) (extra journey : Lines) (line : List ℕ) → HasShape stage extra journey → HasKind kind line
     → stage_after stage (Some kind) ≡ Some next
     → (HasShape next extra (journey ++ line ∷ [])) ⊎ (HasShape next (line ∷ []) journey × (extra ≡ []) × (journey ≡ []))
@@ -255,8 +256,8 @@ no_stage_of_none after_details = refl
 no_stage_of_none in_journey = refl
 no_stage_of_none after_journey = refl
 
--- if records are at a stage and one more record has a next stage, the records with that record are
--- at the next stage
+-- if records are at a stage and one more record has a next stage, then with that record the records
+-- are at the next stage
 pub next_front : (stage : Stage) (lines : Lines) (line : List ℕ) (next : Stage) → IsFront stage lines → next_stage stage lines line ≡ Some next
     → IsFront next (lines ++ line ∷ [])
 next_front stage lines line next front test = by (kind_of line) refl (next_line_by_test stage lines line next test)
@@ -290,7 +291,7 @@ next_front stage lines line next front test = by (kind_of line) refl (next_line_
           sound = front.sound;
         }
 
--- ---- the end
+-- ---- records that may end at their stage are a schedule
 
 -- if a basic schedule passes the test `may_lack`, its journey may be missing
 pub lack_by_test : (basic : List ℕ) → may_lack basic ≡ true → MayLackJourney basic
@@ -476,7 +477,7 @@ front_begins stage lines front = by stage lines front
     by in_journey l f = inside l f
     by after_journey l f = ended l f
 
--- ---- the stage after records
+-- ---- the stage after records determines their structure
 
 front_from : (rest : Lines) (stage : Stage) (done : Lines) (final : Stage) → IsFront stage done → stage_from stage done rest ≡ Some final
     → IsFront final (done ++ rest)
@@ -487,7 +488,7 @@ front_from (line ∷ rest) stage done final front found =
     subst (IsFront final) (append_assoc done (line ∷ []) rest)
     (front_from rest step.0 (done ++ line ∷ []) final (next_front stage done line step.0 front step.1) step.2)
 
--- if the stage after records is `stage`, the records have the form for `stage`
+-- if the stage after records is `stage`, the records have the structure of `stage`
 pub front_of_stage : (lines : Lines) (stage : Stage) → stage_of lines ≡ Some stage → IsFront stage lines
 front_of_stage [] stage found = cc
 front_of_stage (basic ∷ rest) stage found = by (is_first_line basic) refl found
@@ -516,7 +517,7 @@ stage_of_append (basic ∷ rest) stage more found = by (is_first_line basic) ref
         (λ i. cond (h i) (stage_from after_basic (basic ∷ []) (rest ++ more)) None) ∙ stage_from_append rest after_basic (basic ∷ []) stage more told
     by false h told = cc
 
--- the stage after records and one more record is the next stage of that record
+-- the stage after one more record is the next stage of that record
 pub stage_of_more : (lines : Lines) (stage : Stage) (line : List ℕ) → stage_of lines ≡ Some stage → stage_of (lines ++ line ∷ []) ≡ next_stage stage lines line
 stage_of_more lines stage line found = stage_of_append lines stage (line ∷ []) found ∙ some_then (next_stage stage lines line)
 
@@ -533,7 +534,7 @@ stage_from_front (line ∷ front) rest stage done final found =
     let more = stage_from_front front rest step.0 (done ++ line ∷ []) final step.2 in
     (more.0, (λ i. option_and_then (λ next. stage_from next (done ++ line ∷ []) front) (step.1 i)) ∙ more.1)
 
--- if records have a stage, each prefix that isn't empty has a stage
+-- if records lead to a stage, each prefix that isn't empty leads to a stage
 pub stage_of_front : (basic : List ℕ) (front rest : Lines) (final : Stage) → stage_of (basic ∷ front ++ rest) ≡ Some final
     → (stage : Stage) × (stage_of (basic ∷ front) ≡ Some stage)
 stage_of_front basic front rest final found = by (is_first_line basic) refl found
@@ -545,9 +546,9 @@ stage_of_front basic front rest final found = by (is_first_line basic) refl foun
         (more.0, (λ i. cond (h i) (stage_from after_basic (basic ∷ []) front) None) ∙ more.1)
     by false h told = cc
 
--- ---- the records of a schedule have a stage
+-- ---- the records of a schedule lead to a stage
 
--- the stage after records, from their kinds only
+-- the stage after these records, judged only by their kinds
 abbrev pub stage_along : Stage → Lines → Option Stage
 stage_along stage [] = Some stage
 stage_along stage (line ∷ rest) = option_and_then (λ next. stage_along next rest) (stage_after stage (kind_of line))
@@ -603,7 +604,7 @@ pub record IsWholeBy (lines : Lines) (stage : Stage) : Type 0 where
   pub found : stage_of lines ≡ Some stage
   pub may : may_end stage lines ≡ true
 
--- the stage after the records, by the kinds of the records after the first, is a stage at which the
+-- judged by the kinds of the records after the first, the records lead to a stage at which the
 -- schedule may end
 record LeadsToEnd (basic : List ℕ) (rest : Lines) : Type 0 where
   pub final : Stage
@@ -634,7 +635,7 @@ extra_fields : (extra : Lines) → AreExtraDetails extra → AllByRecursion HasG
 extra_fields extra (inl none) = subst (AllByRecursion HasGoodFields) (sym none) tt
 extra_fields extra (inr one) = subst (AllByRecursion HasGoodFields) (sym one.1) (no_extra_fields one.0 one.2, tt)
 
--- the records of a schedule have a stage at which the schedule may end
+-- the records of a schedule lead to a stage at which the schedule may end
 pub stage_of_schedule : (lines : Lines) → IsSchedule lines → (stage : Stage) × IsWholeBy lines stage
 stage_of_schedule lines is = subst (λ l. (stage : Stage) × IsWholeBy l stage) (sym is.whole) (lead.final, record { found = found; may = lead.may })
   where
@@ -659,11 +660,11 @@ stage_of_schedule lines is = subst (λ l. (stage : Stage) × IsWholeBy l stage) 
 
 -- ---- the laws
 
--- records are a schedule if and only if they have a stage at which the schedule may end
+-- records are a schedule if and only if they lead to a stage at which the schedule may end
 pub schedule_iff_stage : (lines : Lines) → IsSchedule lines ↔ ((stage : Stage) × IsWholeBy lines stage)
 schedule_iff_stage lines = (stage_of_schedule lines, λ whole. schedule_of_front whole.0 lines (front_of_stage lines whole.0 whole.1.found) whole.1.may)
 
--- records begin a schedule if and only if they have a stage
+-- records begin a schedule if and only if they lead to a stage
 pub begins_iff_stage : (basic : List ℕ) (rest : Lines) → BeginsSchedule (basic ∷ rest) ↔ ((stage : Stage) × (stage_of (basic ∷ rest) ≡ Some stage))
 begins_iff_stage basic rest = (
   λ begins. let whole = stage_of_schedule ((basic ∷ rest) ++ begins.0) begins.1 in stage_of_front basic rest begins.0 whole.0 whole.1.found,
@@ -679,8 +680,8 @@ no_lines_begin =
       fields = witness_fields basic_schedule;
     })))
 
--- if records have a stage, then they and one more record begin a schedule if and only if that
--- record has a next stage
+-- if records lead to a stage, then with one more record they begin a schedule if and only if the
+-- added record has a next stage
 pub begins_more_iff : (basic : List ℕ) (rest : Lines) (stage : Stage) (line : List ℕ) → stage_of (basic ∷ rest) ≡ Some stage
     → BeginsSchedule (basic ∷ rest ++ line ∷ []) ↔ ((next : Stage) × IsNextLine stage (basic ∷ rest) line next)
 begins_more_iff basic rest stage line at = (
@@ -695,7 +696,7 @@ begins_more_iff basic rest stage line at = (
       ),
 )
 
--- it is decided whether records begin a schedule
+-- it is decidable whether records begin a schedule
 pub begins_schedule_or_not : (lines : Lines) → BeginsSchedule lines ⊎ ¬ BeginsSchedule lines
 begins_schedule_or_not [] = inl no_lines_begin
 begins_schedule_or_not (basic ∷ rest) = by (stage_of (basic ∷ rest)) refl
@@ -704,7 +705,7 @@ begins_schedule_or_not (basic ∷ rest) = by (stage_of (basic ∷ rest)) refl
     by None h = inr (λ begins. let at = (begins_iff_stage basic rest).0 begins in let bad : None ≡ Some at.0 = sym h ∙ at.1 in cc)
     by (Some stage) h = inl ((begins_iff_stage basic rest).1 (stage, h))
 
--- it is decided whether records are a schedule
+-- it is decidable whether records are a schedule
 pub schedule_or_not : (lines : Lines) → IsSchedule lines ⊎ ¬ IsSchedule lines
 schedule_or_not lines = by (stage_of lines) refl
   where
@@ -720,10 +721,10 @@ schedule_or_not lines = by (stage_of lines) refl
             let same : whole.0 ≡ stage = cc in
             let bad : true ≡ false = sym whole.1.may ∙ ap (λ s. may_end s lines) same ∙ may in cc)
 
--- ---- which kinds are in place
+-- ---- which kinds of record may come at a stage
 
--- a record that has no next stage by its kind is out of place: no schedule has a record of this
--- kind after the earlier records
+-- if the kind of a record has no next stage, the record is out of place: no schedule has a record
+-- of this kind after the earlier records
 pub schedule_out_of_place : (basic : List ℕ) (rest : Lines) (stage : Stage) (line : List ℕ) → stage_of (basic ∷ rest) ≡ Some stage
     → stage_after stage (kind_of line) ≡ None
     → (next : List ℕ) → kind_of next ≡ kind_of line → ¬ BeginsSchedule (basic ∷ rest ++ next ∷ [])
@@ -738,7 +739,7 @@ pub schedule_in_place : (basic : List ℕ) (rest : Lines) (stage : Stage) (kind 
 schedule_in_place basic rest stage kind next at found =
     front_begins next (basic ∷ rest ++ witness kind ∷ []) (witness_front stage (basic ∷ rest) kind next (front_of_stage (basic ∷ rest) stage at) found)
 
--- ---- why a record has no next stage
+-- ---- the reason why a record has no next stage
 
 -- the record's kind is out of place, a field is bad, or the schedule passes midnight for the third
 -- time. In a deletion only the kind is checked

@@ -38,8 +38,8 @@ pub record IsOfAssociation (live : Table) (place : List ℕ) (day : ℕ) (key : 
   pub of_key : made.key ≡ key
   pub of_start : made.start ≡ start
 
--- the association may have a docker line for this start day. It is the chosen association of its
--- group, isn't a cancellation, and its date indicator is S, a space, N or P
+-- the association may have a docker line for this start day. The association is the chosen
+-- association of its group, isn't a cancellation, and has the date indicator S, a space, N or P
 pub record IsInForce (live : Table) (start : ℕ) (key : AssociationKey) (line : List ℕ) : Type 0 where
   pub chosen : IsChosenAssociation live (group_of key) start key line
   pub no_cancellation : ¬ (key.indicator ≡ 67)
@@ -56,7 +56,7 @@ module _ (live : Table) (trains : List ℕ → ℕ → Option Train) (links : Gr
       by None none = inr (none, refl)
       by (Some train) runs = inl (train.key, train.lines, runs, refl)
 
-  -- ---- associations that may give a line
+  -- ---- an association may have a docker line if and only if it passes `is_in_force`
 
   counts : (key : AssociationKey) (line : List ℕ) (start : ℕ) → live (association_key key) ≡ Some (association_body line)
       → counts_as (links (group_of key) start) key ≡ true
@@ -107,7 +107,7 @@ module _ (live : Table) (trains : List ℕ → ℕ → Option Train) (links : Gr
       counted : counts_as (links (group_of key) start) key ≡ true
       counted = by (links (group_of key) start) (tell_links (group_of key) start)
 
-  -- ---- the line
+  -- ---- the docker has each line of an association, and no other lines of associations
 
   made_at : (key : AssociationKey) (line : List ℕ) (start : ℕ) → key.location ≡ place → IsInForce live start key line → (occasion : Occasion)
       → category_occasion (columns 35 36 line) ≡ Some occasion

@@ -1,4 +1,4 @@
--- The chosen schedule and the chosen association, computed by a walk over rows.
+-- The chosen schedule and the chosen association can be computed by a walk over rows.
 use Rattle.std.proofs.Common.{◌≡◌, ℕ, List, [], ◌∷◌, ◌++◌, refl, ap, sym, ◌∙◌, subst, None, append-nil}
 use Rattle.std.specs.Prelude.{Option}
 use Rattle.std.specs.Ordering.{on}
@@ -20,7 +20,7 @@ link_total : IsTotalOrder (on (λ (link : Link). link.key) association_choice_cm
 link_total = on_total (λ (link : Link). link.key) association_choice_total
 
 module _ (uid : List ℕ) (day : ℕ) where
-  -- of the empty list of rows, no schedule is chosen
+  -- from the empty list of rows, no schedule is chosen
   pub none_chosen : IsChosenSoFar uid day [] None
   none_chosen = best_of_none train_total (is_running uid day)
 
@@ -33,7 +33,7 @@ module _ (uid : List ℕ) (day : ℕ) where
       subst (λ trains. IsBest (on (λ (train : Train). train.key) schedule_choice_cmp) (is_running uid day) trains found)
       (sym (trains_more rows row ∙ ap (λ more. schedules_in rows ++ more) none ∙ append-nil (schedules_in rows))) best
 
-  -- `next_chosen` is the chosen schedule after one more row
+  -- `next_chosen` is the chosen schedule after one more row is appended
   pub chosen_more : (rows : List Row) (key : Key) (body : Body) (found : Option Train) → IsChosenSoFar uid day rows found
       → IsChosenSoFar uid day (rows ++ (key, body) ∷ []) (next_chosen uid day found key body)
   chosen_more rows (schedule_key key) (schedule_body lines) found best =
@@ -47,7 +47,7 @@ module _ (uid : List ℕ) (day : ℕ) where
   chosen_more rows (association_key key) body found best = other_row rows (association_key key, body) found refl best
 
 module _ (group : Group) (day : ℕ) where
-  -- of the empty list of rows, no association is chosen
+  -- from the empty list of rows, no association is chosen
   pub none_linked : IsLinkSoFar group day [] None
   none_linked = best_of_none link_total (is_linked group day)
 
@@ -60,7 +60,7 @@ module _ (group : Group) (day : ℕ) where
       subst (λ links. IsBest (on (λ (link : Link). link.key) association_choice_cmp) (is_linked group day) links found)
       (sym (links_more rows row ∙ ap (λ more. associations_in rows ++ more) none ∙ append-nil (associations_in rows))) best
 
-  -- `next_link` is the chosen association after one more row
+  -- `next_link` is the chosen association after one more row is appended
   pub link_more : (rows : List Row) (key : Key) (body : Body) (found : Option Link) → IsLinkSoFar group day rows found
       → IsLinkSoFar group day (rows ++ (key, body) ∷ []) (next_link group day found key body)
   link_more rows (association_key key) (association_body line) found best =

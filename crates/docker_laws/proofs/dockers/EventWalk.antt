@@ -1,5 +1,5 @@
--- The events of a schedule, computed by a walk over its records. The walk keeps the number of falls
--- and the last change en route. A fall is a time that is earlier than the time before it.
+-- The events of a schedule can be computed by a walk over its records. The walk keeps the number of
+-- falls and the last change en route. A fall is a time that is earlier than the time before it.
 use Rattle.std.proofs.Common.{◌≡◌, ℕ, zero, suc, ◌+◌, ◌<◌, ◌≤◌, Bool, true, false, cond, List, [], ◌∷◌, ◌++◌, map, length, get_or}
 use Rattle.std.proofs.Common.{take, refl, ap, sym, ◌∙◌, subst, arith, Contains, Some, None, append_assoc, append-nil, length-append}
 use Rattle.std.specs.Prelude.{Option, ◌↔◌, nat_lt, filter, codes}
@@ -23,7 +23,7 @@ as_event counted = record { number = counted.0; place = counted.1.0; occasion = 
 abbrev times_at : ℕ × List ℕ → List Placed
 times_at placed = map (λ time. (placed.0, time)) (times_of placed.1)
 
--- ---- the order of events
+-- ---- the walk computes the events in order
 
 numbered_append : {A : Type 0} (n : ℕ) (xs ys : List A) → enumerate_from n (xs ++ ys) ≡ enumerate_from n xs ++ enumerate_from (n + length xs) ys
 numbered_append n [] ys = (let e : n ≡ n + 0 = omega arith in ap (λ k. enumerate_from k ys) e)
@@ -50,7 +50,7 @@ from_is n place (line ∷ lines) =
 pub events_walked : (lines : List (List ℕ)) → events_of lines ≡ events_from 1 0 lines
 events_walked lines = from_is 1 0 lines
 
--- ---- falls
+-- ---- the number of falls can be computed time by time
 
 -- appending a time adds one fall if the time is earlier than the last time, and otherwise leaves
 -- the number of falls unchanged
@@ -80,14 +80,15 @@ times_split front line rest =
     ∙ map-append (λ (time : Occasion × ℕ). time.1) (flat_map times_of front) (times_of line ++ flat_map times_of rest)
     ∙ ap (λ more. times_along front ++ more) (map-append (λ (time : Occasion × ℕ). time.1) (times_of line) (flat_map times_of rest))
 
--- ---- the record and the train identity at an event
+-- ---- the walk computes the record and the train identity of an event
 
--- the record of an event is the record that the walk has reached
+-- if the index of an event's record is the number of records before `line`, the event's record is
+-- `line`
 pub line_here : (front : List (List ℕ)) (line : List ℕ) (rest : List (List ℕ)) (event : Event) → event.place ≡ length front
     → event_line (front ++ line ∷ rest) event ≡ line
 line_here front line rest event is = ap (λ n. get_or (front ++ line ∷ rest) n []) is ∙ get_or-append_seam front line rest []
 
--- the train identity at an event is computed from the last change en route before the event's
+-- the train identity at an event can be computed from the last change en route before the event's
 -- record
 pub identity_here : (front rest : List (List ℕ)) (event : Event) → event.place ≡ length front → event_identity (front ++ rest) event ≡ changed_identity
     (last_change front) (first_record (front ++ rest))
@@ -114,7 +115,7 @@ change_more front line =
     by true = last_behind None kept line
     by false = ap (last_or None) (append-nil kept)
 
--- ---- the number of events
+-- ---- the events are numbered from 1 to the number of times
 
 -- the number of a schedule's events equals the number of its times
 pub as_many : (lines : List (List ℕ)) → length (events_of lines) ≡ length (times_along lines)

@@ -19,7 +19,7 @@ Placed = ℕ × (Occasion × ℕ)
 abbrev as_event : ℕ × Placed → Event
 as_event counted = record { number = counted.0; place = counted.1.0; occasion = counted.1.1.0; time = counted.1.1.1 }
 
--- ---- numbers
+-- ---- the numbers of the events are strictly increasing
 
 from_here : {A : Type 0} (n : ℕ) (xs : List A) (z : ℕ × A) → Contains (enumerate_from n xs) z → n ≤ z.0
 from_here n [] z among = absurd (nil-Contains z among)
@@ -49,7 +49,7 @@ one_event lines a b in_a in_b same = by (one_before (λ (x y : Event). x.number 
     by (inr (inl below)) = absurd (omega arith)
     by (inr (inr above)) = absurd (omega arith)
 
--- ---- the record of an event
+-- ---- the record of each event contains the event's occasion and time
 
 -- a member of `enumerate_from n xs` has the number `n + k` and the element of `xs` at index `k`,
 -- for some `k`
@@ -64,8 +64,7 @@ stands_at n (x ∷ xs) z d among = by (stands_at (n + 1) xs z d) (Contains-cons 
     by rest (inl e) = (0, (let same : n ≡ z.0 = ap (λ (v : ℕ × _). v.0) e in omega arith), omega arith, ap (λ (v : ℕ × _). v.1) e)
     by rest (inr inside) = let found = rest inside in (suc found.0, (let at = found.1 in omega arith), (let low = found.2 in omega arith), found.3)
 
--- the record of the event is a record of the schedule, and the event's occasion and time are in
--- that record
+-- the event's record is a record of the schedule, and contains the event's occasion and time
 pub record IsTimeOf (lines : List (List ℕ)) (event : Event) : Type 0 where
   pub among : Contains lines (event_line lines event)
   pub is_time : Contains (times_of (event_line lines event)) (event.occasion, event.time)
@@ -75,7 +74,7 @@ same_at [] k x low is = absurd (omega arith)
 same_at (y ∷ ys) zero x low is = is
 same_at (y ∷ ys) (suc k) x low is = same_at ys k x (omega arith) is
 
--- if an event is placed at a record and has an occasion and time of that record, `IsTimeOf` holds
+-- if the record of an event contains the event's occasion and time, `IsTimeOf` holds
 time_of_line : (lines : List (List ℕ)) (event : Event) (k : ℕ) (line : List ℕ) → k < length lines → get_or lines k [] ≡ line → event.place ≡ k
     → Contains (times_of line) (event.occasion, event.time) → IsTimeOf lines event
 time_of_line lines event k line low is place among =
@@ -85,7 +84,7 @@ time_of_line lines event k line low is place among =
       is_time = subst (λ l. Contains (times_of l) (event.occasion, event.time)) (sym line_is) among;
     }
 
--- each time in `placed_times` is a time of the record at its place
+-- each time in `placed_times` is a time of the record with the same index
 time_of_placed : (lines : List (List ℕ)) (placed : Placed) → Contains (placed_times lines) placed
     → (line : List ℕ) × (placed.0 < length lines) × (get_or lines placed.0 [] ≡ line) × Contains (times_of line) placed.1
 time_of_placed lines placed among =
@@ -111,7 +110,7 @@ time_of_placed lines placed among =
         let time = Contains-map (λ (t : Occasion × ℕ). (piece.0, t)) (times_of piece.1) placed inside in
         at piece.0 piece.1 stands.0 stands.1 stands.2 stands.3 time.0 time.1 time.2
 
--- each event's occasion and time are in the event's record
+-- the record of each event contains the event's occasion and time
 pub at_a_line : (lines : List (List ℕ)) (event : Event) → Contains (events_of lines) event → IsTimeOf lines event
 at_a_line lines event among = by (Contains-map as_event (enumerate_from 1 (placed_times lines)) event among)
   where
@@ -125,7 +124,7 @@ at_a_line lines event among = by (Contains-map as_event (enumerate_from 1 (place
         let inside : Contains (placed_times lines) counted.1 = (stands.0, stands.2, stands.3) in
         at counted.1 (sym (ap (λ (e : Event). e.place) same), sym (ap (λ (e : Event). (e.occasion, e.time)) same)) (time_of_placed lines counted.1 inside)
 
--- ---- what happens at an event
+-- ---- each event is an arrival, a pass or a departure, at a location record
 
 -- the occasion is an event of a train: an arrival, a pass or a departure
 abbrev pub IsOfTrain : Occasion → Type 0

@@ -17,7 +17,7 @@ use Rattle.docker_laws.proofs.dockers.Events.{event_calls}
 use Rattle.docker_laws.proofs.dockers.OneDockerLine.{first_event_is}
 use Rattle.docker_laws.proofs.dockers.LapsedDocker.{text_with}
 
--- ---- two tables with the same schedules for a UID
+-- ---- two tables with the same schedules for a UID have the same trains of the UID
 
 abbrev HaveSameSchedules : Table → Table → List ℕ → Type 0
 HaveSameSchedules one other uid = (key : ScheduleKey) → key.uid ≡ uid → one (schedule_key key) ≡ other (schedule_key key)
@@ -51,7 +51,7 @@ partner_over : (one other : Table) (uid : List ℕ) (day : Option ℕ) (identity
 partner_over one other uid None identity same is = is
 partner_over one other uid (Some day) identity same is = identity_over one other uid identity day same is
 
--- ---- two tables with the same associations for a group
+-- ---- two tables with the same associations for a group choose the same associations
 
 abbrev HaveSameAssociations : Table → Table → Group → Type 0
 HaveSameAssociations one other group = (key : AssociationKey) → group_of key ≡ group → one (association_key key) ≡ other (association_key key)
@@ -69,10 +69,10 @@ association_over one other group day key line same is = record {
       (associated_over other one group day another others (λ link of. sym (same link of)) runs);
 }
 
--- ---- from the docker of one table to the docker of another
+-- ---- if one table covers another, it has all docker lines of the other table
 
 -- the table `other` has all schedules and associations on which the docker of the place in `one`
--- depends. These are all schedules of each UID that matters to the docker, and all associations of
+-- depends. These are all schedules of each UID on which the docker depends, and all associations of
 -- each group at the place
 record Covers (one other : Table) (place : List ℕ) : Type 0 where
   calls : (key : ScheduleKey) (lines : List (List ℕ)) → one (schedule_key key) ≡ Some (schedule_body lines) → CallsAt place lines
@@ -140,10 +140,10 @@ list_over one other place day forth back lines is = record {
   );
 }
 
--- ---- a table and its excerpt
+-- ---- a table and its excerpt have the same docker
 
 module _ (place : List ℕ) (live part : Table) (is : IsExcerpt place live part) where
-  -- the excerpt equals the table at each key that the place needs
+  -- the excerpt equals the table at each key that the docker of the place needs
   pub same_where_needed : (key : Key) → IsNeeded live place key → part key ≡ live key
   same_where_needed key needed = by (is key)
     where

@@ -1,5 +1,6 @@
--- An excerpt of a valid state for a place is valid, refuses the same days, and has the same dockers
--- of the place. The entries whose keys the place needs are an excerpt.
+-- An excerpt of a valid state for a place is valid and has the same dockers of the place, and its
+-- horizon refuses the same days. The entries whose keys are needed for these dockers are an
+-- excerpt.
 use Rattle.std.proofs.Common.{◌++◌, ◌≡◌, ℕ, List, [], ◌∷◌, subst, inl, inr, ◌⊎◌, refl, ap, sym, ◌∙◌, Bool, true, false, cond, Some, None}
 use Rattle.std.specs.Prelude.{Option, ◌↔◌, ◌&&◌, ◌||◌, filter, find, option_and_then}
 use Rattle.std.specs.List.{list_any}
@@ -30,9 +31,9 @@ use Rattle.docker_laws.proofs.dockers.GoodBodies.{live_entry}
 use Rattle.docker_laws.proofs.dockers.ExcerptDocker.{same_where_needed}
 use Rattle.state_laws.proofs.indexes.CallsTest.{any_forth, calls_test}
 
--- ---- an excerpt of a state
+-- ---- an excerpt of a valid state is valid
 
--- a sublist of good entries of a ledger is good
+-- if entries may be the entries of a state with a ledger, so may a sublist of these entries
 pub some_entries : (ledger : List LedgerItem) (some all : List Keyed) → AreEntries ledger all → IsSublist some all → AreEntries ledger some
 some_entries ledger some all are is = (
   sublist_all (IsGoodEntry ledger) some all is are.0,
@@ -50,7 +51,8 @@ still_here state part key stamp is same here = (
   subst (λ ledger. IsStampIn ledger stamp) (sym same) here.1,
 )
 
--- good entries with an appended entry that may follow them are good
+-- if an entry may follow the entries of a state, a state may also have these entries with that
+-- entry appended
 pub entries_more : (state : State) (key : Key) (entry : Entry) → AreEntries state.ledger state.entries → IsStampHere state key entry.stamp
     → IsOpOf key entry.op
     → AreEntries state.ledger (state.entries ++ (key, entry) ∷ [])
@@ -62,7 +64,7 @@ entries_more state key entry are here of = (
       (recursion_from_All (λ (e : Keyed). IsBelow key_cmp e.0 key) state.entries here.0.1),
 )
 
--- among good entries each entry may follow the entries before it
+-- each entry of a state may follow the entries before it
 pub entry_behind : (state : State) (key : Key) (entry : Entry) (rest : List Keyed) → AreEntries state.ledger (state.entries ++ (key, entry) ∷ rest)
     → IsStampHere state key entry.stamp × IsOpOf key entry.op
 entry_behind state key entry rest are =
@@ -143,13 +145,13 @@ excerpt_again place state part smaller is further = record {
     by key (inl same) = inner key same (is.live key)
     by key (inr none) = inr (none.0, λ needed. none.1 (needed_still key needed))
 
--- an excerpt refuses the same days as its state
+-- the horizon of an excerpt refuses the same days as the horizon of the state
 pub excerpt_refuses : (place : List ℕ) (state part : State) (day : ℕ) → IsExcerptState place state part
     → IsDayRefused state.horizon day ↔ IsDayRefused part.horizon day
 excerpt_refuses place state part day is =
     (subst (λ horizon. IsDayRefused horizon day) (sym is.horizon), subst (λ horizon. IsDayRefused horizon day) is.horizon)
 
--- ---- the entries whose keys pass a test
+-- ---- leaving out the keys that fail a test leaves the bodies at all other keys unchanged
 
 module _ (test : Key → Bool) where
   -- a search for a key that passes the test finds the same entry among the entries that pass
@@ -196,13 +198,13 @@ module _ (test : Key → Bool) where
   pub live_dropped : (state : State) (key : Key) → test key ≡ false → live_table (with_passing state) key ≡ None
   live_dropped state key fails = live_none (with_passing state) key (find_dropped key fails state.entries)
 
--- ---- the keys that a place needs, found from the entries
+-- ---- the keys that the docker of a place needs can be found from the entries
 
 -- whether the entry is a live schedule of the UID that calls at the place
 abbrev pub calls_as : List ℕ → List ℕ → Keyed → Bool
 calls_as place uid entry = has_uid uid entry.0 && is_call place entry.1.op
 
--- whether the optional UID is present and is this UID
+-- whether the optional UID is present and equals this UID
 abbrev pub is_name : List ℕ → Option (List ℕ) → Bool
 is_name uid None = false
 is_name uid (Some name) = bytes_eq name uid
@@ -211,11 +213,11 @@ is_name uid (Some name) = bytes_eq name uid
 abbrev pub names_as : List ℕ → List ℕ → Keyed → Bool
 names_as place uid entry = is_here place entry.0 && is_name uid (name_in entry.0 entry.1.op)
 
--- whether the UID matters at the place, by a test of the entries
+-- whether the docker of the place may depend on the schedules of this UID, by a test of the entries
 abbrev pub is_concerned : List ℕ → List Keyed → List ℕ → Bool
 is_concerned place entries uid = list_any (names_as place uid) entries || list_any (calls_as place uid) entries
 
--- whether the place needs the key, by a test of the entries
+-- whether the docker of the place may depend on this key, by a test of the entries
 abbrev pub is_needed : List ℕ → List Keyed → Key → Bool
 is_needed place entries (tiploc_key code) = bytes_eq code place
 is_needed place entries (association_key key) = bytes_eq key.location place
@@ -231,7 +233,7 @@ pub or_left : (a b : Bool) → a ≡ true → (a || b) ≡ true
 or_left true b h = refl
 or_left false b h = absurd (let bad : false ≡ true = h in cc)
 
--- a key that the place needs passes the test `is_needed`
+-- a key that the docker of the place needs passes the test `is_needed`
 pub needed_passes : (place : List ℕ) (state : State) (key : Key) → IsNeeded (live_table state) place key → is_needed place state.entries key ≡ true
 needed_passes place state (tiploc_key code) here = (bytes_eq-Decides code place).1 here
 needed_passes place state (association_key key) here = (bytes_eq-Decides key.location place).1 here

@@ -29,7 +29,7 @@ use Rattle.state_laws.proofs.indexes.CallsTest.{any_back, any_forth, calls_test,
 use Rattle.docker_laws.proofs.dockers.ExcerptState.{calls_as, names_as, is_name, is_needed, needed_passes, some_entries, or_left, or_right}
 use Rattle.docker_laws.proofs.dockers.ExcerptWalk.{false_true, uid_once, above_uid, name_of, walk_keeps}
 
--- ---- what holds at each point of a walk
+-- ---- a property that each step preserves holds at each point of a walk
 
 fold_more : {A B : Type 0} (f : B → A → B) (first : B) (xs ys : List A) → fold f first (xs ++ ys) ≡ fold f (fold f first xs) ys
 fold_more f first [] ys = refl
@@ -58,9 +58,9 @@ module _ (place : List ℕ) (P : List Keyed → ExcerptSoFar → Type 0)
   all_along : P [] nothing_kept → (entries : List Keyed) → P entries (kept_so_far place entries)
   all_along first entries = onward entries [] nothing_kept first
 
--- ---- the kept entries and the run are some of the entries passed
+-- ---- the kept entries and the run are a sublist of the entries passed
 
--- at the end of a run, the kept entries are a sublist of the entries kept before, followed by the
+-- at the end of a run, the kept entries are a sublist of the earlier kept entries followed by the
 -- run
 pub after_run_within : (place : List ℕ) (so_far : ExcerptSoFar) → IsSublist (kept_after_run place so_far) (so_far.kept ++ so_far.run)
 after_run_within place so_far = by (is_run_needed place so_far)
@@ -120,7 +120,8 @@ module _ (place : List ℕ) where
   pub so_far_within : (entries : List Keyed) → IsSublist ((kept_so_far place entries).kept ++ (kept_so_far place entries).run) entries
   so_far_within = all_along place Within (λ done so_far x here. within_more done so_far x.0 x.1 here) tt
 
-  -- if all entries passed are good, the kept entries followed by the run are good
+  -- if the entries passed may be the entries of a state, so may the kept entries followed by the
+  -- run
   pub so_far_good : (ledger : List LedgerItem) (entries : List Keyed) → AreEntries ledger entries
       → AreEntries ledger ((kept_so_far place entries).kept ++ (kept_so_far place entries).run)
   so_far_good ledger entries are =
@@ -190,7 +191,7 @@ module _ (place : List ℕ) where
       let is = above_uid r.0 key of.0 (member_of (λ (e : Keyed). IsBelow key_cmp e.0 key) entries r above inside) (of.1 r among) in
       false_true (sym (never is.0) ∙ is.1))
 
-  -- ---- the UIDs that kept associations name
+  -- ---- the kept entries have the UIDs of all associated trains at the place
 
   abbrev at_place : List Keyed → List Keyed
   at_place entries = filter (λ (entry : Keyed). is_here place entry.0) entries
@@ -254,13 +255,14 @@ module _ (place : List ℕ) where
   named_more done so_far (tiploc_key code) entry here = named_other done so_far (tiploc_key code, entry) (is_here place (tiploc_key code)) refl here
   named_more done so_far (association_key key) entry here = named_other done so_far (association_key key, entry) (is_here place (association_key key)) refl here
 
-  -- the UIDs of associated trains are the same in the kept associations as in all live associations
-  -- at the place that the walk has passed
+  -- in the kept entries, the UIDs of associated trains are those in all live associations at the
+  -- place that the walk has passed
   pub names_so_far : (entries : List Keyed)
       → names_in (kept_so_far place entries).kept ≡ names_in (filter (λ (entry : Keyed). is_here place entry.0) entries)
   names_so_far entries = (all_along place AreNamed (λ done so_far x here. named_more done so_far x.0 x.1 here) (refl, refl) entries).0
 
-  -- a schedule leaves the UIDs of associated trains in the kept entries unchanged
+  -- when the walk passes a schedule, the UIDs of associated trains in the kept entries stay the
+  -- same
   pub names_stay : (entries : List Keyed) (key : ScheduleKey) (entry : Entry)
       → names_in (kept_so_far place (entries ++ (schedule_key key, entry) ∷ [])).kept ≡ names_in (kept_so_far place entries).kept
   names_stay entries key entry =
@@ -268,7 +270,7 @@ module _ (place : List ℕ) where
       filter-append (λ (e : Keyed). is_here place e.0) entries ((schedule_key key, entry) ∷ []) ∙ append-nil (at_place entries) in
       names_so_far (entries ++ (schedule_key key, entry) ∷ []) ∙ ap names_in same ∙ sym (names_so_far entries)
 
--- ---- one step
+-- ---- each step of the walk keeps, drops or postpones an entry
 
 module _ (place : List ℕ) (so_far : ExcerptSoFar) where
   -- a schedule of the run's UID is appended to the run
@@ -324,7 +326,8 @@ module _ (place : List ℕ) (so_far : ExcerptSoFar) where
   drops_elsewhere (association_key key) entry never elsewhere none =
       elsewhere_then (association_key key, entry) (is_here place (association_key key)) elsewhere none
 
--- `is_run_named` holds for a run if and only if the UID of its first schedule is among the names
+-- `is_run_named` holds for a run if and only if the UID of its first schedule is in the list of
+-- UIDs
 pub named_iff : (names : List (List ℕ)) (key : ScheduleKey) (entry : Entry) (others : List Keyed)
     → (is_run_named names ((schedule_key key, entry) ∷ others) ≡ true) ↔ Contains names key.uid
 named_iff names key entry others = (
@@ -373,12 +376,12 @@ calls_more place run entry =
     list_any-append (λ (e : Keyed). is_call place e.1.op) run (entry ∷ [])
     ∙ ap (λ b. is_run_calling place run || b) (or_false (is_call place entry.1.op))
 
--- the names in entries with one entry appended are the names in the entries, followed by the name
--- in that entry
+-- when an entry is appended to entries, the UID of its associated train, if any, is appended to the
+-- UIDs of associated trains
 pub names_with : (xs : List Keyed) (entry : Keyed) → names_in (xs ++ entry ∷ []) ≡ names_in xs ++ names_in (entry ∷ [])
 names_with xs entry = filter_map-append (λ (e : Keyed). name_in e.0 e.1.op) xs (entry ∷ [])
 
--- ---- what is kept at the end
+-- ---- at the end, an entry is kept if and only if the docker of the place needs its key
 
 -- at the key of an entry, the live table has the body of that entry
 live_of : (state : State) → AreAscending state.entries → (key : Key) (entry : Entry) → Contains state.entries (key, entry)
@@ -459,7 +462,8 @@ module _ (place : List ℕ) (state : State) (up : AreAscending state.entries) wh
   passes_needed (schedule_key key) h =
       concerned_back key.uid (either (list_any (names_as place key.uid) state.entries) (list_any (calls_as place key.uid) state.entries) h)
 
-  -- an entry is in the excerpt if and only if it is in the state and the place needs its key
+  -- an entry is in the excerpt if and only if it is in the state and the docker of the place needs
+  -- its key
   pub excerpt_members : (key : Key) (entry : Entry)
       → Contains (excerpt_for place state).entries (key, entry) ↔ (Contains state.entries (key, entry) × IsNeeded (live_table state) place key)
   excerpt_members key entry =

@@ -1,5 +1,5 @@
--- The walk that computes an excerpt, as a loop. The loop keeps three values: the kept entries, the
--- run, and a flag that says whether the run is needed.
+-- A loop can compute an excerpt. It keeps three values: the kept entries, the run, and a flag that
+-- says whether the run is needed.
 use Rattle.std.proofs.Common.{◌≡◌, ℕ, List, [], ◌∷◌, ◌++◌, subst, refl, ap, sym, ◌∙◌, Bool, true, false, cond, Contains}
 use Rattle.std.specs.Prelude.{◌||◌, ◌↔◌}
 use Rattle.docker_model.specs.file.Change.{Key, schedule_key, ScheduleKey}
@@ -91,7 +91,8 @@ module _ (place : List ℕ) (entries kept run : List Keyed) (needed : Bool) (has
   pub kept_within : IsSublist (kept ++ run) entries
   kept_within = subst (λ (so_far : ExcerptSoFar). IsSublist (so_far.kept ++ so_far.run) entries) has.so_far (so_far_within place entries)
 
-  -- if all entries passed are good, the kept entries followed by the run are good
+  -- if the entries passed may be the entries of a state, so may the kept entries followed by the
+  -- run
   pub kept_good : (ledger : List LedgerItem) → AreEntries ledger entries → AreEntries ledger (kept ++ run)
   kept_good ledger are = subst (λ (so_far : ExcerptSoFar). AreEntries ledger (so_far.kept ++ so_far.run)) has.so_far (so_far_good place ledger entries are)
 

@@ -1,5 +1,5 @@
--- A walk over entries in key order keeps an entry if and only if the place needs its key. The test
--- `is_needed` decides this from the entries.
+-- A walk over entries in key order keeps an entry if and only if the docker of the place needs its
+-- key. The test `is_needed` decides this from the entries.
 use Rattle.std.proofs.Common.{◌≡◌, ℕ, List, [], ◌∷◌, ◌++◌, subst, inl, inr, ◌⊎◌, refl, ap, sym, ◌∙◌}
 use Rattle.std.proofs.Common.{Bool, true, false, cond, Some, None, Contains, append-nil, append_assoc}
 use Rattle.std.specs.Prelude.{◌↔◌, Option, ◌||◌, filter}
@@ -32,7 +32,7 @@ use Rattle.docker_laws.proofs.dockers.ExcerptDocker.{excerpt_list_iff, excerpt_t
 use Rattle.docker_laws.proofs.dockers.ExcerptState.{calls_as, names_as, is_name, is_concerned, is_needed, passing_is_excerpt, excerpt_valid}
 use Rattle.state_laws.proofs.indexes.CallsTest.{any_back, any_forth}
 
--- ---- keys with one UID
+-- ---- in key order, no other key is between the keys of one UID
 
 -- anything follows if `false` equals `true`
 pub false_true : {A : Type 0} → false ≡ true → A
@@ -82,7 +82,7 @@ between_uid (schedule_key a) (association_key b) c uid up further h g = absurd (
 between_uid (tiploc_key a) b c uid up further h g = false_true h
 between_uid (association_key a) b c uid up further h g = false_true h
 
--- ---- lists
+-- ---- lists in key order
 
 -- the key of the first entry is below the key of the second
 abbrev pub Below : Keyed → Keyed → Type 0
@@ -122,7 +122,7 @@ same_tests true b to back = sym (to refl)
 same_tests false true to back = back refl
 same_tests false false to back = refl
 
--- ---- the position of a walk
+-- ---- the invariant of a walk
 
 -- The invariant of the walk. The list of all entries is `done`, followed by the run of `so_far` and
 -- by `rest`. The kept entries are the needed entries of `done`. All entries of the run have one
@@ -162,7 +162,7 @@ module _ (place : List ℕ) (all : List Keyed) (order : AllLater Below all) wher
   needed_of_uid uid (tiploc_key code) h = false_true h
   needed_of_uid uid (association_key key) h = false_true h
 
-  -- ---- the end of a run
+  -- ---- at the end of a run, the invariant still holds
   module _ (done kept : List Keyed) (first : Keyed) (others rest : List Keyed)
       (at : IsAt place all done (record { kept = kept; run = first ∷ others }) rest) (ended : IsEnded (first ∷ others) rest) where
     of_first : has_uid at.uid first.0 ≡ true
@@ -278,7 +278,7 @@ module _ (place : List ℕ) (all : List Keyed) (order : AllLater Below all) wher
   run_end done kept [] rest at ended = at.kept ∙ ap (filter (λ (entry : Keyed). is_needed place all entry.0)) (sym (append-nil done))
   run_end done kept (first ∷ others) rest at ended = ended_run done kept first others rest at ended
 
-  -- ---- one more entry
+  -- ---- one more entry preserves the invariant
 
   -- each entry of the run is below the next entry
   run_below : (done : List Keyed) (so_far : ExcerptSoFar) (x : Keyed) (rest : List Keyed) → IsAt place all done so_far (x ∷ rest) → (r : Keyed)
@@ -458,7 +458,7 @@ module _ (place : List ℕ) (all : List Keyed) (order : AllLater Below all) wher
   one_more done so_far (tiploc_key code) entry rest at = other_more done so_far (tiploc_key code) entry rest (tiploc_never code) refl at
   one_more done so_far (association_key key) entry rest at = other_more done so_far (association_key key) entry rest (association_never key) refl at
 
-  -- ---- the end of a walk
+  -- ---- at the end of a walk, the needed entries are kept
 
   from_here : (rest done : List Keyed) (so_far : ExcerptSoFar) → IsAt place all done so_far rest
       → kept_from place so_far rest ≡ filter (λ (entry : Keyed). is_needed place all entry.0) all
@@ -478,7 +478,7 @@ module _ (place : List ℕ) (all : List Keyed) (order : AllLater Below all) wher
     apart = λ z y other in_done behind of_z of_y. nil-Contains z in_done;
   }
 
-  -- the kept entries of a walk over all entries are the entries that the place needs
+  -- a walk over all entries keeps the entries whose keys the docker of the place needs
   pub walk_keeps : kept_after_run place (kept_so_far place all) ≡ filter (λ (entry : Keyed). is_needed place all entry.0) all
   walk_keeps = from_here all [] nothing_kept at_first
 

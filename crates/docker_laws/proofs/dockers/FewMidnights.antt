@@ -19,7 +19,7 @@ use Rattle.cif_laws.proofs.schedules.ScheduleStages.{midnights_of_journey}
 abbrev pub HasFewMidnights : Table → Type 0
 HasFewMidnights live = (key : ScheduleKey) (lines : List (List ℕ)) → live (schedule_key key) ≡ Some (schedule_body lines) → midnights lines ≤ 2
 
--- ---- a schedule with a good body
+-- ---- a well-formed schedule passes midnight at most twice
 
 -- a well-formed schedule of a key passes midnight at most twice
 pub few_midnights : (key : ScheduleKey) (lines : List (List ℕ)) → IsScheduleOf key lines → midnights lines ≤ 2
@@ -42,7 +42,7 @@ few_midnights key lines of = by of.schedule.sound
 pub bodies_few : (live : Table) → HasGoodBodies live → HasFewMidnights live
 bodies_few live good key lines is = few_midnights key lines (good (schedule_key key) (schedule_body lines) is)
 
--- ---- events
+-- ---- a train with an event on a day starts at most two days before the event
 
 -- a schedule passes midnight up to an event at most as often as in its whole journey
 pub falls_below : (lines : List (List ℕ)) (number : ℕ) → falls_to lines number ≤ midnights lines

@@ -1,5 +1,5 @@
--- The summary of one file, computed entry by entry, is the summary of the file. The join of an
--- empty state with a valid state is the valid state.
+-- The state that is computed from one file entry by entry is the summary of the file. The join of
+-- an empty state with a valid state is the valid state.
 use Rattle.std.proofs.Common.{◌≡◌, ℕ, List, [], ◌∷◌, length, append-nil, refl, ap, sym, ◌∙◌, subst, inl}
 use Rattle.std.proofs.Common.{inr, ◌⊎◌, Some, None, Bool, true, false, Contains, All, ◌≤◌, arith}
 use Rattle.std.specs.Prelude.{Option, ◌↔◌, ◌==◌}
@@ -33,7 +33,7 @@ use Rattle.state_laws.proofs.states.SummaryValid.{summary_is_valid}
 use Rattle.state_laws.proofs.states.Lapse.{entry_stays}
 use Rattle.docker_laws.proofs.dockers.ThinState.{no_lapse}
 
--- ---- keys
+-- ---- the order of keys is strict
 
 not_both : (a b : Key) → key_cmp a b ≡ Less → ¬ (key_cmp b a ≡ Less)
 not_both a b less back =
@@ -43,10 +43,10 @@ not_both a b less back =
 not_itself : (a : Key) → ¬ (key_cmp a a ≡ Less)
 not_itself a less = let tied = tied_itself key_total a in cc
 
--- ---- one more entry
+-- ---- inserting an older entry preserves the key order and all entries
 
 -- after an older entry is inserted, each entry of the list was in the list before, or is the
--- inserted entry, and then no entry before had its key
+-- inserted entry. In the second case no entry had its key before
 member_forth : (entry : Keyed) (entries : List Keyed) → AreAscending entries → (z : Keyed) → Contains (with_earlier entry entries) z
     → Contains entries z ⊎ ((entry ≡ z) × NoEntry entries entry.0)
 member_forth entry [] up z among = inr (Contains-single entry z among, λ other inside. nil-Contains (entry.0, other) inside)
@@ -101,7 +101,7 @@ member_still entry (first ∷ entries) z among =
     by Greater rest (inl same) = subst (Contains (first ∷ with_earlier entry entries)) same (cons-Contains-first first (with_earlier entry entries))
     by Greater rest (inr inside) = cons-Contains first (with_earlier entry entries) z (rest inside)
 
--- an older entry is inserted if no entry in the list has its key
+-- an older entry is inserted if no entry in the list has the same key
 member_new : (entry : Keyed) (entries : List Keyed) → NoEntry entries entry.0 → Contains (with_earlier entry entries) entry
 member_new entry [] none = cons-Contains-first entry []
 member_new entry (first ∷ entries) none =
@@ -146,7 +146,7 @@ still_ascends entry (first ∷ entries) up = by (key_cmp entry.0 first.0) refl (
       rest,
     )
 
--- ---- the last entry of each key
+-- ---- the last entry of each key is the greatest
 
 latest_ascend : (entries : List Keyed) → AreAscending (latest_entries entries)
 latest_ascend [] = tt
@@ -229,7 +229,7 @@ latest_is (first ∷ entries) up key entry = (forth (latest_is entries up.1 key)
             member_still first (latest_entries entries) (key, entry)
             ((later entry).1 (record { among = inside; greatest = λ other among. is.greatest other (cons-Contains first entries (key, other) among) }))
 
--- ---- the summary
+-- ---- the computed state is the summary of the file
 
 module _ (file : List (List ℕ)) where
   -- the stamp of a file isn't below the floor of the ledger with only this file

@@ -1,6 +1,6 @@
--- The first value, in an order, that has a property. A search in a list finds it under two
+-- The first value, in an order, that has a property. A search in a list finds this value under two
 -- conditions. The list has each value with the property, and a value passes the test if and only if
--- it has the property.
+-- the value has the property.
 use Rattle.std.proofs.Common.{◌≡◌, List, refl, sym, ◌∙◌, Some, None, Bool, true, Contains}
 use Rattle.std.specs.Prelude.{Option, find}
 use Rattle.std.specs.declared.cmp.Ordering.{Ordering}

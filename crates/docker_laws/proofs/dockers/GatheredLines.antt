@@ -82,7 +82,7 @@ days_differ day =
 
 module _ (live : Table) (trains : List ℕ → ℕ → Option Train) (links : Group → ℕ → Option Link) (tell : TellsTrains live trains)
     (tell_links : TellsLinks live links) (place : List ℕ) (day : ℕ) where
-  -- ---- one row
+  -- ---- the lines of one row are in the docker, and no two of them tie
 
   SomeStart : Key → DockerLine → Type 0
   SomeStart key line = (start : ℕ) × IsLineFrom live place day key start line
@@ -150,7 +150,7 @@ module _ (live : Table) (trains : List ℕ → ℕ → Option Train) (links : Gr
   row_apart (association_key key) (tiploc_body bytes) is = tt
   row_apart (association_key key) (schedule_body lines) is = tt
 
-  -- ---- a walk
+  -- ---- the lines that a walk gathers are the lines of the docker
 
   module _ (rows : List Row) (walk : IsWalk live place rows) where
     -- no two of the gathered lines tie

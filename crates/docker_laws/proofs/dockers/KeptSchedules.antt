@@ -10,7 +10,7 @@ use Rattle.docker_model.specs.file.File.{first_record}
 use Rattle.docker_model.specs.state.State.{IsScheduleOf}
 use Rattle.cif_laws.proofs.records.Columns.{good_fields, IsGoodIn}
 
--- ---- the well-formed schedule of a key
+-- ---- the first record of a well-formed schedule is a good basic schedule
 
 -- the first record of a well-formed schedule is a basic schedule
 pub first_kind : (key : ScheduleKey) (lines : List (List ℕ)) → IsScheduleOf key lines → HasKind basic_schedule (first_record lines)
@@ -28,7 +28,7 @@ first_stays key lines of = ap (λ (n : ℕ). n == 68) of.new
 pub first_there : (key : ScheduleKey) (lines : List (List ℕ)) → IsScheduleOf key lines → 0 < length lines
 first_there key lines of = subst (λ (ls : List (List ℕ)). 0 < length ls) (sym of.schedule.whole) (omega arith)
 
--- ---- the fields of a basic schedule
+-- ---- the dates and the days run of a good basic schedule are well formed
 
 -- the runs-from date of a good basic schedule is a date
 pub schedule_first : (line : List ℕ) → HasKind basic_schedule line → HasGoodFields line → is_date (columns 10 15 line) ≡ true

@@ -21,7 +21,7 @@ within_end first last days day runs =
     let dates = (both (nat_le (date_number first) day && nat_le day (end_number last)) (runs_on_weekday days (weekday_of day)) runs).0 in
     leb-true day (end_number last) (both (nat_le (date_number first) day) (nat_le day (end_number last)) dates).1
 
--- if a day is at least the horizon, an end date that is at least the day is at least the horizon
+-- an end date that isn't before some day from the horizon on isn't before the horizon
 end_reached : (horizon day : ℕ) (last : List ℕ) → horizon ≤ no_end_number → horizon ≤ day → day ≤ end_number last → horizon ≤ readable_end last
 end_reached horizon day last bound from to = by (is_end_date last)
   where
@@ -31,7 +31,7 @@ end_reached horizon day last bound from to = by (is_end_date last)
 
 module _ (horizon : ℕ) (bound : horizon ≤ no_end_number) (live : Table) where
   module _ (day : ℕ) (from : horizon ≤ day) where
-    -- ---- schedules
+    -- ---- both tables choose the same schedules
     running_forth : (uid : List ℕ) (key : ScheduleKey) (lines : List (List ℕ)) → IsRunning live uid day key lines
         → IsRunning (lapse_table horizon live) uid day key lines
     running_forth uid key lines is = record {
@@ -71,7 +71,7 @@ module _ (horizon : ℕ) (bound : horizon ≤ no_end_number) (live : Table) wher
       λ is. record { chosen = (chosen_iff uid key lines).1 is.chosen; no_cancellation = is.no_cancellation },
     )
 
-    -- ---- associations
+    -- ---- both tables choose the same associations
     associated_forth : (group : Group) (key : AssociationKey) (line : List ℕ) → IsAssociated live group day key line
         → IsAssociated (lapse_table horizon live) group day key line
     associated_forth group key line is = record {

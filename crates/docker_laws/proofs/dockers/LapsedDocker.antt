@@ -44,10 +44,11 @@ partner_after indicator start day is = by (indicator == 78) (indicator == 80) is
     by false true told = earlier (nat_lt 0 start) refl told
     by false false some = let same : start ≡ day = cc in omega arith
 
--- ---- from the docker of one table to the docker of another
+-- ---- if `CarriesOver` holds, the other table has all docker lines of the first
 
--- the table `other` has each train of `one` with an event on the day. It also has each association
--- whose base train is one of these trains, and the identities of the associated trains
+-- the table `other` has each train of `one` with an event on the day. For each of these trains,
+-- `other` also has the associations with this base train, and the identities of the associated
+-- trains
 pub record CarriesOver (one other : Table) (day : ℕ) : Type 0 where
   pub trains : (uid : List ℕ) (start : ℕ) (key : ScheduleKey) (lines : List (List ℕ)) → TrainRuns one uid start key lines → (event : Event)
       → event_day start lines event ≡ day → TrainRuns other uid start key lines
@@ -100,7 +101,7 @@ association_line_over one other place day carries line is =
     }
 
 module _ (horizon : ℕ) (bound : horizon ≤ no_end_number) (live : Table) where
-  -- ---- the associated train
+  -- ---- the lapse leaves the identity of an associated train unchanged
 
   identity_iff : (uid identity : List ℕ) (day : ℕ) → horizon ≤ day → IsIdentityOn live uid identity day ↔ IsIdentityOn
       (lapse_table horizon live) uid identity day
@@ -120,7 +121,7 @@ module _ (horizon : ℕ) (bound : horizon ≤ no_end_number) (live : Table) wher
   partner_iff uid identity (Some day) from = identity_iff uid identity day (from day refl)
 
   module _ (few : HasFewMidnights live) (place : List ℕ) (day : ℕ) (from : horizon + 3 ≤ day) where
-    -- ---- lines
+    -- ---- the lapse leaves the lines of a docker unchanged
 
     -- a train with an event on the day started at least one day after the horizon
     started_after : (uid : List ℕ) (start : ℕ) (key : ScheduleKey) (lines : List (List ℕ)) → TrainRuns live uid start key lines → (event : Event)
@@ -180,7 +181,7 @@ module _ (horizon : ℕ) (bound : horizon ≤ no_end_number) (live : Table) wher
     association_line_iff line =
         (association_line_over live (lapse_table horizon live) place day over line, association_line_over (lapse_table horizon live) live place day back line)
 
-    -- ---- the list and the text
+    -- ---- the lapse leaves the list and the text of a docker unchanged
 
     lists_along : (P Q : DockerLine → Type 0) → ((line : DockerLine) → P line ↔ Q line) → (lines : List DockerLine) → Lists P lines → Lists Q lines
     lists_along P Q same lines is = record {

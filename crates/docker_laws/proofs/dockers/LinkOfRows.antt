@@ -92,7 +92,7 @@ module _ (live : Table) (rows : List Row) (group : Group) (has : HasAssociations
     best_is_link found best =
         first_is_link found (best_is_first by_key (is_linked group day) (associations_in rows) Runs associated among_linked passes_linked found best)
 
-    -- the rows of all associations of a group determine its chosen association
+    -- the rows of all associations of a group determine the chosen association of the group
     pub link_tells : IsLinkOn live group day (link_in rows group day)
     link_tells =
         first_is_link (link_in rows group day)

@@ -23,7 +23,7 @@ use Rattle.docker_laws.proofs.dockers.FewMidnights.{HasFewMidnights}
 use Rattle.docker_laws.proofs.dockers.StartDays.{event_within}
 use Rattle.docker_laws.proofs.dockers.LapsedDocker.{text_with, partner_after, CarriesOver, event_line_over, association_line_over}
 
--- ---- the start days near a day
+-- ---- each train of a docker line starts near the day
 
 -- the start day is near the day: at most three days before the day and at most one day after it
 abbrev pub IsStartNear : ℕ → ℕ → Type 0
@@ -87,7 +87,7 @@ partner_near day start within indicator partner is =
     let after = partner_after indicator start partner is in
     (omega arith, omega arith)
 
--- ---- two tables with the same schedules near a day and the same associations
+-- ---- tables with the same associations, and schedules near a day, have the same dockers
 
 -- each schedule of `one` that runs on a start day near the day also runs in `other`
 abbrev RunsOver : Table → Table → ℕ → Type 0
@@ -171,14 +171,14 @@ list_over one other place day forth back lines is = record {
   );
 }
 
--- ---- a table without the schedules that don't run near a day
+-- ---- leaving out schedules that don't run near a day leaves the dockers unchanged
 
 -- this key may be left out: its body is a schedule that runs on no start day near the day
 abbrev pub IsLeftOut : ℕ → Table → Key → Type 0
 IsLeftOut day live key = (lines : List (List ℕ)) × (live key ≡ Some (schedule_body lines)) × (runs_near day (first_record lines) ≡ false)
 
--- `part` is the table without some schedules that don't run near the day. At each key it equals
--- `live`, or it has no body and the key may be left out
+-- `part` is the table without some schedules that don't run near the day. At each key `part` equals
+-- `live`, or `part` has no body and the key may be left out
 abbrev pub IsNearPart : ℕ → Table → Table → Type 0
 IsNearPart day live part = (key : Key) → (part key ≡ live key) ⊎ ((part key ≡ None) × IsLeftOut day live key)
 

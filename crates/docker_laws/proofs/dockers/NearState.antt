@@ -80,7 +80,7 @@ near_state_text place day state text valid =
     near_text_iff day (live_table state) (live_table (near_state day state)) (near_part day state valid.entries.1)
     (bodies_few (live_table state) (good_bodies state valid)) place text
 
--- ---- the excerpt for a place and a day
+-- ---- the excerpt for a place and a day has the same docker
 
 -- the excerpt of a valid state for a place and a day is valid
 pub excerpt_on_valid : (place : List ℕ) (day : ℕ) (state : State) → IsValid state → IsValid (excerpt_on place day state)
@@ -102,7 +102,7 @@ excerpt_on_text place day state text valid =
     let walk = walk_text_iff place (near_state day state) day text (near_valid day state valid) in
     (λ is. walk.0 (near.0 is), λ is. near.1 (walk.1 is))
 
--- ---- entry by entry
+-- ---- the entries that may count can be found entry by entry
 
 one_kept : (test : Keyed → Bool) (entry : Keyed) (b : Bool) → test entry ≡ b → filter test (entry ∷ []) ≡ cond b (entry ∷ []) []
 one_kept test entry b h = λ i. cond (h i) (entry ∷ []) []

@@ -50,7 +50,7 @@ tied_lines_agree a b e =
       associated = exact_bytes (associated_uid a.detail) (associated_uid b.detail) t.1;
     }
 
--- ---- the lines of two events
+-- ---- two lines of events that tie are equal
 
 -- the two lines are equal, and belong to one schedule and one start day
 pub record AreOneEvent (live : Table) (place : List ℕ) (day : ℕ) (a b : DockerLine) (one : IsEventLine live place day a)
@@ -83,7 +83,7 @@ same_event_line live place day a b one two e =
         let events = one_event one.schedule one.event two.event one.among in_one numbers in
         record { keys = same.0; starts = starts; lines = one.is ∙ (λ i. line_of_event (same.0 i) (starts i) (same.1 i) (events i)) ∙ sym two.is }
 
--- ---- the lines of an event and an association
+-- ---- a line of an event and a line of an association never tie
 
 -- the occasion is a join, a division or a next working
 abbrev pub IsOfLink : Occasion → Type 0
@@ -125,7 +125,7 @@ event_apart live place day a b one two same =
     (category_is_of_link (columns 35 36 two.association) two.occasion two.category)
     (sym (ap (λ (l : DockerLine). occasion_rank l.occasion) one.is) ∙ same ∙ ap (λ (l : DockerLine). occasion_rank l.occasion) two.is)
 
--- ---- the lines of two associations
+-- ---- two lines of associations that tie are equal
 
 -- a UID has at most one train identity on a day
 one_identity_on : (live : Table) (uid : List ℕ) (day : ℕ) (x y : List ℕ) → IsIdentityOn live uid x day → IsIdentityOn live uid y day → x ≡ y
@@ -207,7 +207,7 @@ same_association_line live place day a b one two e =
               ∙ sym two.is;
         }
 
--- ---- any two lines
+-- ---- any two lines that tie are equal
 
 -- two docker lines that tie are equal
 pub one_line : (live : Table) (place : List ℕ) (day : ℕ) (a b : DockerLine) → IsDockerLine live place day a → IsDockerLine live place day b

@@ -29,10 +29,10 @@ use Rattle.docker_laws.proofs.dockers.LapsedDocker.{docker_text_iff}
 use Rattle.docker_laws.proofs.dockers.PrintedDocker.{day_bound, plain_bodies}
 use Rattle.docker_laws.proofs.runs.RunEnd.{greater_prints, one_text}
 
--- ---- changes
+-- ---- leaving out the short-term plan commutes with applying changes
 
--- taking the permanent table commutes with a change of a permanent key. A change of a key in the
--- short-term plan leaves the permanent table unchanged
+-- if a change is of a permanent key, making the change commutes with leaving out the short-term
+-- plan. A change of any other key leaves the permanent table unchanged
 after_one : (table : Table) (change : Change)
     → permanent_table (after_change table change)
     ≡ cond (is_permanent change.key) (after_change (permanent_table table) change) (permanent_table table)
@@ -69,8 +69,8 @@ after_one table change = by (is_permanent change.key) refl
     by false h = λ i key.
         (outside key (is_permanent key) refl ∙ passed h key (is_eq (key_cmp change.key key)) refl) i
 
--- leaving out the short-term plan after some changes equals leaving it out first and then applying
--- only the changes of permanent keys
+-- leaving out the short-term plan after some changes equals leaving out the plan first and then
+-- applying only the changes of permanent keys
 pub permanent_along : (table : Table) (changes : List Change)
     → permanent_table (fold after_change table changes)
     ≡ fold after_change (permanent_table table) (filter (λ (it : Change). is_permanent it.key) changes)
@@ -85,7 +85,7 @@ permanent_along table (change ∷ changes) = permanent_along (after_change table
     by true same = ap (λ (t : Table). fold after_change t kept) same
     by false same = ap (λ (t : Table). fold after_change t kept) same
 
--- ---- lines
+-- ---- each line of a permanent docker has the STP indicator P
 
 -- each line of a permanent docker has the STP indicator P
 pub permanent_line : (live : Table) (place : List ℕ) (day : ℕ) (line : DockerLine) → IsDockerLine (permanent_table live) place day line → line.indicator ≡ 80
@@ -96,7 +96,7 @@ permanent_line live place day line (inr association) =
     let is = (was_counted is_permanent live (association_key association.key) _ association.chosen.associated.is_live).0 in
     ap (λ (it : DockerLine). it.indicator) association.is ∙ eqb-true association.key.indicator 80 is
 
--- ---- the lapse
+-- ---- the lapse commutes with leaving out the short-term plan
 
 -- the lapse commutes with leaving out the short-term plan
 lapses_alike : (horizon : ℕ) (live : Table) → permanent_table (lapse_table horizon live) ≡ lapse_table horizon (permanent_table live)

@@ -29,23 +29,23 @@ use Rattle.state_laws.proofs.states.PlainLive.{lapse_table_none, live_is_lapsed_
 pub day_bound : (horizon : ℕ) → IsDay horizon → horizon ≤ no_end_number
 day_bound horizon day = omega arith
 
--- ---- valid states
+-- ---- a valid state has the same dockers before and after the lapse
 
--- from three days after the horizon on, a state has the same docker list before and after it lapses
+-- from three days after the horizon on, a state has the same docker list before and after the lapse
 pub state_list_iff : (horizon : ℕ) (state : State) (place : List ℕ) (day : ℕ) (lines : List DockerLine) → IsDay horizon → IsValid state → horizon + 3 ≤ day
     → IsDockerList (live_table state) place day lines ↔ IsDockerList (live_table (lapse_state horizon state)) place day lines
 state_list_iff horizon state place day lines is_day valid from =
     subst (λ table. IsDockerList (live_table state) place day lines ↔ IsDockerList table place day lines) (sym (live_lapsed horizon state))
     (docker_list_iff horizon (day_bound horizon is_day) (live_table state) (bodies_few (live_table state) (good_bodies state valid)) place day from lines)
 
--- from three days after the horizon on, a state has the same docker text before and after it lapses
+-- from three days after the horizon on, a state has the same docker text before and after the lapse
 pub state_text_iff : (horizon : ℕ) (state : State) (place : List ℕ) (day : ℕ) (text : List ℕ) → IsDay horizon → IsValid state → horizon + 3 ≤ day
     → IsDockerText (live_table state) place day text ↔ IsDockerText (live_table (lapse_state horizon state)) place day text
 state_text_iff horizon state place day text is_day valid from =
     subst (λ table. IsDockerText (live_table state) place day text ↔ IsDockerText table place day text) (sym (live_lapsed horizon state))
     (docker_text_iff horizon (day_bound horizon is_day) (live_table state) (bodies_few (live_table state) (good_bodies state valid)) place day from text)
 
--- ---- the bodies of a plain table
+-- ---- the bodies of a plain table are well formed
 
 put_of : (act : Act) (body : Body) → body_of (op_of act) ≡ Some body → act ≡ put body
 put_of delete body none = cc
@@ -77,7 +77,7 @@ module _ (files : List (List (List ℕ))) (each : All IsFile files) (few : All (
       by (inr last) =
           body_made_good key last.0 body (out_entries files plain.ordered plain.order floor is_floor key last.0 last.1) (sym last.2 ∙ sym table_is ∙ is)
 
--- ---- the law
+-- ---- a docker printed from a summary is the docker of the plain table
 
 -- a docker printed from a summary is the docker of the plain table
 pub printed_is_plain : (files : List (List (List ℕ))) (horizon : ℕ) (state : State) (table : Table) (place : List ℕ) (day : ℕ) (text : List ℕ)

@@ -1,6 +1,6 @@
 -- A segment of a table's rows has each schedule of a UID, if no row outside the segment is a
--- schedule of that UID. It has each association of a group, if no row outside the segment is an
--- association of that group.
+-- schedule of that UID. The segment has each association of a group, if no row outside the segment
+-- is an association of that group.
 use Rattle.std.proofs.Common.{ℕ, List, ◌++◌, inl, inr, ◌⊎◌, Contains}
 use Rattle.std.proofs.lemmas.List.Elements.{Contains-append_left, Contains-append_right, Contains-append_cases}
 use Rattle.docker_model.specs.file.Change.{schedule_key, association_key, schedule_body, association_body}

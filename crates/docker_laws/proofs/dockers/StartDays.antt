@@ -23,7 +23,7 @@ pub event_within : (start : ℕ) (lines : List (List ℕ)) (event : Event) → m
     × (event_day start lines event ≤ start + 2)
 event_within start lines event few = let front = falls_below lines event.number in (omega arith, omega arith)
 
--- ---- the start days
+-- ---- the start days for a day are the day and the two days before it
 
 -- the start days for a day are that day and the two days before it, without days before day 0
 pub start_days_iff : (day start : ℕ) → (Contains (start_days day) start → (start ≤ day) × (day ≤ start + 2)) × ((start ≤ day) × (day ≤ start + 2)

@@ -24,7 +24,7 @@ use Rattle.state_laws.proofs.indexes.CallsTest.{calls_test}
 abbrev ends_in : List (List ℕ) → List (List ℕ)
 ends_in lines = filter (λ line. is_end (kind_of line)) lines
 
--- ---- the thin records are among the schedule's
+-- ---- the thin records are records of the schedule
 
 -- the thin records have the same first record
 pub first_of_thin : (lines : List (List ℕ)) → first_record (thin_lines lines) ≡ first_record lines
@@ -58,7 +58,7 @@ pub thin_shorter : (lines : List (List ℕ)) → length (thin_lines lines) ≤ l
 thin_shorter [] = omega arith
 thin_shorter (basic ∷ others) = let rest = ends_shorter others in omega arith
 
--- ---- the ends of a schedule
+-- ---- the ends of a journey are its origin and its terminus
 
 end_by : (line : List ℕ) (lines : List (List ℕ)) (b : Bool) → is_end (kind_of line) ≡ b → ends_in (line ∷ lines) ≡ cond b (line ∷ ends_in lines) (ends_in lines)
 end_by line lines b h = λ i. cond (h i) (line ∷ ends_in lines) (ends_in lines)
@@ -116,7 +116,7 @@ few_ends first last origin terminus =
     (sym (λ i. times_by_kind (origin i) first ++ (times_by_kind (terminus i) last ++ [])))
     (few_by (scheduled_time (columns 11 15 first)) (scheduled_time (columns 11 15 last)))
 
--- ---- the schedule
+-- ---- the thin records of a schedule are a schedule
 
 module _ (lines : List (List ℕ)) (is : IsSchedule lines) where
   same_lines : is.basic ∷ is.extra ++ is.journey ≡ lines
@@ -207,7 +207,7 @@ module _ (lines : List (List ℕ)) (is : IsSchedule lines) where
       by (inl journey) = subst (λ ends. IsSchedule (is.basic ∷ ends)) (sym (ends_of_journey is.journey journey)) (with_ends journey)
       by (inr none) = subst (λ ends. IsSchedule (is.basic ∷ ends)) (sym (ap ends_in none.0)) (alone none.1)
 
--- ---- other ends
+-- ---- a schedule with another origin and terminus is a schedule
 
 -- the basic schedule with any good origin and any good terminus is a schedule
 with_any_ends : (lines : List (List ℕ)) → IsSchedule lines → (first last : List ℕ) → IsRecord first → IsRecord last → HasKind origin_location first
@@ -237,7 +237,8 @@ with_any_ends lines is first last first_is last_is origin terminus first_good la
       });
     })
 
--- the basic schedule with any good origin and any good terminus is a schedule of the same key
+-- the basic schedule, with any origin and any terminus that have good fields, is a schedule of the
+-- same key
 pub any_ends_of_key : (key : ScheduleKey) (lines : List (List ℕ)) → IsScheduleOf key lines → (first last : List ℕ) → IsRecord first → IsRecord last
     → HasKind origin_location first → HasKind terminating_location last → HasGoodFields first → HasGoodFields last
     → IsScheduleOf key (first_record lines ∷ first ∷ last ∷ [])
@@ -248,7 +249,7 @@ any_ends_of_key key lines is first last first_is last_is origin terminus first_g
   key_is = is.key_is;
 }
 
--- ---- the body
+-- ---- the thinned body belongs to the same key
 
 -- the thin records are a schedule of the same key
 pub thin_of_key : (key : ScheduleKey) (lines : List (List ℕ)) → IsScheduleOf key lines → IsScheduleOf key (thin_lines lines)
@@ -259,7 +260,7 @@ thin_of_key key lines is = record {
   key_is = ap schedule_named (first_of_thin lines) ∙ is.key_is;
 }
 
--- the records that a place needs are a schedule of the same key
+-- the records that the docker of a place needs are a schedule of the same key
 pub needed_of_key : (place : List ℕ) (key : ScheduleKey) (lines : List (List ℕ)) → IsScheduleOf key lines → IsScheduleOf key (lines_for place lines)
 needed_of_key place key lines is = by (calls_at place lines)
   where
@@ -267,7 +268,7 @@ needed_of_key place key lines is = by (calls_at place lines)
     by true = is
     by false = thin_of_key key lines is
 
--- the body that a place needs belongs to the same key
+-- the body that the docker of a place needs belongs to the same key
 pub needed_is_body : (place : List ℕ) (key : Key) (body : Body) → IsBodyOf key body → IsBodyOf key (body_for place body)
 needed_is_body place (schedule_key key) (schedule_body lines) is = needed_of_key place key lines is
 needed_is_body place (schedule_key key) (tiploc_body bytes) is = is
@@ -289,7 +290,7 @@ thin_few lines is = subst (λ thin. length thin ≤ 3) (sym (thin_is lines is)) 
     by (inl journey) = subst (λ ends. length (is.basic ∷ ends) ≤ 3) (sym (ends_of_journey is.journey journey)) (omega arith)
     by (inr none) = subst (λ ends. length (is.basic ∷ ends) ≤ 3) (sym (ap ends_in none.0)) (omega arith)
 
--- if a schedule doesn't call at a place, its thin records don't call at it
+-- if a schedule doesn't call at a place, its thin records don't call at that place
 pub thin_elsewhere : (place : List ℕ) (lines : List (List ℕ)) → calls_at place lines ≡ false → calls_at place (thin_lines lines) ≡ false
 thin_elsewhere place lines none = by (calls_at place (thin_lines lines)) refl
   where
@@ -300,8 +301,8 @@ thin_elsewhere place lines none = by (calls_at place (thin_lines lines)) refl
         absurd (let worse : false ≡ true = bad in cc)
     by false h = refl
 
--- appending a record to a schedule appends it to the thin records if and only if it is an origin or
--- a terminus
+-- appending a record to a schedule appends this record to the thin records if and only if the
+-- record is an origin or a terminus
 thin_more : (basic : List ℕ) (others : List (List ℕ)) (line : List ℕ) (b : Bool) → is_end (kind_of line) ≡ b
     → thin_lines (basic ∷ others ++ line ∷ []) ≡ thin_lines (basic ∷ others) ++ cond b (line ∷ []) []
 thin_more basic others line b h =
@@ -309,7 +310,7 @@ thin_more basic others line b h =
     filter-append (λ l. is_end (kind_of l)) others (line ∷ []) ∙ (λ i. ends_in others ++ end_by line [] b h i)
     )
 
--- appending an origin or a terminus to a schedule appends it to the thin records
+-- appending an origin or a terminus to a schedule appends the same record to the thin records
 pub thin_with_end : (basic : List ℕ) (others : List (List ℕ)) (line : List ℕ) → is_end (kind_of line) ≡ true
     → thin_lines (basic ∷ others ++ line ∷ []) ≡ thin_lines (basic ∷ others) ++ line ∷ []
 thin_with_end basic others line h = thin_more basic others line true h
@@ -320,7 +321,7 @@ pub thin_without : (basic : List ℕ) (others : List (List ℕ)) (line : List �
 thin_without basic others line h = thin_more basic others line false h ∙ append-nil (thin_lines (basic ∷ others))
 
 -- a schedule with a record appended calls at a place if and only if the schedule calls at the place
--- or the record is a location record of the place
+-- or the record is a location record with this place
 pub calls_more : (place : List ℕ) (lines : List (List ℕ)) (line : List ℕ) → calls_at place (lines ++ line ∷ [])
     ≡ (calls_at place lines || (is_location (kind_of line) && bytes_eq (columns 3 9 line) place))
 calls_more place lines line =

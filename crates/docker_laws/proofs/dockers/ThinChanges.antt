@@ -35,7 +35,7 @@ is_of key change = is_eq (key_cmp change.key key)
 abbrev left_by : Act → Option Body
 left_by act = body_of (op_of act)
 
--- ---- one change
+-- ---- thinning commutes with one change
 
 -- the body after the thin form of an act is the thinned body after the act
 thin_left : (place : List ℕ) (day : ℕ) (act : Act) → left_by (thin_act place day act) ≡ option_and_then (thin_body place day) (left_by act)
@@ -76,8 +76,8 @@ module _ (place : List ℕ) (day : ℕ) where
           nothing (after_change table change) none ∙ sym (nothing table none)
       by false h = left_at place day (after_change table change) table key (after_there table change key h)
 
-  -- thinning commutes with a change whose key may matter: the thinned table after the thin form of
-  -- the change equals the thinning of the table after the change
+  -- thinning commutes with a change whose key may matter. If `left` is the thinned table, then
+  -- `left` after the thin form of the change is the thinning of the table after the change
   step_kept : (table left : Table) (change : Change) (key : Key) → may_matter place change.key ≡ true → left key ≡ thinned place day table key
       → after_change left (thin_change place day change) key ≡ thinned place day (after_change table change) key
   step_kept table left change key matters same = by (is_of key change) refl
@@ -93,7 +93,7 @@ module _ (place : List ℕ) (day : ℕ) where
           ∙ same
           ∙ sym (left_at place day (after_change table change) table key (after_there table change key h))
 
-  -- ---- all changes
+  -- ---- thinning commutes with all changes of a list
 
   -- the changes of keys that may matter
   abbrev matter : List Change → List Change
@@ -127,7 +127,7 @@ module _ (place : List ℕ) (day : ℕ) where
   thin_enough : (changes : List Change) → AreEnough place day changes (thin_changes place day changes)
   thin_enough changes = kept_from changes empty_table empty_table (λ key. sym (none_or (may_matter place key)))
 
--- ---- change by change
+-- ---- a thinning can be made change by change
 
 -- the table after changes with one change appended is the table after these changes and then that
 -- change
@@ -214,7 +214,7 @@ module _ (place : List ℕ) (day : ℕ) where
         → thinned place day (after_change (table_of changes) change) key ≡ thinned place day (table_of changes) key
     same_elsewhere key h = left_at place day (after_change (table_of changes) change) (table_of changes) key (after_there (table_of changes) change key h)
 
-    -- if the thin form of a change is a deletion, it may be dropped if no change of its key is kept
+    -- a change whose thin form is a deletion may be dropped if no change of the same key is kept
     enough_dropped : thin_act place day change.act ≡ delete → HasNoChangeOf change.key kept → AreEnough place day (changes ++ change ∷ []) kept
     enough_dropped deletes none key = by (is_of key change) refl
       where
@@ -224,7 +224,7 @@ module _ (place : List ℕ) (day : ℕ) where
             untouched kept empty_table key of_key ∙ sym (none_left deletes key h) ∙ sym (all_more key)
         by false h = so_far key ∙ sym (same_elsewhere key h) ∙ sym (all_more key)
 
-    -- if the thin form of a change is a deletion, the kept changes of its key may be removed
+    -- after a change whose thin form is a deletion, the kept changes of the same key may be removed
     enough_removed : thin_act place day change.act ≡ delete → AreEnough place day (changes ++ change ∷ []) (without change.key kept)
     enough_removed deletes key = by (is_of key change) refl
       where
@@ -260,7 +260,7 @@ module _ (place : List ℕ) (day : ℕ) where
             ∙ sym (same_elsewhere key h)
             ∙ sym (all_more key)
 
--- ---- what may be kept
+-- ---- which thin changes may be kept
 
 -- if one list is a sublist of another, mapping both with the same function gives a sublist of the
 -- mapped list
@@ -322,14 +322,14 @@ module _ (place : List ℕ) (day : ℕ) where
       enough = enough_kept place day changes kept change is.enough matters;
     }
 
-    -- if the thin form of a change is a deletion, it may be dropped if no change of its key is kept
+    -- a change whose thin form is a deletion may be dropped if no change of the same key is kept
     pub thinning_dropped : thin_act place day change.act ≡ delete → HasNoChangeOf change.key kept → IsThinning place day (changes ++ change ∷ []) kept
     thinning_dropped deletes none = record {
       some = still_some kept (sublist_itself kept);
       enough = enough_dropped place day changes kept change is.enough deletes none;
     }
 
-    -- if the thin form of a change is a deletion, the kept changes of its key may be removed
+    -- after a change whose thin form is a deletion, the kept changes of the same key may be removed
     pub thinning_removed : thin_act place day change.act ≡ delete → IsThinning place day (changes ++ change ∷ []) (without change.key kept)
     thinning_removed deletes = record {
       some = still_some (without change.key kept) (sublist_filter (λ (other : Change). not (is_of change.key other)) kept);
@@ -372,7 +372,7 @@ thinning_more place day all kept (change ∷ more) is =
         (onward (kept ++ thin_change place day change ∷ []) (thinning_kept place day all kept change is h)))
     by false h onward = subst Goal (sym h) (onward kept (thinning_elsewhere place day all kept change is h))
 
--- ---- the thin form of an act, case by case
+-- ---- the thin form of an act in each case
 
 module _ (place : List ℕ) (day : ℕ) (lines : List (List ℕ)) where
   -- the thin form of a put of a schedule that can't count is a deletion
@@ -399,7 +399,7 @@ near_of_new day line = λ i. list_any
     (λ start. runs_within (new_columns line 10 15 (omega arith) i) (new_columns line 16 21 (omega arith) i) (new_columns line 22 28 (omega arith) i) start)
     (near_starts day)
 
--- ---- the greatest key of the kept changes
+-- ---- no change of a key above the greatest kept key is kept
 
 -- no kept change has a key above the highest kept key
 pub none_above : (highest key : Key) (kept : List Change) → AreAtMost highest kept → IsBelow key_cmp highest key → HasNoChangeOf key kept

@@ -30,7 +30,7 @@ use Rattle.docker_laws.specs.Excerpt.{IsExcerpt}
 use Rattle.docker_laws.proofs.dockers.ExcerptDocker.{excerpt_list_iff, excerpt_text_iff}
 use Rattle.docker_laws.proofs.dockers.ThinBody.{first_of_thin, thin_elsewhere, needed_is_body}
 
--- ---- records that may replace a schedule
+-- ---- which records may replace a schedule
 
 -- the relation `IsStandIn` is symmetric
 turned : (place : List ℕ) (day : ℕ) (one other : List (List ℕ)) → IsStandIn place day one other → IsStandIn place day other one
@@ -60,7 +60,7 @@ stand_in_by_first place day whole lines same none no_other = record {
     by (inl calls) = absurd (elsewhere whole none calls)
     by (inr calls) = absurd (elsewhere lines no_other calls)
 
--- the records that the place needs may replace the schedule
+-- the records that the docker of the place needs may replace the schedule
 pub needed_stand_in : (place : List ℕ) (day : ℕ) (lines : List (List ℕ)) → IsStandIn place day lines (lines_for place lines)
 needed_stand_in place day lines = by (calls_at place lines) refl
   where
@@ -68,7 +68,7 @@ needed_stand_in place day lines = by (calls_at place lines) refl
     by true h = record { runs = λ start near. refl; identity = refl; calls = λ either. refl }
     by false h = stand_in_by_first place day lines (thin_lines lines) (first_of_thin lines) h (thin_elsewhere place lines h)
 
--- ---- two tables with the same docker for a place and a day
+-- ---- two tables have the same docker if each has all parts that the docker needs
 
 -- the table `other` has all parts of `one` that the docker needs: each schedule that runs near the
 -- day, and each association at the place
@@ -199,7 +199,7 @@ list_over one other place day forth back lines is = record {
   );
 }
 
--- ---- a table and one that may replace it
+-- ---- if one table may replace another, both have the same docker
 
 module _ (place : List ℕ) (day : ℕ) (live part : Table) (stands : StandsFor place day live part) where
   stands_forth : HasFewMidnights live → Covers live part place day
@@ -253,17 +253,17 @@ module _ (place : List ℕ) (day : ℕ) (live part : Table) (stands : StandsFor 
     λ told. (told.0, (stand_in_list_iff few few_part told.0).1 told.1, told.2 ∙ stand_in_text_same told.0),
   )
 
--- ---- a table and the thinned table
+-- ---- the thinned table may replace the table
 
 module _ (place : List ℕ) (day : ℕ) (live : Table) where
-  -- the thinned table has, at the key of a live schedule that runs near the day, the records of
-  -- this schedule that the place needs
+  -- if a schedule in the table runs near the day, the thinned table has, at the same key, those
+  -- records of the schedule that the docker of the place needs
   schedule_left : (key : ScheduleKey) (lines : List (List ℕ)) → live (schedule_key key) ≡ Some (schedule_body lines)
       → runs_near day (first_record lines) ≡ true → thinned place day live (schedule_key key) ≡ Some (schedule_body (lines_for place lines))
   schedule_left key lines is_live runs =
       ap (option_and_then (thin_body place day)) is_live ∙ (λ i. cond (runs i) (Some (schedule_body (lines_for place lines))) None)
 
-  -- a schedule in the thinned table has the records that the place needs of a live schedule
+  -- each schedule in the thinned table is `lines_for` of a schedule at the same key of the table
   schedule_was : (key : ScheduleKey) (lines : List (List ℕ)) → thinned place day live (schedule_key key) ≡ Some (schedule_body lines)
       → (whole : List (List ℕ)) × (live (schedule_key key) ≡ Some (schedule_body whole)) × (lines_for place whole ≡ lines)
   schedule_was key lines is = by (then_some (thin_body place day) (live (schedule_key key)) (schedule_body lines) is)

@@ -1,5 +1,5 @@
--- The state of the kept changes of a file is valid. For the place and the day it has the same
--- docker as the summary of the file.
+-- The state of the kept changes of a file is valid. For the place and the day, this state has the
+-- same docker as the summary of the file.
 use Rattle.std.proofs.Common.{◌≡◌, ℕ, ◌-◌, ◌^◌, ◌<◌, ◌≤◌, List, [], ◌∷◌, length, map, subst, inl, inr, ◌⊎◌}
 use Rattle.std.proofs.Common.{refl, ap, sym, ◌∙◌, Bool, true, false, cond, Some, None, Contains, All, arith}
 use Rattle.std.specs.Prelude.{Option, option_and_then, ◌↔◌, fold}
@@ -36,7 +36,7 @@ use Rattle.docker_laws.proofs.dockers.GoodBodies.{good_bodies}
 use Rattle.docker_laws.proofs.dockers.ThinBody.{needed_is_body}
 use Rattle.docker_laws.proofs.dockers.ThinDocker.{thin_list_iff, thin_text_iff}
 
--- ---- the live table
+-- ---- the live table of the state equals the table after its changes
 
 module _ (file : List (List ℕ)) (kept : List Change) (state : State) (of : IsStateOfChanges file kept state) where
   abbrev entries : List Keyed
@@ -83,7 +83,7 @@ live_of_summary file whole summary key =
       is = λ other. refl;
     }
 
--- ---- the changes kept of a file
+-- ---- each kept change is the thin form of a change of the file
 
 module _ (place : List ℕ) (day : ℕ) (file : List (List ℕ)) (kept : List Change) (is : IsThinning place day (changes file) kept) where
   -- of two kept changes of one key, the later change has the higher record number
@@ -112,7 +112,7 @@ thin_op place day key (put body) good = by (may_count day (put_with body))
 
 -- ---- the state is valid
 
--- a ledger of one good item is good
+-- a ledger with only one well-formed item is well formed
 ledger_of_one : (item : LedgerItem) → IsGoodItem item → IsLedger (item ∷ [])
 ledger_of_one item good = by good.indicator
   where
@@ -192,7 +192,7 @@ module _ (place : List ℕ) (day : ℕ) (file : List (List ℕ)) (is_file : IsFi
         (λ entry among. subst (λ horizon. HasNotToLapse horizon entry.1.op) (sym of.horizon) (no_lapse entry.1.op));
   }
 
-  -- ---- the summary of the file
+  -- ---- the state has the same docker as the summary of the file
 
   module _ (whole : State) (summary : IsSummary (file ∷ []) 0 whole) where
     whole_good : HasGoodBodies (live_table whole)

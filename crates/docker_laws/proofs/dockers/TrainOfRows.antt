@@ -70,13 +70,13 @@ module _ (live : Table) (rows : List Row) (uid : List ℕ) (has : HasSchedulesOf
     best_is_chosen found best =
         first_is_chosen found (best_is_first by_key (is_running uid day) (schedules_in rows) Runs running among_running passes_running found best)
 
-    -- the rows of all schedules of a UID determine its chosen schedule
+    -- the rows of all schedules of a UID determine the chosen schedule of the UID
     pub chosen_tells : IsChosenOn live uid day (chosen_in rows uid day)
     chosen_tells =
         first_is_chosen (chosen_in rows uid day)
         (found_is_first by_key (is_running uid day) (schedules_in rows) Runs running among_running passes_running)
 
-    -- the rows of all schedules of a UID determine its train
+    -- the rows of all schedules of a UID determine the train of the UID
     pub train_tells : IsTrainOn live uid day (train_in rows uid day)
     train_tells = by (chosen_in rows uid day) chosen_tells
       where

@@ -51,7 +51,7 @@ one_day uid identity origin terminus =
 abbrev pub key_of : List ℕ → ℕ → ℕ → ScheduleKey
 key_of uid day letter = record { uid = uid; runs_from = day; indicator = letter }
 
--- ---- an overlay that doesn't call at COLWELL, for a train that does on other days
+-- ---- an overlay that doesn't call at COLWELL, of a train that calls there on other days
 
 -- a train that ends at COLWELL
 abbrev pub stops : List (List ℕ)
@@ -148,7 +148,7 @@ joined = state_of (
     ∷ put_in (schedule_key partner_key) (schedule_body partner) ∷ []
     )
 
--- the state without the associated train
+-- the state without the schedule of the associated train
 abbrev parted : State
 parted = state_of (put_in (association_key link_key) (association_body link) ∷ put_in (schedule_key stops_key) (schedule_body stops) ∷ [])
 
@@ -246,13 +246,13 @@ parted_is_no_excerpt is = by (is (schedule_key partner_key))
 partner_is_kept : (excerpt_for place joined).entries ≡ joined.entries
 partner_is_kept = refl
 
--- the excerpt of a state with only the associated train has no entry. If the association were
--- joined to this excerpt later, the associated train would be missing. So an excerpt must be
--- computed from a whole state
+-- the excerpt of a state with only the associated train is empty. If the association were joined to
+-- this excerpt later, the associated train would be missing. So an excerpt must be computed from a
+-- whole state
 partner_alone_is_dropped : (excerpt_for place (state_of (put_in (schedule_key partner_key) (schedule_body partner) ∷ []))).entries ≡ []
 partner_alone_is_dropped = refl
 
--- ---- a walk
+-- ---- a worked walk
 
 abbrev other : List (List ℕ)
 other = week (codes "C40003") (codes "4D43") (codes "ASHFELD") (codes "BRAYTON")

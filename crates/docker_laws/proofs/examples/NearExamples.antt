@@ -1,12 +1,12 @@
--- Which schedules may count near a day. The schedule of the other examples runs from 10 to 16 June
--- 2024, day 23537 to day 23543.
+-- Worked examples of schedules that may, or can't, count near a day. The schedule of the other
+-- examples runs from 10 to 16 June 2024, day 23537 to day 23543.
 use Rattle.std.proofs.Common.{◌≡◌, [], refl}
 use Rattle.jiff_core.specs.Calendar.{days_from_civil, day_count, days_of_years, days_of_months}
 use Rattle.docker_laws.specs.NearDay.{near_entries, excerpt_on}
 use Rattle.docker_laws.proofs.examples.ExcerptExamples.{place, alone}
 
--- on 9 June, the day before its first day, the schedule may count: it may be the associated train,
--- a day later, of a train on 9 June
+-- on 9 June, the day before the schedule's first day, the schedule may count. Its train may be the
+-- associated train of a train on 9 June, and start a day later
 partner_tomorrow : (excerpt_on place 23536 alone).entries ≡ alone.entries
 unfolding days_from_civil day_count days_of_years days_of_months
 partner_tomorrow = refl

@@ -3,7 +3,7 @@ use Rattle.std.proofs.Common.{◌≡◌, ℕ, List, [], ◌∷◌, map, refl}
 use Rattle.docker_model.specs.run.Run.{Reply, done, refused, no_office, RunEvent, take_file, send_state}
 use Rattle.docker_model.specs.run.Run.{deliver, reload, horizon_event, Known, KnownSets, known_sets}
 
--- the events of the example. The text of one empty line is used in place of a file's text
+-- the events of the example. The text of one empty line is used instead of a file's text
 abbrev events : List RunEvent
 events =
     take_file 0 (10 ∷ []) 5 ∷ send_state 0 ∷ horizon_event 0 23542 ∷ send_state 0 ∷ deliver 1 0 ∷ deliver 1 1 ∷ reload 0 0 ∷ horizon_event 2 23542 ∷ []
@@ -17,7 +17,7 @@ known = known_sets 2 events replies
 horizons : List Known → List ℕ
 horizons xs = map (λ (one : Known). one.horizon) xs
 
--- an office that has set a horizon has no horizon after it reloads an older message
+-- an office with a horizon loses the horizon when it reloads an older message
 offices_at_end : horizons known.offices ≡ 0 ∷ 23542 ∷ []
 unfolding known horizons
 offices_at_end = refl

@@ -1,5 +1,5 @@
--- The changes that are kept for COLWELL and a day. Then four wrong thinnings, each of which keeps
--- too few changes or records.
+-- Worked examples of the changes that are kept for COLWELL and a day, and of four wrong thinnings.
+-- Each of the wrong thinnings keeps too few changes or records.
 use Rattle.std.proofs.Common.{length, length-append, ◌≡◌, ℕ, ◌≤◌, List, [], ◌∷◌, refl, inl, inr, ◌⊎◌}
 use Rattle.std.proofs.Common.{Some, None, arith, lit<, ap, sym, ◌∙◌, subst, Bool, true, false, cond}
 use Rattle.std.specs.Prelude.{codes, slice_index, ◌↔◌, ◌&&◌, nat_le}
@@ -75,8 +75,8 @@ all_changes =
     ∷ change_of 6 (schedule_key stops_key) (put (schedule_body stops)) ∷ change_of 9 (schedule_key short_key) (put (schedule_body way_round))
     ∷ change_of 13 (schedule_key (key_of (codes "C40003") 23528 80)) (put (schedule_body long_ago)) ∷ []
 
--- for COLWELL on 11 June these changes are kept: its TIPLOC, its association, the train that calls
--- at COLWELL, the overlay in its thin form, and a deletion
+-- for COLWELL on 11 June these changes are kept: the TIPLOC of COLWELL, its association, the train
+-- that calls at COLWELL, the overlay in its thin form, and a deletion
 kept_of_all : thin_changes place 23538 all_changes
     ≡ change_of 3 (tiploc_key (codes "COLWELL")) (put (tiploc_body (spaces 63))) ∷ change_of 4 (association_key link_key) (put (association_body link))
     ∷ change_of 6 (schedule_key stops_key) (put (schedule_body stops)) ∷ change_of 9 (schedule_key short_key) (put (schedule_body short))
@@ -163,7 +163,7 @@ ended =
 abbrev revised : List Change
 revised = put_schedule 2 stops_key stops ∷ put_schedule 5 stops_key ended ∷ []
 
--- for 16 June the revision is kept as a deletion
+-- for 16 June the revision is kept in its thin form, which is a deletion
 revision_deletes : thin_changes place 23543 revised ≡ put_schedule 2 stops_key stops ∷ change_of 5 (schedule_key stops_key) delete ∷ []
 unfolding days_from_civil day_count days_of_years days_of_months
 revision_deletes = refl
@@ -178,7 +178,7 @@ revision_removes =
     kept : thin_changes place 23543 stops_alone ≡ stops_alone
     kept = refl
 
--- after the revision its key has the revised schedule
+-- after the revision, the key of the revised schedule has no other body
 revised_is : (other : ScheduleKey) (others : List (List ℕ)) → table_of revised (schedule_key other) ≡ Some (schedule_body others) → ended ≡ others
 revised_is other others h = by (is_eq (schedule_key_cmp stops_key other)) h
   where
@@ -321,7 +321,8 @@ follows_on_key = key_of (codes "C40002") 23539 80
 abbrev partner_alone : List Change
 partner_alone = put_schedule 2 follows_on_key follows_on ∷ []
 
--- for 11 June the train is kept: it may be the associated train of a train on 11 June, a day later
+-- for 11 June the train is kept: it may be the associated train of a train on 11 June, and start a
+-- day later
 partner_is_kept : thin_changes place 23538 partner_alone ≡ partner_alone
 unfolding days_from_civil day_count days_of_years days_of_months
 partner_is_kept = refl

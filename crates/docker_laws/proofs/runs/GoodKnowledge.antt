@@ -1,5 +1,5 @@
--- In a run of good events all knowledge is good: every known file is a CIF file, and the format
--- allows every horizon.
+-- If all events of a run are good, all knowledge is good: every known file is a CIF file, and the
+-- format allows every known horizon.
 use Rattle.std.proofs.Common.{◌≡◌, ℕ, zero, suc, ◌≤◌, Bool, true, false, List, [], ◌∷◌, length, get_or, ap, ◌∙◌, refl, arith, All}
 use Rattle.std.specs.Prelude.{max, nat_lt, fold, slice_set}
 use Rattle.std.specs.List.{zip}
@@ -16,7 +16,7 @@ use Rattle.docker_model.specs.run.Run.{nothing, united, office_known, message_kn
 use Rattle.docker_model.specs.run.Knowledge.{AreFiles, IsGoodKnown, IsGoodEvent}
 use Rattle.state_laws.proofs.states.Lapse.{max_most}
 
--- ---- what two offices know together
+-- ---- if the knowledge of each of two offices is good, their knowledge together is good
 
 -- if a format allows two horizons, it allows the greater of them
 max_good : (format : Format) (a b : ℕ) → IsHorizonOf format a → IsHorizonOf format b → IsHorizonOf format (max a b)
@@ -59,7 +59,7 @@ file_good format text limit low file =
 pub horizon_good : (format : Format) (day : ℕ) → IsHorizonOf format day → IsGoodKnown format (record { files = []; horizon = day })
 horizon_good format day is = (no_files_good, is)
 
--- ---- along a run
+-- ---- the knowledge after a run of good events is good
 
 good_at : {A : Type 0} (P : A → Type 0) (xs : List A) (i : ℕ) (d : A) → All P xs → P d → P (get_or xs i d)
 good_at P [] i d all one = one
@@ -123,7 +123,7 @@ module _ (format : Format) where
       good_along (after_reply known (event, reply)) events replies (good_after known event reply good (All-head (IsGoodEvent format) event events each) are.0)
       (All-tail (IsGoodEvent format) event events each) are.1
 
-  -- after a run of good events all knowledge is good
+  -- after a run of good events, the knowledge of each office and each message is good
   pub good_in_run : (offices : ℕ) (events : List RunEvent) (replies : List Reply) → All (IsGoodEvent format) events
       → AreReplies (none_known offices) events replies
       → AllGood format (known_sets offices events replies)

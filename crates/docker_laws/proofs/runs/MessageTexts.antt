@@ -19,7 +19,7 @@ use Rattle.state_laws.proofs.states.Lapse.{lapse_none}
 use Rattle.state_laws.proofs.texts.StateGrown.{horizon_day}
 use Rattle.state_laws.proofs.states.SummaryValid.{summary_is_valid}
 
--- ---- counts
+-- ---- the counts in a text fit in eight bytes
 
 -- if each piece has at least one byte, the number of pieces is at most the number of bytes
 at_least : {A : Type 0} (f : A → List ℕ) → ((x : A) → 1 ≤ length (f x)) → (xs : List A) → length xs ≤ length (flat_map f xs)
@@ -51,9 +51,9 @@ counts_fit format state short =
         (flat_map entry_bytes s.entries) in
         omega arith
 
--- ---- ops
+-- ---- each format can hold the ops of a summary without a horizon
 
--- the op of an act is never `lapsed`, so each format can hold it
+-- the op of an act is never `lapsed`, so each format can hold the op
 act_told : (act : Act) → TellsOp dks_1 (op_of act)
 act_told delete = tt
 act_told (put body) = tt

@@ -25,8 +25,8 @@ use Rattle.state_laws.proofs.states.SummaryLaws.{summary_unique, lapsed_summary}
 use Rattle.state_laws.proofs.states.OneJoin.{docker_unique}
 use Rattle.cif_laws.proofs.lists.ZipSteps.{zip_at}
 
--- if an exchange has possible replies, and its states and messages match what is known, it is a
--- possible result of the run
+-- if the replies of an exchange are allowed, and its states and messages match what is known, the
+-- exchange is a possible result of the run
 pub holds_at_end : (format : Format) (offices : ℕ) (events : List RunEvent) (exchange : Exchange) → AreReplies (none_known offices) events exchange.replies
     → Holds format (sets_of offices events exchange) exchange.states exchange.messages → IsRun format offices events exchange
 holds_at_end format offices events exchange replies holds = record { replies = replies; states = holds.states_are; messages = holds.messages_are }
@@ -39,7 +39,7 @@ run_holds format offices events exchange each run =
     let good = good_in_run format offices events exchange.replies each run.replies in
     record { offices = good.0; sent = good.1; states_are = run.states; messages_are = run.messages }
 
--- ---- the dockers of one set of files
+-- ---- two states of the same files have the same dockers
 
 -- if neither of two horizons refuses a day, the greater of them doesn't refuse it
 pub greater_prints : (a b day : ℕ) → ¬ IsDayRefused a day → ¬ IsDayRefused b day → ¬ IsDayRefused (max a b) day
@@ -88,7 +88,7 @@ docker_of_files format one two first second good also is that same place day pri
     (docker_stays (max one.horizon two.horizon) first place day text day_is (summary_told format one first good is).valid prints told))
     (docker_stays (max one.horizon two.horizon) second place day other day_is (summary_told format two second also that).valid prints told_too)
 
--- ---- offices and messages of runs
+-- ---- offices with the same knowledge have equal states
 
 module _ (format : Format) (offices others : ℕ) (events more : List RunEvent) (one two : Exchange) (first : IsRun format offices events one)
     (second : IsRun format others more two) (i j : ℕ) where

@@ -20,7 +20,7 @@ use Rattle.state_laws.proofs.states.SummaryLaws.{join_is_summary, raised_summary
 use Rattle.cif_laws.proofs.lists.ZipSteps.{zip_set, zip_end, zip_at, zip_long, zip_replicate}
 
 module _ (format : Format) (known : KnownSets) (states : List State) (messages : List (List ℕ)) (holds : Holds format known states messages) where
-  -- ---- an office and a message
+  -- ---- each state matches what its office knows, and each text what its message knows
 
   -- the state of an office is the summary of the files that it knows
   pub office_is : (office : ℕ) → IsOffice known office → IsStateOf (office_known known office) (office_state states office)
@@ -47,8 +47,8 @@ module _ (format : Format) (known : KnownSets) (states : List State) (messages :
   pub office_told : (office : ℕ) → IsOffice known office → IsToldState format (office_state states office)
   office_told office there = summary_told format (office_known known office) (office_state states office) (office_good office there) (office_is office there)
 
-  -- a message can be read with a limit equal to its length: it is the text of the summary of the
-  -- files that the message knows
+  -- a message can be read with a limit equal to its length: the message is the text of the summary
+  -- of the files that it knows
   pub message_reads : (message : ℕ) → IsMessage known message → length (message_text messages message) < 2 ^ 64
       → (state : State) × IsStateOf (message_known known message) state × IsStateText format (length (message_text messages message))
       (message_text messages message) state
@@ -71,7 +71,7 @@ module _ (format : Format) (known : KnownSets) (states : List State) (messages :
       let made = message_reads message there short in
       subst (IsStateOf (message_known known message)) (one_text format made.0 state made.2.valid is.valid (sym made.2.is ∙ is.is)) made.1
 
-  -- ---- one event
+  -- ---- after each event, states and messages still match what is known
 
   -- after a refused event states and messages still match what is known
   pub after_refusal : (event : RunEvent) (why : Refusal) → Holds format (after_reply known (event, refused why)) states messages

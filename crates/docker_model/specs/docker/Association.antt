@@ -1,6 +1,6 @@
--- Association lines: the lines of a docker that say that two trains join or divide at a place, or
--- that one train becomes the other's next working. A day is any number here, without a bound;
--- dockers are made only for days 0 to 36524.
+-- Association lines, which are the lines of a docker that say that two trains join or divide at a
+-- place, or that one train becomes the other's next working. Here a day is any number, without a
+-- bound; dockers are made only for days 0 to 36524.
 use Rattle.std.specs.Prelude.{◌≡◌, ℕ, ◌+◌, ◌-◌, Bool, ◌||◌, ◌⊎◌, ◌==◌, nat_lt, if◌then◌else◌, IsTrue, List, Option, Some, None, codes}
 use Rattle.std.specs.Str.{bytes_eq}
 use Rattle.docker_model.specs.records.Record.{columns, column}
@@ -13,9 +13,9 @@ use Rattle.docker_model.specs.docker.Event.{Event, event_day, first_event_at}
 use Rattle.docker_model.specs.docker.Choice.{TrainRuns, IsChosenAssociation, IsCancellation, group_of}
 use Rattle.docker_model.specs.docker.DockerLine.{DockerLine, line_of_association}
 
--- the occasion of an association's category. `JJ` is a join, `VV` a division and `NP` a next
--- working; any other category has no occasion, and its associations have no docker line. For a
--- category of two bytes
+-- converts the category of an association, which has two bytes, to its occasion. `JJ` is a join,
+-- `VV` a division and `NP` a next working. Any other category has no occasion, and an association
+-- with such a category has no docker line
 abbrev pub category_occasion : List ℕ → Option Occasion
 category_occasion category =
     if bytes_eq category (codes "JJ") then Some joining
@@ -27,9 +27,10 @@ abbrev pub is_date_indicator : ℕ → Bool
 is_date_indicator b = (b == 83) || (b == 32) || (b == 78) || (b == 80)
 
 -- the day on which the associated train starts, from the association's date indicator and the day
--- on which the base train starts. For N it is the next day, for P the day before, and otherwise the
--- same day. It is `None` if that day is outside 0 to 36524. For example, `partner_start 78 10` is
--- `Some 11` (78 is N), and `partner_start 80 0` is `None` (80 is P). For base start days 0 to 36524
+-- on which the base train starts. For N the associated train starts on the next day, for P on the
+-- day before, and otherwise on the same day. The result is `None` if that day is outside 0 to
+-- 36524. For example, `partner_start 78 10` is `Some 11` (78 is N), and `partner_start 80 0` is
+-- `None` (80 is P). The base train's start day must be from 0 to 36524
 abbrev pub partner_start : ℕ → ℕ → Option ℕ
 partner_start indicator day =
     if indicator == 78 then (if nat_lt day last_day then Some (day + 1) else None)
@@ -40,8 +41,8 @@ partner_start indicator day =
 abbrev pub RunsNot : Table → List ℕ → ℕ → Type 0
 RunsNot live uid day = (key : ScheduleKey) (lines : List (List ℕ)) → ¬ TrainRuns live uid day key lines
 
--- this is the train identity that a line prints for a UID on a day. It is the identity in the basic
--- schedule of the train that starts on the day, or `????` if there is no such train
+-- this is the train identity that is printed for a UID on a day. If a train of the UID starts on
+-- the day, the identity is taken from the train's basic schedule. Otherwise the identity is `????`
 abbrev pub IsIdentityOn : Table → List ℕ → List ℕ → ℕ → Type 0
 IsIdentityOn live uid identity day =
     ((key : ScheduleKey) × (lines : List (List ℕ)) × TrainRuns live uid day key lines × (identity ≡ columns 33 36 (first_record lines)))
@@ -53,9 +54,9 @@ IsPartnerIdentity live uid None identity = identity ≡ codes "????"
 IsPartnerIdentity live uid (Some day) identity = IsIdentityOn live uid identity day
 
 -- this is a docker line of an association, for the place and the day. The association is the chosen
--- association of its group on the base train's start day. It isn't a cancellation. Its category is
--- a join, a division or a next working, and its date indicator is S, a space, N or P. The base
--- train's first event with the association's TIPLOC and suffix is at the place, on the day
+-- association of its group on the base train's start day. The association isn't a cancellation. Its
+-- category is a join, a division or a next working, and its date indicator is S, a space, N or P.
+-- The base train's first event with the association's TIPLOC and suffix is at the place, on the day
 pub record IsAssociationLine (live : Table) (place : List ℕ) (day : ℕ) (line : DockerLine) : Type 0 where
   pub start : ℕ
   pub key : AssociationKey

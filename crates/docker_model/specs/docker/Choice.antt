@@ -1,5 +1,5 @@
--- Which schedule of a UID is chosen for a day, and which association of a group. A day is any
--- number here, without a bound; dockers are made only for days 0 to 36524.
+-- The choice among the schedules of a UID, and among the associations of a group, on a day. Here a
+-- day is any number, without a bound; dockers are made only for days 0 to 36524.
 use Rattle.std.specs.Prelude.{◌≡◌, ℕ, Bool, false, ◌&&◌, nat_le, IsTrue, List, Option, Some, None}
 use Rattle.std.specs.declared.cmp.Ordering.{Ordering}
 use Rattle.std.specs.Ordering.{ordering_then, nat_cmp}
@@ -10,17 +10,20 @@ use Rattle.docker_model.specs.file.Change.{association_key, schedule_key, Associ
 use Rattle.docker_model.specs.state.Order.{IsAtMost}
 use Rattle.docker_model.specs.state.Table.{Table}
 
--- whether the day is from the first date to the last, and its weekday is marked in the days run.
--- The three fields come from a schedule or an association, and have six, six and seven bytes
+-- whether a day is in a range of dates, and the day's weekday is marked in the days run. The first
+-- date, the last date and the days run are fields of a schedule or an association, and have six,
+-- six and seven bytes
 abbrev pub runs_within : List ℕ → List ℕ → List ℕ → ℕ → Bool
 runs_within first last days day =
     nat_le (date_number first) day && nat_le day (end_number last) && runs_on_weekday days (weekday_of day)
 
--- whether this basic schedule runs on the day, by its dates and its days run. For a whole record
+-- whether a basic schedule runs on the day, according to its dates and its days run. The argument
+-- is a whole record
 abbrev pub schedule_runs : List ℕ → ℕ → Bool
 schedule_runs line day = runs_within (columns 10 15 line) (columns 16 21 line) (columns 22 28 line) day
 
--- whether this association runs on the day, by its dates and its days run. For a whole record
+-- whether an association runs on the day, according to its dates and its days run. The argument is
+-- a whole record
 abbrev pub association_runs : List ℕ → ℕ → Bool
 association_runs line day = runs_within (columns 16 21 line) (columns 22 27 line) (columns 28 34 line) day
 
@@ -34,13 +37,13 @@ runs_by_kind _ line day = false
 abbrev pub runs : List ℕ → ℕ → Bool
 runs line day = runs_by_kind (kind_of line) line day
 
--- the STP indicator is C: the schedule or association is a cancellation
+-- the STP indicator is C, which means that the schedule or the association is a cancellation
 abbrev pub IsCancellation : ℕ → Type 0
 IsCancellation indicator = indicator ≡ 67
 
 -- the order of choice between two schedules or two associations, each given by its STP indicator
--- and its first date. The lower letter comes first: C, N, O, P. With equal letters, the later first
--- date comes first
+-- and its first date. The indicators are compared first, in the order C, N, O, P. If both
+-- indicators are equal, the later first date comes first
 abbrev pub choice_cmp : ℕ → ℕ → ℕ → ℕ → Ordering
 choice_cmp indicator first other_indicator other_first = ordering_then (nat_cmp indicator other_indicator) (nat_cmp other_first first)
 
@@ -53,16 +56,16 @@ schedule_choice_cmp a b = choice_cmp a.indicator a.runs_from b.indicator b.runs_
 abbrev pub association_choice_cmp : AssociationKey → AssociationKey → Ordering
 association_choice_cmp a b = choice_cmp a.indicator a.start b.indicator b.start
 
--- this schedule is live, belongs to the UID and runs on the day. Several schedules of one UID may
--- run on the same day
+-- this schedule is in the live table, belongs to the UID and runs on the day. Several schedules of
+-- one UID may run on the same day
 pub record IsRunning (live : Table) (uid : List ℕ) (day : ℕ) (key : ScheduleKey) (lines : List (List ℕ)) : Type 0 where
   pub uid_is : key.uid ≡ uid
   pub is_live : live (schedule_key key) ≡ Some (schedule_body lines)
   pub runs_then : IsTrue (schedule_runs (first_record lines) day)
 
--- this is the chosen schedule of the UID on the day: of all schedules of the UID that run on the
--- day, it comes first in the order of choice. For example, an overlay is chosen before a permanent
--- schedule, and a cancellation before both
+-- this is the chosen schedule of the UID on the day. Of all schedules of the UID that run on the
+-- day, this schedule comes first in the order of choice. For example, an overlay is chosen before a
+-- permanent schedule, and a cancellation before both
 pub record IsChosen (live : Table) (uid : List ℕ) (day : ℕ) (key : ScheduleKey) (lines : List (List ℕ)) : Type 0 where
   pub running : IsRunning live uid day key lines
   pub first : (other : ScheduleKey) (others : List (List ℕ)) → IsRunning live uid day other others → IsAtMost schedule_choice_cmp key other
@@ -81,19 +84,19 @@ pub record Group : Type 0 where
   pub location : List ℕ
   pub suffix : ℕ
 
--- the group of an association
+-- the group to which an association with this key belongs
 abbrev pub group_of : AssociationKey → Group
 group_of key = record { base = key.base; associated = key.associated; location = key.location; suffix = key.suffix }
 
--- this association is live, belongs to the group and runs on the day. Its dates are the days on
--- which the base train starts
+-- this association is in the live table, belongs to the group and runs on the day. The dates of an
+-- association are start days of the base train
 pub record IsAssociated (live : Table) (group : Group) (day : ℕ) (key : AssociationKey) (line : List ℕ) : Type 0 where
   pub group_is : group_of key ≡ group
   pub is_live : live (association_key key) ≡ Some (association_body line)
   pub runs_then : IsTrue (association_runs line day)
 
--- this is the chosen association of the group on the day: of all associations of the group that run
--- on the day, it comes first in the order of choice
+-- this is the chosen association of the group on the day. Of all associations of the group that run
+-- on the day, this association comes first in the order of choice
 pub record IsChosenAssociation (live : Table) (group : Group) (day : ℕ) (key : AssociationKey) (line : List ℕ) : Type 0 where
   pub associated : IsAssociated live group day key line
   pub first : (other : AssociationKey) (others : List ℕ) → IsAssociated live group day other others → IsAtMost association_choice_cmp key other

@@ -15,8 +15,8 @@ pub data Detail : Type 0 where
   ends : (origin destination : List ℕ) → Detail
   partner : (uid identity : List ℕ) → Detail
 
--- one line of a docker: what is printed, with the time in half minutes. The start day of the train
--- and the number of its event aren't printed: they only decide the order of lines
+-- one line of a docker. Most fields are printed, and the time is in half minutes. Two fields aren't
+-- printed and only decide the order of lines: the train's start day and the number of its event
 pub record DockerLine : Type 0 where
   pub time : ℕ
   pub occasion : Occasion
@@ -61,13 +61,13 @@ public_by_kind (Some intermediate_location) departure line = shown_public (colum
 public_by_kind (Some terminating_location) arrival line = shown_public (columns 16 19 line)
 public_by_kind _ _ line = spaces 4
 
--- the TIPLOC of the first record with this record identity in a schedule. For example, for `LO` it
--- is the train's origin, and for `LT` its destination
+-- the TIPLOC of the first record with this record identity in a schedule. For example, for `LO` the
+-- result is the train's origin, and for `LT` the train's destination
 abbrev pub tiploc_of_first : List ℕ → List (List ℕ) → List ℕ
 tiploc_of_first identity lines = columns 3 9 (unwrap_or (find (λ line. has_identity identity line) lines) [])
 
--- the docker line of a train's event. The schedule has this key and these records, and the train
--- starts on this day
+-- converts an event of a train to its docker line. The train runs by the schedule with this key and
+-- these records, and starts on this day
 abbrev pub line_of_event : ScheduleKey → ℕ → List (List ℕ) → Event → DockerLine
 line_of_event key start lines event =
     let at = event_line lines event in
@@ -109,8 +109,8 @@ line_of_association occasion indicator key start lines event associated identity
       detail = partner associated identity;
     }
 
--- the order of lines that have the same time: arrivals, passes, joins, divisions, next workings,
--- departures
+-- the rank of an occasion, which decides the order of lines with the same time: arrivals, passes,
+-- joins, divisions, next workings, departures
 abbrev pub occasion_rank : Occasion → ℕ
 occasion_rank arrival = 0
 occasion_rank pass = 1

@@ -10,7 +10,8 @@ use Rattle.docker_model.specs.state.Table.{Table}
 use Rattle.docker_model.specs.docker.DockerLine.{Detail, ends, partner, DockerLine}
 use Rattle.docker_model.specs.docker.DockerList.{IsDockerList}
 
--- the letter that is printed for an occasion
+-- converts an occasion to the letter that is printed for it. For example, an arrival is printed as
+-- `A`
 abbrev pub occasion_text : Occasion → List ℕ
 occasion_text arrival = codes "A"
 occasion_text pass = codes "P"
@@ -24,7 +25,7 @@ abbrev pub detail_text : Detail → List ℕ
 detail_text (ends origin destination) = origin ++ spaces 1 ++ destination
 detail_text (partner uid identity) = uid ++ spaces 2 ++ identity ++ spaces 3
 
--- the 56 columns of a docker line
+-- converts a docker line to its 56 printed columns
 abbrev pub line_text : DockerLine → List ℕ
 line_text line =
     time_text line.time ++ spaces 1 ++ occasion_text line.occasion ++ spaces 1 ++ line.identity ++ spaces 1 ++ line.uid
@@ -38,13 +39,13 @@ abbrev pub description_in : Option Body → List ℕ
 description_in (Some (tiploc_body bytes)) = columns 10 35 bytes
 description_in _ = spaces 26
 
--- the 56 columns of a docker's heading: the place, the day and the place's TPS description. For a
--- day from 0 to 36524
+-- the 56 columns of a docker's heading: the place, the day and the place's TPS description. The day
+-- must be from 0 to 36524
 abbrev pub heading : Table → List ℕ → ℕ → List ℕ
 heading live place day =
     codes "DOCKER " ++ place ++ spaces 1 ++ day_text day ++ spaces 1 ++ description_in (live (tiploc_key place)) ++ spaces 4
 
--- the 56 columns of a docker's last line
+-- the last line of a docker: `END`, padded with spaces to 56 columns
 abbrev pub last_line : List ℕ
 last_line = codes "END" ++ spaces 53
 
@@ -52,8 +53,8 @@ last_line = codes "END" ++ spaces 53
 abbrev pub ended : List ℕ → List ℕ
 ended text = text ++ 10 ∷ []
 
--- the docker's text: its heading, these lines and the last line, each followed by a line feed. For
--- a day from 0 to 36524
+-- the docker's text: its heading, these lines and the last line, each followed by a line feed. The
+-- day must be from 0 to 36524
 abbrev pub docker_text : Table → List ℕ → ℕ → List DockerLine → List ℕ
 docker_text live place day lines =
     ended (heading live place day) ++ flat_map (λ line. ended (line_text line)) lines ++ ended last_line
@@ -62,13 +63,13 @@ docker_text live place day lines =
 abbrev pub IsDockerText : Table → List ℕ → ℕ → List ℕ → Type 0
 IsDockerText live place day text = (lines : List DockerLine) × IsDockerList live place day lines × (text ≡ docker_text live place day lines)
 
--- the 33 columns that are printed for one ledger item: the file's date, time, current reference,
+-- converts a ledger item to its 33 printed columns: the file's date, time, current reference,
 -- update indicator and last reference
 abbrev pub file_text : LedgerItem → List ℕ
 file_text item =
     day_text item.stamp.moment.day ++ spaces 1 ++ minute_text item.stamp.moment.minute ++ spaces 1 ++ item.stamp.reference
     ++ spaces 1 ++ item.indicator ∷ spaces 1 ++ item.last_reference
 
--- the text that lists a ledger's files, one line for each file
+-- the printed list of a ledger's files, with one line for each file
 abbrev pub files_text : List LedgerItem → List ℕ
 files_text ledger = flat_map (λ item. ended (file_text item)) ledger

@@ -7,7 +7,7 @@ use Rattle.docker_model.specs.records.Record.{columns, column}
 use Rattle.docker_model.specs.file.Journey.{Occasion, times_of, times_along, fall_count}
 use Rattle.docker_model.specs.file.File.{first_record}
 
--- an event of a train: its number, the place of its record in the schedule counted from 0, its
+-- an event of a train: its number, the index of its record in the schedule (counted from 0), its
 -- occasion, and its time in half minutes
 pub record Event : Type 0 where
   pub number : ℕ
@@ -15,28 +15,29 @@ pub record Event : Type 0 where
   pub occasion : Occasion
   pub time : ℕ
 
--- every time in the schedule, each with the place of its record, counted from 0. A record has at
+-- every time in the schedule, each with the index of its record, counted from 0. A record has at
 -- most three times
 abbrev pub placed_times : List (List ℕ) → List (ℕ × (Occasion × ℕ))
 placed_times lines = flat_map (λ placed. map (λ time. (placed.0, time)) (times_of placed.1)) (enumerate_from 0 lines)
 
--- the events of a schedule: one for each time in it, numbered from 1
+-- the events of a schedule: one event for each time in the schedule, numbered from 1
 abbrev pub events_of : List (List ℕ) → List Event
 events_of lines =
     map (λ counted. record { number = counted.0; place = counted.1.0; occasion = counted.1.1.0; time = counted.1.1.1 })
     (enumerate_from 1 (placed_times lines))
 
--- how often a schedule passes midnight before or at the event with this number. For the numbers 0
--- and 1 the result is 0. For a number above the last event's, the result counts every midnight
+-- the number of times that a schedule passes midnight up to and including the event with this
+-- number. For the numbers 0 and 1 the result is 0. For a number above the last event's, every
+-- midnight counts
 abbrev pub falls_to : List (List ℕ) → ℕ → ℕ
 falls_to lines number = fall_count (take number (times_along lines))
 
 -- the day of an event, for a train that starts on this day. For example, if a train starts on day
--- 10, its events after one midnight are on day 11
+-- 10, the events after the first midnight, up to the second, are on day 11
 abbrev pub event_day : ℕ → List (List ℕ) → Event → ℕ
 event_day start lines event = start + falls_to lines event.number
 
--- the record of the schedule that has this event
+-- the record of the schedule to which this event belongs
 abbrev pub event_line : List (List ℕ) → Event → List ℕ
 event_line lines event = slice_index_or lines event.place []
 

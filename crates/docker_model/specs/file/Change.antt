@@ -23,21 +23,22 @@ pub record ScheduleKey : Type 0 where
   pub runs_from : ℕ
   pub indicator : ℕ
 
--- a key, by which a state finds an entry: a TIPLOC's code, or the key of an association or a
+-- a key, which identifies an entry of a state: a TIPLOC's code, or the key of an association or a
 -- schedule
 pub data Key : Type 0 where
   tiploc_key : (code : List ℕ) → Key
   association_key : (key : AssociationKey) → Key
   schedule_key : (key : ScheduleKey) → Key
 
--- a body: the value that a put stores at its key. It is columns 10 to 72 of a TIPLOC record, the
--- whole record of an association, or the records of a schedule
+-- a body: the value that a put stores at its key. The body of a TIPLOC is columns 10 to 72 of its
+-- record. The body of an association is its whole record, and the body of a schedule is all its
+-- records
 pub data Body : Type 0 where
   tiploc_body : (bytes : List ℕ) → Body
   association_body : (line : List ℕ) → Body
   schedule_body : (lines : List (List ℕ)) → Body
 
--- what a change does to its key: it deletes the key, or puts a body at the key
+-- the act of a change: a deletion of its key, or a put of a body at its key
 pub data Act : Type 0 where
   delete : Act
   put : (body : Body) → Act
@@ -83,8 +84,8 @@ tiploc_details line = tiploc_body (columns 10 72 line)
 abbrev pub keeps_code : List ℕ → Bool
 keeps_code line = is_blank (columns 73 79 line) || bytes_eq (columns 73 79 line) (columns 3 9 line)
 
--- the records of a schedule after its basic schedule, from all records that follow in the file.
--- They end before the next unit or the trailer
+-- the records of a schedule after its basic schedule, taken from all records that follow the basic
+-- schedule in the file. The schedule ends before the next unit or the trailer
 abbrev pub schedule_rest : List (List ℕ) → List (List ℕ)
 schedule_rest following = take_while (λ line. follows_basic (kind_of line)) following
 

@@ -10,16 +10,16 @@ last_of [] = []
 last_of (piece ∷ []) = piece
 last_of (piece ∷ next ∷ pieces) = last_of (next ∷ pieces)
 
--- how many lines at the beginning of a text are certain, whatever bytes follow. A line is certain
--- once its line feed has been read. An unended line of more than 81 bytes counts too: it is too
--- long, even if its last byte is a carriage return. For example, the text `HD` has no certain line,
--- and `HD` with a line feed has one
+-- the number of certain lines at the beginning of a text that is still being read. A line is
+-- certain once its line feed has been read. A line of more than 81 bytes is certain even without a
+-- line feed: it is too long for a record, even if its last byte is a carriage return. For example,
+-- the text `HD` has no certain line, and `HD` with a line feed has one
 abbrev pub sure_lines : List ℕ → ℕ
 sure_lines text =
     count_by (λ b. b == 10) text + (if nat_le 82 (length (last_of (slice_split (λ b. b == 10) text))) then 1 else 0)
 
--- every file that begins with these bytes has this fault, whatever bytes follow: the record at
--- fault is one of the certain lines
+-- these bytes determine this fault, which is the fault of every text that begins with these bytes:
+-- the record at fault is one of the certain lines
 pub record IsFaultSoFar (limit : ℕ) (text : List ℕ) (fault : FileFault) : Type 0 where
   pub is : IsRecordFault limit (lines_of text) fault
   pub told : fault.number ≤ sure_lines text

@@ -1,4 +1,4 @@
--- What a CIF file is: a list of records in a certain order.
+-- A CIF file is a list of records in a certain order.
 use Rattle.std.specs.Prelude.{ℕ, List, [], ◌∷◌, Bool, true, false, Option, Some, ◌⊎◌, ◌≡◌, ◌++◌, All, IsTrue, ◌≤◌}
 use Rattle.std.specs.List.{flat_map}
 use Rattle.docker_model.specs.records.Record.{Kind, extra_details, origin_location, intermediate_location, terminating_location, change_en_route, HasKind}
@@ -36,11 +36,12 @@ pub record IsJourney (lines : List (List ℕ)) : Type 0 where
   pub calls : All IsWithinJourney between
   pub terminus : HasKind terminating_location last
 
--- there is no record, or just one record of extra details
+-- these records are the extra details of a schedule: no record at all, or one record of extra
+-- details
 abbrev pub AreExtraDetails : List (List ℕ) → Type 0
 AreExtraDetails lines = (lines ≡ []) ⊎ ((line : List ℕ) × (lines ≡ line ∷ []) × HasKind extra_details line)
 
--- the schedule needs no journey: its basic schedule is a deletion or a cancellation
+-- the schedule needs no journey, because its basic schedule is a deletion or a cancellation
 abbrev pub MayLackJourney : List ℕ → Type 0
 MayLackJourney basic = IsTrue (is_deletion basic) ⊎ (column 80 basic ≡ 67)
 

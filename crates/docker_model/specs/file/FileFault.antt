@@ -1,4 +1,4 @@
--- Why a text isn't a file: the first record at fault, and the cause.
+-- The fault of a text that isn't a file: the first record at fault, and the cause.
 use Rattle.std.specs.Prelude.{◌≡◌, ℕ, ◌+◌, ◌<◌, ◌≤◌, ◌≢◌, ◌⊎◌, List, [], ◌∷◌, ◌++◌, length, All, Any, Some, None}
 use Rattle.docker_model.specs.records.Record.{basic_schedule, trailer, HasKind, kind_of, leftmost_bad_byte}
 use Rattle.docker_model.specs.records.Field.{leftmost_bad_field}
@@ -6,7 +6,7 @@ use Rattle.docker_model.specs.file.Journey.{midnights}
 use Rattle.docker_model.specs.file.File.{IsFile, BeginsFile}
 use Rattle.docker_model.specs.file.Text.{lines_of}
 
--- why a record is at fault. The columns of a bad byte and of a bad field count from 1
+-- the cause of a fault. The columns of a bad byte and of a bad field count from 1
 pub data FileCause : Type 0 where
   too_many : FileCause
   after_trailer : FileCause
@@ -18,7 +18,7 @@ pub data FileCause : Type 0 where
   third_midnight : FileCause
   no_end : FileCause
 
--- the rank of a cause. If several causes hold for a record, the cause with the lowest rank is
+-- the rank of a cause. If several causes apply to a record, the cause with the lowest rank is
 -- reported
 abbrev pub cause_rank : FileCause → ℕ
 cause_rank too_many = 0
@@ -31,8 +31,8 @@ cause_rank (bad_field at) = 6
 cause_rank third_midnight = 7
 cause_rank no_end = 8
 
--- the record is out of place: after these earlier records, no file has a record of its kind. For
--- example, a trailer is out of place inside a schedule
+-- the record is out of place: no file has a record of this kind directly after these earlier
+-- records. For example, a trailer is out of place inside a schedule
 abbrev pub IsOutOfPlace : List (List ℕ) → List ℕ → Type 0
 IsOutOfPlace earlier line = (next : List ℕ) → kind_of next ≡ kind_of line → ¬ BeginsFile (earlier ++ next ∷ [])
 
@@ -47,14 +47,14 @@ pub record EndsInSchedule (records lines : List (List ℕ)) : Type 0 where
   pub kind : HasKind basic_schedule basic
   pub last : All (λ line. ¬ HasKind basic_schedule line) others
 
--- with this record, the schedule at the end of the earlier records passes midnight for the third
--- time
+-- the schedule at the end of the earlier records passes midnight at most twice, but with this
+-- record appended the schedule passes midnight a third time
 abbrev pub HasThirdFall : List (List ℕ) → List ℕ → Type 0
 HasThirdFall earlier line =
     (lines : List (List ℕ)) × EndsInSchedule earlier lines × (midnights lines ≤ 2) × (2 < midnights (lines ++ line ∷ []))
 
--- the cause holds for a record that follows these earlier records, in a file with this limit on its
--- records. The cause `no_end` never holds for a record
+-- the cause applies to a record that follows these earlier records, in a file of at most `limit`
+-- records. The cause `no_end` never applies to a record
 abbrev pub HoldsOf : ℕ → List (List ℕ) → List ℕ → FileCause → Type 0
 HoldsOf limit earlier line too_many = limit ≤ length earlier
 HoldsOf limit earlier line after_trailer = Any (HasKind trailer) earlier
@@ -66,19 +66,21 @@ HoldsOf limit earlier line (bad_field at) = leftmost_bad_field line ≡ Some at
 HoldsOf limit earlier line third_midnight = HasThirdFall earlier line
 HoldsOf limit earlier line no_end = ⊥
 
--- this is the cause that is reported for a record: it holds, and no cause of a lower rank holds
+-- this is the cause that is reported for a record: it applies to the record, and no cause of a
+-- lower rank does
 pub record IsCause (limit : ℕ) (earlier : List (List ℕ)) (line : List ℕ) (cause : FileCause) : Type 0 where
   pub holds : HoldsOf limit earlier line cause
   pub first : (other : FileCause) → cause_rank other < cause_rank cause → ¬ HoldsOf limit earlier line other
 
--- why a text isn't a file: the number of the record at fault, counted from 1, and the cause
+-- the fault of a text that isn't a file: the number of the record at fault, counted from 1, and the
+-- cause
 pub record FileFault : Type 0 where
   pub number : ℕ
   pub cause : FileCause
 
 -- this is the fault of the first record at fault. The records before that record are within the
--- limit and begin a file. Together with that record, they are over the limit or no longer begin a
--- file
+-- limit and begin a file. With that record appended, the records exceed the limit or no longer
+-- begin a file
 pub record IsRecordFault (limit : ℕ) (records : List (List ℕ)) (fault : FileFault) : Type 0 where
   pub earlier : List (List ℕ)
   pub line : List ℕ
@@ -90,7 +92,7 @@ pub record IsRecordFault (limit : ℕ) (records : List (List ℕ)) (fault : File
   pub here : (limit ≤ length earlier) ⊎ (¬ BeginsFile (earlier ++ line ∷ []))
   pub cause : IsCause limit earlier line fault.cause
 
--- this is the fault `no_end`: no record is at fault, but a file needs more records. Its number is
+-- this is the fault `no_end`: no record is at fault, but a file needs more records. The fault has
 -- the number of the first missing record
 pub record IsUnended (limit : ℕ) (records : List (List ℕ)) (fault : FileFault) : Type 0 where
   pub within : length records ≤ limit

@@ -1,13 +1,13 @@
--- The times of a journey, and how often it passes midnight. A journey is the records of a schedule
--- from its origin to its terminus.
+-- The times of a journey, and how often the journey passes midnight. A journey is the records of a
+-- schedule from its origin to its terminus.
 use Rattle.std.specs.Prelude.{ℕ, List, [], ◌∷◌, Option, Some, None, ◌+◌, ◌++◌, map, nat_lt, if◌then◌else◌, ◌≡◌, Contains, ◌⊎◌, Bool, ◌&&◌}
 use Rattle.std.specs.List.{flat_map, list_any}
 use Rattle.std.specs.Str.{bytes_eq}
 use Rattle.docker_model.specs.records.Record.{Kind, origin_location, intermediate_location, terminating_location, columns, kind_of, HasKind, is_location}
 use Rattle.docker_model.specs.records.Clock.{scheduled_time}
 
--- what a docker line reports: an arrival, a pass or a departure of a train, or an association of
--- the train with another
+-- the occasion of a docker line: an arrival, a pass or a departure of a train, or an association of
+-- the train with another train
 pub data Occasion : Type 0 where
   arrival : Occasion
   pass : Occasion
@@ -16,7 +16,7 @@ pub data Occasion : Type 0 where
   next_working : Occasion
   departure : Occasion
 
--- a list of one pair, this occasion and its time. It is empty if there is no time
+-- a list of only one pair, this occasion with its time, or the empty list if there is no time
 abbrev pub timed : Occasion → Option ℕ → List (Occasion × ℕ)
 timed occasion None = []
 timed occasion (Some time) = (occasion, time) ∷ []
@@ -41,8 +41,8 @@ times_of line = times_by_kind (kind_of line) line
 abbrev pub times_along : List (List ℕ) → List ℕ
 times_along lines = map (λ time. time.1) (flat_map times_of lines)
 
--- how often a time is earlier than the time before it. For example, 5 3 3 1 has two such falls:
--- equal times are no fall
+-- the number of falls in a list of times. A fall is a time that is earlier than the time before it.
+-- For example, 5 3 3 1 has two falls, since equal times are no fall
 abbrev pub fall_count : List ℕ → ℕ
 fall_count [] = 0
 fall_count (time ∷ []) = 0
@@ -53,7 +53,8 @@ fall_count (time ∷ later ∷ times) = (if nat_lt later time then 1 else 0) + f
 abbrev pub midnights : List (List ℕ) → ℕ
 midnights lines = fall_count (times_along lines)
 
--- the schedule calls at this TIPLOC: one of its LO, LI and LT records has it in columns 3 to 9
+-- the schedule calls at this TIPLOC: one of its LO, LI and LT records has this TIPLOC in columns 3
+-- to 9
 pub record CallsAt (place : List ℕ) (lines : List (List ℕ)) : Type 0 where
   pub line : List ℕ
   pub among : Contains lines line

@@ -6,16 +6,17 @@ use Rattle.std.specs.Char.{is_ascii_digit}
 use Rattle.std.specs.Str.{bytes_eq}
 use Rattle.docker_model.specs.records.Date.{two_digits}
 
--- whether each byte is a space. For a field of four, five or seven bytes
+-- whether a field of four, five or seven bytes is blank: each byte is a space
 abbrev pub is_blank : List ℕ → Bool
 is_blank field = list_all (λ b. b == 32) field
 
--- whether the first four bytes are HHMM, from 0000 to 2359. For a field of four or five bytes
+-- whether the first four bytes of a field are HHMM, from 0000 to 2359. The field has four or five
+-- bytes
 abbrev pub is_clock : List ℕ → Bool
 is_clock field = list_all is_ascii_digit (take 4 field) && nat_lt (two_digits field 0) 24 && nat_lt (two_digits field 2) 60
 
--- the minute of the day for the HHMM in the first four bytes: `0715` is 435. For a field of four or
--- five bytes
+-- converts HHMM, the first four bytes of a field, to the minute of the day: `0715` is 435. The
+-- field has four or five bytes
 abbrev pub minute_of : List ℕ → ℕ
 minute_of field = 60 * two_digits field 0 + two_digits field 2
 
@@ -27,11 +28,13 @@ is_present_time field = is_clock field && ((slice_index field 4 == 72) || (slice
 abbrev pub is_scheduled_time : List ℕ → Bool
 is_scheduled_time field = is_blank field || is_present_time field
 
--- the half minutes since midnight of a scheduled time of five bytes that is present: `0715H` is 871
+-- converts a scheduled time of five bytes that is present to half minutes since midnight: `0715H`
+-- is 871
 abbrev pub half_minutes : List ℕ → ℕ
 half_minutes field = 2 * minute_of field + (if slice_index field 4 == 72 then 1 else 0)
 
--- the half minutes since midnight of a scheduled time of five bytes, or `None` if it is blank
+-- converts a scheduled time of five bytes to half minutes since midnight, or to `None` if the field
+-- is blank
 abbrev pub scheduled_time : List ℕ → Option ℕ
 scheduled_time field = if is_blank field then None else Some (half_minutes field)
 
@@ -39,6 +42,7 @@ scheduled_time field = if is_blank field then None else Some (half_minutes field
 abbrev pub is_public_time : List ℕ → Bool
 is_public_time field = is_blank field || is_clock field
 
--- the minute of the day for a public time of four bytes, or `None` for `0000` and for a blank field
+-- converts a public time of four bytes to the minute of the day, or to `None` if the field is
+-- `0000` or blank
 abbrev pub public_time : List ℕ → Option ℕ
 public_time field = if is_blank field || bytes_eq field (codes "0000") then None else Some (minute_of field)

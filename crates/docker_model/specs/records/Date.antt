@@ -1,5 +1,6 @@
--- Dates. A day is a number, and 1 January 1960 is day 0. The calendar of the crate `jiff` is used.
--- Each definition says how wide its field is; past the end of a shorter field, bytes read as 0.
+-- Dates and day numbers. Day 0 is 1 January 1960. The definitions use the calendar of the crate
+-- `jiff`. Each definition says how wide its field is; past the end of a shorter field, bytes read
+-- as 0.
 use Rattle.std.specs.Prelude.{ℕ, ◌+◌, ◌-◌, ◌*◌, List, slice_index, nat_le, if◌then◌else◌, Bool, ◌&&◌}
 use Rattle.std.specs.Prelude.{pos, ◌+ℤ◌, unsigned_abs, ◌≤◌, codes, ◌||◌, ◌==◌, ◌%◌, count_by}
 use Rattle.std.specs.List.{list_all, range_with_len}
@@ -9,22 +10,24 @@ use Rattle.std.specs.Str.{bytes_eq}
 use Rattle.jiff.specs.Words.{days_in_month}
 use Rattle.jiff_core.specs.Calendar.{days_from_civil}
 
--- the value of two digits of a field. The first digit is at place `i`, counted from 0: in `2025`
--- the digits at place 2 have the value 25. For a field that has both digits
+-- converts two digits of a field to a number. The first digit has the index `i`, counted from 0: in
+-- `2025` the digits from index 2 have the value 25. The field must contain both digits
 abbrev pub two_digits : List ℕ → ℕ → ℕ
 two_digits field i = 10 * (slice_index field i - 48) + (slice_index field (i + 1) - 48)
 
--- the year that two digits mean: 60 to 99 are 1960 to 1999, and 00 to 59 are 2000 to 2059
+-- converts a year of two digits to a full year: 60 to 99 are 1960 to 1999, and 00 to 59 are 2000 to
+-- 2059
 abbrev pub full_year : ℕ → ℕ
 full_year n = if nat_le 60 n then 1900 + n else 2000 + n
 
--- whether the calendar has this year, month and day. For example, it has no 29 February 2023
+-- whether the calendar has this year, month and day. For example, the calendar has no 29 February
+-- 2023
 abbrev pub is_calendar_day : ℕ → ℕ → ℕ → Bool
 is_calendar_day year month day = is_in_range 1 12 month && is_in_range 1 (days_in_month (pos year) month) day
 
--- the number of a calendar day: the days since 1 January 1960. For example, 2 January 1960 has the
--- number 1. For years from 1960. The constant 3653 is the number of days from 1 January 1960 to 1
--- January 1970
+-- converts a calendar day to its day number, which is the number of days since 1 January 1960. For
+-- example, 2 January 1960 has the number 1. The year must be at least 1960. The constant 3653 is
+-- the number of days from 1 January 1960 to 1 January 1970
 abbrev pub day_number : ℕ → ℕ → ℕ → ℕ
 day_number year month day = unsigned_abs (days_from_civil (pos year) month day +ℤ pos 3653)
 
@@ -36,23 +39,25 @@ last_day = 36524
 abbrev pub IsDay : ℕ → Type 0
 IsDay day = day ≤ last_day
 
--- the number that means no end, in place of the last day of a schedule or an association
+-- the end number of a schedule or an association that has no last day
 abbrev pub no_end_number : ℕ
 no_end_number = 65535
 
--- whether six bytes are a date as YYMMDD: digits for a day that the calendar has
+-- whether six bytes are a date in the form YYMMDD: six digits, for a day that exists in the
+-- calendar
 abbrev pub is_date : List ℕ → Bool
 is_date field = list_all is_ascii_digit field && is_calendar_day (full_year (two_digits field 0)) (two_digits field 2) (two_digits field 4)
 
--- the day number of a date of six bytes, as YYMMDD
+-- converts a date of six bytes, in the form YYMMDD, to its day number
 abbrev pub date_number : List ℕ → ℕ
 date_number field = day_number (full_year (two_digits field 0)) (two_digits field 2) (two_digits field 4)
 
--- whether six bytes are a date as DDMMYY: digits for a day that the calendar has
+-- whether six bytes are a date in the form DDMMYY: six digits, for a day that exists in the
+-- calendar
 abbrev pub is_date_day_first : List ℕ → Bool
 is_date_day_first field = list_all is_ascii_digit field && is_calendar_day (full_year (two_digits field 4)) (two_digits field 2) (two_digits field 0)
 
--- the day number of a date of six bytes, as DDMMYY
+-- converts a date of six bytes, in the form DDMMYY, to its day number
 abbrev pub date_number_day_first : List ℕ → ℕ
 date_number_day_first field = day_number (full_year (two_digits field 4)) (two_digits field 2) (two_digits field 0)
 
@@ -60,11 +65,11 @@ date_number_day_first field = day_number (full_year (two_digits field 4)) (two_d
 abbrev pub is_no_end : List ℕ → Bool
 is_no_end field = bytes_eq field (codes "999999")
 
--- whether six bytes are an end date: a date as YYMMDD, or `999999`
+-- whether six bytes are an end date: a date in the form YYMMDD, or `999999`
 abbrev pub is_end_date : List ℕ → Bool
 is_end_date field = is_no_end field || is_date field
 
--- the end number of an end date of six bytes: the date's day number, or 65535 for `999999`
+-- converts an end date of six bytes to its end number: the date's day number, or 65535 for `999999`
 abbrev pub end_number : List ℕ → ℕ
 end_number field = if is_no_end field then no_end_number else date_number field
 
@@ -72,12 +77,12 @@ end_number field = if is_no_end field then no_end_number else date_number field
 abbrev pub is_days : List ℕ → Bool
 is_days field = list_all (λ b. (b == 48) || (b == 49)) field
 
--- whether the days run include this weekday, where Monday is 0 and Sunday is 6. For example,
--- `1111100` includes weekday 4, Friday, but not weekday 5. For a field of seven bytes
+-- whether the days run, a field of seven bytes, include this weekday, where Monday is 0 and Sunday
+-- is 6. For example, `1111100` includes weekday 4, Friday, but not weekday 5
 abbrev pub runs_on_weekday : List ℕ → ℕ → Bool
 runs_on_weekday field weekday = slice_index field weekday == 49
 
--- the weekday of a day number, where Monday is 0. Day 0 was a Friday
+-- converts a day number to its weekday, where Monday is 0. Day 0 was a Friday
 abbrev pub weekday_of : ℕ → ℕ
 weekday_of day = (day + 4) % 7
 

@@ -94,13 +94,13 @@ abbrev pub fields_of : Option Kind → List ℕ → List CheckedField
 fields_of None line = []
 fields_of (Some kind) line = checked_fields kind line
 
--- the first column of the record's leftmost bad field, or `None` if every field is good. For a line
--- of 80 bytes
+-- the first column of the record's leftmost bad field, or `None` if every field is good. The line
+-- must have 80 bytes
 abbrev pub leftmost_bad_field : List ℕ → Option ℕ
 leftmost_bad_field line =
     option_map (λ (field : CheckedField). field.first)
     (find (λ field. not (field.is_good (columns field.first field.last line))) (fields_of (kind_of line) line))
 
--- every checked field of the record is good. For a line of 80 bytes
+-- every checked field of the record is good. The line must have 80 bytes
 abbrev pub HasGoodFields : List ℕ → Type 0
 HasGoodFields line = leftmost_bad_field line ≡ None

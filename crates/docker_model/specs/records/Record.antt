@@ -5,7 +5,7 @@ use Rattle.std.specs.Prelude.{◌-◌, slice_range, slice_index, [], ◌∷◌, 
 use Rattle.std.specs.List.{AllPass}
 use Rattle.std.specs.Str.{bytes_eq}
 
--- whether a record may hold this byte: it is from a space to a tilde
+-- whether a record may hold this byte: the byte is from a space to a tilde
 abbrev pub is_printable : ℕ → Bool
 is_printable b = nat_le 0x20 b && nat_le b 0x7E
 
@@ -17,12 +17,12 @@ IsRecord bytes = (length bytes ≡ 80) × AllPass is_printable bytes
 abbrev pub IsTextOfLength : ℕ → List ℕ → Type 0
 IsTextOfLength n bytes = (length bytes ≡ n) × AllPass is_printable bytes
 
--- the leftmost column whose byte isn't printable, or `None` if all are printable
+-- the leftmost column whose byte isn't printable, or `None` if all bytes are printable
 abbrev pub leftmost_bad_byte : List ℕ → Option ℕ
 leftmost_bad_byte bytes = option_map (λ i. i + 1) (position (λ b. not (is_printable b)) bytes)
 
 -- the bytes from column `first` to column `last`, both included. For example, columns 1 to 2 of
--- `BSN` are `BS`. For a line that has these columns
+-- `BSN` are `BS`. The line must have these columns
 abbrev pub columns : ℕ → ℕ → List ℕ → List ℕ
 columns first last line = slice_range line (first - 1) last
 
@@ -45,7 +45,8 @@ pub data Kind : Type 0 where
   change_en_route : Kind
   trailer : Kind
 
--- each record identity with its kind: the first two columns of a record decide its kind
+-- the table of record identities, each with its kind. The identity is the first two columns of a
+-- record
 abbrev pub identities : List (List ℕ × Kind)
 identities =
     (codes "HD", header) ∷ (codes "TI", tiploc_insert) ∷ (codes "TA", tiploc_amend) ∷ (codes "TD", tiploc_delete)
@@ -61,8 +62,8 @@ kind_of line = option_map (λ pair. pair.1) (find (λ pair. bytes_eq pair.0 (col
 abbrev pub HasKind : Kind → List ℕ → Type 0
 HasKind kind line = kind_of line ≡ Some kind
 
--- whether a record of this kind has a location: an origin, an intermediate or a terminating
--- location
+-- whether a record of this kind is a location record: an origin, an intermediate location or a
+-- terminus
 abbrev pub is_location : Option Kind → Bool
 is_location (Some origin_location) = true
 is_location (Some intermediate_location) = true

@@ -12,7 +12,7 @@ use Rattle.docker_model.specs.run.Run.{take_file, send_state, deliver, reload, h
 abbrev pub HaveSameFiles : Files → Files → Type 0
 HaveSameFiles first second = (file : List (List ℕ)) → Contains first file ↔ Contains second file
 
--- both have the same knowledge: the same files and the same horizon
+-- both are the same knowledge: the same files and the same horizon
 abbrev pub AreOneKnowledge : Known → Known → Type 0
 AreOneKnowledge first second = HaveSameFiles first.files second.files × (first.horizon ≡ second.horizon)
 
@@ -24,8 +24,8 @@ AreFiles files = All IsFile files × All (λ file. length file ≤ most_records)
 abbrev pub IsGoodKnown : Format → Known → Type 0
 IsGoodKnown format known = AreFiles known.files × IsHorizonOf format known.horizon
 
--- this event may be part of a run. If it takes a file, its limit is at most 4,294,967,294 records.
--- If it sets a horizon, the format allows that horizon
+-- this event may be part of a run. If the event takes a file, the limit is at most 4,294,967,294
+-- records. If the event sets a horizon, the format allows that horizon
 abbrev pub IsGoodEvent : Format → RunEvent → Type 0
 IsGoodEvent format (take_file office text limit) = limit ≤ most_records
 IsGoodEvent format (horizon_event office day) = IsHorizonOf format day
@@ -33,7 +33,7 @@ IsGoodEvent format _ = ⊤
 
 -- the states and messages match what offices and messages know. Each state is the summary of the
 -- files that its office knows. Each message is the text of the summary of the files that the
--- message knows. All files and horizons are good
+-- message knows. Every known file is a CIF file, and the format allows every known horizon
 pub record Holds (format : Format) (known : KnownSets) (states : List State) (messages : List (List ℕ)) : Type 0 where
   pub offices : All (IsGoodKnown format) known.offices
   pub sent : All (IsGoodKnown format) known.messages
@@ -50,7 +50,7 @@ office_state states office = slice_index_or states office (record { horizon = 0;
 abbrev pub message_text : List (List ℕ) → ℕ → List ℕ
 message_text messages message = slice_index_or messages message []
 
--- what each office and each message knows at the end of a run
+-- the knowledge of each office and each message at the end of a run
 abbrev pub sets_of : ℕ → List RunEvent → Exchange → KnownSets
 sets_of offices events exchange = known_sets offices events exchange.replies
 

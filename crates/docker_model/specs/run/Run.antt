@@ -1,4 +1,4 @@
--- Runs of events at several offices. What an office knows is a set of files and a horizon.
+-- Runs of events at several offices. The knowledge of an office is a set of files and a horizon.
 use Rattle.std.specs.Prelude.{◌≡◌, ℕ, ◌<◌, max, List, [], ◌∷◌, ◌++◌, length, replicate, slice_set, slice_index_or, fold, ⊤}
 use Rattle.std.specs.List.{AllZip, zip}
 use Rattle.docker_model.specs.file.Text.{lines_of}
@@ -8,7 +8,7 @@ use Rattle.docker_model.specs.state.Summary.{IsSummary}
 use Rattle.docker_model.specs.state.StateText.{Format, state_text}
 
 -- an event of a run. An office takes a file, sends its state as a message, receives a message,
--- reloads a message in place of its state, or sets a horizon. Offices and messages are numbered
+-- replaces its state by reloading a message, or sets a horizon. Offices and messages are numbered
 -- from 0. A message that no event delivers is lost. A message that several events deliver is
 -- repeated
 pub data RunEvent : Type 0 where
@@ -18,15 +18,15 @@ pub data RunEvent : Type 0 where
   reload : (office message : ℕ) → RunEvent
   horizon_event : (office day : ℕ) → RunEvent
 
--- why an event is refused: there is no such office or message, memory is out, or the file has a
--- fault
+-- the reason why an event is refused: there is no such office, there is no such message, the office
+-- runs out of memory, or the file has a fault
 pub data Refusal : Type 0 where
   no_office : Refusal
   no_message : Refusal
   no_memory : Refusal
   bad_file : (fault : FileFault) → Refusal
 
--- the reply to an event: it was done, or it was refused and has no effect
+-- the reply to an event: the event was done, or it was refused and has no effect
 pub data Reply : Type 0 where
   done : Reply
   refused : (why : Refusal) → Reply
@@ -35,41 +35,45 @@ pub data Reply : Type 0 where
 abbrev pub Files : Type 0
 Files = List (List (List ℕ))
 
--- what an office or a message knows: a set of files, and a horizon, where 0 means none
+-- the knowledge of an office or of a message: a set of files, and a horizon, where 0 means none. A
+-- message has the knowledge that its sender had when the message was sent
 pub record Known : Type 0 where
   pub files : Files
   pub horizon : ℕ
 
--- what a new office knows: no file, and no horizon
+-- the knowledge of a new office: no file, and no horizon
 abbrev pub nothing : Known
 nothing = record { files = []; horizon = 0 }
 
--- what two offices or messages know together: the files of both, and the greater of the two
+-- the knowledge of two offices or messages together: the files of both, and the greater of the two
 -- horizons
 abbrev pub united : Known → Known → Known
 united first second = record { files = first.files ++ second.files; horizon = max first.horizon second.horizon }
 
--- what each office knows, and what each message knows
+-- the knowledge of each office and of each message
 pub record KnownSets : Type 0 where
   pub offices : List Known
   pub messages : List Known
 
--- what the office with this number, counted from 0, knows; `nothing` if there is no such office
+-- the knowledge of the office with this number, counted from 0, or `nothing` if there is no such
+-- office
 abbrev pub office_known : KnownSets → ℕ → Known
 office_known known office = slice_index_or known.offices office nothing
 
--- what the message with this number, counted from 0, knows; `nothing` if there is no such message
+-- the knowledge of the message with this number, counted from 0, or `nothing` if there is no such
+-- message
 abbrev pub message_known : KnownSets → ℕ → Known
 message_known known message = slice_index_or known.messages message nothing
 
--- the knowledge after this office's part of it is replaced by `now`
+-- the knowledge of all offices and messages after this office's knowledge is replaced by `now`
 abbrev pub with_office : KnownSets → ℕ → Known → KnownSets
 with_office known office now = record { offices = slice_set known.offices office now; messages = known.messages }
 
--- what is known after an event that was done. Taking a file adds it to what the office knows.
--- Sending a state makes a message that knows what the office knows. Delivering a message adds what
--- the message knows to what the office knows, and reloading it replaces what the office knows.
--- Setting a horizon raises the office's horizon, unless the office's horizon is already greater
+-- the knowledge of all offices and messages after an event that was done. Taking a file adds the
+-- file to the office's knowledge. Sending a state makes a message with the office's knowledge.
+-- Delivering a message adds the message's knowledge to the office's knowledge, and reloading a
+-- message replaces the office's knowledge by the message's. Setting a horizon raises the office's
+-- horizon, unless that horizon is already greater
 abbrev pub after_done : KnownSets → RunEvent → KnownSets
 after_done known (take_file office text limit) =
     with_office known office (united (record { files = lines_of text ∷ []; horizon = 0 }) (office_known known office))
@@ -78,15 +82,16 @@ after_done known (deliver office message) = with_office known office (united (me
 after_done known (reload office message) = with_office known office (message_known known message)
 after_done known (horizon_event office day) = with_office known office (united (record { files = []; horizon = day }) (office_known known office))
 
--- what is known after an event and its reply. A refused event changes nothing
+-- the knowledge of all offices and messages after an event and its reply. A refused event changes
+-- nothing
 abbrev pub after_reply : KnownSets → RunEvent × Reply → KnownSets
 after_reply known happened = elim happened.1 [ done ↦ after_done known happened.0 | refused why ↦ known ]
 
--- what is known before the first event: each office knows nothing, and there are no messages
+-- the knowledge before the first event: each office knows nothing, and there are no messages
 abbrev pub none_known : ℕ → KnownSets
 none_known offices = record { offices = replicate offices nothing; messages = [] }
 
--- what is known after a run with these events and replies
+-- the knowledge of all offices and messages after a run with these events and replies
 abbrev pub known_sets : ℕ → List RunEvent → List Reply → KnownSets
 known_sets offices events replies = fold after_reply (none_known offices) (zip events replies)
 
@@ -98,8 +103,8 @@ IsOffice known office = office < length known.offices
 abbrev pub IsMessage : KnownSets → ℕ → Type 0
 IsMessage known message = message < length known.messages
 
--- this reply is allowed when an office takes a file: `done` if the text is a file, the text's fault
--- if it isn't, and out of memory in either case
+-- this reply is allowed when an office takes a file. The reply is `done` if the text is a file, and
+-- the text's fault if the text isn't a file. In either case the reply may also be out of memory
 abbrev pub IsFileReply : ℕ → List ℕ → Reply → Type 0
 IsFileReply limit text done = IsFileText limit text (lines_of text)
 IsFileReply limit text (refused (bad_file fault)) = IsFileFault limit text fault
@@ -112,20 +117,21 @@ IsDoneOrNoMemory done = ⊤
 IsDoneOrNoMemory (refused no_memory) = ⊤
 IsDoneOrNoMemory (refused _) = ⊥
 
--- the reply to an event that names an office: `no_office` if there is no such office. Otherwise
--- `There` holds, the condition on the reply of an office that exists
+-- this reply is allowed for an event at the office with this number. If there is no such office,
+-- the reply is `no_office`. If the office exists, `There` holds, which is the condition on its
+-- reply
 pub record IsOfficeReply (known : KnownSets) (office : ℕ) (reply : Reply) (There : Type 0) : Type 0 where
   pub absent : ¬ IsOffice known office → reply ≡ refused no_office
   pub there : IsOffice known office → There
 
--- the reply to an event that names a message: `no_message` if there is no such message, and
--- otherwise `done` or out of memory
+-- this reply is allowed for an event with the message of this number. If there is no such message,
+-- the reply is `no_message`. If the message exists, the reply is `done` or out of memory
 pub record IsMessageReply (known : KnownSets) (message : ℕ) (reply : Reply) : Type 0 where
   pub absent : ¬ IsMessage known message → reply ≡ refused no_message
   pub there : IsMessage known message → IsDoneOrNoMemory reply
 
--- the event may have this reply, given what is known before it. Setting a horizon never fails at an
--- office that exists
+-- this reply is allowed for the event, given the knowledge before the event. Setting a horizon at
+-- an office that exists never fails
 abbrev pub IsReply : KnownSets → RunEvent → Reply → Type 0
 IsReply known (take_file office text limit) reply = IsOfficeReply known office reply (IsFileReply limit text reply)
 IsReply known (send_state office) reply = IsOfficeReply known office reply (IsDoneOrNoMemory reply)
@@ -133,8 +139,8 @@ IsReply known (deliver office message) reply = IsOfficeReply known office reply 
 IsReply known (reload office message) reply = IsOfficeReply known office reply (IsMessageReply known message reply)
 IsReply known (horizon_event office day) reply = IsOfficeReply known office reply (reply ≡ done)
 
--- there is one reply for each event, and it is a reply that the event may have at that point of the
--- run
+-- there is one reply for each event, and each reply is allowed for its event, given the knowledge
+-- before that event
 abbrev pub AreReplies : KnownSets → List RunEvent → List Reply → Type 0
 AreReplies known [] [] = ⊤
 AreReplies known [] (reply ∷ replies) = ⊥
@@ -145,8 +151,8 @@ AreReplies known (event ∷ events) (reply ∷ replies) = IsReply known event re
 abbrev pub IsStateOf : Known → State → Type 0
 IsStateOf known state = IsSummary known.files known.horizon state
 
--- the bytes are a message with this knowledge: the text, in this format, of the summary of its
--- files
+-- these bytes are a message with this knowledge: the text, in this format, of the summary of the
+-- known files
 abbrev pub IsMessageOf : Format → Known → List ℕ → Type 0
 IsMessageOf format known text = (state : State) × IsStateOf known state × (text ≡ state_text format state)
 
@@ -157,9 +163,9 @@ pub record Exchange : Type 0 where
   pub messages : List (List ℕ)
   pub replies : List Reply
 
--- this exchange is a possible result of these events at this many offices. Each event may have its
--- reply. Each state is the summary of what its office knows at the end. Each message is the text,
--- in this format, of the summary of what the message knows
+-- this exchange is a possible result of these events at this many offices. Each reply is allowed
+-- for its event. Each state is the summary of what its office knows at the end. Each message is the
+-- text, in this format, of the summary of what the message knows
 pub record IsRun (format : Format) (offices : ℕ) (events : List RunEvent) (exchange : Exchange) : Type 0 where
   pub replies : AreReplies (none_known offices) events exchange.replies
   pub states : AllZip IsStateOf (known_sets offices events exchange.replies).offices exchange.states

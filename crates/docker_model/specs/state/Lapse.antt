@@ -1,5 +1,5 @@
 -- The lapse under a horizon. The horizon is a day number, and a body lapses if it ended before that
--- day. The horizon 0 means none, and nothing lapses under it.
+-- day. The horizon 0 means that there is no horizon, and then nothing lapses.
 use Rattle.std.specs.Prelude.{ℕ, nat_lt, if◌then◌else◌, ◌≤◌, ⊤, List, map, Option, Some, None, option_and_then, ◌+◌, ◌<◌}
 use Rattle.docker_model.specs.file.Change.{Key, Body}
 use Rattle.docker_model.specs.state.Op.{body_end, Op, deleted, lapsed, put_with, Entry}
@@ -13,8 +13,8 @@ lapse horizon deleted = deleted
 lapse horizon lapsed = lapsed
 lapse horizon (put_with body) = if nat_lt (body_end body) horizon then lapsed else put_with body
 
--- the op is unchanged by the lapse under the horizon: it isn't a put of a body that ended before
--- that day
+-- the op is unchanged by the lapse under the horizon: the op isn't a put of a body that ended
+-- before the horizon
 abbrev pub HasNotToLapse : ℕ → Op → Type 0
 HasNotToLapse horizon deleted = ⊤
 HasNotToLapse horizon lapsed = ⊤
@@ -32,7 +32,7 @@ lapse_keyed horizon entry = (entry.0, lapse_entry horizon entry.1)
 abbrev pub lapse_entries : ℕ → List (Key × Entry) → List (Key × Entry)
 lapse_entries horizon entries = map (lapse_keyed horizon) entries
 
--- this body, or `None` if it ended before the horizon
+-- this body, or `None` if the body ended before the horizon
 abbrev pub unlapsed : ℕ → Body → Option Body
 unlapsed horizon body = if nat_lt (body_end body) horizon then None else Some body
 
@@ -40,7 +40,8 @@ unlapsed horizon body = if nat_lt (body_end body) horizon then None else Some bo
 abbrev pub lapse_table : ℕ → Table → Table
 lapse_table horizon table key = option_and_then (unlapsed horizon) (table key)
 
--- under this horizon no docker is made for the day: there is a horizon, and the day is earlier than
--- three days after it. For example, under horizon 100 the first day allowed is 103
+-- this horizon refuses the day, which means that no docker is made for the day: there is a horizon,
+-- and the day is earlier than three days after the horizon. For example, under horizon 100 the
+-- first day allowed is 103
 abbrev pub IsDayRefused : ℕ → ℕ → Type 0
 IsDayRefused horizon day = (0 < horizon) × (day < horizon + 3)

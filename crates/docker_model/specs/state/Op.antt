@@ -1,5 +1,5 @@
 -- Ops and entries, and the orders of keys, bodies, ops and entries. An op is the value of an entry:
--- its key is deleted, lapsed, or put with a body.
+-- a deletion, a lapse, or a put of a body.
 use Rattle.std.specs.Prelude.{ℕ, if◌then◌else◌, List, Option, Some, None}
 use Rattle.std.specs.List.{concat}
 use Rattle.std.specs.declared.cmp.Ordering.{Ordering}
@@ -26,21 +26,21 @@ body_tag (association_body line) = 2
 body_tag (schedule_body lines) = 3
 
 -- the order of associations: by UIDs of base and associated train, first date, timing point, suffix
--- and STP indicator. For well-formed keys it is also the order of their bytes in a state's text
+-- and STP indicator. Well-formed keys are in the same order as their bytes in a state's text
 abbrev pub association_key_cmp : AssociationKey → AssociationKey → Ordering
 association_key_cmp a b =
     ordering_then (bytes_cmp a.base b.base) (ordering_then (bytes_cmp a.associated b.associated)
     (ordering_then (nat_cmp a.start b.start) (ordering_then (bytes_cmp a.location b.location)
     (ordering_then (nat_cmp a.suffix b.suffix) (nat_cmp a.indicator b.indicator)))))
 
--- the order of schedules: by UID, runs-from date and STP indicator. For well-formed keys it is also
--- the order of their bytes in a state's text
+-- the order of schedules: by UID, runs-from date and STP indicator. Well-formed keys are in the
+-- same order as their bytes in a state's text
 abbrev pub schedule_key_cmp : ScheduleKey → ScheduleKey → Ordering
 schedule_key_cmp a b =
     ordering_then (bytes_cmp a.uid b.uid) (ordering_then (nat_cmp a.runs_from b.runs_from) (nat_cmp a.indicator b.indicator))
 
--- the order of keys: TIPLOCs, then associations, then schedules, each in its own order. For
--- well-formed keys it is also the order of their bytes in a state's text
+-- the order of keys: TIPLOCs, then associations, then schedules, each in its own order. Well-formed
+-- keys are in the same order as their bytes in a state's text
 abbrev pub key_cmp : Key → Key → Ordering
 key_cmp (tiploc_key a) (tiploc_key b) = bytes_cmp a b
 key_cmp (tiploc_key a) (association_key b) = Less
@@ -52,7 +52,7 @@ key_cmp (schedule_key a) (tiploc_key b) = Greater
 key_cmp (schedule_key a) (association_key b) = Greater
 key_cmp (schedule_key a) (schedule_key b) = schedule_key_cmp a b
 
--- the bytes of a body; a schedule's records are joined to one list
+-- the bytes of a body. For a schedule they are the concatenation of its records
 abbrev pub body_bytes : Body → List ℕ
 body_bytes (tiploc_body bytes) = bytes
 body_bytes (association_body line) = line
@@ -63,8 +63,8 @@ body_bytes (schedule_body lines) = concat lines
 abbrev pub readable_end : List ℕ → ℕ
 readable_end field = if is_end_date field then end_number field else no_end_number
 
--- the end number of a body: the last day on which it runs, or 65535 for no end. A TIPLOC has no
--- end. For bodies whose lines are records
+-- the end number of a body: the last day of its schedule or association, or 65535 for no end. A
+-- TIPLOC has no end. The lines of the body must be records
 abbrev pub body_end : Body → ℕ
 body_end (tiploc_body bytes) = no_end_number
 body_end (association_body line) = readable_end (columns 22 27 line)
@@ -77,14 +77,14 @@ body_cmp a b =
     ordering_then (nat_cmp (body_end a) (body_end b))
     (ordering_then (bytes_cmp (body_bytes a) (body_bytes b)) (nat_cmp (body_tag a) (body_tag b)))
 
--- an op, which is the value of an entry: its key is deleted, its key's body has lapsed, or its key
--- has a body
+-- an op, which is the value of an entry. An op says that the entry's key is deleted, that the key's
+-- body has lapsed, or that the key has a body
 pub data Op : Type 0 where
   deleted : Op
   lapsed : Op
   put_with : (body : Body) → Op
 
--- the op of an act: `deleted` for a deletion, and a put with the same body for a put
+-- converts an act to an op: a deletion to `deleted`, and a put to a put of the same body
 abbrev pub op_of : Act → Op
 op_of delete = deleted
 op_of (put body) = put_with body
@@ -108,8 +108,8 @@ op_cmp (put_with a) deleted = Greater
 op_cmp (put_with a) lapsed = Greater
 op_cmp (put_with a) (put_with b) = body_cmp a b
 
--- an entry: the op of a key in a state, with the stamp of the change that made it. Of two entries
--- of one key, a join keeps the greater entry
+-- an entry of a state: the op of a key, with the stamp of the change that set the op. Of two
+-- entries of one key, a join keeps the greater entry
 pub record Entry : Type 0 where
   pub stamp : Stamp
   pub op : Op

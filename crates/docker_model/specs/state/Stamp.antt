@@ -85,12 +85,12 @@ pub record IsGreatestFull (items : List LedgerItem) (stamp : FileStamp) : Type 0
   pub greatest : (item : LedgerItem) → Contains items item → IsFull item → IsAtMost file_stamp_cmp item.stamp stamp
 
 -- this is the floor of the items: the file stamp of the newest full extract among them, or `None`
--- if they have no full extract. Whatever is older than the floor doesn't count
+-- if no item is for a full extract. Files older than the floor don't count
 abbrev pub IsFloor : List LedgerItem → Option FileStamp → Type 0
 IsFloor items None = HasNoFull items
 IsFloor items (Some stamp) = IsGreatestFull items stamp
 
--- a file with this stamp counts: it isn't older than the floor, or there is no floor
+-- a file with this stamp counts: the file isn't older than the floor, or there is no floor
 abbrev pub IsKept : Option FileStamp → FileStamp → Type 0
 IsKept None stamp = ⊤
 IsKept (Some floor) stamp = IsAtMost file_stamp_cmp floor stamp

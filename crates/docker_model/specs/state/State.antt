@@ -1,4 +1,4 @@
--- States: when a state is valid, and what the join of two states is.
+-- States, the conditions on a valid state, and the join of two states.
 use Rattle.std.specs.Prelude.{ℕ, List, ◌≡◌, ◌<◌, ◌⊎◌, IsTrue, ◌-◌, ◌^◌, length, ⊤, Option, All, ◌≤◌, map, Contains, Some, option_and_then, find, max, ◌↔◌, ◌++◌}
 use Rattle.std.specs.Ordering.{on, is_eq}
 use Rattle.docker_model.specs.records.Record.{IsTextOfLength, is_printable, association, HasKind, IsRecord}
@@ -123,7 +123,7 @@ pub record IsValid (state : State) : Type 0 where
   pub entries : AreEntries state.ledger state.entries
   pub have_lapsed : HaveLapsed state.horizon state.entries
 
--- the entry of a key in a state, or `None` if the state has no entry for it
+-- the entry of a key in a state, or `None` if the state has no entry for the key
 abbrev pub entry_at : State → Key → Option Entry
 entry_at state key = option_and_then (λ (entry : Key × Entry). Some entry.1) (find (λ entry. is_eq (key_cmp entry.0 key)) state.entries)
 
@@ -137,7 +137,7 @@ live_table state key = option_and_then (λ (entry : Entry). body_of entry.op) (e
 abbrev pub HasGoodBodies : Table → Type 0
 HasGoodBodies live = (key : Key) (body : Body) → live key ≡ Some body → IsBodyOf key body
 
--- the state with this horizon in place of the old horizon. Its entries have lapsed under this
+-- the state with its horizon replaced by this horizon, and with its entries lapsed under this
 -- horizon
 abbrev pub lapse_state : ℕ → State → State
 lapse_state horizon state = record { horizon = horizon; ledger = state.ledger; entries = lapse_entries horizon state.entries }
@@ -157,10 +157,10 @@ pub record IsGreatestAmong (entries : List (Key × Entry)) (key : Key) (entry : 
   pub among : Contains entries (key, entry)
   pub greatest : (other : Entry) → Contains entries (key, other) → IsAtMost entry_cmp other entry
 
--- this is the join of two states: the result of merging one into the other. Its ledger is the union
--- of both ledgers, and each key has the greater of its entries. Ledger items and entries below the
--- floor of the union are left out. Its horizon is the greater of the two horizons, and its entries
--- have lapsed under that horizon
+-- this is the join of two states: the result of merging one into the other. The join's ledger is
+-- the union of both ledgers, and for each key the join has the greater of the two entries. Ledger
+-- items and entries below the floor of the union are left out. The join's horizon is the greater of
+-- the two horizons, and its entries have lapsed under that horizon
 pub record IsJoin (first second joined : State) : Type 0 where
   pub horizon : joined.horizon ≡ max first.horizon second.horizon
   pub floor : Option FileStamp

@@ -1,4 +1,5 @@
--- Why bytes aren't the text of a state in a format: the first bad part, and the cause.
+-- The fault of bytes that aren't the text of a state in a format: the first bad part, and the
+-- cause.
 use Rattle.std.specs.Prelude.{ℕ, List, ◌≤◌, ◌≡◌, ◌+◌, [], ◌∷◌, ◌++◌, slice_index, ◌≢◌, length, ◌<◌, ◌⊎◌}
 use Rattle.std.specs.Int.{w32, from_be_bytes, w16}
 use Rattle.docker_model.specs.records.Record.{IsTextOfLength}
@@ -13,8 +14,8 @@ use Rattle.docker_model.specs.state.StatePart.{before_stamp, EntryPart, before_o
 use Rattle.docker_model.specs.state.StatePart.{HaveNotToLapse, Before, before_entry_count, before_horizon, at_end, in_entry, before_item}
 use Rattle.docker_model.specs.state.StatePart.{before_mark, before_ledger_count, AreGood, text_before, items_before, width}
 
--- why a text isn't the text of a state. The cause `bad_horizon` occurs only in DKS2, since DKS1 has
--- no horizon
+-- the cause of a fault in the text of a state. The cause `bad_horizon` occurs only in DKS2, since
+-- DKS1 has no horizon
 pub data StateCause : Type 0 where
   bad_mark : StateCause
   bad_item : StateCause
@@ -28,35 +29,36 @@ pub data StateCause : Type 0 where
   too_long : StateCause
   bad_horizon : StateCause
 
--- why a text isn't the text of a state: an offset in bytes, counted from 0, and the cause
+-- the fault of a text that isn't the text of a state: an offset in bytes, counted from 0, and the
+-- cause
 pub record StateFault : Type 0 where
   pub at : ℕ
   pub cause : StateCause
 
--- the ledger item that follows these good items is bad for this cause. The item isn't well formed,
--- isn't above the items before it, or raises the floor above the first item of the ledger
+-- the ledger item that follows these good items is bad for this cause. The bad item isn't well
+-- formed, isn't above the items before it, or raises the floor above the first item of the ledger
 abbrev pub IsBadItem : List LedgerItem → LedgerItem → StateCause → Type 0
 IsBadItem ledger item bad_item = ¬ IsGoodItem item
 IsBadItem ledger item bad_order = IsGoodItem item × ¬ IsAboveItems ledger item
 IsBadItem ledger item bad_floor = IsGoodItem item × IsAboveItems ledger item × RaisesFloor ledger item
 IsBadItem ledger item _ = ⊥
 
--- the key that follows the entries of this state is bad for this cause: it isn't well formed, or
--- isn't above the keys before it
+-- the key that follows the entries of this state is bad for this cause: the key isn't well formed,
+-- or isn't above the keys before it
 abbrev pub IsBadKey : State → Key → StateCause → Type 0
 IsBadKey state key bad_body = ¬ IsGoodKey key
 IsBadKey state key bad_order = IsGoodKey key × ¬ IsAboveEntries state key
 IsBadKey state key _ = ⊥
 
--- the bytes are a good body for this key. For a schedule, the bytes are its number of lines, and
--- each line is a later part. An association must not have ended before the state's horizon
+-- the bytes are a good body for this key. The body of a schedule is only its number of lines, since
+-- each line is a separate part. An association must not have ended before the state's horizon
 abbrev pub IsBodyPart : State → Key → List ℕ → Type 0
 IsBodyPart state (tiploc_key code) bytes = IsTextOfLength 63 bytes
 IsBodyPart state (association_key key) bytes = IsAssociationOf key bytes × (state.horizon ≤ body_end (association_body bytes))
 IsBodyPart state (schedule_key key) bytes = IsLineCount (from_be_bytes w32 bytes)
 
--- the next part of an entry is bad for this cause. The state has the entries before this one, and
--- the parts of this entry before the bad part are good
+-- the next part of an entry is bad for this cause. The state has all earlier entries, and the
+-- earlier parts of the entry are good
 abbrev pub IsBadEntryPart : Format → State → EntryPart → List ℕ → StateCause → Type 0
 IsBadEntryPart format state before_tag bytes cause = (cause ≡ bad_tag) × ¬ IsTag (slice_index bytes 0)
 IsBadEntryPart format state (before_key tag) bytes cause = IsBadKey state (key_in tag bytes) cause
@@ -76,8 +78,8 @@ IsBadPart format (before_entry_count horizon ledger) bytes cause = ⊥
 IsBadPart format (in_entry count state part) bytes cause = IsBadEntryPart format state part bytes cause
 IsBadPart format (at_end state) bytes cause = ⊥
 
--- this is the fault of a bad part that doesn't go past the limit. The offset is where the item of
--- this part begins
+-- this is the fault of a bad part that doesn't go past the limit. The fault's offset is the
+-- beginning of the item to which the bad part belongs
 pub record HasBadPart (format : Format) (limit : ℕ) (text : List ℕ) (fault : StateFault) : Type 0 where
   pub before : Before
   pub good : AreGood format before
@@ -90,7 +92,7 @@ pub record HasBadPart (format : Format) (limit : ℕ) (text : List ℕ) (fault :
   pub item_at : fault.at ≡ length (items_before format before)
 
 -- this is the fault `too_long`: the next part would go past the limit, and the text is longer than
--- the limit. The offset is the limit
+-- the limit. The fault's offset is the limit
 pub record IsLong (format : Format) (limit : ℕ) (text : List ℕ) (fault : StateFault) : Type 0 where
   pub before : Before
   pub good : AreGood format before
@@ -102,8 +104,8 @@ pub record IsLong (format : Format) (limit : ℕ) (text : List ℕ) (fault : Sta
   pub cause : fault.cause ≡ too_long
   pub limit_at : fault.at ≡ limit
 
--- this is the fault `too_short`: the text ends before the next part is complete. The offset is
--- where the item of this part begins
+-- this is the fault `too_short`: the text ends before the next part is complete. The fault's offset
+-- is the beginning of the item to which the incomplete part belongs
 pub record IsShort (format : Format) (limit : ℕ) (text : List ℕ) (fault : StateFault) : Type 0 where
   pub before : Before
   pub good : AreGood format before
@@ -114,8 +116,8 @@ pub record IsShort (format : Format) (limit : ℕ) (text : List ℕ) (fault : St
   pub cause : fault.cause ≡ too_short
   pub item_at : fault.at ≡ length (items_before format before)
 
--- this is the fault `has_tail`: more bytes follow a complete state. The offset is where these bytes
--- begin
+-- this is the fault `has_tail`: more bytes follow a complete state. The fault's offset is the
+-- beginning of these bytes
 pub record HasTail (format : Format) (limit : ℕ) (text : List ℕ) (fault : StateFault) : Type 0 where
   pub state : State
   pub valid : AreGood format (at_end state)

@@ -1,6 +1,7 @@
--- The parts of a state's text, in the order in which a reader judges them: how many bytes the next
--- part has, and whether the parts before it are good. An item is the mark, the horizon, a count, a
--- ledger item or an entry. Only an entry has several parts.
+-- The parts of a state's text, in the order in which a reader judges them. For each point of the
+-- text, the definitions say how many bytes the next part has, and whether the parts before the
+-- point are good. An item is the mark, the horizon, a count, a ledger item or an entry. Only an
+-- entry has several parts.
 use Rattle.std.specs.Int.{w32, to_be_bytes}
 use Rattle.std.specs.List.{concat}
 use Rattle.std.specs.Prelude.{ℕ, List, [], length, ◌∷◌, ◌++◌, ◌==◌, if◌then◌else◌, ◌≡◌, ◌⊎◌, ◌-◌, ◌^◌, ◌<◌, All, ◌≤◌, ⊤}
@@ -140,7 +141,7 @@ IsKeyHere state key = IsGoodKey key × IsAboveEntries state key
 abbrev pub IsStampHere : State → Key → Stamp → Type 0
 IsStampHere state key stamp = IsKeyHere state key × IsStampIn state.ledger stamp
 
--- by the end date in its first line, the schedule didn't end before the state's horizon
+-- the schedule didn't end before the state's horizon, according to the end date in its first line
 abbrev pub HaveNotToLapse : State → List (List ℕ) → Type 0
 HaveNotToLapse state lines = state.horizon ≤ body_end (schedule_body lines)
 

@@ -28,38 +28,39 @@ horizon_bytes dks_2 horizon = to_be_bytes w16 horizon
 abbrev pub head_text : Format → ℕ → List ℕ
 head_text format horizon = mark format ++ horizon_bytes format horizon
 
--- the 11 bytes of a file stamp: day, minute and current reference
+-- converts a file stamp to its 11 bytes: day, minute and current reference
 abbrev pub file_stamp_bytes : FileStamp → List ℕ
 file_stamp_bytes stamp = to_be_bytes w16 stamp.moment.day ++ to_be_bytes w16 stamp.moment.minute ++ stamp.reference
 
--- the 19 bytes of a ledger item: file stamp, update indicator and last reference
+-- converts a ledger item to its 19 bytes: file stamp, update indicator and last reference
 abbrev pub item_bytes : LedgerItem → List ℕ
 item_bytes item = file_stamp_bytes item.stamp ++ item.indicator ∷ item.last_reference
 
--- the bytes of a key without its tag: 7 for a TIPLOC, 23 for an association, 9 for a schedule
+-- converts a key to its bytes, without the tag: 7 for a TIPLOC, 23 for an association, 9 for a
+-- schedule
 abbrev pub key_bytes : Key → List ℕ
 key_bytes (tiploc_key code) = code
 key_bytes (association_key key) =
     key.base ++ key.associated ++ to_be_bytes w16 key.start ++ key.location ++ key.suffix ∷ key.indicator ∷ []
 key_bytes (schedule_key key) = key.uid ++ to_be_bytes w16 key.runs_from ++ key.indicator ∷ []
 
--- the 15 bytes of a stamp: the file stamp and the record number
+-- converts a stamp to its 15 bytes: the file stamp and the record number
 abbrev pub stamp_bytes : Stamp → List ℕ
 stamp_bytes stamp = file_stamp_bytes stamp.file ++ to_be_bytes w32 stamp.number
 
--- the bytes of a body. A schedule has its number of lines first
+-- converts a body to its bytes. The bytes of a schedule begin with its number of lines
 abbrev pub put_bytes : Body → List ℕ
 put_bytes (tiploc_body bytes) = bytes
 put_bytes (association_body line) = line
 put_bytes (schedule_body lines) = to_be_bytes w32 (length lines) ++ concat lines
 
--- the bytes of an op: 0 for deleted, 2 for lapsed, or 1 followed by the body of a put
+-- converts an op to its bytes: 0 for deleted, 2 for lapsed, or 1 followed by the body of a put
 abbrev pub op_bytes : Op → List ℕ
 op_bytes deleted = 0 ∷ []
 op_bytes lapsed = 2 ∷ []
 op_bytes (put_with body) = 1 ∷ put_bytes body
 
--- the bytes of an entry: the tag, the key, the stamp and the op
+-- converts an entry to its bytes: the tag, the key, the stamp and the op
 abbrev pub entry_bytes : Key × Entry → List ℕ
 entry_bytes entry = key_tag entry.0 ∷ key_bytes entry.0 ++ stamp_bytes entry.1.stamp ++ op_bytes entry.1.op
 
@@ -74,22 +75,22 @@ abbrev pub entries_text : Format → ℕ → State → List ℕ
 entries_text format count state =
     ledger_text format state.horizon (length state.ledger) state.ledger ++ to_be_bytes w64 count ++ flat_map entry_bytes state.entries
 
--- the whole text of a state in this format
+-- converts a state to its whole text in this format
 abbrev pub state_text : Format → State → List ℕ
 state_text format state = entries_text format (length state.entries) state
 
--- the file stamp that these 11 bytes encode
+-- converts 11 bytes to the file stamp that they encode
 abbrev pub file_stamp_in : List ℕ → FileStamp
 file_stamp_in bytes = record {
   moment = record { day = from_be_bytes w16 (slice_range bytes 0 2); minute = from_be_bytes w16 (slice_range bytes 2 4) };
   reference = slice_range bytes 4 11;
 }
 
--- the ledger item that these 19 bytes encode
+-- converts 19 bytes to the ledger item that they encode
 abbrev pub item_in : List ℕ → LedgerItem
 item_in bytes = record { stamp = file_stamp_in bytes; indicator = slice_index bytes 11; last_reference = slice_range bytes 12 19 }
 
--- the key of an association that these 23 bytes encode
+-- converts 23 bytes to the association key that they encode
 abbrev pub association_key_in : List ℕ → Key
 association_key_in bytes = association_key (record {
   base = slice_range bytes 0 6;
@@ -100,7 +101,7 @@ association_key_in bytes = association_key (record {
   indicator = slice_index bytes 22;
 })
 
--- the key of a schedule that these 9 bytes encode
+-- converts 9 bytes to the schedule key that they encode
 abbrev pub schedule_key_in : List ℕ → Key
 schedule_key_in bytes = schedule_key (record {
   uid = slice_range bytes 0 6;
@@ -108,11 +109,11 @@ schedule_key_in bytes = schedule_key (record {
   indicator = slice_index bytes 8;
 })
 
--- the key that these bytes encode: 7 bytes for tag 1, 23 for tag 2, 9 for tag 3
+-- converts bytes to the key that they encode: 7 bytes for tag 1, 23 for tag 2, 9 for tag 3
 abbrev pub key_in : ℕ → List ℕ → Key
 key_in tag bytes = if tag == 1 then tiploc_key bytes else (if tag == 2 then association_key_in bytes else schedule_key_in bytes)
 
--- the stamp that these 15 bytes encode
+-- converts 15 bytes to the stamp that they encode
 abbrev pub stamp_in : List ℕ → Stamp
 stamp_in bytes = record { file = file_stamp_in bytes; number = from_be_bytes w32 (slice_range bytes 11 15) }
 

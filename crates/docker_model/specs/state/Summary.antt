@@ -13,17 +13,18 @@ use Rattle.docker_model.specs.state.State.{State, AreAscending}
 abbrev pub IsFloorOf : List (List (List ℕ)) → Option FileStamp → Type 0
 IsFloorOf files floor = IsFloor (map ledger_item_of files) floor
 
--- the file is in the set and counts: it isn't older than the floor
+-- the file is in the set, and isn't older than the floor
 pub record IsKeptFile (files : List (List (List ℕ))) (floor : Option FileStamp) (file : List (List ℕ)) : Type 0 where
   pub among : Contains files file
   pub kept : IsKept floor (file_stamp_of file)
 
--- the entry that a file's change leaves at its key: the file's stamp, the number of the record, and
--- the op
+-- converts a change in a file to the entry that the change leaves at its key: the file's stamp, the
+-- number of the record, and the op
 abbrev pub entry_of : List (List ℕ) → Change → Entry
 entry_of file change = record { stamp = record { file = file_stamp_of file; number = change.number }; op = op_of change.act }
 
--- a file of the set that counts has a change of this key, and the change leaves this entry
+-- a change of this key leaves this entry. The change is in a file of the set that isn't older than
+-- the floor
 pub record IsEntryOf (files : List (List (List ℕ))) (floor : Option FileStamp) (key : Key) (entry : Entry) : Type 0 where
   pub file : List (List ℕ)
   pub kept : IsKeptFile files floor file
@@ -32,14 +33,15 @@ pub record IsEntryOf (files : List (List (List ℕ))) (floor : Option FileStamp)
   pub key_is : change.key ≡ key
   pub entry_is : entry_of file change ≡ entry
 
--- this is the greatest entry that a change of this key leaves, in any file that counts
+-- this is the greatest entry that a change of this key leaves, in any file of the set that isn't
+-- older than the floor
 pub record IsGreatestEntryOf (files : List (List (List ℕ))) (floor : Option FileStamp) (key : Key) (entry : Entry) : Type 0 where
   pub is : IsEntryOf files floor key entry
   pub greatest : (other : Entry) → IsEntryOf files floor key other → IsAtMost entry_cmp other entry
 
--- this state is the summary of the files under a horizon, where 0 means none. Its ledger has an
--- item for each file that counts. Each key has the greatest entry that a change in these files
--- leaves, after the lapse under the horizon
+-- this state is the summary of the files under a horizon, where 0 means none. Only files that
+-- aren't older than the floor count. The ledger has an item for each of these files. Each key has
+-- the greatest entry that a change in these files leaves, after the lapse under the horizon
 pub record IsSummary (files : List (List (List ℕ))) (horizon : ℕ) (state : State) : Type 0 where
   pub horizon_is : state.horizon ≡ horizon
   pub floor : Option FileStamp

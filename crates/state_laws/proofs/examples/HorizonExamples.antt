@@ -43,7 +43,7 @@ day_is_printed told = let before = told.1 in omega arith
 abbrev pub f2_key : ScheduleKey
 f2_key = record { uid = codes "C10001"; runs_from = 23537; indicator = 80 }
 
--- a state with the ledger of the worked file, this horizon and these entries
+-- a state that has the ledger of the worked file, this horizon and these entries
 abbrev pub state_with : ℕ → List (Key × Entry) → State
 state_with horizon entries = record { horizon = horizon; ledger = f2_item ∷ []; entries = entries }
 
@@ -51,7 +51,7 @@ state_with horizon entries = record { horizon = horizon; ledger = f2_item ∷ []
 abbrev pub f2_state : State
 f2_state = state_with 0 ((schedule_key f2_key, record { stamp = record { file = f2_item.stamp; number = 2 }; op = put_with (schedule_body f2_schedule) }) ∷ [])
 
--- the entry of that state after the lapse
+-- the entry of the worked file's state after the lapse
 abbrev pub lapsed_entry : Key × Entry
 lapsed_entry = (schedule_key f2_key, record { stamp = record { file = f2_item.stamp; number = 2 }; op = lapsed })
 
@@ -84,7 +84,7 @@ end_of_lapsed = refl
 abbrev text : List ℕ
 text = state_text dks_2 f2_state
 
--- the mark of the other format is a bad mark
+-- a text with the mark of the other format has the fault `bad_mark`
 other_mark : IsStateFault dks_2 1000 (codes "DKS1" ++ drop 4 text) (record { at = 0; cause = bad_mark })
 other_mark = inl (record {
   before = before_mark;
@@ -98,7 +98,7 @@ other_mark = inl (record {
   item_at = refl;
 })
 
--- a horizon after the last day is a bad horizon
+-- a text whose horizon is after the last day has the fault `bad_horizon`
 high_horizon : IsStateFault dks_2 1000 (codes "DKS2" ++ 0x8e ∷ 0xad ∷ drop 6 text) (record { at = 4; cause = bad_horizon })
 high_horizon = inl (record {
   before = before_horizon;
@@ -115,7 +115,7 @@ high_horizon = inl (record {
     too_high : ¬ IsDay 36525
     too_high low = omega arith
 
--- a text that ends after five bytes, within the horizon, is too short
+-- a text that ends after five bytes, within the horizon, has the fault `too_short`
 cut_in_horizon : IsStateFault dks_2 1000 (take 5 text) (record { at = 4; cause = too_short })
 cut_in_horizon =
     inr (inr (inl (record { before = before_horizon; good = tt; rest = 0 ∷ []; whole = refl; ends = lit< tt; within = lit≤ tt; cause = refl; item_at = refl })))
@@ -154,8 +154,8 @@ op_three = inl (record {
     no_op (inr (inl e)) = omega arith
     no_op (inr (inr e)) = omega arith
 
--- a lapsed op is good even without a horizon. The entry ends after the lapsed op, and the bytes of
--- the old body are a tail after the state
+-- a lapsed op is good even in a text without a horizon. The entry ends after the lapsed op, so the
+-- text has the fault `has_tail` at the first byte of the old body
 op_two : IsStateFault dks_2 1000 (take 66 text ++ 2 ∷ drop 67 text) (record { at = 67; cause = has_tail })
 op_two = inr (inr (inr (record {
   state = state_with 0 (lapsed_entry ∷ []);

@@ -1,4 +1,4 @@
--- Orders of keys and of their bytes, computed. In three examples the two orders differ: without the
+-- Worked examples of key order and byte order. In three examples the two orders differ: without the
 -- tag, with the low byte of a number first, and for keys that no record can have.
 use Rattle.std.proofs.Common.{◌≡◌, ℕ, List, ◌∷◌, refl}
 use Rattle.std.specs.Prelude.{codes}

@@ -71,7 +71,7 @@ start_of_entry = refl
 lines_in_text : drop 69 (state_text dks_1 f2_state) ≡ concat f2_schedule
 lines_in_text = refl
 
--- the item, the key and the stamp can be read back from these bytes
+-- the item, the key and the stamp can be decoded from these bytes
 item_again : item_in (slice_range (state_text dks_1 f2_state) 12 31) ≡ f2_item
 item_again = refl
 

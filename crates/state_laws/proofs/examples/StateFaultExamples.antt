@@ -1,4 +1,4 @@
--- Worked texts that aren't the text of a state.
+-- Worked examples of texts that aren't the text of a state.
 use Rattle.std.proofs.Common.{◌≡◌, ℕ, List, [], ◌∷◌, ◌++◌, take, drop, refl, inl, inr, lit≤, lit<, arith, ap}
 use Rattle.std.specs.Prelude.{codes, slice_index}
 use Rattle.std.proofs.lemmas.List.Elements.{All-from_recursion}
@@ -21,7 +21,7 @@ use Rattle.cif_laws.proofs.orders.Orders.{ledger_item_total}
 abbrev text : List ℕ
 text = state_text dks_1 f2_state
 
--- a text that ends after three bytes, within the mark, is too short
+-- a text that ends after three bytes, within the mark, has the fault `too_short`
 cut_in_mark : IsStateFault dks_1 1000 (take 3 text) (record { at = 0; cause = too_short })
 cut_in_mark =
     inr (inr (inl (record {
@@ -35,7 +35,7 @@ cut_in_mark =
       item_at = refl;
     })))
 
--- a text with another mark has a bad mark
+-- a text with another mark has the fault `bad_mark`
 other_mark : IsStateFault dks_1 1000 (codes "DKS2" ++ drop 4 text) (record { at = 0; cause = bad_mark })
 other_mark = inl (record {
   before = before_mark;
@@ -53,7 +53,7 @@ told_f2 : IsToldState dks_1 f2_state
 told_f2 =
     record { valid = f2_state_valid; horizon = refl; ops = All-from_recursion (λ (entry : Key × Entry). TellsOp dks_1 entry.1.op) f2_state.entries (tt, tt) }
 
--- a text with one more byte after the state has a tail
+-- a text with one more byte after the state has the fault `has_tail`
 one_byte_more : IsStateFault dks_1 1000 (text ++ 7 ∷ []) (record { at = 309; cause = has_tail })
 one_byte_more = inr (inr (inr (record {
   state = f2_state;
@@ -146,7 +146,7 @@ op_two = inl (record {
     no_op (inl e) = omega arith
     no_op (inr e) = omega arith
 
--- a text is too long if the limit is one byte before the end of its last line
+-- a text has the fault `too_long` if the limit is one byte before the end of its last line
 too_long_by_one : IsStateFault dks_1 308 text (record { at = 308; cause = too_long })
 too_long_by_one = inr (inl (record {
   before = in_entry 1 without_entry (before_line f2_key (record { file = f2_item.stamp; number = 2 }) 3 (f2_basic ∷ f2_origin ∷ []));

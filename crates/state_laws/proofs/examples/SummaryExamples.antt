@@ -19,7 +19,7 @@ use Rattle.cif_laws.proofs.schedules.WorkedSchedule.{f2_is_schedule}
 use Rattle.state_laws.proofs.joins.RaisedHorizon.{plain_summary}
 use Rattle.cif_laws.proofs.lists.Membership.{Contains-single, single-Contains}
 
--- the ledger item of the worked file is good
+-- the ledger item of the worked file is well formed
 pub good_item : IsGoodItem f2_item
 good_item = record {
   day = lit≤ tt;
@@ -51,7 +51,7 @@ f2_entry = record { stamp = record { file = f2_item.stamp; number = 2 }; op = pu
 schedule_of_key : IsScheduleOf f2_key f2_schedule
 schedule_of_key = record { schedule = f2_is_schedule; few = lit< tt; new = refl; key_is = key_of_f2 }
 
--- the entry of the worked state is good
+-- the entry of the worked state is well formed
 pub good_entry : IsGoodEntry (f2_item ∷ []) (schedule_key f2_key, f2_entry)
 good_entry = record {
   key = record { uid = (refl, AllPass-from_list_all is_printable f2_key.uid refl); runs_from = lit≤ tt; indicator = refl };

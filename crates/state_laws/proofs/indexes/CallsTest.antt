@@ -1,4 +1,5 @@
--- The test of whether a schedule calls at a place, and the indexes made from the rows of a table.
+-- Two subjects: the test of whether a schedule calls at a place, and the indexes made from the rows
+-- of a table.
 use Rattle.std.proofs.Common.{◌≡◌, ℕ, List, [], ◌∷◌, refl, ap, sym, ◌∙◌, subst, inl, inr, ◌⊎◌, Some, None, Bool, true, false, Contains}
 use Rattle.std.specs.Prelude.{Option, ◌↔◌, filter, ◌&&◌, ◌||◌}
 use Rattle.std.specs.Str.{bytes_eq}
@@ -90,7 +91,7 @@ pub no_member : {A : Type 0} (xs : List A) → ((x : A) → ¬ Contains xs x) �
 no_member [] none = refl
 no_member (x ∷ xs) none = absurd (none x (cons-Contains-first x xs))
 
--- ---- an index made from rows
+-- ---- the index rows of all rows of a table are its index
 
 calls_row_back : (key : Key) (body : Body) (place : List ℕ) (schedule : ScheduleKey) → Contains (calls_of key body) (place, schedule)
     → (lines : List (List ℕ)) × (key ≡ schedule_key schedule) × (body ≡ schedule_body lines) × CallsAt place lines

@@ -1,5 +1,5 @@
--- The rows of an index for one place are a segment of the index: all rows in the segment are for
--- the place, and no row outside the segment is.
+-- The rows of an index for one place are a segment of the index. All rows in the segment are for
+-- the place, and all other rows are for other places.
 use Rattle.std.proofs.Common.{◌≡◌, ℕ, List, [], ◌∷◌, ◌++◌, map, refl, ap, ◌∙◌, Bool, true, false, cond, Contains, append-nil}
 use Rattle.std.specs.Prelude.{filter}
 use Rattle.std.specs.Str.{bytes_eq}

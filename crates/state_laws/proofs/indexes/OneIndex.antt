@@ -1,4 +1,6 @@
--- A live table has at most one index of each kind, and at most one list of rows for each walk.
+-- A live table has at most one index of calls and at most one index of associations. It has at most
+-- one list of rows for the schedules that call at a place, for the associations at a place, and for
+-- the schedules of a UID.
 use Rattle.std.proofs.Common.{◌≡◌, List, ℕ, map, sym, ◌∙◌, Contains, refl, subst, [], ◌∷◌, ap, Some}
 use Rattle.std.specs.Prelude.{◌↔◌, filter}
 use Rattle.std.specs.Str.{bytes_eq}
@@ -45,7 +47,7 @@ one_calling_index live a b one two =
 pub one_linked_index : (live : Table) (a b : List LinkedRow) → IsLinkedIndex live a → IsLinkedIndex live b → a ≡ b
 one_linked_index live a b one two = same_list linked_total a b one.ascending two.ascending (λ row. through (one.members row.0 row.1) (two.members row.0 row.1))
 
--- a place has at most one list of rows of the schedules that call at it
+-- a place has at most one list of rows of the schedules that call at the place
 pub one_calling : (live : Table) (place : List ℕ) (a b : List Row) → AreCalling live place a → AreCalling live place b → a ≡ b
 one_calling live place a b one two = same_list rows_total a b one.ascending two.ascending (λ row. through (one.members row.0 row.1) (two.members row.0 row.1))
 
@@ -57,9 +59,7 @@ one_linked live place a b one two = same_list rows_total a b one.ascending two.a
 pub one_of_uid : (live : Table) (uid : List ℕ) (a b : List Row) → AreOfUid live uid a → AreOfUid live uid b → a ≡ b
 one_of_uid live uid a b one two = same_list rows_total a b one.ascending two.ascending (λ row. through (one.members row.0 row.1) (two.members row.0 row.1))
 
--- ---- lists in ascending order, by `AllLater`
-
--- ---- the rows that an index finds
+-- ---- an index determines the rows for a place
 
 -- the keys in the index rows for one place are strictly ascending
 at_place_ascends : {K : Type 0} (cmp : K → K → Ordering) (wrap : K → Key) → ((a b : K) → cmp a b ≡ Less → key_cmp (wrap a) (wrap b) ≡ Less)

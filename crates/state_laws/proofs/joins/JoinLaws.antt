@@ -18,7 +18,7 @@ use Rattle.state_laws.proofs.states.PlainTable.{one_per_key}
 use Rattle.state_laws.proofs.states.ReducedEntries.{IsReduced, reduced_twice}
 use Rattle.state_laws.proofs.states.ReducedMembers.{reduced_along, reduced_unique}
 
--- ---- a join as the reduction of both states' items and entries
+-- ---- a join is the reduction of both states' items and entries
 
 -- a join is the reduction of both states' items and entries under its horizon
 pub join_reduced : (a b c : State) → IsJoin a b c → IsReduced (a.ledger ++ b.ledger) (a.entries ++ b.entries) c
@@ -55,7 +55,7 @@ pub join_unique : (a b c d : State) → IsJoin a b c → IsJoin a b d → c ≡ 
 join_unique a b c d is_c is_d =
     reduced_unique (a.ledger ++ b.ledger) (a.entries ++ b.entries) c d (is_c.horizon ∙ sym is_d.horizon) (join_reduced a b c is_c) (join_reduced a b d is_d)
 
--- ---- the join of three states
+-- ---- the join is associative
 
 -- the horizon of a join is at least the first state's horizon
 pub horizon_left : (a b c : State) → IsJoin a b c → a.horizon ≤ c.horizon
@@ -98,7 +98,7 @@ join_associates a b c ab bc x y is_ab is_x is_bc is_y =
     (same_members_rotated a.ledger b.ledger c.ledger) (same_members_rotated a.entries b.entries c.entries) x left)
     right
 
--- ---- the join of a state with itself
+-- ---- the join of a valid state with itself is the same state
 
 one_of_two : {A : Type 0} (xs : List A) (x : A) → Contains (xs ++ xs) x → Contains xs x
 one_of_two xs x among = by (Contains-append_cases xs xs x among)

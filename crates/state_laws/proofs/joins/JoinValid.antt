@@ -34,7 +34,8 @@ kept_floor items ledger (Some stamp) greatest from to = record {
   greatest = λ item among. greatest.greatest item (from item among);
 }
 
--- if the joined ledger has all kept items of a ledger, it has the file stamp of each kept item
+-- if the joined ledger has all items of a ledger that aren't below the floor, the joined ledger has
+-- the file stamp of each of these items
 pub stamp_stays : (ledger joined : List LedgerItem) (floor : Option FileStamp) → ((item : LedgerItem) → Contains ledger item → IsKept floor item.stamp
     → Contains joined item)
     → (stamp : FileStamp) → IsKept floor stamp → Contains (map (λ (item : LedgerItem). item.stamp) ledger) stamp
@@ -133,7 +134,7 @@ lapsed_is_valid horizon state day valid = record {
 pub raised_is_valid : (horizon : ℕ) (state : State) → IsDay horizon → IsValid state → IsValid (raise_horizon horizon state)
 raised_is_valid horizon state day valid = lapsed_is_valid (max state.horizon horizon) state (max_most state.horizon horizon last_day valid.horizon day) valid
 
--- ---- the floor of a ledger
+-- ---- the ledger of a valid state has exactly one floor
 
 -- the ledger of a state has at most one floor
 pub one_floor : (state : State) (first second : Option FileStamp) → IsFloor state.ledger first → IsFloor state.ledger second → first ≡ second

@@ -1,6 +1,5 @@
--- Setting a horizon. Setting a horizon that isn't greater than the state's leaves the state
--- unchanged. A horizon may be set after a join instead of before it. Without a horizon no entry
--- lapses.
+-- Setting a horizon that isn't greater than the state's leaves the state unchanged. A horizon may
+-- be set after a join instead of before the join. Without a horizon no entry lapses.
 use Rattle.std.proofs.Common.{◌≡◌, ℕ, ◌≤◌, List, [], ◌∷◌, Contains, subst, ap, sym, ◌∙◌, arith}
 use Rattle.std.specs.Prelude.{Option, ◌↔◌, max}
 use Rattle.std.proofs.Math.Nat.{le-max_left, max-eq_left, max-zero, zero-max}
@@ -18,9 +17,9 @@ use Rattle.state_laws.proofs.states.Lapse.{entry_twice, entry_stays, lapse_none}
 use Rattle.state_laws.proofs.states.LapsedGreatest.{lapsed_from, lapsed_to}
 use Rattle.state_laws.proofs.states.KeptEntries.{lapse_ascends, entries_stay}
 
--- ---- when nothing lapses
+-- ---- setting a horizon that isn't greater leaves a valid state unchanged
 
--- if no body ended before a horizon, the lapse under this horizon changes only the horizon
+-- if no body ended before a horizon, the lapse under this horizon changes only the state's horizon
 pub lapsed_already : (horizon : ℕ) (state : State) → HaveLapsed horizon state.entries
     → lapse_state horizon state ≡ record { horizon = horizon; ledger = state.ledger; entries = state.entries }
 lapsed_already horizon state all = λ i. record {
@@ -44,7 +43,7 @@ pub set_last : (state : State) → IsValid state → raise_horizon state.horizon
 set_last state valid =
     ap (λ h. lapse_state h (without_horizon state)) (zero-max state.horizon) ∙ lapsed_already state.horizon (without_horizon state) valid.have_lapsed
 
--- ---- a horizon that is set after a join
+-- ---- a horizon may be set after a join instead of before
 
 -- joining with a state without its horizon, and then setting this horizon, equals joining with the
 -- state

@@ -1,5 +1,5 @@
--- The staged entries after one more entry is offered: the offered entry is staged or left out. Also
--- the entry that a state has at a key.
+-- When one more entry is offered, it is staged or left out. The first lemmas are about the entry
+-- that a state has at a key.
 use Rattle.std.proofs.Common.{◌≡◌, List, [], ◌∷◌, ◌++◌, refl, ap, sym, ◌∙◌, subst, inl, inr, ◌⊎◌, Some, None, Contains, arith}
 use Rattle.std.specs.Prelude.{Option, ◌↔◌, option_and_then}
 use Rattle.std.specs.declared.cmp.Ordering.TheVariants.{Less}
@@ -22,7 +22,7 @@ use Rattle.state_laws.proofs.states.OneJoin.{floor_unique}
 use Rattle.cif_laws.proofs.lists.Later.{later_append}
 use Rattle.state_laws.proofs.joins.StagedJoin.{commit_is_join}
 
--- ---- the entry that a state has at a key
+-- ---- `entry_at` returns the entry that a state has at a key
 
 Some_is : {A : Type 0} (a b : A) → Some a ≡ Some b → a ≡ b
 Some_is a b h = cc
@@ -64,7 +64,7 @@ to_stage_by_get own up floor key entry = by (entry_at own key) refl
       },
     )
 
--- ---- staging step by step
+-- ---- entries are staged one by one
 
 -- before the first offer no entry is staged
 pub nothing_staged : (own : State) (floor : Option FileStamp) → IsStaged own floor [] []
@@ -118,7 +118,7 @@ module _ (own : State) (floor : Option FileStamp) (offered staged : List (Key ×
       back k e to_stage (inr here) =
           absurd (out (subst (λ (v : Key × Entry). IsToStage own floor v.0 v.1) (sym (Contains-single (key, entry) (k, e) here)) to_stage))
 
--- ---- all entries
+-- ---- after all offers, the commit gives the join
 
 -- after all entries of a received state are offered and the staged entries are committed, the state
 -- is the join with the received state without its horizon
@@ -130,8 +130,8 @@ staging_joins_before own received floor staged after valid valid_too is_floor st
     (λ item. (λ x. x, λ x. x)) floor commit.floor is_floor commit.is_floor in
     commit_is_join own received valid valid_too staged after commit (subst (λ f. IsStaged own f received.entries staged) floors stages)
 
--- after the horizon of the received state is then set, the state is the join with the received
--- state
+-- after all entries of a received state are offered, the staged entries are committed and the
+-- received horizon is set, the state is the join with the received state
 pub staging_joins : (own received : State) (floor : Option FileStamp) (staged : List (Key × Entry)) (after : State) → IsValid own → IsValid received
     → IsFloor (own.ledger ++ received.ledger) floor → IsStaged own floor received.entries staged → IsCommit own received.ledger staged after
     → IsJoin own received (raise_horizon received.horizon after)
@@ -148,7 +148,7 @@ commit_is_valid own received floor staged after valid valid_too is_floor stages 
     without : IsValid (without_horizon received)
     without = record { horizon = omega arith; ledger = valid_too.ledger; entries = valid_too.entries; have_lapsed = none_to_lapse received.entries }
 
--- if a state's own entries are offered, no entry is staged
+-- if the entries of a state are offered to the state itself, no entry is staged
 pub own_stages_nothing : (own : State) (floor : Option FileStamp) → IsStaged own floor own.entries []
 own_stages_nothing own floor = record {
   ascending = tt;

@@ -9,7 +9,7 @@ use Rattle.cif_laws.proofs.lists.Membership.{Contains-cons, cons-Contains, cons-
 use Rattle.cif_laws.proofs.orders.AtMost.{at_most_trans, at_most_or, at_most_below, at_most_itself}
 use Rattle.state_laws.proofs.states.PlainTable.{Keyed}
 
--- ---- the greatest entry of a key
+-- ---- each key that has an entry has a greatest entry
 
 -- no entry in the list has the key
 abbrev pub NoEntry : List Keyed → Key → Type 0

@@ -1,5 +1,5 @@
--- Entries under a floor and a horizon: which entries are kept, and the lapse of entries in key
--- order.
+-- Entries under a floor and a horizon. If an entry isn't below the floor, no greater entry is below
+-- the floor. The lapse preserves the key order of entries.
 use Rattle.std.proofs.Common.{◌≡◌, ℕ, ◌<◌, ◌≤◌, List, [], ◌∷◌, subst, inl, inr, ◌⊎◌, refl, sym, ◌∙◌, Some, None}
 use Rattle.std.specs.Prelude.{Option}
 use Rattle.std.specs.List.{AllByRecursion}
@@ -65,7 +65,7 @@ lapses_or_not horizon (put_with body) = by (below_or horizon body)
     by (inl below) = inl (put_lapses horizon body below)
     by (inr above) = inr above
 
--- ---- entries in key order
+-- ---- the lapse preserves the key order of entries
 
 above_lapsed : (horizon : ℕ) (first : Keyed) (entries : List Keyed) → AllByRecursion (IsBelow (on (λ (entry : Keyed). entry.0) key_cmp) first) entries
     → AllByRecursion (IsBelow (on (λ (entry : Keyed). entry.0) key_cmp) (lapse_keyed horizon first)) (lapse_entries horizon entries)

@@ -1,5 +1,5 @@
--- The lapse is monotone: it preserves the order of ops and entries. It is idempotent. The lapse
--- under one horizon and then under another equals the lapse under the greater horizon.
+-- The lapse is monotone: it preserves the order of ops and entries. The lapse is idempotent. The
+-- lapse under one horizon and then under another equals the lapse under the greater horizon.
 use Rattle.std.proofs.Common.{◌≡◌, ℕ, ◌<◌, ◌≤◌, subst, inl, inr, ◌⊎◌, refl, ap, sym, ◌∙◌, Bool, true, false, cond, arith}
 use Rattle.std.specs.Prelude.{max, nat_lt}
 use Rattle.std.specs.declared.cmp.Ordering.{Ordering}
@@ -58,7 +58,7 @@ lapse_none deleted = refl
 lapse_none lapsed = refl
 lapse_none (put_with body) = put_stays 0 body (omega arith)
 
--- ---- two horizons, one after the other
+-- ---- the lapse under two horizons equals the lapse under the greater horizon
 
 -- if two numbers are at most `n`, the greater of them is at most `n`
 pub max_most : (a b n : ℕ) → a ≤ n → b ≤ n → max a b ≤ n
@@ -87,7 +87,7 @@ lapse_twice second first (put_with body) = by (below_or first body) (below_or se
         ap (lapse second) (put_stays first body above) ∙ put_stays second body over
         ∙ sym (put_stays (max second first) body (max_most second first (body_end body) over above))
 
--- ---- the order of ops after a lapse
+-- ---- the lapse of ops is monotone
 
 -- the op `lapsed` is at most each put after the lapse
 lapsed_least : (horizon : ℕ) (body : Body) → IsAtMost op_cmp lapsed (lapse horizon (put_with body))
@@ -145,7 +145,7 @@ lapse_entry_keeps_order horizon a b most = by (stamp_cmp a.stamp b.stamp) most
     by Equal told = lapse_keeps_order horizon a.op b.op told
     by Greater told = told
 
--- ---- entries
+-- ---- the lapse of entries has the same laws
 
 -- the lapse of an entry under one horizon and then under another equals the lapse under the greater
 -- horizon

@@ -24,17 +24,17 @@ use Rattle.cif_laws.proofs.lists.AllOf.{all_append, all_map, all_weaker}
 use Rattle.cif_laws.proofs.files.ChangeOrder.{Apart, changes_apart}
 use Rattle.cif_laws.proofs.orders.AtMost.{less_not_greater, at_most_trans}
 
--- ---- the table that a list of entries leaves
+-- ---- after a list of entries, the table has the body of each key's last entry
 
 -- a key with its entry
 abbrev pub Keyed : Type 0
 Keyed = Key × Entry
 
--- the table after one more entry
+-- the table after one more entry: the key of the entry has the entry's body
 abbrev pub step : Table → Keyed → Table
 step table entry key = cond (is_eq (key_cmp entry.0 key)) (body_of entry.1.op) (table key)
 
--- the second entry has a greater stamp than the first, if both have the same key
+-- the second entry has a greater stamp than the first if both have the same key
 abbrev pub Ascends : Keyed → Keyed → Type 0
 Ascends first second = first.0 ≡ second.0 → IsBelow stamp_cmp first.1.stamp second.1.stamp
 
@@ -42,8 +42,8 @@ Ascends first second = first.0 ≡ second.0 → IsBelow stamp_cmp first.1.stamp 
 abbrev pub NoneThere : List Keyed → Table → Key → Type 0
 NoneThere entries table key = ((entry : Entry) → ¬ Contains entries (key, entry)) × (fold step table entries key ≡ table key)
 
--- the list has a last entry of this key, which is also the key's greatest entry, and after the
--- entries the table has this entry's body at the key
+-- the list has an entry of this key with the greatest stamp. After all entries of the list, the
+-- table has the body of this entry at the key
 abbrev pub LastThere : List Keyed → Table → Key → Type 0
 LastThere entries table key =
     (entry : Entry) × Contains entries (key, entry) × (fold step table entries key ≡ body_of entry.op)
@@ -81,7 +81,8 @@ not_first entry entries table key above last =
         inr (subst (λ (pair : Keyed). IsBelow stamp_cmp pair.1.stamp last.0.stamp) e below)
     by other (inr inside) = last.3 other inside
 
--- after the entries, at each key the table is unchanged, or has the body of the key's last entry
+-- after all entries, at each key the table is unchanged, or has the body of the key's last entry,
+-- which is also the entry with the greatest stamp
 pub last_there : (entries : List Keyed) (table : Table) (key : Key) → AllLater Ascends entries → NoneThere entries table key ⊎ LastThere entries table key
 last_there [] table key up = inl (λ entry among. nil-Contains (key, entry) among, refl)
 last_there (entry ∷ entries) table key up = by (last_there entries (step table entry) key up.1)
@@ -91,7 +92,7 @@ last_there (entry ∷ entries) table key up = by (last_there entries (step table
     by (inl none) = first_alone entry entries table key (is_eq (key_cmp entry.0 key)) refl none
     by (inr last) = inr (not_first entry entries table key up.0 last)
 
--- ---- the entries of files
+-- ---- the table after files is the table after the entries of their changes
 
 -- the entry that a change of a file leaves, with its key
 abbrev pub entry_of_change : List (List ℕ) → Change → Keyed
@@ -169,7 +170,7 @@ entries_ascend (file ∷ files) up =
       each cs,
     )
 
--- ---- the files that count are the last full extract and all files after it
+-- ---- only the last full extract and the files after it count
 
 abbrev CmpStamps : List (List ℕ) → List (List ℕ) → Ordering
 CmpStamps first second = file_stamp_cmp (file_stamp_of first) (file_stamp_of second)
@@ -290,7 +291,7 @@ suffix_ascends (first ∷ files) up = by (list_any is_full files) (suffix_ascend
     by true rest = rest
     by false rest = up
 
--- ---- files under the floor
+-- ---- a file isn't below the floor if and only if no full extract is newer
 
 full_item : (file : List (List ℕ)) → is_full file ≡ true → IsFull (ledger_item_of file)
 full_item file full = eqb-true (ledger_item_of file).indicator 70 full
@@ -315,7 +316,7 @@ not_dropped files ordered same (Some stamp) is file kept above =
     at_most_trans file_stamp_total (file_stamp_of above.0) stamp (file_stamp_of file) high kept
     (file_stamp_total.antisymm (file_stamp_of above.0) (file_stamp_of file) ∙ ap ordering_reverse above.3)
 
--- ---- entries of the files that count
+-- ---- the files that count have the entries of the last full extract and the files after it
 
 module _ (files ordered : List (List (List ℕ))) (order : IsInMomentOrder files ordered) (floor : Option FileStamp)
     (is_floor : IsFloor (map ledger_item_of files) floor) where
@@ -348,7 +349,7 @@ module _ (files ordered : List (List (List ℕ))) (order : IsInMomentOrder files
         entry_is = ap (λ (pair : Keyed). pair.1) change.2;
       }
 
--- ---- the entry of a key in a state
+-- ---- a search for a key in a state finds the only entry of the key
 
 -- a search finds an entry of the key in the list
 abbrev pub Found : List Keyed → Key → Type 0

@@ -78,5 +78,3 @@ reduced_unique items entries s t horizons is_s is_t =
     moved : (f g : Option FileStamp) → f ≡ g → (h k : _) → h ≡ k → (key : Key) (entry : Entry) → KeptOf entries f h key entry → KeptOf entries g k key entry
     moved f g fs h k hs key entry told =
         (told.0, told.1, subst (λ floor. IsKept floor told.0.stamp.file) fs told.2, subst (λ n. lapse_entry n told.0 ≡ entry) hs told.3)
-
--- ---- the members of two lists, one after the other

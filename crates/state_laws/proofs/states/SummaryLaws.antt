@@ -21,7 +21,7 @@ use Rattle.state_laws.proofs.states.ReducedMembers.{reduced_along, reduced_uniqu
 use Rattle.state_laws.proofs.joins.JoinLaws.{join_reduced, horizon_left, horizon_right}
 use Rattle.state_laws.proofs.states.SummaryReduced.{File, summary_reduced, reduced_summary}
 
--- ---- the items and entries of two sets of files
+-- ---- the items and entries of two sets of files are the items and entries of their union
 
 members_of_map : {A B : Type 0} (f : A → B) (xs ys : List A) → ((x : A) → Contains xs x → Contains ys x) → (y : B) → Contains (map f xs) y
     → Contains (map f ys) y

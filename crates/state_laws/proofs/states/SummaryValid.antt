@@ -18,9 +18,9 @@ use Rattle.state_laws.proofs.joins.JoinValid.{kept_floor, good_lapses}
 use Rattle.state_laws.proofs.states.Lapse.{has_lapsed}
 use Rattle.cif_laws.proofs.files.FileChanges.{file_change}
 
--- ---- the ledger item of a file
+-- ---- the ledger item of a CIF file is well formed
 
--- the ledger item of a CIF file is good
+-- the ledger item of a CIF file is well formed
 pub item_good : (file : List (List ℕ)) → IsFile file → IsGoodItem (ledger_item_of file)
 item_good file is =
     subst (λ f. IsGoodItem (ledger_item_of f)) (sym is.whole)
@@ -33,7 +33,7 @@ item_good file is =
       last_reference = text_in is.first 40 46 is.header_record (omega arith) (omega arith);
     })
 
--- ---- the summary
+-- ---- the summary of files within the limit is valid
 
 -- the summary of files within the limit is valid
 pub summary_is_valid : (files : List (List (List ℕ))) (horizon : ℕ) (state : State) → IsDay horizon → All IsFile files

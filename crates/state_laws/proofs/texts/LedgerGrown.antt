@@ -1,4 +1,5 @@
--- Appending a good item to a ledger gives a ledger.
+-- Appending a good item to a ledger gives a ledger. An item is good if it is well formed, is above
+-- all items of the ledger, and doesn't raise the floor.
 use Rattle.std.proofs.Common.{◌≡◌, subst, List, [], ◌∷◌, ◌++◌, refl, sym, inl, inr, ◌⊎◌, arith, All, Contains, Some, None}
 use Rattle.std.specs.Prelude.{Option}
 use Rattle.std.specs.List.{AllByRecursion}
@@ -66,7 +67,8 @@ module _ (ledger : List LedgerItem) (item : LedgerItem) (is : IsLedger ledger) (
   kept_last None none = tt
   kept_last (Some stamp) greatest = subst (λ s. IsAtMost file_stamp_cmp s item.stamp) greatest.stamped (at_most_last greatest.full greatest.among)
 
-  -- if the item is for a full extract, the floor after it is appended is its file stamp
+  -- if the item is for a full extract, the floor after the item is appended is the item's file
+  -- stamp
   floor_at_last : IsFull item → IsFloor (ledger ++ item ∷ []) (Some item.stamp)
   floor_at_last full = record {
     full = item;

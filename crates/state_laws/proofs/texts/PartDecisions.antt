@@ -1,4 +1,4 @@
--- It is decided whether a part of a state's text is good.
+-- It is decidable whether a part of a state's text is good.
 use Rattle.std.proofs.Common.{◌≡◌, ℕ, ◌-◌, ◌^◌, List, [], ◌∷◌, length, map, subst, inl, inr, ◌⊎◌, true, Contains}
 use Rattle.std.specs.Prelude.{slice_index}
 use Rattle.std.specs.Int.{w32, from_be_bytes}
@@ -28,7 +28,7 @@ text_of_length_decided n bytes =
 tiploc_decided : (code : List ℕ) → Decided (IsTiploc code)
 tiploc_decided code = both_decided (text_of_length_decided 7 code) (not_decided (nat_decided (slice_index code 0) 32))
 
--- it is decided whether an item is well formed
+-- it is decidable whether an item is well formed
 pub good_item_decided : (item : LedgerItem) → Decided (IsGoodItem item)
 good_item_decided item =
     decided_along (λ h. record { day = h.0; minute = h.1.0; reference = h.1.1.0; indicator = h.1.1.1.0; last_reference = h.1.1.1.1 })
@@ -37,16 +37,16 @@ good_item_decided item =
     (both_decided (text_of_length_decided 7 item.stamp.reference) (both_decided (either_decided (nat_decided item.indicator 70) (nat_decided item.indicator 85))
     (text_of_length_decided 7 item.last_reference)))))
 
--- it is decided whether an item is above the items before it
+-- it is decidable whether an item is above the items before it
 pub above_items_decided : (ledger : List LedgerItem) (item : LedgerItem) → Decided (IsAboveItems ledger item)
 above_items_decided ledger item = All_decided (λ earlier. IsBelow ledger_item_cmp earlier item) (λ earlier. less_decided (ledger_item_cmp earlier item)) ledger
 
--- it is decided whether an item raises the floor
+-- it is decidable whether an item raises the floor
 pub raises_floor_decided : (ledger : List LedgerItem) (item : LedgerItem) → Decided (RaisesFloor ledger item)
 raises_floor_decided [] item = inr (λ h. h)
 raises_floor_decided (first ∷ ledger) item = both_decided (nat_decided item.indicator 70) (less_decided (file_stamp_cmp first.stamp item.stamp))
 
--- it is decided whether a number is a tag
+-- it is decidable whether a number is a tag
 pub tag_decided : (tag : ℕ) → Decided (IsTag tag)
 tag_decided tag = by (nat_decided tag 1) (nat_decided tag 2) (nat_decided tag 3)
   where
@@ -73,13 +73,13 @@ schedule_key_decided key =
     decided_along (λ h. record { uid = h.0; runs_from = h.1.0; indicator = h.1.1 }) (λ good. (good.uid, (good.runs_from, good.indicator)))
     (both_decided (text_of_length_decided 6 key.uid) (both_decided (le_decided key.runs_from last_day) (bool_decided (is_stp_letter key.indicator))))
 
--- it is decided whether a key is well formed
+-- it is decidable whether a key is well formed
 pub good_key_decided : (key : Key) → Decided (IsGoodKey key)
 good_key_decided (tiploc_key code) = tiploc_decided code
 good_key_decided (association_key key) = association_key_decided key
 good_key_decided (schedule_key key) = schedule_key_decided key
 
--- it is decided whether a key is above the keys before it
+-- it is decidable whether a key is above the keys before it
 pub above_entries_decided : (state : State) (key : Key) → Decided (IsAboveEntries state key)
 above_entries_decided state key = All_decided (λ entry. IsBelow key_cmp entry.0 key) (λ entry. less_decided (key_cmp entry.0 key)) state.entries
 
@@ -96,14 +96,14 @@ contains_decided (y ∷ xs) x = by (same_decided file_stamp_total exact_file_sta
     by (inr apart) (inl inside) = inl (cons-Contains y xs x inside)
     by (inr apart) (inr out) = inr (λ among. neither apart out (Contains-cons y xs x among))
 
--- it is decided whether a stamp is the stamp of a change in a file of the ledger
+-- it is decidable whether a stamp is the stamp of a change in a file of the ledger
 pub stamp_in_decided : (ledger : List LedgerItem) (stamp : Stamp) → Decided (IsStampIn ledger stamp)
 stamp_in_decided ledger stamp =
     decided_along (λ h. record { in_ledger = h.0; low = h.1.0; high = h.1.1 }) (λ is. (is.in_ledger, (is.low, is.high)))
     (both_decided (contains_decided (map (λ (item : LedgerItem). item.stamp) ledger) stamp.file)
     (both_decided (le_decided 2 stamp.number) (lt_decided stamp.number (2 ^ 32 - 1))))
 
--- it is decided whether a byte may begin an op in the format
+-- it is decidable whether a byte may begin an op in the format
 pub op_byte_decided : (format : Format) (byte : ℕ) → Decided (IsOpByte format byte)
 op_byte_decided dks_1 byte = either_decided (nat_decided byte 0) (nat_decided byte 1)
 op_byte_decided dks_2 byte = either_decided (nat_decided byte 0) (either_decided (nat_decided byte 1) (nat_decided byte 2))
@@ -118,11 +118,11 @@ association_decided key line =
     (both_decided (record_decided line) (both_decided (has_kind_decided association line) (both_decided (good_fields_decided line)
     (both_decided (nat_decided (column 3 line) 78) (same_key_decided (association_named line) (association_key key))))))
 
--- it is decided whether a number may be the number of a schedule's lines
+-- it is decidable whether a number may be the number of a schedule's lines
 pub line_count_decided : (count : ℕ) → Decided (IsLineCount count)
 line_count_decided count = both_decided (lt_decided 0 count) (lt_decided count (2 ^ 32 - 1))
 
--- it is decided whether the bytes are a good body
+-- it is decidable whether the bytes are a good body
 pub body_part_decided : (state : State) (key : Key) (bytes : List ℕ) → Decided (IsBodyPart state key bytes)
 body_part_decided state (tiploc_key code) bytes = text_of_length_decided 63 bytes
 body_part_decided state (association_key key) bytes =
@@ -134,7 +134,7 @@ implied_decided p (inl q) = inl (λ h. q)
 implied_decided (inl p) (inr none) = inr (λ f. none (f p))
 implied_decided (inr never) (inr none) = inl (λ p. absurd (never p))
 
--- it is decided whether lines begin a schedule with this key
+-- it is decidable whether lines begin a schedule with this key
 pub lines_decided : (key : ScheduleKey) (count : ℕ) (lines : List (List ℕ)) → Decided (AreLinesUpTo key count lines)
 lines_decided key count lines =
     decided_along (λ h. record { lines_of = record { begin = h.0; new = h.1.0; key_is = h.1.1.0 }; complete = h.1.1.1 })
@@ -143,7 +143,7 @@ lines_decided key count lines =
     (both_decided (same_key_decided (schedule_named (first_record lines)) (schedule_key key))
     (implied_decided (nat_decided (length lines) count) (schedule_decided lines)))))
 
--- it is decided whether lines begin a schedule with this key that hasn't lapsed
+-- it is decidable whether lines begin a schedule with this key that hasn't lapsed
 pub lines_here_decided : (state : State) (key : ScheduleKey) (count : ℕ) (lines : List (List ℕ))
     → Decided (AreLinesUpTo key count lines × HaveNotToLapse state lines)
 lines_here_decided state key count lines = both_decided (lines_decided key count lines) (le_decided state.horizon (body_end (schedule_body lines)))

@@ -32,7 +32,8 @@ use Rattle.state_laws.proofs.texts.PartDecisions.{stamp_in_decided, above_entrie
 use Rattle.state_laws.proofs.texts.LedgerGrown.{one_item_more, no_items}
 use Rattle.state_laws.proofs.texts.StateGrown.{good_after_items, good_after_entries, tells_deleted, tells_put, no_entries, one_entry_more}
 
--- the part is good: after it, all parts read are good, and the text read ends with this part
+-- the part is good: after this part is read, all parts read are good, and the text read ends with
+-- this part
 abbrev pub Good : (format : Format) → Before → List ℕ → Type 0
 Good format before bytes =
     AreGood format (advance format before bytes) × (text_before format (advance format before bytes) ≡ text_before format before ++ bytes)

@@ -1,5 +1,4 @@
--- A reader reaches each point of a state's text part by part, if all parts before that point are
--- good.
+-- If all parts before a point of a state's text are good, a reader reaches this point part by part.
 use Rattle.std.proofs.Common.{List, ◌∷◌, ◌++◌, ◌≡◌, [], refl, ap, sym, ◌∙◌, subst, Contains, Some, None, ℕ, ◌<◌}
 use Rattle.std.proofs.Common.{◌≤◌, length, arith, append_assoc, append-nil, length-append, inl, inr, ◌^◌, ◌⊎◌}
 use Rattle.std.specs.Prelude.{Option}

@@ -32,7 +32,7 @@ record IsGoodFileStamp (stamp : FileStamp) : Type 0 where
 good_stamp : (item : LedgerItem) → IsGoodItem item → IsGoodFileStamp item.stamp
 good_stamp item good = let low = good.day in let minute = good.minute in record { day = omega arith; minute = omega arith; reference = good.reference.0 }
 
--- a number below 2^16 can be read back from its two bytes
+-- a number below 2^16 can be decoded from its two bytes
 pub read_16 : (n : ℕ) → n < 2 ^ 16 → from_be_bytes w16 (to_be_bytes w16 n) ≡ n
 read_16 = from_be_bytes-to_be_bytes_2
 
@@ -43,7 +43,7 @@ file_stamp_read stamp rest good =
     let reference : slice_range (file_stamp_bytes stamp ++ rest) 4 11 ≡ stamp.reference = take_at stamp.reference rest 7 good.reference in
     λ i. record { moment = record { day = day i; minute = minute i }; reference = reference i }
 
--- a good ledger item can be read back from its bytes
+-- a well-formed ledger item can be decoded from its bytes
 pub item_read : (item : LedgerItem) → IsGoodItem item → item_in (item_bytes item) ≡ item
 item_read item good =
     let size = good.reference.0 in
@@ -55,7 +55,7 @@ item_read item good =
     ∙ take_all 7 item.last_reference (let last_size = good.last_reference.0 in omega arith) in
     λ i. record { stamp = stamp i; indicator = indicator i; last_reference = last i }
 
--- a good ledger item has 19 bytes
+-- a well-formed ledger item has 19 bytes
 pub item_width : (item : LedgerItem) → IsGoodItem item → length (item_bytes item) ≡ 19
 item_width item good =
     let size = good.reference.0 in
@@ -71,7 +71,7 @@ stamp_of_ledger ledger stamp is in_it =
     of_all : (item : LedgerItem) → Contains ledger item → IsGoodItem item
     of_all item among = subst IsGoodItem among.2 (is.each among.0 item among.1)
 
--- a stamp whose file is in the ledger can be read back from its bytes
+-- a stamp whose file is in the ledger can be decoded from its bytes
 pub stamp_read : (ledger : List LedgerItem) (stamp : Stamp) → IsLedger ledger → IsStampIn ledger stamp → stamp_in (stamp_bytes stamp) ≡ stamp
 stamp_read ledger stamp is in_it =
     let good = stamp_of_ledger ledger stamp is in_it in
@@ -164,7 +164,7 @@ schedule_read key good =
     let indicator : slice_index (schedule_bytes key) 8 ≡ key.indicator = get_or-append_right key.uid behind 6 8 0 size (omega arith) in
     λ i. schedule_key (record { uid = uid i; runs_from = runs_from i; indicator = indicator i })
 
--- a good key can be read back from its bytes
+-- a well-formed key can be decoded from its bytes
 pub key_read : (key : Key) → IsGoodKey key → key_in (key_tag key) (key_bytes key) ≡ key
 key_read (tiploc_key code) good = refl
 key_read (association_key key) good = ap association_key_in (association_bytes_are key) ∙ association_read key good
@@ -189,7 +189,7 @@ schedule_sized key good =
     let one = length-append key.uid (to_be_bytes w16 key.runs_from ++ (key.indicator ∷ [])) in
     omega arith
 
--- the number of bytes of a good key is `key_width` of its tag
+-- the number of bytes of a well-formed key is `key_width` of its tag
 pub key_width_is : (key : Key) → IsGoodKey key → length (key_bytes key) ≡ key_width (key_tag key)
 key_width_is (tiploc_key code) good = good.0.0
 key_width_is (association_key key) good = ap length (association_bytes_are key) ∙ association_sized key good

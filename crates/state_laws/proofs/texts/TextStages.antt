@@ -1,4 +1,4 @@
--- Reading a text part by part. The text read is the concatenation of the parts read. Of two
+-- A reader reads a text part by part. The text read is the concatenation of the parts read. Of two
 -- different points in one text, one is later.
 use Rattle.std.proofs.Common.{◌≡◌, ℕ, ◌<◌, List, ◌++◌, length, [], ◌∷◌, ap, ◌∙◌, sym, subst, append_assoc, append-nil, ◌⊎◌, refl, inl, inr}
 use Rattle.std.specs.Prelude.{⊤}

@@ -80,8 +80,8 @@ no_bad_part format limit text state rest fault good is has =
     by (inr (inl later)) = bad_stops format text has.before (at_end state) has.bytes has.rest rest fault.cause has.size has.bad has.whole whole later
     by (inr (inr later)) = no_part_at_end format state has.before later
 
--- a reader of the text under the limit stops at this point: it reaches this point, and no later
--- point
+-- a reader of the text under the limit stops at this point: the reader reaches this point, and no
+-- later point
 pub record IsStopped (format : Format) (limit : ℕ) (text : List ℕ) (before : Before) : Type 0 where
   pub good : AreGood format before
   pub rest : List ℕ

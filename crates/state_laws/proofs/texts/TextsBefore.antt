@@ -15,11 +15,11 @@ use Rattle.docker_model.specs.state.StateText.{stamp_bytes, Format, op_bytes, en
 use Rattle.docker_model.specs.state.StatePart.{before_tag, before_line, part_text, key_text, before_item, before_entry_count, in_entry, at_end, text_before}
 use Rattle.state_laws.specs.TextStage.{after_items, after_entries, with_entry, after_lines}
 
--- a number below 2^32 can be read back from its four bytes
+-- a number below 2^32 can be decoded from its four bytes
 pub read_32 : (n : ℕ) → n < 2 ^ 32 → from_be_bytes w32 (to_be_bytes w32 n) ≡ n
 read_32 = from_be_bytes-to_be_bytes_4
 
--- a number below 2^64 can be read back from its eight bytes
+-- a number below 2^64 can be decoded from its eight bytes
 pub read_64 : (n : ℕ) → n < 2 ^ 64 → from_be_bytes w64 (to_be_bytes w64 n) ≡ n
 read_64 = from_be_bytes-to_be_bytes_8
 
@@ -37,7 +37,7 @@ all_items horizon ledger =
 pub more_entries : (count : ℕ) (state : State) → length state.entries < count → after_entries count state ≡ in_entry count state before_tag
 more_entries count state below = λ i. cond (lt-leb count (length state.entries) below i) (at_end state) (in_entry count state before_tag)
 
--- after all entries the point is the end of the text
+-- after all entries a reader is at the end of the text
 pub all_entries : (state : State) → after_entries (length state.entries) state ≡ at_end state
 all_entries state =
     λ i. cond (le-leb (length state.entries) (length state.entries) (omega arith) i) (at_end state) (in_entry (length state.entries) state before_tag)
