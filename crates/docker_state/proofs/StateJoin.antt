@@ -64,7 +64,7 @@ module _ (g h : ℕ) (items others : List LedgerItem) (first second : List (Key 
   up_second : AreAscending second
   up_second = meant_ascending row_meant (λ (a b : model.Key × ops.Entry). key_cmp a.0 b.0) second two.entries.1
 
-  -- Take the union of the ledgers, and the join of the rows with the horizon applied. What the floor keeps of these two is the join of the states.
+  -- Let the ledgers be united, the rows joined and the horizon applied. The items and rows that the floor keeps are then the join of the two states.
   pub states_joined : (floor : Option stamps.FileStamp) → IsFloor (map item_meant items ++ map item_meant others) floor
       → (union ledger : List LedgerItem) → HasUnion union items others
       → IsStrictlyAscending ledger_item_cmp (map item_meant ledger)

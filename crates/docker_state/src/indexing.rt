@@ -83,8 +83,8 @@ pub(crate) fn room_for_notes(alloc: Global, notes: &Option<Notes>) -> Result<Opt
 }
 
 /// Makes the index of the rows in the memory that was reserved for it, if rows were noted. `order`
-/// has the numbers that these rows have among all noted rows. `pieces` must be empty and have room
-/// for a piece of each row.
+/// gives the number of each row among all noted rows. `pieces` must be empty and have room for a
+/// piece of each row.
 pub(crate) fn picked_index(
     room: Option<Room>,
     notes: Option<Notes>,

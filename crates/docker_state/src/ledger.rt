@@ -21,8 +21,8 @@ pub(crate) fn room_for(alloc: Global, first: usize, second: usize) -> Option<Vec
     Vec::with_capacity(alloc, first.checked_add(second)?).ok()
 }
 
-/// The items of two ledgers, in ascending order and each once. They are written to a vector that
-/// must have room for all.
+/// The union of two ledgers: their items in ascending order, without duplicates. It is written to a
+/// vector that must have room for the items of both.
 pub(crate) fn union_of(
     mut first: &[LedgerItem],
     mut second: &[LedgerItem],

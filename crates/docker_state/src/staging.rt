@@ -24,15 +24,15 @@ use std::alloc::Global;
 use std::marker::Model;
 use std::mem;
 
-/// What a state has received of another state: the other's ledger, and the entries of the other
-/// that this state will take over. The state itself doesn't change before the commit.
+/// What a state has received from another state: the other state's ledger, and the entries that the
+/// receiving state will take over. The receiving state doesn't change before the commit.
 #[derive(Debug, Drop)]
 pub struct Staging {
     floor: Option<FileStamp>,
     items: Vec<LedgerItem>,
     staged: Vec<(Key, Entry)>,
-    // Where the next key is looked up first: an index among the entries of the state. Keys are
-    // offered in ascending order, so it is likely to be near.
+    // The index of the state's entry that is read first to look up the next key. Keys are offered
+    // in ascending order, so the next key is likely to be near this index.
     near: usize,
 }
 
@@ -101,8 +101,8 @@ impl Staging {
     }
 
     /// Offers the next entry of the state being received. The entry is staged if the floor keeps
-    /// it, and if it is greater than the state's entry of the same key or the state has none. If
-    /// memory runs out, nothing changes, and the entry isn't staged.
+    /// it, and if the state has no entry of the same key or a lesser one. If memory runs out, the
+    /// entry isn't staged and nothing changes.
     pub fn offer(&mut self, state: &State, key: Key, entry: Entry) -> Result<(), Memory>
         requires floor { IsFloor (state.now.ledger ++ self.old.items) self.old.floor }
         requires above { IsAboveStaged self.old.staged (key_meant key) }
@@ -132,8 +132,8 @@ impl Staging {
     }
 }
 
-/// Whether the floor keeps an entry, and it is greater than the state's entry of the same key or
-/// the state has none. The state's entry is first looked for at index `near`.
+/// Whether an entry has to be staged: the floor keeps it, and the state has no entry of the same
+/// key or a lesser one. The state's entry is first looked for at index `near`.
 pub(crate) fn is_to_stage(
     state: &State,
     floor: &Option<FileStamp>,

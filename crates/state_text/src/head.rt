@@ -103,9 +103,10 @@ fn schedule_head<K: Keeper>(
     }
 }
 
-/// Reads the head of a put at the start of the bytes: its tag, key, stamp and op, and for a schedule also the number of its lines. Returns the stage after the
-/// head and the head's length in bytes. `count` is the number of all entries in the text. `None` if the bytes end before the head does, if a part of the head
-/// is bad, or if the op isn't a put.
+/// Reads the head of a put at the start of the bytes: its tag, key, stamp and op, and for a
+/// schedule also the number of its lines. Returns the stage after the head and the head's length in
+/// bytes. `count` is the number of all entries in the text. `None` if the bytes end before the head
+/// does, if a part of the head is bad, or if the op isn't a put.
 pub fn put_head<K: Keeper>(
     count: u64,
     parts: &PartsSoFar<K>,

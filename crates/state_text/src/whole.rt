@@ -27,7 +27,8 @@ impl Model for Whole {
 }
 
 impl Whole {
-    /// Returns a keeper without parts. If `noted` is true, the keeper notes the places of the entries, so that the state has an index.
+    /// Returns a keeper without parts. If `noted` is true, the keeper notes the places of the
+    /// entries, so that the state has an index.
     pub fn new(alloc: Global, noted: bool) -> Whole
         ensures { result ≡ record { horizon = 0; ledger = []; entries = [] } }
     {
