@@ -171,7 +171,7 @@ impl Ord for Body {
 pub enum Act {
     /// Deletes the key.
     Delete,
-    /// Puts this body under the key, whether or not the key was there before.
+    /// Puts this body under the key, whether or not the key existed before.
     Put(Body),
 }
 
@@ -221,7 +221,7 @@ impl Ord for Act {
 /// A change: what one record of an extract, or one schedule's records, do to one key.
 #[derive(PartialEq, Eq, Debug, Drop)]
 pub struct Change {
-    /// The number in its file, from 1, of the record that makes the change.
+    /// The number of the record that makes the change. The records of a file are numbered from 1.
     pub number: u32,
     /// The key that is changed.
     pub key: Key,

@@ -103,7 +103,7 @@ after_cause keeps limit front records line has is under = record {
     none true = refl
     none false = refl
 
--- there is no place after a line that isn't a record
+-- no file continues with a line that isn't a record
 no_next : (place : Place) (line : List ℕ) → ¬ IsRecord line → next_place place line ≡ None
 no_next place line bad = by (next_place place line) refl
   where
@@ -560,7 +560,7 @@ pub reading_of : (parser : ParserState) (reading : FileReading FileSoFar) (limit
     → HasRead parser limit text → IsReading KeepsAll reading limit text
 reading_of parser reading limit text none same has = subst (λ r. IsReading KeepsAll r limit text) same (reading_at_none parser limit text none has)
 
--- a parser that has returned a fault isn't one that hasn't
+-- a parser can't both have returned a fault and not have returned one
 pub had_failed : (parser : ParserState) (fault : FileFault) → parser.fault ≡ Some fault → ¬ HasNotFailed parser
 had_failed parser fault at none = none fault at
 

@@ -33,7 +33,8 @@ pub at_start : {K : Type 0} (keeps : Keeps K) (limit : ℕ) (reading : FileReadi
     → TakesFile keeps reading limit []
 at_start keeps limit reading has few = record { read = has; few = few; sound = sound_at_start limit }
 
--- if the parser takes a piece, it has taken the text before followed by the piece
+-- if the parser has taken a text and then takes a piece, it has taken the text followed by the
+-- piece
 pub takes_more : {K : Type 0} (keeps : Keeps K) (before after : FileReading K) (piece : List ℕ) {A : Type 0} (result : Result A FileFault)
     → OnOk result (GoesOn (IsReading keeps before) piece (IsReading keeps after))
     → OnOk result (AfterEach (TakesFile keeps) before (λ limit text. TakesFile keeps after limit (text ++ piece)))
@@ -42,7 +43,8 @@ takes_more keeps before after piece (Ok done) read = λ limit text has.
     record { read = more; few = has.few; sound = reading_tells_none keeps after limit (text ++ piece) more }
 takes_more keeps before after piece (Err fault) read = tt
 
--- the fault that the parser returns for a piece is a fault of the text before followed by the piece
+-- the fault that the parser returns for a piece is a fault of the earlier text followed by the
+-- piece
 pub refuses_more : {K : Type 0} (keeps : Keeps K) (wants : Type 0) (before : FileReading K) (piece : List ℕ) {A : Type 0} (result : Result A FileFault)
     → IfErr result (TellsFault (IsReading keeps before) piece) → IfErr result (IsLater keeps wants before)
     → IfErr result (λ fault. AfterEach (TakesFile keeps) before (λ limit text. RefusesPiece wants limit text piece fault))

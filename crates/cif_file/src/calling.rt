@@ -44,7 +44,7 @@ fn is_end(line: &Line) -> bool
     )
 }
 
-/// Whether what is under a key may matter for the docker of a place. It may if the key is the
+/// Whether the docker of a place may depend on the body under this key. It may if the key is the
 /// place's TIPLOC, an association at the place, or any schedule.
 pub(crate) fn may_matter(place: &Tiploc, key: &Key) -> bool
     ensures { result ≡ may_matter place.now (key_meant key.now) }
