@@ -48,7 +48,7 @@ const PUT_AND_DELETED: &[&[u8]] = &[
     b"deleted",
 ];
 
-/// How that state is shown if the file is a full extract.
+/// How the state is shown if the file that puts and deletes the schedule is a full extract.
 const PUT_AND_DELETED_IN_FULL: &[&[u8]] = &[
     b"item 23536 1260 DFROC1A F DFROC1Z",
     b"floor 23536 1260 DFROC1A",

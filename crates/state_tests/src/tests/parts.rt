@@ -9,12 +9,12 @@ use std::alloc::Global;
 use std::process::Abort;
 use test_records::{BS_DELETED, HD, ZZ};
 
-/// Asserts that this key was given last.
+/// Asserts that the entry with this key was added last.
 fn last_is(rt: &impl Abort, parts: &Parts, wanted: Option<Key>) {
     same(rt, parts.last().copied(), wanted);
 }
 
-/// Asserts that exactly these ledger items were given.
+/// Asserts that exactly these ledger items were added.
 fn ledger_is(rt: &impl Abort, parts: &Parts, wanted: &[LedgerItem]) {
     assert_eq!(rt; parts.ledger(), wanted);
 }
