@@ -244,7 +244,7 @@ out_of_place journey lines line stage kind has is at known none =
 
 -- ---- the times of the next line
 
--- Counting midnights can be split after an optional first time: the total is the count up to it plus the count from it on.
+-- Counting midnights can be split after an optional first time: the total is the count up to the first time plus the count from the first time on.
 pub falls_in_turn : (last first : Option ℕ) (rest : List ℕ) → falls_after last (time_list first ++ rest) ≡ falls_after last (time_list first) + falls_after
     (later_or first last) rest
 falls_in_turn None None rest = omega arith

@@ -44,8 +44,8 @@ pub record HasLines (journey : JourneyState) (lines : List (List ℕ)) : Type 0 
   pub falls_are : journey.deletion ≡ false → journey.falls ≡ midnights lines
   pub last_is : journey.deletion ≡ false → journey.last ≡ last_of (times_along lines)
 
--- Says that this is the cause for which no schedule continues with this line after the earlier
--- lines. Being out of memory is never such a cause.
+-- Says that no schedule continues the earlier lines with this line, and that this is the cause.
+-- Being out of memory is never such a cause.
 abbrev pub IsScheduleCause : List (List ℕ) → List ℕ → Option fault.FileCause → Type 0
 IsScheduleCause earlier line None = ⊥
 IsScheduleCause earlier line (Some cause) = IsScheduleFault earlier line cause
@@ -87,7 +87,7 @@ progress_meant progress = record {
   last = progress.clock.last;
 }
 
--- whether the stage is the one after the terminus, so that the journey is complete
+-- whether the terminus was read at this stage, so that the journey is complete
 abbrev pub is_over_by : Option place.Stage → Bool
 is_over_by (Some after_journey) = true
 is_over_by _ = false

@@ -18,9 +18,8 @@ use crate::same::{are_same_lines, compare_lines, is_same_line};
 use cif_line::{Line, NO_END, Until};
 use std::cmp::Ordering;
 
-/// The body that a change puts under its key. Of two bodies, the one that ends earlier is less. If
-/// they end on the same day, the bytes of their joined lines decide, and if these are equal, the
-/// kind of key.
+/// The body that a change puts under its key. Bodies are ordered by their end number, then by the
+/// bytes of their joined lines, and then by the kind of key.
 #[derive(Debug, Drop)]
 pub enum Body {
     /// A TIPLOC's details: columns 10 to 72 of its record.

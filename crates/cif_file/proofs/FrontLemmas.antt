@@ -1,4 +1,4 @@
--- What the reader of a file's records has after taking a record, and why it refuses one.
+-- What the reader of a file's records holds after taking a record, and why it refuses a record.
 use Rattle.std.proofs.Common.{◌≡◌, ℕ, ◌+◌, ◌<◌, inl, inr, Bool, true, false, cond, List, [], ◌∷◌, ◌++◌, length, map, subst}
 use Rattle.std.proofs.Common.{refl, ap, sym, ◌∙◌, Some, None, arith, append-nil, append_assoc, length-append, take}
 use Rattle.std.specs.Prelude.{Option, IsTrue, ◌↔◌, ◌&&◌, is_some, is_none, option_map, slice_index_or, OnOk, Result, Ok, Err}
@@ -298,7 +298,7 @@ followed opened line BetweenUnits gone = absurd gone
 followed opened line (InSchedule later) gone = record { later = later; place = refl; number = gone.0; named = gone.1; read = gone.2 }
 followed opened line AfterEnd gone = absurd gone
 
--- if the schedule can continue with a line, that line comes directly after the lines taken before
+-- a line with which the schedule can continue follows directly after the lines already taken
 pub stands_before : {K : Type 0} (keeps : Keeps K) (front new : Front K) (opened : Opened) (records : Lines) (line : List ℕ) → HasRecords keeps front records
     → front.stage ≡ InSchedule opened → new.header ≡ front.header → new.keeper ≡ front.keeper → IsRecord line
     → follows_basic (kind_of line) ≡ true → (after : IsFollowed opened line new.stage)
@@ -506,7 +506,7 @@ none_of : (b : Bool) (o : Option Place) → o ≡ None → cond b o None ≡ Non
 none_of true o h = h
 none_of false o h = refl
 
--- unless the trailer was read, the cause for a record within the limit is the one for the record's kind
+-- unless the trailer was read, the cause for a record within the limit is the cause that the record's kind gives
 told_cause : (records : Lines) (line : List ℕ) (place : Place) (cause : fault.FileCause) → IsRecord line → is_after_end place ≡ false
     → kind_cause place line ≡ cause
     → (limit : ℕ) → length records < limit → cause_of limit (length records) place line ≡ cause

@@ -61,7 +61,7 @@ pub no_further : {K : Type 0} (keeps : Keeps K) (limit : ℕ) (initial next : Op
 no_further keeps limit initial next more =
     record { before = more.bytes; piece = more.piece; sound = more.taken.sound; at_once = more.few; read = more.lost }
 
--- a text that was read to the end of a source is what the source held
+-- a text that was read to the end of a source is the text that the source held
 held_all : (initial now : Option (List ℕ)) (text : List ℕ) → Reads initial text now → IsEnd now → Held initial text
 held_all None now text lost end = tt
 held_all (Some told) None text lost end = cc
@@ -161,13 +161,13 @@ memory_at_end keeps wants limit text reading fault result has refused later last
           (subst (λ cause. IsCauseOf limit text fault.number (cause_meant cause)) wanting refused),
     )
 
--- a fault of the file at the end of the source is a fault of what the source held
+-- a fault of the file at the end of the source is a fault of the text that the source held
 pub refused_at_end : {K : Type 0} (keeps : Keeps K) (limit count : ℕ) (initial now : Option (List ℕ)) (reading : FileReading K) (fault : FileFault)
     → (at : HasFed (TakesFile keeps) count limit [] initial now reading) → IsEnd now → IsFaultOf limit at.bytes fault → RefusesText limit initial fault
 refused_at_end keeps limit count initial now reading fault at end is =
     record { text = at.bytes; held = held_all initial now at.bytes at.lost end; is = is }
 
--- if memory runs out at the end of the source, it does so at the last record of what the source held
+-- if memory runs out at the end of the source, it does so at the last record of the text that the source held
 pub wants_at_end : {K : Type 0} (keeps : Keeps K) (wants : Type 0) (limit count : ℕ) (initial now : Option (List ℕ)) (reading : FileReading K)
     → (at : HasFed (TakesFile keeps) count limit [] initial now reading) → IsEnd now
     → wants × WantsMemoryAt limit (lines_of at.bytes) (length (lines_of at.bytes)) → WantsMemoryBy wants 65536 limit initial now
@@ -179,7 +179,7 @@ abbrev HasRefusedFile : {K : Type 0} → Keeps K → Type 0 → ℕ → Option (
 HasRefusedFile keeps wants limit initial next reading fault =
     HasRefused (TakesFile keeps) (λ _ n text piece told. RefusesPiece wants n text piece told) 65536 limit [] initial next reading fault
 
--- the fault for which a piece was refused is a fault of what the source held
+-- the fault for which a piece was refused is a fault of the text that the source held
 pub refused_before : {K : Type 0} (keeps : Keeps K) (wants : Type 0) {A : Type 0} (limit : ℕ) (initial next : Option (List ℕ)) (reading : FileReading K)
     (fault told : FileFault) (result : ReadFault) → HasRefusedFile keeps wants limit initial next reading fault
     → (fault.cause ≡ Memory → result ≡ read.Memory) → (fault.cause ≢ Memory → result ≡ read.File fault)

@@ -128,7 +128,7 @@ pub record WantsMemoryAt (limit : ℕ) (records : Lines) (number : ℕ) : Type 0
   pub within : number ≤ limit
   pub sound : BeginsFile (take number records)
 
--- Says that the first fault among a text's complete lines is at the record with this number, for
+-- Says that the first fault among a text's complete lines is at the record with this number and has
 -- this cause. Without a cause, memory ran out at that record, which is complete, and no record up
 -- to it is at fault.
 abbrev pub IsCauseSoFar : ℕ → List ℕ → ℕ → Option model.FileCause → Type 0
@@ -139,7 +139,7 @@ IsCauseSoFar limit text number (Some cause) = IsFaultSoFar limit text (record { 
 abbrev pub IsFaultReported : ℕ → List ℕ → FileFault → Type 0
 IsFaultReported limit text fault = IsCauseSoFar limit text fault.number (cause_meant fault.cause)
 
--- Says that a whole text's fault is at the record with this number, for this cause. Without a
+-- Says that a whole text's fault is at the record with this number and has this cause. Without a
 -- cause, memory ran out at that record, and no record up to it is at fault.
 abbrev pub IsCauseOf : ℕ → List ℕ → ℕ → Option model.FileCause → Type 0
 IsCauseOf limit text number None = WantsMemoryAt limit (lines_of text) number

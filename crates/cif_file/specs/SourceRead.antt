@@ -27,7 +27,7 @@ pub record ReadsText (limit : ℕ) (left : Option (List ℕ)) (file : FileRead) 
   pub of_text : IsOfFileText file limit text
 
 -- Says that the source held the text of a file within the limit on records, and that this is the
--- thin file of it for the place and the day.
+-- file's thin file for the place and the day.
 pub record ReadsThin (place : List ℕ) (day limit : ℕ) (left : Option (List ℕ)) (thin : ThinRead) : Type 0 where
   pub reads : ReadsText limit left thin.file
   pub place_is : thin.place ≡ place

@@ -34,7 +34,7 @@ record WalksOn {E : Type 0} (picked : E → E → E) (old : List (Key × E)) (le
   joined : AreAscending (left_rows left old) → (rest : List (Key × E)) → AreAscending (rest ++ row ∷ [])
       → joined_with picked later new rest ≡ joined_with picked left old (rest ++ row ∷ [])
 
--- if one row compares as less than another, the other compares as greater than it
+-- the comparison of rows is antisymmetric: if b is less than a, then a is greater than b
 above_turned : {E : Type 0} (a b : Key × E) → row_cmp b a ≡ Less → row_cmp a b ≡ Greater
 above_turned a b below = key_total.antisymm (key_meant a.0) (key_meant b.0) ∙ ap ordering_reverse below
 
@@ -130,7 +130,7 @@ module _ {E : Type 0} where
       (ap (λ n. drop n (front ++ back)) at ∙ drop-append_seam front back, ap (λ n. take n (front ++ back)) at ∙ take-append_seam front back)
 
 module _ {E : Type 0} (picked : E → E → E) where
-  -- the walk over some rows and a single lower row is the lower row, followed by the others
+  -- the walk over some rows and a single lower row is the lower row, followed by these rows
   walk_row : (rows : List (Key × E)) (row : Key × E) → Above row rows → walk picked rows (row ∷ []) ≡ row ∷ rows
   walk_row rows row above = lower_first picked rows (row ∷ []) [] (above, tt) ∙ ap (λ rest. row ∷ rest) (walk_none picked rows)
 

@@ -117,7 +117,7 @@ module _ (g h : ℕ) (items others : List LedgerItem) (first second : List (Key 
           joined_lapses (max g h) first second left right up_first up_second left_is
           (right_is ∙ ap (λ n. lapse_entries n (map row_meant second)) (max_comm h g)) entry_records whole joined whole_is is
 
-  -- the rows of the join are the join of the two tables, without what the floor doesn't keep, and with the horizon applied
+  -- the rows of the join are the join of the two tables, without the entries that the floor doesn't keep, and with the horizon applied
   pub rows_joined : (floor : Option stamps.FileStamp) → IsFloor (map item_meant items ++ map item_meant others) floor → (horizon : ℕ) → horizon ≡ max g h
       → (joined : State) → IsJoin (state_meant g items first) (state_meant h others second) joined → AreJoined first second floor horizon joined.entries
   rows_joined floor is_floor horizon horizon_is joined is = record {

@@ -32,7 +32,7 @@ entry_of_rows horizon ledger (row ∷ rows) key = by (is_eq (key_cmp (key_meant 
     by true same = refl
     by false same = same
 
--- searching for the first full extract commutes with translating the items into the definitions
+-- searching for the first full extract commutes with converting the items to the definitions' type
 pub find_meant : (items : List item.LedgerItem)
     → find (λ (i : LedgerItem). i.indicator == 70) (map item_meant items) ≡ option_map item_meant
     (find (λ (i : item.LedgerItem). (item_meant i).indicator == 70) items)

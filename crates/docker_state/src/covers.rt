@@ -44,8 +44,8 @@ fn none_to_stage(own: &State, rows: &[(Key, Entry)], floor: &Option<FileStamp>) 
     true
 }
 
-/// Whether the state `own` has to take over no entry of the other state. If all files of the other
-/// state are below the floor, none of its rows is read.
+/// Whether the other state has no entry that the state `own` would have to take over. If all files
+/// of the other state are below the floor, none of its rows is read.
 fn brings_none(own: &State, other: &State, floor: &Option<FileStamp>) -> bool
     ensures { IsTrue result → HasNoneToStage own.now (floor_meant floor.now) other.now.entries }
 {

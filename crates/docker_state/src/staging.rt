@@ -78,8 +78,8 @@ impl Staging {
         self.items.as_slice()
     }
 
-    /// The floor of both ledgers together, the received one and the state's own: the file stamp of
-    /// the newest full extract in either. None if neither has a full extract.
+    /// The floor of the received ledger and the state's ledger together: the file stamp of the
+    /// newest full extract in either. None if neither has a full extract.
     pub fn floor(&self) -> Option<FileStamp>
         ensures { floor_meant result ≡ self.now.floor }
     {
@@ -156,12 +156,12 @@ pub(crate) fn is_to_stage(
 }
 
 impl State {
-    /// Joins the state with what was received. The ledger becomes the union of both ledgers, and
-    /// each staged entry is written at its key. Entries and items below the floor of both are
-    /// dropped, and bodies that end before this state's horizon lapse. The entries may have been
-    /// offered to another state with the same floor: a greater entry of this state then stays, and
-    /// the result is still the join. If nothing is staged and no item is new, nothing is done. If
-    /// memory runs out, the state is unchanged, and what was received is dropped.
+    /// Joins the state with the received ledger items and entries. The ledger becomes the union of
+    /// both ledgers, and each staged entry is written at its key. Entries and items below the floor
+    /// of both are dropped, and bodies that end before this state's horizon lapse. The entries may
+    /// have been offered to another state with the same floor: a greater entry of this state then
+    /// stays, and the result is still the join. If nothing is staged and no item is new, nothing is
+    /// done. If memory runs out, the state is unchanged, and what was received is dropped.
     pub fn commit(&mut self, staging: Staging) -> Result<(), Memory>
         requires floor { IsFloor (self.old.ledger ++ staging.items) staging.floor }
         ensures join { IsOk result

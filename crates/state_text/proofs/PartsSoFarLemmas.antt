@@ -9,8 +9,8 @@ use Rattle.state_text.specs.PartsSoFar.{under}
 pub under_none : (parts : State) → parts.horizon ≡ 0 → parts ≡ under 0 parts
 under_none parts none = λ k. record { horizon = none k; ledger = parts.ledger; entries = parts.entries }
 
--- if the parts under a horizon are valid, raising the parts' horizon to it equals setting it: no
--- entry lapses
+-- if the parts are valid under a horizon, raising their horizon to that day only sets it: no entry
+-- lapses
 pub set_behind : (horizon : ℕ) (told parts state raised : State) → told ≡ under horizon parts → parts.horizon ≡ 0 → IsValid told → state ≡ parts
     → raised ≡ raise_horizon horizon state
     → raised ≡ told
