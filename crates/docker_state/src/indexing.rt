@@ -108,7 +108,7 @@ pub(crate) fn picked_index(
     }
 }
 
-/// Removes the marks of rows that have lapsed from the index, if there is one.
+/// Removes the postings of lapsed rows from the index, if there is an index.
 pub(crate) fn lapse_index(index: &mut Option<Index>, rows: &[(Key, Entry)])
     ensures { (before : List (model.Key × ops.Entry)) (horizon : ℕ)
         → map row_meant rows.now ≡ lapse_entries horizon before

@@ -106,7 +106,7 @@ pub(crate) fn has_kept_items(
     true
 }
 
-/// Whether a ledger has this item, or the floor doesn't keep it.
+/// Whether a ledger has this item, or the floor doesn't keep the item.
 fn has_if_kept(ledger: &[LedgerItem], item: &LedgerItem, floor: &Option<FileStamp>) -> bool
     requires { IsStrictlyAscending ledger_item_cmp (map item_meant ledger.now) }
     ensures { IsTrue result

@@ -19,7 +19,7 @@ fn ledger_is(rt: &impl Abort, parts: &Parts, wanted: &[LedgerItem]) {
     assert_eq!(rt; parts.ledger(), wanted);
 }
 
-/// Builds a state with one item and one deletion again, from its parts.
+/// Rebuilds a state with one item and one deletion from its parts.
 fn rebuilt(rt: &impl Abort, alloc: Global, one: &State) -> State {
     let (items, rows) = (one.ledger(), one.entries());
     if items.len() != 1 {
