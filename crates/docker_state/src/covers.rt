@@ -1,5 +1,5 @@
 //! Finds out whether a state already has everything that another state would bring. The join of the
-//! two is then this state under the greater of the two horizons.
+//! two states is then this state, under the greater of the two horizons.
 ghost use Rattle.std.specs.Prelude.{map, IsTrue, Contains};
 ghost use Rattle.docker_model.specs.state.Stamp.{ledger_item_cmp, IsKept};
 ghost use Rattle.docker_model.specs.state.Order.{IsStrictlyAscending};

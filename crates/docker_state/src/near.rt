@@ -1,4 +1,5 @@
-//! Looks up the entry of a key. First reads the rows where the key is likely to be.
+//! Looks up the entry of a key: first in the rows where the key is likely to be, and then by binary
+//! search.
 ghost use Rattle.std.specs.Prelude.{◌≡◌, IsTrue};
 ghost use Rattle.std.specs.Option.{option_copied};
 ghost use Rattle.cif_change.specs.Meaning.{key_meant};

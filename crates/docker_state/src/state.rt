@@ -554,11 +554,11 @@ impl Merge for State {
     /// The join of two states: the union of their ledgers, and for each key the greater entry.
     /// Items and entries below the floor of both are left out, and the entries lapse under the
     /// greater horizon. If one state has all that the other would bring, the join is that state
-    /// under the greater horizon, and the other's memory is freed. For example, the state of a full
-    /// extract that is newer than all files of the other state is such a state. Then no row of the
-    /// other is read. If memory runs out, both states are returned unchanged. The join has an index
-    /// if both states have one. In this case both are also returned if together they have more than
-    /// 4,294,967,295 rows or places, which are numbered in 32 bits.
+    /// under the greater horizon, and the other's memory is freed. For example, one state may be
+    /// made from a full extract that is newer than all files of the other state. Then no row of the
+    /// other state is read. If memory runs out, both states are returned unchanged. The join has an
+    /// index if both states have one. In this case both are also returned if together they have
+    /// more than 4,294,967,295 rows or places, which are numbered in 32 bits.
     fn join(self, alloc: Global, other: State) -> Result<State, (State, State)>
         ensures ok { IfOk result (IsJoin self other) }
         ensures err { IfErr result (λ both. (both.0 ≡ self) × (both.1 ≡ other)) }

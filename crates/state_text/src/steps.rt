@@ -348,8 +348,8 @@ fn after_last_line<K: Keeper>(
     give(count, parts, key, schedule.stamp, op)
 }
 
-/// Reads the next part and returns the stage after it, or why it can't be read. A line of a
-/// schedule must be its last line: `judged_inner_line` reads the lines before the last one.
+/// Reads the next part and returns the stage after it, or why it can't be read. A line must be the
+/// last line of its schedule: `judged_inner_line` reads the lines before the last one.
 pub fn step<K: Keeper>(
     alloc: Global,
     format: Format,

@@ -38,7 +38,7 @@ impl Whole {
     }
 }
 
-/// Returns a collection without parts. If `noted` is true, it notes the places of the entries.
+/// Begins without parts. If `noted` is true, the places of the entries will be noted.
 fn no_parts(alloc: Global, noted: bool) -> Parts
     ensures { result ≡ record { horizon = 0; ledger = []; entries = [] } }
 {
