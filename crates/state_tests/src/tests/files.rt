@@ -227,7 +227,8 @@ fn a_late_full_extract(rt: HostRuntime) {
     three_are(&rt, alloc, u9, f7, u5);
 }
 
-/// Joins two states. If memory runs out, joins the two states that the call has returned once more.
+/// Joins two states. If memory runs out, tries once more with the two states that the call has
+/// returned.
 fn joined_again(
     rt: &impl Abort,
     alloc: Global,
