@@ -506,7 +506,7 @@ none_of : (b : Bool) (o : Option Place) → o ≡ None → cond b o None ≡ Non
 none_of true o h = h
 none_of false o h = refl
 
--- unless the trailer was read, the cause for a record within the limit is the cause that the record's kind gives
+-- unless the trailer was read, the cause for a record within the limit is the result of `kind_cause`
 told_cause : (records : Lines) (line : List ℕ) (place : Place) (cause : fault.FileCause) → IsRecord line → is_after_end place ≡ false
     → kind_cause place line ≡ cause
     → (limit : ℕ) → length records < limit → cause_of limit (length records) place line ≡ cause

@@ -7,7 +7,8 @@ use Rattle.cif_file.specs.Key.{Key}
 use Rattle.cif_change.specs.Meaning.{key_meant}
 use Rattle.docker_join.specs.declared.entry.Entry.{Entry}
 
--- Says that the key is below the key of the row at this index, or that there is no such row.
+-- Says that the key is below the key of the row at this index, or that this is the index just after
+-- the last row.
 abbrev pub IsBelowAt : model.Key → List (Key × Entry) → ℕ → Type 0
 IsBelowAt key rows at =
     (at ≤ length rows) × ((d : Key × Entry) → at < length rows → key_cmp (key_meant (get_or rows at d).0) key ≡ Greater)
