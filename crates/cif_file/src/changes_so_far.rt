@@ -37,7 +37,7 @@ impl ChangesSoFar {
     ghost use Rattle.cif_file.specs.KeeperRead.{change_renewed};
     ghost use Rattle.cif_file.specs.SingleChanges.{listed};
 
-    /// Returns a record of no changes.
+    /// Begins with no changes.
     pub(crate) fn new() -> ChangesSoFar
         ensures { result.changes ≡ [] }
     {

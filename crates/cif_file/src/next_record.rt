@@ -12,8 +12,8 @@ use crate::keeper::Keeper;
 use cif_change::FileCause;
 use cif_line::{Line, LineFault};
 
-/// Makes a line from these bytes, or returns why they aren't a line: their number, or a byte that
-/// isn't printable.
+/// Makes a line from these bytes. The cause is `Length` if there aren't 80 bytes, and `Byte` if one
+/// of them isn't printable.
 pub(crate) fn line_of(bytes: &[u8]) -> Result<Line, FileCause>
     ensures ok { IfOk result (λ line. (line ≡ bytes.now) × IsRecord bytes.now) }
     ensures err { (place : Place) →

@@ -22,7 +22,7 @@ impl Model for Given {
 }
 
 impl Given {
-    /// Returns a record without entries.
+    /// Begins with no entries.
     pub fn new() -> Given
         ensures { result.entries ≡ [] }
     {
