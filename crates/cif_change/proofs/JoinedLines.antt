@@ -18,7 +18,8 @@ pub behind_same : (line other : List ℕ) (lines others : List (List ℕ)) → l
 behind_same line other lines others same =
     ap (λ l. bytes_cmp (line ++ concat lines) (l ++ concat others)) (sym same) ∙ behind_front line (concat lines) (concat others)
 
--- if two lists of lines begin with equal lines, the lists compare like the lines after these
+-- if the first lines of two lists are equal, comparing the lists gives the same result as comparing
+-- the lines after the first
 pub after_first_record : (lines others rest left : List (List ℕ)) (line other : List ℕ) → lines ≡ line ∷ rest → others ≡ other ∷ left → line ≡ other
     → bytes_cmp (concat rest) (concat left) ≡ bytes_cmp (concat lines) (concat others)
 after_first_record lines others rest left line other one two same =

@@ -112,7 +112,7 @@ fault_by journey lines line has is nowhere = by journey.stage refl nowhere
         (subst (λ l. IsScheduleFault l line (first_line_cause line)) (sym (has.fresh h)) (first (is_first_line line) refl told))
     by (Some stage) h told = subst (λ s. IsScheduleFault lines line (cause_by s line)) (sym h) (schedule_fault lines stage line (sym has.stage_is ∙ h) is told)
 
--- if there is no stage after a line, the line is refused, and the cause is the one of `cause_by`
+-- if there is no stage after a line, the line is refused for the cause that `cause_by` gives
 pub refused_by : (journey : JourneyState) (lines : Lines) (line : List ℕ) (cause : fault.FileCause) → HasLines journey lines → IsRecord line
     → next_by journey.stage lines line ≡ None → cause_by journey.stage line ≡ cause → IsScheduleFault lines line cause
 refused_by journey lines line cause has is nowhere same = subst (IsScheduleFault lines line) same (fault_by journey lines line has is nowhere)
@@ -244,7 +244,7 @@ out_of_place journey lines line stage kind has is at known none =
 
 -- ---- the times of the next line
 
--- Counting midnights can be split after an optional first time: the total is the count up to it plus the count from it on.
+-- Counting midnights can be split after an optional first time: the total is the count up to the first time plus the count from the first time on.
 pub falls_in_turn : (last first : Option ℕ) (rest : List ℕ) → falls_after last (time_list first ++ rest) ≡ falls_after last (time_list first) + falls_after
     (later_or first last) rest
 falls_in_turn None None rest = omega arith
@@ -402,7 +402,7 @@ basic_read line journey first at deletion lacking falls last =
 
 -- ---- the next line, if a record of its kind may come next
 
--- in a deletion, after a line of a kind that may come next the reader remembers the next stage, and all else as before
+-- in a deletion, a line of a kind that may come next changes only the stage that the reader remembers
 pub deletion_read : (journey : JourneyState) (lines : Lines) (line : List ℕ) (next : Stage) → HasLines journey lines → IsRecord line
     → stage_then journey.stage (kind_of line) ≡ Some next
     → journey.deletion ≡ true → HasLines (record journey { stage = Some next }) (lines ++ line ∷ [])

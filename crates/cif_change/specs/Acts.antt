@@ -1,4 +1,4 @@
--- What an act leaves at its key.
+-- The op that an act leaves at its key.
 use Rattle.docker_model.specs.state.Op.{Op, op_of}
 use Rattle.cif_change.specs.declared.change.Act.{Act}
 use Rattle.cif_change.specs.Meaning.{act_meant}

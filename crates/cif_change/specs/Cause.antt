@@ -1,12 +1,12 @@
--- Causes of the code, translated into those that the definitions use, and the printed texts of causes.
+-- Converts causes from the code's type to the definitions' type, and gives the printed text of each cause.
 use Rattle.std.specs.Prelude.{ℕ, List, ◌++◌, codes, decimal, Option, Some, None}
 use Rattle.docker_model.specs.file.FileFault.{too_many, after_trailer, bad_length, bad_byte, bad_kind, bad_place, bad_field, third_midnight, no_end}
 use Rattle.docker_model.specs.file.FileFault as fault
 use Rattle.cif_change.specs.declared.cause.FileCause.{FileCause}
 use Rattle.cif_change.specs.declared.cause.FileCause.TheVariants as cause
 
--- a cause of the code, translated into a cause of the definitions; none if memory ran out, which
--- isn't a fault of the text
+-- converts a cause from the code's type to the definitions' type. The result is none if memory ran
+-- out, which isn't a fault of the text
 abbrev pub cause_meant : FileCause → Option fault.FileCause
 cause_meant cause.Length = Some bad_length
 cause_meant (cause.Byte at) = Some (bad_byte at)

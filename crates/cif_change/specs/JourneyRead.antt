@@ -16,7 +16,7 @@ use Rattle.cif_change.specs.declared.stage.ScheduleStage.{ScheduleStage}
 use Rattle.cif_change.specs.declared.stage.ScheduleStage.TheVariants.{AfterBasic, AfterDetails, InJourney, AfterJourney}
 use Rattle.cif_change.specs.Cause.{cause_meant}
 
--- a stage of the code, translated into a stage of the definitions
+-- converts a stage from the code's type to the definitions' type
 abbrev pub stage_meant : ScheduleStage → place.Stage
 stage_meant AfterBasic = after_basic
 stage_meant AfterDetails = after_details
@@ -44,18 +44,18 @@ pub record HasLines (journey : JourneyState) (lines : List (List ℕ)) : Type 0 
   pub falls_are : journey.deletion ≡ false → journey.falls ≡ midnights lines
   pub last_is : journey.deletion ≡ false → journey.last ≡ last_of (times_along lines)
 
--- Says that this is the cause for which no schedule continues with this line after the earlier
--- lines. Being out of memory is never such a cause.
+-- Says that no schedule continues the earlier lines with this line, and that this is the cause.
+-- Being out of memory is never such a cause.
 abbrev pub IsScheduleCause : List (List ℕ) → List ℕ → Option fault.FileCause → Type 0
 IsScheduleCause earlier line None = ⊥
 IsScheduleCause earlier line (Some cause) = IsScheduleFault earlier line cause
 
--- an optional time as a list of one time or none
+-- converts an optional time to a list of one time or none
 abbrev pub time_list : Option ℕ → List ℕ
 time_list None = []
 time_list (Some time) = time ∷ []
 
--- the up to three times of a line that the code keeps, as a list
+-- converts the times of a line, as the code keeps them, to a list of at most three times
 abbrev pub times_list : LineTimes → List ℕ
 times_list times = time_list times.first ++ time_list times.second ++ time_list times.third
 
@@ -64,7 +64,7 @@ abbrev pub AreTimesOf : List ℕ → LineTimes → Type 0
 AreTimesOf line times = map (λ time. time.1) (times_of line) ≡ times_list times
 
 -- the stage after a line of this kind; none if a line of this kind can't come next, or if no line
--- was taken before
+-- was taken yet
 abbrev pub stage_then : Option place.Stage → Option Kind → Option place.Stage
 stage_then None kind = None
 stage_then (Some stage) kind = stage_after stage kind
@@ -77,7 +77,7 @@ may_end_by (Some in_journey) lacking = false
 may_end_by (Some _) lacking = lacking
 may_end_by None lacking = false
 
--- the progress of the code as a `JourneyState`
+-- converts a `Progress` of the code to a `JourneyState`
 abbrev pub progress_meant : Progress → JourneyState
 progress_meant progress = record {
   stage = option_map stage_meant progress.stage;
@@ -87,7 +87,7 @@ progress_meant progress = record {
   last = progress.clock.last;
 }
 
--- whether the stage is the one after the terminus, so that the journey is complete
+-- whether the terminus was read at this stage, so that the journey is complete
 abbrev pub is_over_by : Option place.Stage → Bool
 is_over_by (Some after_journey) = true
 is_over_by _ = false
@@ -99,12 +99,12 @@ abbrev pub Advances : Progress → List ℕ → Progress → Type 0
 Advances old line new =
     (lines : List (List ℕ)) → HasLines (progress_meant old) lines → HasLines (progress_meant new) (lines ++ line ∷ [])
 
--- Says that a proposition holds if and only if some schedule begins with the lines taken before
--- followed by this line.
+-- Says that a proposition holds if and only if some schedule begins with the lines already taken
+-- and then this line.
 abbrev pub JudgesLine : JourneyState → List ℕ → Type 0 → Type 0
 JudgesLine journey line holds = (lines : List (List ℕ)) → HasLines journey lines → holds ↔ BeginsSchedule (lines ++ line ∷ [])
 
--- Says that this is the cause for which no schedule begins with the lines taken before followed by
+-- Says that this is the cause for which no schedule begins with the lines already taken and then
 -- this line.
 abbrev pub FaultsLine : JourneyState → List ℕ → FileCause → Type 0
 FaultsLine journey line cause = (lines : List (List ℕ)) → HasLines journey lines → IsScheduleCause lines line (cause_meant cause)

@@ -1,4 +1,4 @@
--- Keys, bodies, acts and changes of the code, translated into those that the definitions use.
+-- Converts keys, bodies, acts and changes from the code's types to the definitions' types.
 use Rattle.docker_model.specs.file.Change.{tiploc_key, association_key, schedule_key, tiploc_body, association_body, schedule_body, delete, put}
 use Rattle.docker_model.specs.file.Change as model
 use Rattle.cif_line.specs.Letter.{stp_letter}
@@ -10,7 +10,7 @@ use Rattle.cif_change.specs.declared.change.Act.{Act}
 use Rattle.cif_change.specs.declared.change.Act.TheVariants as act
 use Rattle.cif_change.specs.declared.change.Change.{Change}
 
--- a key of the code, translated into a key of the definitions
+-- converts a key from the code's type to the definitions' type
 abbrev pub key_meant : Key → model.Key
 key_meant (key.Tiploc code) = tiploc_key code
 key_meant (key.Assoc k) = association_key (record {
@@ -23,17 +23,17 @@ key_meant (key.Assoc k) = association_key (record {
 })
 key_meant (key.Schedule k) = schedule_key (record { uid = k.uid; runs_from = k.runs_from; indicator = stp_letter k.stp })
 
--- a body of the code, translated into a body of the definitions
+-- converts a body from the code's type to the definitions' type
 abbrev pub body_meant : Body → model.Body
 body_meant (body.Tiploc bytes) = tiploc_body bytes
 body_meant (body.Assoc line) = association_body line
 body_meant (body.Schedule lines) = schedule_body lines
 
--- an act of the code, translated into an act of the definitions
+-- converts an act from the code's type to the definitions' type
 abbrev pub act_meant : Act → model.Act
 act_meant act.Delete = delete
 act_meant (act.Put b) = put (body_meant b)
 
--- a change of the code, translated into a change of the definitions
+-- converts a change from the code's type to the definitions' type
 abbrev pub change_meant : Change → model.Change
 change_meant c = record { number = c.number; key = key_meant c.key; act = act_meant c.act }

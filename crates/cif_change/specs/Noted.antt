@@ -60,7 +60,7 @@ pub record HasNoted (items : List Item) (notes : Notes) : Type 0 where
   pub apart : numbers_in notes.pieces.items ≤ length notes.numbers.items
 
 -- Says that the next row is noted in this piece, and that at least as many numbers were added for
--- it as the piece has.
+-- the row as the piece has.
 pub record IsNext (names : List (List ℕ)) (old new : List ℕ) (item : Item) (piece : Piece) : Type 0 where
   pub noted : IsNoted names new item piece
   pub apart : length old + piece.count ≤ length new

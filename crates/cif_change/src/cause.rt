@@ -23,7 +23,8 @@ pub enum FileCause {
     /// A checked field of the record isn't good. The number is the first column, from 1, of the
     /// leftmost such field.
     Field(u8),
-    /// At this record the schedule passes midnight for the third time. Two are allowed.
+    /// At this record the schedule passes midnight for the third time. At most two midnights are
+    /// allowed.
     Midnights,
     /// The text ends without a trailer.
     NoEnd,

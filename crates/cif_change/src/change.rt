@@ -18,9 +18,8 @@ use crate::same::{are_same_lines, compare_lines, is_same_line};
 use cif_line::{Line, NO_END, Until};
 use std::cmp::Ordering;
 
-/// The body that a change puts under its key. Of two bodies, the one that ends earlier is less. If
-/// they end on the same day, the bytes of their joined lines decide, and if these are equal, the
-/// kind of key.
+/// The body that a change puts under its key. Bodies are ordered by their end number, then by the
+/// bytes of their joined lines, and then by the kind of key.
 #[derive(Debug, Drop)]
 pub enum Body {
     /// A TIPLOC's details: columns 10 to 72 of its record.
@@ -171,7 +170,7 @@ impl Ord for Body {
 pub enum Act {
     /// Deletes the key.
     Delete,
-    /// Puts this body under the key, whether or not the key was there before.
+    /// Puts this body under the key, whether or not the key existed before.
     Put(Body),
 }
 
@@ -221,7 +220,7 @@ impl Ord for Act {
 /// A change: what one record of an extract, or one schedule's records, do to one key.
 #[derive(PartialEq, Eq, Debug, Drop)]
 pub struct Change {
-    /// The number in its file, from 1, of the record that makes the change.
+    /// The number of the record that makes the change. The records of a file are numbered from 1.
     pub number: u32,
     /// The key that is changed.
     pub key: Key,

@@ -5,10 +5,10 @@ use crate::names::{is_at, packed};
 use cif_line::Memory;
 use std::alloc::Global;
 
-/// How many slots a memo has.
+/// The number of slots of a memo.
 const SLOTS: usize = 65_536;
 
-/// In how many consecutive slots the index of a place may be.
+/// The number of consecutive slots in which the index of a place may be.
 const NEAR: usize = 8;
 
 /// Remembers the index at which places were last found in a list. It is only a shortcut and may

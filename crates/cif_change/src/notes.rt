@@ -23,7 +23,7 @@ pub struct Notes {
     /// The numbers of all places that the rows name: first those named by row 0, then by row 1, and
     /// so on.
     pub numbers: Vec<u32>,
-    /// Where each row's numbers are in `numbers`.
+    /// The piece of `numbers` that belongs to each row.
     pub pieces: Vec<Piece>,
 }
 

@@ -1,9 +1,9 @@
-//! Where the numbers of one row are in the list of all numbers.
+//! The piece of the list of all numbers that belongs to one row.
 ghost use Rattle.std.specs.Prelude.{◌≡◌, false, drop, take};
 ghost use Rattle.cif_change.specs.Noted.{numbers_of};
 
-/// Where the numbers of one row are in the list of all numbers. They are the numbers of the places
-/// where a schedule calls, or of the one place where an association links two trains.
+/// The piece of the list of all numbers that belongs to one row. Its numbers are the numbers of the
+/// places where a schedule calls, or of the one place where an association links two trains.
 #[derive(Clone, Copy, Debug, PartialEq, Eq, PartialOrd, Ord)]
 pub struct Piece {
     /// Whether the row is an association. The number of an association is a link, and the numbers

@@ -41,7 +41,7 @@ impl Progress {
         }
     }
 
-    /// Whether the lines are of a schedule that is a deletion.
+    /// Whether the schedule that begins with these lines is a deletion.
     pub fn is_deletion(self) -> bool
         ensures { result ≡ (progress_meant self).deletion }
     {
@@ -58,7 +58,7 @@ impl Progress {
         }
     }
 
-    /// Takes the next line. If no schedule begins with the lines taken before followed by this one,
+    /// Takes the next line. If no schedule begins with the lines already taken and then this line,
     /// returns the cause and changes nothing.
     pub(crate) fn take(&mut self, line: &Line) -> Result<(), FileCause>
         ensures ok { JudgesLine (progress_meant self.old) line.now (IsOk result) }
@@ -73,8 +73,8 @@ impl Progress {
         }
     }
 
-    /// Takes the next line, a record of this kind. If no schedule begins with the lines taken
-    /// before followed by this one, returns the cause and changes nothing.
+    /// Takes the next line, a record of this kind. If no schedule begins with the lines already
+    /// taken and then this line, returns the cause and changes nothing.
     pub fn advance(&mut self, kind: Kind, line: &Line) -> Result<(), FileCause>
         requires record { IsRecord line.now }
         requires kind { HasKind (meaning kind) line.now }
@@ -150,8 +150,8 @@ impl Progress {
     }
 }
 
-/// The progress after the first line. The cause if the line isn't a basic schedule with good
-/// fields.
+/// The progress after the first line. Returns the cause if the line isn't a basic schedule with
+/// good fields.
 fn after_first_record(kind: Kind, line: &Line) -> Result<Progress, FileCause>
     requires record { IsRecord line.now }
     requires kind { HasKind (meaning kind) line.now }
@@ -165,7 +165,8 @@ fn after_first_record(kind: Kind, line: &Line) -> Result<Progress, FileCause>
     }
 }
 
-/// The progress after a basic schedule as the first line. The cause if it has a bad field.
+/// The progress after a basic schedule as the first line. Returns the cause if the line has a bad
+/// field.
 fn progress_after_first_basic(line: &Line) -> Result<Progress, FileCause>
     requires record { IsRecord line.now }
     requires kind { HasKind basic_schedule line.now }

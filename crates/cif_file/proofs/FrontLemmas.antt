@@ -1,4 +1,4 @@
--- What the reader of a file's records has after taking a record, and why it refuses one.
+-- What the reader of a file's records holds after taking a record, and why it refuses a record.
 use Rattle.std.proofs.Common.{◌≡◌, ℕ, ◌+◌, ◌<◌, inl, inr, Bool, true, false, cond, List, [], ◌∷◌, ◌++◌, length, map, subst}
 use Rattle.std.proofs.Common.{refl, ap, sym, ◌∙◌, Some, None, arith, append-nil, append_assoc, length-append, take}
 use Rattle.std.specs.Prelude.{Option, IsTrue, ◌↔◌, ◌&&◌, is_some, is_none, option_map, slice_index_or, OnOk, Result, Ok, Err}
@@ -79,7 +79,8 @@ changes_append n (record_first ∷ records) line more stops =
     ∙ sym (append_assoc (changes_of_record n record_first records) (changes_from (n + 1) records) (changes_from (n + 1 + length records) (line ∷ more)))
     ∙ ap (λ k. (changes_of_record n record_first records ++ changes_from (n + 1) records) ++ changes_from k (line ∷ more)) (omega arith)
 
--- if the next record doesn't come within a schedule, its changes are appended to the changes before
+-- if the next record doesn't come within a schedule, its changes are appended to the earlier
+-- changes
 pub changes_anew : (records : Lines) (line : List ℕ) → follows_basic (kind_of line) ≡ false
     → changes (records ++ line ∷ []) ≡ changes records ++ changes_of_record (length records + 1) line []
 changes_anew records line stops =
@@ -119,7 +120,7 @@ same_change : (n m : ℕ) (k l : Key) (b c : Bool) (body : Body) → n ≡ m →
     → ◌≡◌ {A = Change} (record { number = n; key = k; act = cond b delete (put body) }) (record { number = m; key = l; act = cond c delete (put body) })
 same_change n m k l b c body numbers keys tests = λ i. record { number = numbers i; key = keys i; act = cond (tests i) delete (put body) }
 
--- a complete schedule appends exactly one change, its own, to the changes before
+-- a complete schedule appends exactly one change to the earlier changes
 pub changes_closed : (opened : Opened) (lines before : Lines) → HasLines (progress_meant opened.progress) lines → opened.number ≡ length before + 1
     → key_meant (key.Schedule opened.key) ≡ schedule_named (first_record lines) → IsSchedule lines
     → changes (before ++ lines) ≡ changes before ++ change_opened opened lines ∷ []
@@ -157,7 +158,7 @@ anew_by_unit line begins = by (follows_basic (kind_of line)) refl
     by false h = h
     by true h = let bad : false ≡ true = (λ i. is_some (sym (no_unit_by_kind (kind_of line) line h) i)) ∙ begins in cc
 
--- after whole units, the place after a record with good fields that begins a unit is the one for the record's kind
+-- after whole units, the record's kind determines the reader's place after a record with good fields that begins a unit
 pub place_over : {K : Type 0} (keeps : Keeps K) (front : Front K) (records : Lines) (line : List ℕ) (next : Place) → (over : IsOver keeps front records)
     → IsRecord line → HasGoodFields line
     → unit_by_kind (kind_of line) line ≡ Some next
@@ -297,7 +298,7 @@ followed opened line BetweenUnits gone = absurd gone
 followed opened line (InSchedule later) gone = record { later = later; place = refl; number = gone.0; named = gone.1; read = gone.2 }
 followed opened line AfterEnd gone = absurd gone
 
--- if the schedule can continue with a line, that line comes directly after the lines taken before
+-- a line with which the schedule can continue follows directly after the lines already taken
 pub stands_before : {K : Type 0} (keeps : Keeps K) (front new : Front K) (opened : Opened) (records : Lines) (line : List ℕ) → HasRecords keeps front records
     → front.stage ≡ InSchedule opened → new.header ≡ front.header → new.keeper ≡ front.keeper → IsRecord line
     → follows_basic (kind_of line) ≡ true → (after : IsFollowed opened line new.stage)
@@ -326,7 +327,7 @@ stage_begun : (lines : Lines) (line : List ℕ) → BeginsSchedule (lines ++ lin
 stage_begun [] line begins = (begins_iff_stage line []).0 begins
 stage_begun (basic ∷ others) line begins = (begins_iff_stage basic (others ++ line ∷ [])).0 begins
 
--- the place after the records and this line is in the schedule, at its next stage
+-- after the records and this line, the reader is inside the schedule, at the schedule's next stage
 place_followed : {K : Type 0} (keeps : Keeps K) (front : Front K) (opened : Opened) (line : List ℕ) (records : Lines)
     (before : StandsBefore keeps front opened line records) (next : Stage)
     → stage_of (before.lines ++ line ∷ []) ≡ Some next → IsPlaceOf (records ++ line ∷ []) (place_in next (before.lines ++ line ∷ []))
@@ -505,7 +506,7 @@ none_of : (b : Bool) (o : Option Place) → o ≡ None → cond b o None ≡ Non
 none_of true o h = h
 none_of false o h = refl
 
--- unless the trailer was read, the cause for a record within the limit is the one for the record's kind
+-- unless the trailer was read, the cause for a record within the limit is the result of `kind_cause`
 told_cause : (records : Lines) (line : List ℕ) (place : Place) (cause : fault.FileCause) → IsRecord line → is_after_end place ≡ false
     → kind_cause place line ≡ cause
     → (limit : ℕ) → length records < limit → cause_of limit (length records) place line ≡ cause
@@ -606,7 +607,7 @@ header_added keeps old new records line has at is kind fields same_header place 
       );
     }
 
--- between units, there is no place after a record that begins no unit or has a bad field
+-- between units, no file continues with a record that begins no unit or has a bad field
 pub no_unit : (line : List ℕ) → ¬ ((is_some (unit_by_kind (kind_of line) line) ≡ true) × HasGoodFields line) → next_place between_units line ≡ None
 no_unit line bad = by (next_place between_units line) refl
   where

@@ -60,7 +60,7 @@ above most n many = by (nat_le n most) refl
 
 -- ---- out of memory
 
--- memory may run out at a line that is within the limit if some file begins with the records before and this line
+-- memory may run out at a line that is within the limit if some file begins with the earlier records and this line
 memory_answer : (limit : ℕ) (records : Lines) (line : List ℕ) (number : ℕ) (all : Lines) → length records < limit → GoesOnWith records line
     → number ≡ length records + 1 → all ≡ records ++ line ∷ []
     → WantsMemoryAt limit all number
@@ -73,7 +73,7 @@ memory_answer limit records line number all under goes_on counted whole =
       sound = subst BeginsFile (sym (take_all number all (omega arith))) (subst BeginsFile (sym whole) ((begins_iff_place (records ++ line ∷ [])).1 goes_on));
     }
 
--- whether memory may have run out at a record doesn't depend on the records after it
+-- if memory may have run out at a record, this is still so when more records follow
 memory_more : (limit : ℕ) (records others : Lines) (number : ℕ) → WantsMemoryAt limit records number → WantsMemoryAt limit (records ++ others) number
 memory_more limit records others number told = record {
   some = told.some;
@@ -103,7 +103,7 @@ after_cause keeps limit front records line has is under = record {
     none true = refl
     none false = refl
 
--- there is no place after a line that isn't a record
+-- no file continues with a line that isn't a record
 no_next : (place : Place) (line : List ℕ) → ¬ IsRecord line → next_place place line ≡ None
 no_next place line bad = by (next_place place line) refl
   where
@@ -475,7 +475,7 @@ cut_first piece =
 pub cut_whole : (rest front behind : List ℕ) → IsCut rest front behind → rest ≡ (front ++ 10 ∷ []) ++ behind
 cut_whole rest front behind cut = cut.whole ∙ sym (append_assoc front (10 ∷ []) behind)
 
--- ---- a text of which a rest is still to be taken
+-- ---- a text whose rest is still to be taken
 
 abbrev Told : Type 1
 Told = ℕ → List ℕ → Type 0
@@ -560,7 +560,7 @@ pub reading_of : (parser : ParserState) (reading : FileReading FileSoFar) (limit
     → HasRead parser limit text → IsReading KeepsAll reading limit text
 reading_of parser reading limit text none same has = subst (λ r. IsReading KeepsAll r limit text) same (reading_at_none parser limit text none has)
 
--- a parser that has returned a fault isn't one that hasn't
+-- a parser can't both have returned a fault and not have returned one
 pub had_failed : (parser : ParserState) (fault : FileFault) → parser.fault ≡ Some fault → ¬ HasNotFailed parser
 had_failed parser fault at none = none fault at
 

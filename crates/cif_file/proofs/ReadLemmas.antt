@@ -33,7 +33,8 @@ pub at_start : {K : Type 0} (keeps : Keeps K) (limit : ℕ) (reading : FileReadi
     → TakesFile keeps reading limit []
 at_start keeps limit reading has few = record { read = has; few = few; sound = sound_at_start limit }
 
--- if the parser takes a piece, it has taken the text before followed by the piece
+-- if the parser has taken a text and then takes a piece, it has taken the text followed by the
+-- piece
 pub takes_more : {K : Type 0} (keeps : Keeps K) (before after : FileReading K) (piece : List ℕ) {A : Type 0} (result : Result A FileFault)
     → OnOk result (GoesOn (IsReading keeps before) piece (IsReading keeps after))
     → OnOk result (AfterEach (TakesFile keeps) before (λ limit text. TakesFile keeps after limit (text ++ piece)))
@@ -42,7 +43,8 @@ takes_more keeps before after piece (Ok done) read = λ limit text has.
     record { read = more; few = has.few; sound = reading_tells_none keeps after limit (text ++ piece) more }
 takes_more keeps before after piece (Err fault) read = tt
 
--- the fault that the parser returns for a piece is a fault of the text before followed by the piece
+-- the fault that the parser returns for a piece is a fault of the earlier text followed by the
+-- piece
 pub refuses_more : {K : Type 0} (keeps : Keeps K) (wants : Type 0) (before : FileReading K) (piece : List ℕ) {A : Type 0} (result : Result A FileFault)
     → IfErr result (TellsFault (IsReading keeps before) piece) → IfErr result (IsLater keeps wants before)
     → IfErr result (λ fault. AfterEach (TakesFile keeps) before (λ limit text. RefusesPiece wants limit text piece fault))
@@ -59,7 +61,7 @@ pub no_further : {K : Type 0} (keeps : Keeps K) (limit : ℕ) (initial next : Op
 no_further keeps limit initial next more =
     record { before = more.bytes; piece = more.piece; sound = more.taken.sound; at_once = more.few; read = more.lost }
 
--- a text that was read to the end of a source is what the source held
+-- a text that was read to the end of a source is the text that the source held
 held_all : (initial now : Option (List ℕ)) (text : List ℕ) → Reads initial text now → IsEnd now → Held initial text
 held_all None now text lost end = tt
 held_all (Some told) None text lost end = cc
@@ -159,13 +161,13 @@ memory_at_end keeps wants limit text reading fault result has refused later last
           (subst (λ cause. IsCauseOf limit text fault.number (cause_meant cause)) wanting refused),
     )
 
--- a fault of the file at the end of the source is a fault of what the source held
+-- a fault of the file at the end of the source is a fault of the text that the source held
 pub refused_at_end : {K : Type 0} (keeps : Keeps K) (limit count : ℕ) (initial now : Option (List ℕ)) (reading : FileReading K) (fault : FileFault)
     → (at : HasFed (TakesFile keeps) count limit [] initial now reading) → IsEnd now → IsFaultOf limit at.bytes fault → RefusesText limit initial fault
 refused_at_end keeps limit count initial now reading fault at end is =
     record { text = at.bytes; held = held_all initial now at.bytes at.lost end; is = is }
 
--- if memory runs out at the end of the source, it does so at the last record of what the source held
+-- if memory runs out at the end of the source, it does so at the last record of the text that the source held
 pub wants_at_end : {K : Type 0} (keeps : Keeps K) (wants : Type 0) (limit count : ℕ) (initial now : Option (List ℕ)) (reading : FileReading K)
     → (at : HasFed (TakesFile keeps) count limit [] initial now reading) → IsEnd now
     → wants × WantsMemoryAt limit (lines_of at.bytes) (length (lines_of at.bytes)) → WantsMemoryBy wants 65536 limit initial now
@@ -177,7 +179,7 @@ abbrev HasRefusedFile : {K : Type 0} → Keeps K → Type 0 → ℕ → Option (
 HasRefusedFile keeps wants limit initial next reading fault =
     HasRefused (TakesFile keeps) (λ _ n text piece told. RefusesPiece wants n text piece told) 65536 limit [] initial next reading fault
 
--- the fault for which a piece was refused is a fault of what the source held
+-- the fault for which a piece was refused is a fault of the text that the source held
 pub refused_before : {K : Type 0} (keeps : Keeps K) (wants : Type 0) {A : Type 0} (limit : ℕ) (initial next : Option (List ℕ)) (reading : FileReading K)
     (fault told : FileFault) (result : ReadFault) → HasRefusedFile keeps wants limit initial next reading fault
     → (fault.cause ≡ Memory → result ≡ read.Memory) → (fault.cause ≢ Memory → result ≡ read.File fault)

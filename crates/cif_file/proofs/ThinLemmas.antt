@@ -76,7 +76,7 @@ none_thinned place day thinned there dated made = record {
 }
 
 module _ (place : List ℕ) (day : ℕ) (old new : Thinned) (whole : Change) where
-  -- a change whose key may matter can be kept after cutting it to what the place and the day need
+  -- a change whose key may matter can be cut to what the place and the day need, and then kept
   pub thin_kept : (change : code.Change) → new.place ≡ old.place → new.day ≡ old.day → HasOneMore old.keys change.key new.keys
       → Makes old.made (change_meant change ∷ []) new.made → may_matter place whole.key ≡ true → thin_change place day whole ≡ change_meant change
       → Thins place day old whole new

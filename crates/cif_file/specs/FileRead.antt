@@ -16,7 +16,8 @@ pub record IsOfRecords (file : FileRead) (records : List (List ℕ)) : Type 0 wh
   pub count_is : file.record_count ≡ length records
   pub changes_are : file.changes_made ≡ changes records
 
--- Says that the file was read from some records, at most `most_records`, that are a CIF file.
+-- Says that the file was read from some records. These are a CIF file, and there are at most
+-- `most_records` of them.
 pub record IsRead (file : FileRead) : Type 0 where
   pub records : List (List ℕ)
   pub of_records : IsOfRecords file records
@@ -36,7 +37,8 @@ pub record IsCountOfRecords (count : FileCounted) (records : List (List ℕ)) : 
   pub count_is : count.record_count ≡ length records
   pub changes_are : count.change_count ≡ length (changes records)
 
--- Says that the counts are of some records, at most `most_records`, that are a CIF file.
+-- Says that these are the counts of some records. The records are a CIF file, and there are at most
+-- `most_records` of them.
 pub record IsCounted (count : FileCounted) : Type 0 where
   pub records : List (List ℕ)
   pub of_records : IsCountOfRecords count records

@@ -1,4 +1,4 @@
--- What a keeper has after each of its calls.
+-- What a keeper holds after each of its calls.
 use Rattle.std.specs.Prelude.{◌≡◌, ℕ, ◌<◌, List, [], ◌∷◌, ◌++◌, length, if◌then◌else◌}
 use Rattle.docker_model.specs.records.Field.{as_new}
 use Rattle.docker_model.specs.file.File.{IsSchedule}
@@ -15,7 +15,7 @@ abbrev Lines : Type 0
 Lines = List (List ℕ)
 
 -- a relation between a keeper, the lines of the schedule that is being read, and the changes
--- received. It says which of these lines and changes the keeper has.
+-- received. It says which of these lines and changes the keeper holds.
 abbrev pub Keeps : Type 0 → Type 1
 Keeps K = K → Lines → List Change → Type 0
 
@@ -24,7 +24,7 @@ abbrev pub with_new_first : Lines → Lines
 with_new_first [] = []
 with_new_first (basic ∷ others) = as_new basic ∷ others
 
--- the change of a schedule with these lines, in which the first already has the transaction N
+-- the change of a schedule with these lines, of which the first already has the transaction N
 abbrev pub change_renewed : Opened → Lines → Change
 change_renewed opened lines = record {
   number = opened.number;
@@ -45,7 +45,7 @@ abbrev pub AddsLine : {K : Type 0} → Keeps K → K → List ℕ → K → Type
 AddsLine keeps old line new =
     (basic : List ℕ) (others : Lines) (made : List Change) → keeps old (basic ∷ others) made → keeps new (basic ∷ others ++ line ∷ []) made
 
--- Says that the keeper has made the change of the schedule whose lines it had, and now has no
+-- Says that the keeper has made the change of the schedule whose lines it held, and now holds no
 -- lines.
 abbrev pub Closes : {K : Type 0} → Keeps K → K → Opened → K → Type 0
 Closes keeps old opened new =

@@ -18,11 +18,11 @@ pub record HasMade (made : Made) (changes : List Change) : Type 0 where
   pub changes_are : map change_meant made.changes.items ≡ changes
   pub noted : AreNotesOf changes made.notes
 
--- Says that these changes were appended to the changes before.
+-- Says that these changes were appended to the earlier changes.
 abbrev pub Makes : Made → List Change → Made → Type 0
 Makes old more new = (before : List Change) → HasMade old before → HasMade new (before ++ more)
 
--- the file that consists of these parts
+-- converts the parts of a file to the file that was read
 abbrev pub file_of_parts : FileParts → FileRead
 file_of_parts parts = record {
   header_line = parts.header;

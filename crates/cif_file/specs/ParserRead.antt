@@ -35,7 +35,7 @@ pub record HasCounted {K : Type 0} (keeps : Keeps K) (state : Records K) (limit 
   pub within : length records ≤ limit
   pub has : HasRecords keeps state.front records
 
--- Says that this line can't follow these records under the limit, for this cause.
+-- Says that this line can't follow these records under the limit, and that this is the cause.
 pub record IsCauseNext (limit : ℕ) (records : Lines) (line : List ℕ) (cause : model.FileCause) : Type 0 where
   pub place : law.Place
   pub at : IsPlaceOf records place
@@ -48,7 +48,7 @@ abbrev pub IsCauseAfter : Type 0 → ℕ → Lines → List ℕ → Option model
 IsCauseAfter wants limit records line None = wants × (length records < limit) × GoesOnWith records line
 IsCauseAfter wants limit records line (Some cause) = IsCauseNext limit records line cause
 
--- Says that this is a fault of the line that follows these records: it has that line's number, and
+-- Says that this is a fault of the line that follows these records: it gives the line's number and
 -- a right cause.
 pub record IsFaultNext (wants : Type 0) (limit : ℕ) (records : Lines) (line : List ℕ) (fault : FileFault) : Type 0 where
   pub number : fault.number ≡ length records + 1
@@ -66,8 +66,8 @@ pub record IsLongNext (limit : ℕ) (records : Lines) (fault : FileFault) : Type
 abbrev pub refusal : ℕ → ℕ → law.Place → Option model.FileCause → Option model.FileCause
 refusal limit count place cause = cond (nat_le limit count) (Some too_many) (cond (is_after_end place) (Some after_trailer) cause)
 
--- Says that this is the fault of a line that follows these records and that isn't a record, for
--- this cause.
+-- Says that this is the fault of the line that follows these records, if for this cause the line
+-- isn't a record.
 pub record IsRefusedNext (limit : ℕ) (records : Lines) (cause : Option model.FileCause) (fault : FileFault) : Type 0 where
   pub number : fault.number ≡ length records + 1
   pub place : law.Place
@@ -120,15 +120,15 @@ pub record IsEndedText {K : Type 0} (keeps : Keeps K) (limit : ℕ) (text : List
 abbrev pub EndsBy : {K : Type 0} → Keeps K → FileReading K → Ended K → Type 0
 EndsBy keeps reading ended = (limit : ℕ) (text : List ℕ) → IsReading keeps reading limit text → IsEndedText keeps limit text ended
 
--- Says that memory may have run out at the record with this number. It is one of these records and
--- within the limit, and some file begins with the records up to it.
+-- Says that memory may have run out at the record with this number. That record is one of these
+-- records and within the limit, and some file begins with the records up to and including it.
 pub record WantsMemoryAt (limit : ℕ) (records : Lines) (number : ℕ) : Type 0 where
   pub some : 0 < number
   pub one : number ≤ length records
   pub within : number ≤ limit
   pub sound : BeginsFile (take number records)
 
--- Says that the first fault among a text's complete lines is at the record with this number, for
+-- Says that the first fault among a text's complete lines is at the record with this number and has
 -- this cause. Without a cause, memory ran out at that record, which is complete, and no record up
 -- to it is at fault.
 abbrev pub IsCauseSoFar : ℕ → List ℕ → ℕ → Option model.FileCause → Type 0
@@ -139,7 +139,7 @@ IsCauseSoFar limit text number (Some cause) = IsFaultSoFar limit text (record { 
 abbrev pub IsFaultReported : ℕ → List ℕ → FileFault → Type 0
 IsFaultReported limit text fault = IsCauseSoFar limit text fault.number (cause_meant fault.cause)
 
--- Says that a whole text's fault is at the record with this number, for this cause. Without a
+-- Says that a whole text's fault is at the record with this number and has this cause. Without a
 -- cause, memory ran out at that record, and no record up to it is at fault.
 abbrev pub IsCauseOf : ℕ → List ℕ → ℕ → Option model.FileCause → Type 0
 IsCauseOf limit text number None = WantsMemoryAt limit (lines_of text) number
@@ -213,7 +213,8 @@ NamesLast parser fault =
 
 -- ---- for any text that may have been taken, under any limit on records
 
--- Says that after these bytes, what was taken is the text before followed by these bytes.
+-- Says that these bytes were taken after the earlier text: if `before` holds of a text, `after`
+-- holds of the text with these bytes appended.
 abbrev pub GoesOn : (ℕ → List ℕ → Type 0) → List ℕ → (ℕ → List ℕ → Type 0) → Type 0
 GoesOn before bytes after = (limit : ℕ) (text : List ℕ) → before limit text → after limit (text ++ bytes)
 
@@ -222,11 +223,11 @@ pub record TakesUpTo (before : ℕ → List ℕ → Type 0) (text rest : List �
   pub whole : before_rest text rest ++ rest ≡ text
   pub read : GoesOn before (before_rest text rest) after
 
--- Says that this is the fault of the text before followed by these bytes.
+-- Says that this is the fault of the earlier text with these bytes appended.
 abbrev pub TellsFault : (ℕ → List ℕ → Type 0) → List ℕ → FileFault → Type 0
 TellsFault before bytes fault = (limit : ℕ) (text : List ℕ) → before limit text → IsFaultReported limit (text ++ bytes) fault
 
--- Says that the text before followed by these bytes has no fault.
+-- Says that the earlier text with these bytes appended has no fault.
 abbrev pub TellsNoFault : (ℕ → List ℕ → Type 0) → List ℕ → Type 0
 TellsNoFault before bytes =
     (limit : ℕ) (text : List ℕ) → before limit text → (fault : model.FileFault) → ¬ IsFaultSoFar limit (text ++ bytes) fault

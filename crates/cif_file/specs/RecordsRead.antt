@@ -27,8 +27,8 @@ abbrev pub header_of : Lines → Option (List ℕ)
 header_of [] = None
 header_of (first ∷ records) = Some first
 
--- Says that the reader is in this schedule: the records end in its lines, which the keeper has, and
--- the changes of the records before it were made.
+-- Says that the reader is inside this schedule. The records end with the schedule's lines, which
+-- the keeper holds, and the changes of all earlier records were made.
 pub record IsOpen {K : Type 0} (keeps : Keeps K) (opened : Opened) (keeper : K) (place : law.Place) (records : Lines) : Type 0 where
   pub stage : Stage
   pub lines : Lines
@@ -41,8 +41,9 @@ pub record IsOpen {K : Type 0} (keeps : Keeps K) (opened : Opened) (keeper : K) 
   pub progress_is : HasLines (progress_meant opened.progress) lines
   pub kept : keeps keeper lines (changes before)
 
--- Says that the stage of the code is the place after the records, and that the changes of the
--- records were made.
+-- Says that the code's stage is the reader's place in the file after the records, and that the
+-- changes of the records were made. The change of a schedule that is being read is still to be
+-- made.
 abbrev pub IsKept : {K : Type 0} → Keeps K → FileStage → K → law.Place → Lines → Type 0
 IsKept keeps BeforeHeader keeper place records = (place ≡ before_header) × keeps keeper [] (changes records)
 IsKept keeps BetweenUnits keeper place records = (place ≡ between_units) × keeps keeper [] (changes records)
@@ -66,7 +67,7 @@ pub record IsOver {K : Type 0} (keeps : Keeps K) (front : Front K) (records : Li
   pub kept : keeps front.keeper [] (changes records)
   pub anew : (line : List ℕ) → follows_basic (kind_of line) ≡ false → next_place place line ≡ next_place between_units line
 
--- Says that no file begins with these records followed by this line, for this cause.
+-- Says that no file begins with these records followed by this line, and that this is the cause.
 pub record IsNoNext (records : Lines) (line : List ℕ) (cause : fault.FileCause) : Type 0 where
   pub place : law.Place
   pub at : IsPlaceOf records place
@@ -78,8 +79,8 @@ abbrev pub GoesOnWith : Lines → List ℕ → Type 0
 GoesOnWith records line = (next : law.Place) × IsPlaceOf (records ++ line ∷ []) next
 
 -- Says why the line that follows these records was refused. Without a cause, memory ran out:
--- `wants` allows it, and some file begins with the records and the line. Any other cause is why no
--- file does.
+-- `wants` allows it, and some file begins with the records and the line. Any other cause says why
+-- no file begins with them.
 abbrev pub IsNoNextCause : Type 0 → Lines → List ℕ → Option fault.FileCause → Type 0
 IsNoNextCause wants records line None = wants × GoesOnWith records line
 IsNoNextCause wants records line (Some cause) = IsNoNext records line cause
@@ -89,7 +90,7 @@ abbrev pub IsWholeBy : Opened → Type 0
 IsWholeBy opened = (lines : Lines) → HasLines (progress_meant opened.progress) lines → IsSchedule lines
 
 -- Says that the records end in lines of a schedule, and that the schedule may continue with this
--- line. `opened` is the schedule after it.
+-- line. `opened` is the schedule with this line added.
 pub record StandsBefore {K : Type 0} (keeps : Keeps K) (front : Front K) (opened : Opened) (line : List ℕ) (records : Lines) : Type 0 where
   pub is : IsRecord line
   pub follows : follows_basic (kind_of line) ≡ true
@@ -106,7 +107,8 @@ pub record StandsBefore {K : Type 0} (keeps : Keeps K) (front : Front K) (opened
   pub goes_on : BeginsSchedule (lines ++ line ∷ [])
   pub kept : keeps front.keeper lines (changes before)
 
--- Says that the reader is still in the same schedule, with the line after its earlier lines.
+-- Says that the reader is still inside the same schedule, and that the line was appended to the
+-- schedule's lines.
 abbrev pub GoesOnTo : Opened → List ℕ → FileStage → Type 0
 GoesOnTo old line BeforeHeader = ⊥
 GoesOnTo old line BetweenUnits = ⊥
@@ -119,14 +121,14 @@ GoesOnTo old line AfterEnd = ⊥
 abbrev pub TakesLine : {K : Type 0} → Keeps K → Front K → List ℕ → Front K → Type 0
 TakesLine keeps old line new = (records : Lines) → HasRecords keeps old records → HasRecords keeps new (records ++ line ∷ [])
 
--- Says that the reader has taken the line, after any records before, if its number is right: one
--- more than the number of these records.
+-- Says that the reader has taken the line after any earlier records, if `number` is right: one more
+-- than the number of the earlier records.
 abbrev pub TakesNext : {K : Type 0} → Keeps K → Front K → ℕ → List ℕ → Front K → Type 0
 TakesNext keeps old number line new =
     (records : Lines) → HasRecords keeps old records → number ≡ length records + 1 → HasRecords keeps new (records ++ line ∷ [])
 
--- Says that the reader has taken a line that begins a unit, after any whole units before, if its
--- number is right: one more than the number of their records.
+-- Says that the reader has taken a line that begins a unit, after any whole units, if `number` is
+-- right: one more than the number of records in these units.
 abbrev pub BeginsAnew : {K : Type 0} → Keeps K → Front K → ℕ → List ℕ → Front K → Type 0
 BeginsAnew keeps old number line new =
     (records : Lines) → IsOver keeps old records → number ≡ length records + 1 → HasRecords keeps new (records ++ line ∷ [])

@@ -6,7 +6,7 @@ use Rattle.cif_change.specs.declared.change.Change as code
 use Rattle.cif_change.specs.Meaning.{change_meant}
 use Rattle.cif_file.specs.declared.single.SingleChanges.{SingleChanges}
 
--- a list of a change and, before it, the optional first one
+-- the list of the first change, if there is one, and the last change
 abbrev pub listed_after : Option code.Change → Change → List Change
 listed_after None last = last ∷ []
 listed_after (Some first) last = change_meant first ∷ last ∷ []
@@ -15,8 +15,8 @@ listed_after (Some first) last = change_meant first ∷ last ∷ []
 abbrev pub listed : SingleChanges → List Change
 listed changes = listed_after changes.first (change_meant changes.last)
 
--- Says that a change is never cut: whatever the place and the day, thinning leaves what it does
--- unchanged.
+-- Says that a change is never cut: whatever the place and the day, thinning doesn't alter what the
+-- change does.
 abbrev pub IsNeverThin : Change → Type 0
 IsNeverThin change = (place : List ℕ) (day : ℕ) → thin_act place day change.act ≡ change.act
 

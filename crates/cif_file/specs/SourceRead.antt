@@ -27,7 +27,7 @@ pub record ReadsText (limit : ℕ) (left : Option (List ℕ)) (file : FileRead) 
   pub of_text : IsOfFileText file limit text
 
 -- Says that the source held the text of a file within the limit on records, and that this is the
--- thin file of it for the place and the day.
+-- file's thin file for the place and the day.
 pub record ReadsThin (place : List ℕ) (day limit : ℕ) (left : Option (List ℕ)) (thin : ThinRead) : Type 0 where
   pub reads : ReadsText limit left thin.file
   pub place_is : thin.place ≡ place
@@ -59,8 +59,8 @@ pub record RefusesText (limit : ℕ) (left : Option (List ℕ)) (fault : FileFau
   pub held : Held left text
   pub is : IsFaultOf limit text fault
 
--- Says that reading didn't go beyond a fault: what was read before the last piece has no fault yet,
--- and that piece has at most this many bytes.
+-- Says that no piece was read after a fault: the text before the last piece has no fault, and the
+-- last piece has at most `most` bytes.
 pub record ReadsNoFurther (most limit : ℕ) (old new : Option (List ℕ)) : Type 0 where
   pub before : List ℕ
   pub piece : List ℕ

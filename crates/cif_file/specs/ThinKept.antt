@@ -29,7 +29,7 @@ has_key keys key = set.contains (on key_meant key_cmp) keys key
 abbrev pub HasKeysOf : BTreeSet Key → List Change → Type 0
 HasKeysOf keys kept = (change : Change) → Contains kept change → (key : Key) → key_meant key ≡ change.key → has_key keys key ≡ true
 
--- Says that enough of these changes was kept for the place and the day, and that the keys of all
+-- Says that enough of these changes were kept for the place and the day, and that the keys of all
 -- kept changes are in the set.
 pub record HasThinned (place : List ℕ) (day : ℕ) (thinned : Thinned) (all : List Change) : Type 0 where
   pub place_is : thinned.place ≡ place
@@ -39,11 +39,12 @@ pub record HasThinned (place : List ℕ) (day : ℕ) (thinned : Thinned) (all : 
   pub thinning : IsThinning place day all kept
   pub known : HasKeysOf thinned.keys kept
 
--- Says that what was kept is enough for the changes before followed by these changes.
+-- Says that if enough of the earlier changes were kept, then enough of the earlier changes followed
+-- by these changes are kept now.
 abbrev pub ThinsAll : List ℕ → ℕ → Thinned → List Change → Thinned → Type 0
 ThinsAll place day old more new = (all : List Change) → HasThinned place day old all → HasThinned place day new (all ++ more)
 
--- Says that what was kept is enough for the changes before followed by this one.
+-- Like `ThinsAll`, for one more change.
 abbrev pub Thins : List ℕ → ℕ → Thinned → Change → Thinned → Type 0
 Thins place day old change new = ThinsAll place day old (change ∷ []) new
 
@@ -52,7 +53,7 @@ abbrev pub IsNearBy : ℕ → Lines → Bool → Type 0
 IsNearBy day [] near = ⊤
 IsNearBy day (basic ∷ others) near = is_deletion basic ≡ false → near ≡ runs_near day basic
 
--- Says that what was kept is enough for the changes before followed by the change of this schedule.
+-- Like `ThinsAll`, for the change of this schedule.
 abbrev pub ThinsOpened : List ℕ → ℕ → Thinned → Opened → Bool → Lines → Thinned → Type 0
 ThinsOpened place day old opened near renewed new =
     (lines : Lines) → renewed ≡ with_new_first lines → HasLines (progress_meant opened.progress) lines → IsSchedule lines → IsNearBy day lines near

@@ -1,5 +1,5 @@
--- What a reader returns for a CIF file of which it kept only what the docker of one place on one
--- day needs.
+-- What a reader returns for a CIF file if it kept only what the docker of one place on one day
+-- needs.
 use Rattle.std.specs.Prelude.{ℕ, List, map}
 use Rattle.docker_model.specs.file.Change.{Change}
 use Rattle.docker_laws.specs.Thinning.{IsThinning}
@@ -21,7 +21,8 @@ pub record IsThinRead (thin : ThinRead) : Type 0 where
   pub read : IsRead thin.file
   pub thinning : IsThinning thin.place thin.day thin.file.changes_made thin.kept
 
--- the thin file that consists of these parts, for a file that makes all these changes
+-- converts the parts of a thin file to the thin file. `all` are all changes of the file, kept or
+-- not
 abbrev pub thin_of_parts : List ℕ → ℕ → List Change → FileParts → ThinRead
 thin_of_parts place day all parts = record {
   place = place;

@@ -44,7 +44,7 @@ fn is_end(line: &Line) -> bool
     )
 }
 
-/// Whether what is under a key may matter for the docker of a place. It may if the key is the
+/// Whether the docker of a place may depend on the body under this key. It may if the key is the
 /// place's TIPLOC, an association at the place, or any schedule.
 pub(crate) fn may_matter(place: &Tiploc, key: &Key) -> bool
     ensures { result ≡ may_matter place.now (key_meant key.now) }
@@ -57,7 +57,7 @@ pub(crate) fn may_matter(place: &Tiploc, key: &Key) -> bool
 }
 
 /// Copies the lines of a schedule that the docker of a place needs. If the schedule calls at the
-/// place, the copy has all its lines, and otherwise its basic schedule, its origin and its
+/// place, the copy has all its lines, and otherwise only its basic schedule, its origin and its
 /// terminus.
 pub(crate) fn lines_for(alloc: Global, place: &Tiploc, lines: &[Line]) -> Result<Lines, AllocError>
     ensures { IfOk result (λ body. body ≡ lines_for place.now lines.now) }

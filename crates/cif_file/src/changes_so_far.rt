@@ -37,21 +37,21 @@ impl ChangesSoFar {
     ghost use Rattle.cif_file.specs.KeeperRead.{change_renewed};
     ghost use Rattle.cif_file.specs.SingleChanges.{listed};
 
-    /// No change yet.
+    /// Begins with no changes.
     pub(crate) fn new() -> ChangesSoFar
         ensures { result.changes ≡ [] }
     {
         ChangesSoFar {}
     }
 
-    /// The changes before, followed by the changes of a record that is a unit by itself.
+    /// The earlier changes, followed by the changes of a record that is a unit by itself.
     pub(crate) fn with_single(_before: &ChangesSoFar, _changes: &SingleChanges) -> ChangesSoFar
         ensures { result.changes ≡ _before.now.changes ++ listed _changes.now }
     {
         ChangesSoFar {}
     }
 
-    /// The changes before, followed by the change of a schedule with these lines.
+    /// The earlier changes, followed by the change of a schedule with these lines.
     pub(crate) fn with_opened(
         _before: &ChangesSoFar,
         _opened: &Opened,

@@ -17,7 +17,7 @@ use crate::thin_kept::ThinSoFar;
 use crate::thinned::Thinned;
 
 /// A CIF file that was read to its trailer: its header, how many records it has, and what the
-/// keeper kept of them.
+/// keeper kept of these records.
 #[derive(Debug, Drop)]
 pub(crate) struct Ended<K> {
     pub(crate) header: HeaderLine,

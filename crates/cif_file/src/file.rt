@@ -50,7 +50,7 @@ impl CifFile {
         self.parts.changes.as_slice()
     }
 
-    /// The changes, in the order of their records.
+    /// Takes the changes out of the file, in the order of their records.
     pub fn into_changes(self) -> Vec<Change>
         ensures { map change_meant result.items ≡ self.changes_made }
     {
@@ -69,7 +69,7 @@ impl CifFile {
 }
 
 impl FileParts {
-    /// Makes a file of its parts again.
+    /// Makes the file from its parts again.
     pub fn into_file(self) -> CifFile
         requires { ArePartsOfFile self }
         ensures { result ≡ file_of_parts self }

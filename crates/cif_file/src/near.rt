@@ -7,8 +7,8 @@ ghost use Rattle.docker_laws.specs.NearDay.{near_starts, runs_near};
 
 use cif_line::{Basic, Day, Line};
 
-/// Whether a basic schedule runs on a start day that is near a day: from three days before it to
-/// the day after it.
+/// Whether a basic schedule runs on a start day near `day`: from three days before `day` to one day
+/// after `day`.
 #[tactic(auto, using(crate::proofs::NearFields::schedule_fields))]
 pub fn runs_near(line: &Line, day: Day) -> bool
     requires kind { HasKind basic_schedule line.now }

@@ -1,4 +1,4 @@
-//! From the bytes of a line to the next record of a file.
+//! Makes the bytes of a line into the next record of a file.
 ghost use Rattle.std.specs.Prelude.{◌≡◌, ◌<◌, IsErr, IfOk, IfErr, OnOk, Some};
 ghost use Rattle.docker_model.specs.records.Record.{IsRecord};
 ghost use Rattle.cif_laws.specs.FileStage.{Place};
@@ -12,8 +12,8 @@ use crate::keeper::Keeper;
 use cif_change::FileCause;
 use cif_line::{Line, LineFault};
 
-/// Makes a line of these bytes. Otherwise returns the cause: its length, or a byte that isn't
-/// printable.
+/// Makes a line from these bytes. The cause is `Length` if there aren't 80 bytes, and `Byte` if one
+/// of them isn't printable.
 pub(crate) fn line_of(bytes: &[u8]) -> Result<Line, FileCause>
     ensures ok { IfOk result (λ line. (line ≡ bytes.now) × IsRecord bytes.now) }
     ensures err { (place : Place) →

@@ -162,7 +162,7 @@ impl Model for FileParser {
 }
 
 impl FileParser {
-    /// A parser before the first byte of a file with at most `limit` records. The limit is at most
+    /// Makes a parser for a file with at most `limit` records. The limit is at most
     /// [`MOST_RECORDS`].
     pub fn new(alloc: Global, limit: u32) -> FileParser
         requires { limit ≤ MOST_RECORDS }

@@ -21,8 +21,8 @@ use std::alloc::Global;
 use std::marker::Brand;
 
 /// Reads a source to its end and returns the file that it holds, of at most `limit` records.
-/// Reading stops after the piece in which the first fault shows. A piece has at most 65,536 bytes,
-/// so an endless source isn't read beyond the piece with the first record above the limit.
+/// Reading stops after the piece in which the first fault is found. A piece has at most 65,536
+/// bytes, so an endless source isn't read beyond the piece with the first record above the limit.
 pub fn read_file<S: Source>(alloc: Global, source: &mut S, limit: u32) -> Result<CifFile, ReadFault>
     requires failures { S.failures source.old < 2 ^ 64 - 1 }
     requires limit { limit ≤ MOST_RECORDS }
@@ -90,7 +90,7 @@ pub fn read_thin<S: Source>(
     thin_at::<Brand, S>(alloc, source, place, day, limit)
 }
 
-/// Does what `read_thin` promises. In the proofs the type `P` has the place and the day.
+/// Implements `read_thin`. For proofs, the type `P` gives the place and the day.
 fn thin_at<P: PlaceDay, S: Source>(
     alloc: Global,
     source: &mut S,
@@ -138,7 +138,7 @@ impl<K: Keeper> Taker for FileReading<K> {
     ghost bounded = { taken_is_bounded K.keeps };
 }
 
-/// Reads a source to its end, or to the piece in which the first fault shows. Returns what the
+/// Reads a source to its end, or to the piece in which the first fault is found. Returns what the
 /// keeper kept of the source's file.
 pub(crate) fn read_source<S: Source, K: Keeper>(
     alloc: Global,
@@ -184,8 +184,8 @@ fn ended_of<K: Keeper>(reading: FileReading<K>) -> Result<Ended<K>, ReadFault>
     }
 }
 
-/// Turns a fault of the file into a fault of reading a source: `Memory` if memory ran out, and
-/// otherwise the file's fault.
+/// Converts a fault of the file to a fault of reading a source: `Memory` if memory ran out, and
+/// otherwise `File`.
 fn fault_of(fault: FileFault) -> ReadFault
     ensures memory { fault.cause ≡ FileCause.Memory → result ≡ ReadFault.Memory }
     ensures file { fault.cause ≢ FileCause.Memory → result ≡ ReadFault.File fault }

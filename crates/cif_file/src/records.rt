@@ -9,7 +9,7 @@ use crate::next_record::{line_of, take_within};
 use cif_change::FileCause;
 use cif_line::Line;
 
-/// The most records that a file may have. A caller's limit can't be higher.
+/// The greatest number of records that a file may have. A caller's limit can't be higher.
 pub const MOST_RECORDS: u32 = 4_294_967_294;
 
 /// The records read until now, with the number of the next record and the limit on records.

@@ -143,7 +143,7 @@ fn tiploc_put(number: u32, code: Tiploc, view: &TiplocRecord<'_>) -> Change
     }
 }
 
-/// The change that an association makes: it is put, or deleted.
+/// The change that an association record makes: it puts or deletes the association.
 fn association_change(number: u32, view: &Assoc<'_>) -> Change
     ensures change { change_meant result ≡ record {
       number = number;

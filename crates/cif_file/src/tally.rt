@@ -23,7 +23,7 @@ impl Tally {
         Tally { changes: 0 }
     }
 
-    /// How many changes there are.
+    /// How many changes were counted.
     pub(crate) fn count(&self) -> u64
         ensures { result ≡ self.now.changes }
     {

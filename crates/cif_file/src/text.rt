@@ -48,7 +48,7 @@ fn after_line_end(text: &[u8]) -> Option<&[u8]>
 }
 
 /// The first 80 bytes of a text, and the bytes after the line end that follows them. None if no
-/// line end follows the first 80 bytes. Nothing is searched for.
+/// line end follows the first 80 bytes. No search is needed.
 pub(crate) fn split_eighty(text: &[u8]) -> Option<(&[u8], &[u8])>
     ensures { MatchOption result
         ((line rest : List ℕ) → ¬ BeginsWithEighty text.now line rest)

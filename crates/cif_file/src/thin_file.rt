@@ -8,8 +8,8 @@ use cif_line::{Day, Header, Tiploc};
 use std::marker::Model;
 
 /// What was kept of a CIF file for the docker of one place on one day: the header, and those
-/// changes that this docker needs. It is of no use for any other docker. For proofs, its value also
-/// has all changes of the file.
+/// changes that this docker needs. It must not be used for any other docker. For proofs, its value
+/// also includes all changes of the file.
 #[derive(Debug, Drop)]
 pub struct ThinFile {
     place: Tiploc,
@@ -30,8 +30,8 @@ impl Model for ThinFile {
 }
 
 impl ThinFile {
-    /// Makes a thin file of these parts, kept for this place and day. `so_far` has all changes of
-    /// the file, for proofs.
+    /// Makes a thin file from these parts, which were kept for this place and day. `so_far` records
+    /// all changes of the file for proofs.
     pub(crate) fn of(place: Tiploc, day: Day, parts: FileParts, so_far: ChangesSoFar) -> ThinFile
         requires { AreThinParts place day so_far.changes parts }
         ensures { result ≡ thin_of_parts place day so_far.changes parts }

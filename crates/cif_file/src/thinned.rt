@@ -90,8 +90,8 @@ impl Thinned {
         }
     }
 
-    /// Receives a change after which the schedule's key has nothing that the docker needs. If a
-    /// change of the same key was kept before, a deletion is kept; otherwise nothing is.
+    /// Receives a change after which the docker needs nothing of the schedule's key. If an earlier
+    /// change of this key was kept, a deletion is kept. Otherwise nothing is kept.
     fn delete(&mut self, number: u32, key: Key) -> Result<(), AllocError>
         ensures { OnOk result ((place : List ℕ) (day : ℕ) (whole : model.Change)
             → whole.number ≡ number → whole.key ≡ key_meant key

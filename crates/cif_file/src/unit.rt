@@ -1,4 +1,4 @@
-//! Records that come after the header or after a whole unit. Each is read in place.
+//! Records that come after the header or after a whole unit. Each is read without being copied.
 ghost use Rattle.std.specs.Prelude.{◌≡◌, true, is_some, Some, IsErr, IfOk, IfErr};
 ghost use Rattle.docker_model.specs.records.Record.{HasKind, IsRecord, kind_of};
 ghost use Rattle.docker_model.specs.records.Field.{HasGoodFields};

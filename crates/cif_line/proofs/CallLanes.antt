@@ -102,7 +102,7 @@ blank_masked : (a b c d e : ℕ) → blank_mask a b c d e ≡ mask (blank_test a
 blank_masked a b c d e =
     five_and (nat_eq (above a) 65520) (nat_eq (above b) 65520) (nat_eq (above c) 65520) (nat_eq (above d) 65520) (nat_eq e 32)
 
--- ---- the tests, as they stand in the definitions
+-- ---- the tests of a lane equal the tests in the definitions
 
 digit_test : (b : ℕ) → b < 256 → nat_le (above b) 9 ≡ is_ascii_digit b
 digit_test b low = agree_below_at (λ x. nat_le (above x) 9) is_ascii_digit 256 b refl low

@@ -1,4 +1,4 @@
--- The digits YYMMDD in a day's text YYYY-MM-DD read back as the same day.
+-- The digits YYMMDD in a day's text YYYY-MM-DD are read back as the same day.
 use Rattle.std.proofs.Common.{◌≡◌, ℕ, ◌+◌, ◌-◌, ◌*◌, ◌/◌, ◌%◌, ◌<◌, ◌≤◌, List, [], ◌∷◌, ◌++◌, true, ◌&&◌, ap, sym, subst, slice_index, ◌∙◌, pos, arith}
 use Rattle.std.specs.List.{list_all}
 use Rattle.std.specs.Char.{is_ascii_digit}

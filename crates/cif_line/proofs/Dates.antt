@@ -115,7 +115,7 @@ module _ (years y month day : ℕ) (since : years + 1960 ≡ y) (high : y ≤ 20
       let start = day_count-early (pos y) (y + 9999) 1 1 (omega (arith, signed_arith)) (omega arith) (omega arith) (omega arith) in
       omega arith
 
-  -- the last day is 31 December 2059
+  -- the day number is at most the last day number
   pub number_bound : day_number y month day ≤ last_day
   number_bound =
       let number = day_number-day_count y month day (omega arith) (omega arith) its_parts.1.0 its_parts.2.0 in

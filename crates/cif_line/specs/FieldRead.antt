@@ -11,8 +11,8 @@ use Rattle.docker_model.specs.records.PrintedTime.{spaces, time_text}
 abbrev pub field_at : ℕ → ℕ → List ℕ → List ℕ
 field_at first width line = columns first (first - 1 + width) line
 
--- a field that counts only if the record isn't a deletion: none if the transaction of the
--- association or basic schedule is `D`
+-- the value of a field that isn't checked in a deletion: none if the association or basic schedule
+-- has the transaction `D`
 abbrev pub unless_deleted : {A : Type 0} → List ℕ → A → Option A
 unless_deleted line told = if is_deletion line then None else Some told
 

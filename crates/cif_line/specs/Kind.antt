@@ -1,4 +1,4 @@
--- The kinds of record in the code, and their names in the definitions.
+-- Converts kinds of record from the code's type to the definitions' type.
 use Rattle.docker_model.specs.records.Record.{header, tiploc_insert, tiploc_amend, tiploc_delete, association, basic_schedule, extra_details}
 use Rattle.docker_model.specs.records.Record.{origin_location, intermediate_location, terminating_location, change_en_route, trailer}
 use Rattle.docker_model.specs.records.Record as model
@@ -6,7 +6,7 @@ use Rattle.cif_line.specs.declared.kind_of_record.Kind.{Kind}
 use Rattle.cif_line.specs.declared.kind_of_record.Kind.TheVariants.{Header, TiplocInsert, TiplocAmend, TiplocDelete, Association, BasicSchedule, ExtraDetails}
 use Rattle.cif_line.specs.declared.kind_of_record.Kind.TheVariants.{OriginLocation, IntermediateLocation, TerminatingLocation, ChangeEnRoute, Trailer}
 
--- a kind of record of the code, translated into a kind of the definitions
+-- converts a kind of record from the code's type to the definitions' type
 abbrev pub meaning : Kind → model.Kind
 meaning Header = header
 meaning TiplocInsert = tiploc_insert

@@ -12,7 +12,7 @@ const LENGTHS: [u16; 14] = [0, 31, 28, 31, 30, 31, 30, 31, 31, 30, 31, 30, 31, 0
 /// The days of a year before each month, from 1 to 12, in a year that isn't a leap year.
 const BEFORE: [u16; 13] = [0, 0, 31, 59, 90, 120, 151, 181, 212, 243, 273, 304, 334];
 
-/// Whether the calendar has this day.
+/// Whether this is a day of the calendar.
 #[inline(always)]
 pub(crate) fn is_calendar_day(year: u16, month: u16, day: u16) -> bool
     ensures { year < 100 → result ≡ is_calendar_day (full_year year) month day }
@@ -22,7 +22,7 @@ pub(crate) fn is_calendar_day(year: u16, month: u16, day: u16) -> bool
     (1 <= day) & (day <= length)
 }
 
-/// The day number of a day that the calendar has.
+/// The day number of a day of the calendar.
 #[inline(always)]
 pub(crate) fn day_number(year: u16, month: u16, day: u16) -> u16
     requires year_in { year < 100 }

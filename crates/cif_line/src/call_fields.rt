@@ -1,4 +1,4 @@
-//! The five times of an intermediate location (LI). They are checked and read all at once, each in
+//! The five times of an intermediate location (LI). All five are checked and read at once, each in
 //! its own lane of a vector.
 ghost use Rattle.std.specs.Prelude.{◌≡◌, ◌&&◌, length};
 ghost use Rattle.docker_model.specs.records.Record.{columns};
@@ -16,7 +16,7 @@ const SPACE: u16 = 32;
 /// The character code of `H`, the last character of a time on the half minute.
 const HALF: u16 = 72;
 
-/// Stored instead of half minutes if a field has no time.
+/// The value stored instead of half minutes if a field has no time.
 const NO_TIME: u16 = 65535;
 
 /// The result of reading the five times of an intermediate location.

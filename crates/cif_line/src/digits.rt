@@ -34,8 +34,8 @@ pub(crate) fn spelled(tens: u8, units: u8) -> u16
     (10 * u16::from(tens) + u16::from(units)).wrapping_sub(11 * u16::from(b'0'))
 }
 
-/// The number that two digits of a field spell, given the index of the first. If they are digits,
-/// it is below 100.
+/// The number that the bytes at index `at` and at the next index spell. If both bytes are digits,
+/// the number is below 100.
 pub(crate) fn two_digits(field: &[u8], at: usize) -> u16
     requires { at + 1 < length field.now }
     ensures value { result ≡ two_digits field.now at }

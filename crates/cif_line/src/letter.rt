@@ -37,7 +37,7 @@ impl Extract {
 }
 
 /// The transaction of a basic schedule (BS) or an association (AA): whether the record adds,
-/// deletes or revises what is under its key.
+/// deletes or revises the schedule or association with its key.
 #[derive(Clone, Copy, PartialEq, Eq, Debug)]
 pub enum Transaction {
     /// N, new.

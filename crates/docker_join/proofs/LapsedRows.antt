@@ -18,11 +18,11 @@ use Rattle.docker_join.proofs.MeantOrder.{ascending_meant, meant_ascending}
 abbrev Row : Type 0
 Row = Key × Entry
 
--- what the rows will be: the first `i` as they are, since the horizon was applied to them, and the others with the horizon applied
+-- the final rows: the first `i` rows unchanged, since the horizon was already applied to them, and the other rows with the horizon applied
 abbrev pub lapsed_from : ℕ → ℕ → List (Key × Entry) → List (model.Key × ops.Entry)
 lapsed_from horizon i rows = map row_meant (take i rows) ++ lapse_entries horizon (map row_meant (drop i rows))
 
--- applying the horizon to row `i` doesn't change what the rows will be
+-- applying the horizon to row `i` doesn't change the final rows
 pub one_more : (horizon : ℕ) (all : List (model.Key × ops.Entry)) (rows : List Row) (i : ℕ) (d : Row) (after : Entry) → i < length rows
     → entry_meant after ≡ lapse_entry horizon (entry_meant (get_or rows i d).1)
     → lapsed_from horizon i rows ≡ all → lapsed_from horizon (i + 1) (set rows i ((get_or rows i d).0, after)) ≡ all

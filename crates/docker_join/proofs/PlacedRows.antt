@@ -23,7 +23,7 @@ use Rattle.docker_join.proofs.MergedRows.{row_out, walk_from, walk, walk_joins, 
 abbrev AllBelow : {E : Type 0} → List (Key × E) → List (Key × E) → Type 0
 AllBelow lows highs = AllByRecursion (λ low. Above low highs) lows
 
--- what the join will be, if these rows of the second table remain: the walk over what remains of
+-- the final join, if these rows of the second table remain: the walk over the remaining rows of
 -- both tables, followed by the placed rows
 abbrev joined_with : {E : Type 0} → (E → E → E) → ℕ → List (Key × E) → List (Key × E) → List (Key × E)
 joined_with picked left rows rest = walk picked (left_rows left rows) rest ++ take (length rows - left) rows
@@ -34,7 +34,7 @@ record WalksOn {E : Type 0} (picked : E → E → E) (old : List (Key × E)) (le
   joined : AreAscending (left_rows left old) → (rest : List (Key × E)) → AreAscending (rest ++ row ∷ [])
       → joined_with picked later new rest ≡ joined_with picked left old (rest ++ row ∷ [])
 
--- if one row compares as less than another, the other compares as greater than it
+-- the comparison of rows is antisymmetric: if b is less than a, then a is greater than b
 above_turned : {E : Type 0} (a b : Key × E) → row_cmp b a ≡ Less → row_cmp a b ≡ Greater
 above_turned a b below = key_total.antisymm (key_meant a.0) (key_meant b.0) ∙ ap ordering_reverse below
 
@@ -130,7 +130,7 @@ module _ {E : Type 0} where
       (ap (λ n. drop n (front ++ back)) at ∙ drop-append_seam front back, ap (λ n. take n (front ++ back)) at ∙ take-append_seam front back)
 
 module _ {E : Type 0} (picked : E → E → E) where
-  -- the walk over some rows and a single lower row is the lower row, followed by the others
+  -- the walk over some rows and a single lower row is the lower row, followed by these rows
   walk_row : (rows : List (Key × E)) (row : Key × E) → Above row rows → walk picked rows (row ∷ []) ≡ row ∷ rows
   walk_row rows row above = lower_first picked rows (row ∷ []) [] (above, tt) ∙ ap (λ rest. row ∷ rest) (walk_none picked rows)
 
@@ -191,7 +191,7 @@ module _ {E : Type 0} (picked : E → E → E) where
     };
   }
 
-  -- placing a row whose key the first table doesn't have doesn't change what the join will be
+  -- placing a row whose key the first table doesn't have doesn't change the final join
   none_placed : (p a r : List (Key × E)) (row : Key × E) (old new : List (Key × E)) (left later : ℕ)
       → old ≡ p ++ (a ++ r) → left ≡ length (a ++ r) → new ≡ row ∷ (r ++ (p ++ a)) → later ≡ length a
       → (AreAscending (a ++ r) → AllBelow a (row ∷ []) × Above row r) → WalksOn picked old left row new later
@@ -209,7 +209,7 @@ module _ {E : Type 0} (picked : E → E → E) where
             ∙ sym (joined_is old p (a ++ r) (rest ++ row ∷ []) left old_is left_size);
       }
 
-  -- placing the pick of two rows with one key doesn't change what the join will be
+  -- placing the pick of two rows with one key doesn't change the final join
   level_placed : (p b r : List (Key × E)) (own row : Key × E) (old new : List (Key × E)) (left later : ℕ)
       → old ≡ p ++ (b ++ (own ∷ r)) → left ≡ length (b ++ (own ∷ r)) → new ≡ (own.0, picked own.1 row.1) ∷ (r ++ (p ++ b)) → later ≡ length b
       → row_cmp own row ≡ Equal → WalksOn picked old left row new later
@@ -230,7 +230,7 @@ module _ {E : Type 0} (picked : E → E → E) where
             ∙ sym (joined_is old p (b ++ (own ∷ r)) (rest ++ row ∷ []) left old_is left_size);
       }
 
--- two equal lists with one element appended to each were equal before, and the appended elements are equal
+-- if appending one element to each of two lists gives equal lists, the two lists are equal, and so are the two elements
 same_last : {A : Type 0} (xs ys : List A) (x y : A) → xs ++ x ∷ [] ≡ ys ++ y ∷ [] → (xs ≡ ys) × (x ≡ y)
 same_last [] [] x y same = (refl, cc)
 same_last [] (b ∷ ys) x y same = let sizes = ap length same in let both = length-append ys (y ∷ []) in absurd (omega arith)

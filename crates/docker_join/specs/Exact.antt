@@ -23,12 +23,13 @@ use Rattle.docker_join.specs.declared.entry.Entry.{Entry}
 use Rattle.docker_join.specs.Meaning.{file_stamp_meant, stamp_meant, op_meant, entry_meant}
 use Rattle.docker_join.specs.Records.{IsOfRecords, HasRecords}
 
--- file stamps of the code are equal if they are translated into equal file stamps of the
--- definitions
+-- the conversion of file stamps is injective: file stamps of the code are equal if they are
+-- converted to equal file stamps of the definitions
 pub same_file_stamp : (a b : FileStamp) → file_stamp_meant a ≡ file_stamp_meant b → a ≡ b
 same_file_stamp a b same = λ i. record { day = (same i).moment.day; minute = (same i).moment.minute; reference = (same i).reference }
 
--- stamps of the code are equal if they are translated into equal stamps of the definitions
+-- the conversion of stamps is injective: stamps of the code are equal if they are converted to
+-- equal stamps of the definitions
 pub same_stamp : (a b : Stamp) → stamp_meant a ≡ stamp_meant b → a ≡ b
 same_stamp a b same = λ i. record { file = same_file_stamp a.file b.file (λ j. (same j).file) i; number = (same i).number }
 

@@ -1,4 +1,4 @@
--- Stamps, ops and entries of the code, translated into those that the definitions use.
+-- Converts stamps, ops, entries and rows from the code's types to the definitions' types.
 use Rattle.docker_model.specs.file.Change as changes
 use Rattle.docker_model.specs.state.Stamp as model
 use Rattle.docker_model.specs.state.Op as ops
@@ -11,27 +11,27 @@ use Rattle.docker_join.specs.declared.entry.Op.{Op}
 use Rattle.docker_join.specs.declared.entry.Op.TheVariants as op
 use Rattle.docker_join.specs.declared.entry.Entry.{Entry}
 
--- a file stamp of the code, translated into a file stamp of the definitions
+-- converts a file stamp from the code's type to the definitions' type
 abbrev pub file_stamp_meant : FileStamp → model.FileStamp
 file_stamp_meant stamp = record {
   moment = record { day = stamp.day; minute = stamp.minute };
   reference = stamp.reference;
 }
 
--- a stamp of the code, translated into a stamp of the definitions
+-- converts a stamp from the code's type to the definitions' type
 abbrev pub stamp_meant : Stamp → model.Stamp
 stamp_meant stamp = record { file = file_stamp_meant stamp.file; number = stamp.number }
 
--- an op of the code, translated into an op of the definitions
+-- converts an op from the code's type to the definitions' type
 abbrev pub op_meant : Op → ops.Op
 op_meant op.Deleted = deleted
 op_meant op.Lapsed = lapsed
 op_meant (op.Put body) = put_with (body_meant body)
 
--- an entry of the code, translated into an entry of the definitions
+-- converts an entry from the code's type to the definitions' type
 abbrev pub entry_meant : Entry → ops.Entry
 entry_meant entry = record { stamp = stamp_meant entry.stamp; op = op_meant entry.op }
 
--- a row of the code, a key with its entry, translated into a row of the definitions
+-- converts a row, which is a key with its entry, from the code's type to the definitions' type
 abbrev pub row_meant : Key × Entry → changes.Key × ops.Entry
 row_meant row = (key_meant row.0, entry_meant row.1)

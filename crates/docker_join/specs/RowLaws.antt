@@ -72,7 +72,8 @@ same_schedule a b same = λ i. record {
   stp = same_stp a.stp b.stp (λ j. (same j).indicator) i;
 }
 
--- keys of the code are equal if they are translated into equal keys of the definitions
+-- the conversion of keys is injective: keys of the code are equal if they are converted to equal
+-- keys of the definitions
 pub same_key : (a b : Key) → key_meant a ≡ key_meant b → a ≡ b
 same_key (key.Tiploc a) (key.Tiploc b) same = ap key.Tiploc (let codes : a ≡ b = cc in codes)
 same_key (key.Tiploc a) (key.Assoc b) same = cc
@@ -93,7 +94,7 @@ module _ {E : Type 0} where
   value_here row rows key tied =
       λ i. option_map (λ (r : Key × E). r.1) (cond (is_eq (tied i)) (Some row) (find (λ (r : Key × E). is_eq (key_cmp (key_meant r.0) key)) rows))
 
-  -- at any other key, the value is the one in the other rows
+  -- at any other key, the value is the value in the other rows
   pub value_behind : (row : Key × E) (rows : List (Key × E)) (key : model.Key) → ¬ (key_cmp (key_meant row.0) key ≡ Equal)
       → value_at (row ∷ rows) key ≡ value_at rows key
   value_behind row rows key other = by (key_cmp (key_meant row.0) key) refl

@@ -1,4 +1,4 @@
-//! Entries: what a state knows of a key, and the stamp of the change from which the state knows it.
+//! Entries: what the newest known change did to a key, and the stamp of that change.
 ghost use Rattle.std.specs.Prelude.{◌≡◌, false, IfOk, IsOk, if◌then◌else◌};
 ghost use Rattle.std.specs.Ordering.{on, as_partial_cmp, eq_by_cmp, ord_max};
 ghost use Rattle.std.specs.Cmp.{partial_equiv_from_equiv, on_equiv, on_total, eq_by_cmp_equiv, partial_order_from_total};
@@ -18,8 +18,8 @@ use cif_change::Body;
 use std::alloc::Global;
 use std::cmp::Ordering;
 
-/// What a state knows of a key. In the order of ops a deletion comes first, then a lapsed op, then
-/// all puts. Puts are ordered by their bodies.
+/// What a state remembers of the newest change to a key. In the order of ops a deletion comes
+/// first, then a lapsed op, then all puts. Puts are ordered by their bodies.
 #[derive(Debug, Drop)]
 pub enum Op {
     /// The key is deleted.
@@ -105,8 +105,8 @@ impl Ord for Op {
     }
 }
 
-/// What a state knows of a key, and the stamp of the change from which the state knows it. Entries
-/// are ordered by stamp, and then by op. Of two entries of one key, the greater counts.
+/// What a state remembers of the newest change to a key: its op and its stamp. Entries are ordered
+/// by stamp, and then by op. Of two entries of one key, the greater counts.
 #[derive(Debug, Drop)]
 pub struct Entry {
     /// The stamp of the change that the entry comes from.

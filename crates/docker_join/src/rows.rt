@@ -29,8 +29,8 @@ pub fn lapse_rows(rows: &mut [(Key, Entry)], horizon: u16) -> bool
 
 /// Joins the rows of two tables in the first vector, which must have room for the rows of both.
 /// Allocates nothing. The rows of the second table are placed one by one, from the last to the
-/// first. A row of the first table moves only if it comes after one of them. Such rows move in
-/// blocks, and only a few keys of each block are compared.
+/// first. A row of the first table moves only if it comes after a row of the second. Such rows move
+/// in blocks, and only a few keys of each block are compared.
 pub fn join_rows<E: Pick>(first: Vec<(Key, E)>, mut second: Vec<(Key, E)>) -> Vec<(Key, E)>
     requires first { AreAscending first.items }
     requires second { AreAscending second.items }
@@ -48,9 +48,9 @@ pub fn join_rows<E: Pick>(first: Vec<(Key, E)>, mut second: Vec<(Key, E)>) -> Ve
 }
 
 /// Places a row of the second table. Returns how many rows of the first table are still to be
-/// placed. In the ring the placed rows come first, and the rows still to be placed, of which there
-/// are `left`, come last. First places the rows of the first table that have greater keys, and then
-/// this row. If the next row has the same key, the join of both is placed instead.
+/// placed. `rows` is a ring buffer: its first rows are the placed rows, and its last `left` rows
+/// are still to be placed. First places the rows of the first table that have greater keys, and
+/// then this row. If the next row has the same key, the join of both is placed instead.
 fn place<E: Pick>(rows: &mut VecDeque<(Key, E)>, left: usize, row: (Key, E)) -> usize
     requires left { left ≤ deque_len rows.old }
     requires room { deque_len rows.old < deque_capacity rows.old }
@@ -111,9 +111,9 @@ fn is_above<E>(rows: &VecDeque<(Key, E)>, back: usize, key: &Key) -> bool
     rows[rows.len() - back].0.cmp(key).is_gt()
 }
 
-/// How many of the last `left` rows have keys greater than this one. First looks at the last row,
-/// and then each time twice as far from the end. At the first key that isn't greater, a binary
-/// search takes over.
+/// How many of the last `left` rows have keys greater than this one. Reads the last row first, and
+/// then each time a row twice as far from the end. Once a key isn't greater, a binary search finds
+/// the number.
 fn run_above<E>(rows: &VecDeque<(Key, E)>, left: usize, key: &Key) -> usize
     requires { left ≤ deque_len rows.now }
     ensures { IsRunAbove (key_meant key.now) rows.now.items (deque_len rows.now) left result }

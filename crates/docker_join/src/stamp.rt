@@ -1,4 +1,4 @@
-//! Stamps: the file from which a state knows something, and the number of the record in that file.
+//! Stamps: which record of which file an entry comes from.
 ghost use Rattle.std.specs.Prelude.{IfOk, IsOk, ⊤};
 ghost use Rattle.std.specs.Ordering.{on, as_partial_cmp, eq_by_cmp, ord_max};
 ghost use Rattle.std.specs.Cmp.{partial_equiv_from_equiv, on_equiv, on_total, eq_by_cmp_equiv, partial_order_from_total};
@@ -15,8 +15,8 @@ use cif_change::Day;
 use std::alloc::Global;
 use std::cmp::Ordering;
 
-/// When a file was extracted, and its reference. File stamps are ordered by day, then by minute,
-/// then by reference.
+/// The stamp of a file: when it was extracted, and its reference. File stamps are ordered by day,
+/// then by minute, then by reference.
 #[derive(Clone, Copy, Debug)]
 pub struct FileStamp {
     /// The date of extract in the file's header.
@@ -106,8 +106,8 @@ impl Pick for FileStamp {
     }
 }
 
-/// A record of a file: the file's stamp, and the number of the record. Stamps are ordered by file
-/// stamp, and then by number.
+/// The stamp of a record: the stamp of its file, and the record's number. Stamps are ordered by
+/// file stamp, and then by number.
 #[derive(Clone, Copy, Debug)]
 pub struct Stamp {
     /// The stamp of the file.

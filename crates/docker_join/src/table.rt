@@ -42,7 +42,7 @@ impl<E> Table<E> {
         }
     }
 
-    /// Makes a table of these rows, whose keys must ascend.
+    /// Makes a table from these rows, whose keys must ascend.
     pub fn from_rows(rows: Vec<(Key, E)>) -> Table<E>
         requires { AreAscending rows.items }
         ensures { result ≡ rows.items }

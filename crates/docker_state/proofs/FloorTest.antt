@@ -1,4 +1,4 @@
--- Filtering by a test whether the floor keeps an element.
+-- Filtering a list by the test whether the floor keeps an element.
 use Rattle.std.proofs.Common.{◌≡◌, arith, List, [], ◌∷◌, length, map, refl, ap, sym, ◌∙◌, subst, Contains, Bool, true, false, cond, Some, None}
 use Rattle.std.specs.Prelude.{filter, Option, ◌↔◌, IsTrue}
 use Rattle.std.specs.declared.cmp.Ordering.TheVariants.{Less, Equal, Greater}
@@ -46,8 +46,7 @@ module _ {A : Type 0} (cmp : A → A → Ordering) (test : A → Bool) where
       by true rest = (filter_above x xs up.0, rest)
       by false rest = rest
 
--- if a test depends only on a function's value, filtering commutes with the function: filtering and then applying the function has the same result as applying
--- it and then filtering
+-- if a test depends only on the value of a function, filtering a list by the test commutes with mapping the function over the list
 pub filter-map : {A B : Type 0} (f : A → B) (test : B → Bool) (xs : List A) → map f (filter (λ x. test (f x)) xs) ≡ filter test (map f xs)
 filter-map f test [] = refl
 filter-map f test (x ∷ xs) = by (test (f x)) (filter-map f test xs)
@@ -94,17 +93,17 @@ says_kept floor stamp false told = by (keeps floor stamp) refl
     by false h = refl
     by true h = told.1 (keeps_is floor stamp h)
 
--- the lemmas for elements that a floor keeps, translated by a function
+-- the lemmas for elements that a floor keeps and a function converts
 module _ {A B : Type 0} (f : A → B) (cmp : B → B → Ordering) (floor : Option FileStamp) (stamp : B → FileStamp) (xs ys : List A)
     (is : ys ≡ filter (λ x. keeps floor (stamp (f x))) xs) where
   as_meant : map f ys ≡ filter (λ v. keeps floor (stamp v)) (map f xs)
   as_meant = ap (map f) is ∙ filter-map f (λ v. keeps floor (stamp v)) xs
 
-  -- if the translated elements ascend, so do the translated elements that the floor keeps
+  -- if the converted elements ascend, so do the converted elements that the floor keeps
   pub kept_ascends : IsStrictlyAscending cmp (map f xs) → IsStrictlyAscending cmp (map f ys)
   kept_ascends up = subst (IsStrictlyAscending cmp) (sym as_meant) (filter_ascends cmp (λ v. keeps floor (stamp v)) (map f xs) up)
 
-  -- the translated elements that are left are exactly the ones that the floor keeps
+  -- the converted elements that are left are exactly the converted elements that the floor keeps
   pub kept_members : (z : B) → Contains (map f ys) z ↔ (Contains (map f xs) z × IsKept floor (stamp z))
   kept_members z = (
     λ among. let found = filter_back (λ v. keeps floor (stamp v)) (map f xs) z (subst (λ zs. Contains zs z) as_meant among) in

@@ -123,7 +123,7 @@ item_last : (items : List Item) (item : Item) → slice_get (items ++ item ∷ [
 item_last [] item = refl
 item_last (first ∷ items) item = item_last items item
 
--- with one more change, its row is appended to the rows before
+-- one more change appends its row to the rows of the earlier changes
 pub row_more : (file : FileStamp) (changes : List model.Change) (change : model.Change) (made after : List Made) (m : Made)
     → after ≡ made ++ m ∷ [] → row_meant m.0 ≡ made_by file change → map row_meant (rows_in made) ≡ map (made_by file) changes
     → map row_meant (rows_in after) ≡ map (made_by file) (changes ++ change ∷ [])
@@ -134,7 +134,7 @@ row_more file changes change made after m pushed made_is before =
     ∙ (λ i. before i ++ made_is i ∷ [])
     ∙ sym (map-append (made_by file) changes (change ∷ []))
 
--- the row of one more change is numbered by how many changes come before
+-- the number of the next change's row is the number of earlier changes
 pub numbered_more : (file : FileStamp) (changes : List model.Change) (change : model.Change) (made after : List Made) (m : Made)
     → after ≡ made ++ m ∷ [] → row_meant m.0 ≡ made_by file change → m.1 ≡ length (items_put changes)
     → AreNumbered (items_put changes) made → AreNumbered (items_put (changes ++ change ∷ [])) after

@@ -33,7 +33,7 @@ pub none_of_no_row : {A : Type 0} (meant : A → Key × Entry) (own : State) (fl
 none_of_no_row meant own floor [] none = λ key entry among. absurd (nil-Contains (key, entry) among)
 none_of_no_row meant own floor (row ∷ rows) some = absurd (omega arith)
 
--- if the first row doesn't have to be staged, nor any row after it, then none has to be
+-- if neither the first row nor any row after it has to be staged, no row has to be staged
 pub none_of_more : (own : State) (floor : Option FileStamp) (row : Key × Entry) (rows : List (Key × Entry)) → ¬ IsToStage own floor row.0 row.1
     → HasNoneToStage own floor rows → HasNoneToStage own floor (row ∷ rows)
 none_of_more own floor row rows first others key entry among = by (Contains-cons row rows (key, entry) among)
@@ -42,7 +42,8 @@ none_of_more own floor row rows first others key entry among = by (Contains-cons
     by (inl same) = subst (λ (it : Key × Entry). ¬ IsToStage own floor it.0 it.1) same first
     by (inr behind) = others key entry behind
 
--- if the first row of the code doesn't have to be staged, nor any row after it, then none has to be
+-- for rows of the code too: if neither the first row nor any row after it has to be staged, no row
+-- has to be staged
 pub none_of_rest : {A : Type 0} (meant : A → Key × Entry) (own : State) (floor : Option FileStamp) (rows behind : List A) (row : A) → rows ≡ row ∷ behind
     → ¬ IsToStage own floor (meant row).0 (meant row).1 → HasNoneToStage own floor (map meant behind) → HasNoneToStage own floor (map meant rows)
 none_of_rest meant own floor rows behind row is first others =

@@ -18,7 +18,7 @@ use Rattle.docker_state.specs.declared.item.LedgerItem.{LedgerItem}
 use Rattle.docker_state.specs.Indexed.{HasNotedIfAny}
 use Rattle.docker_state.specs.Meaning.{item_meant, row_meant, state_meant}
 
--- a valid state with one more good entry, given after all others, is valid
+-- appending a good entry, with a key above all others, to a valid state gives a valid state
 pub valid_with_entry : (ledger : List LedgerItem) (rows : List (Key × Entry)) (state : State) → state_meant 0 ledger rows ≡ state
     → IsValid (state_meant 0 ledger rows)
     → (key : Key) (entry : Entry) → IsStampHere state (key_meant key) (entry_meant entry).stamp → IsOpOf (key_meant key) (entry_meant entry).op
@@ -29,7 +29,8 @@ valid_with_entry ledger rows state view valid key entry here of after pushed =
     (valid_more (state_meant 0 ledger rows) (key_meant key) (entry_meant entry).stamp (entry_meant entry).op valid
     (subst (λ (s : State). IsStampHere s (key_meant key) (entry_meant entry).stamp) (sym view) here) of (none_has_to (entry_meant entry).op))
 
--- if the rows and one more entry are noted, the rows with this entry are noted
+-- if rows and then one more entry are noted, the notes are the notes of the rows with this entry
+-- appended
 pub noted_with_entry : (rows after : List (Key × Entry)) (key : Key) (entry : Entry) (notes : Option Notes) → after ≡ rows ++ (key, entry) ∷ []
     → HasNotedIfAny (items_of (map row_meant rows) ++ (key_meant key, op_meant entry.op) ∷ []) notes
     → HasNotedIfAny (items_of (map row_meant after)) notes

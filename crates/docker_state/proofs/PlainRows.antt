@@ -24,14 +24,14 @@ use Rattle.docker_state.specs.Rows.{is_of_key, last_rows, made_by}
 use Rattle.docker_state.proofs.LastRows.{by_entry, AreSorted, lasts_ascend}
 use Rattle.docker_state.proofs.GreatestRows.{by_entry_total, not_under, last_is_greatest, greatest_is_last}
 
--- with one more change, its row is appended to the rows before
+-- one more change appends its row to the rows of the earlier changes
 pub one_row_more : (file : FileStamp) (changes : List model.Change) (change : model.Change) (rows after : List (Key × Entry)) (row : Key × Entry)
     → after ≡ rows ++ row ∷ [] → row_meant row ≡ made_by file change → map row_meant rows ≡ map (made_by file) changes
     → map row_meant after ≡ map (made_by file) (changes ++ change ∷ [])
 one_row_more file changes change rows after row pushed same before =
     ap (map row_meant) pushed ∙ map-append row_meant rows (row ∷ []) ∙ (λ i. before i ++ same i ∷ []) ∙ sym (map-append (made_by file) changes (change ∷ []))
 
--- if the next row has another key, and all rows from it on are last rows, so are all rows from this row on
+-- if the first row's key differs from the second row's key, and all rows after the first are last rows, all rows are last rows
 pub one_apart_more : (row : Key × Entry) (behind : List (Key × Entry)) → is_of_key (slice_get behind 0) (key_meant row.0) ≡ false
     → last_rows behind ≡ behind → last_rows (row ∷ behind) ≡ row ∷ behind
 one_apart_more row [] apart rest = refl

@@ -25,7 +25,7 @@ use Rattle.docker_join.proofs.MeantOrder.{ascending_meant, meant_ascending}
 use Rattle.docker_state.proofs.LapsedTables.{joined_lapses}
 use Rattle.docker_state.proofs.TableJoin.{Keyed, higher, joined_greatest, greatest_joined}
 
--- Says that a ledger has exactly the items of two others.
+-- Says that a ledger is the union of two others: it has exactly their items.
 abbrev pub HasUnion : List LedgerItem → List LedgerItem → List LedgerItem → Type 0
 HasUnion union first second =
     (item : stamps.LedgerItem) → Contains (map item_meant union) item ↔ Contains (map item_meant first ++ map item_meant second) item
@@ -64,7 +64,7 @@ module _ (g h : ℕ) (items others : List LedgerItem) (first second : List (Key 
   up_second : AreAscending second
   up_second = meant_ascending row_meant (λ (a b : model.Key × ops.Entry). key_cmp a.0 b.0) second two.entries.1
 
-  -- Take the union of the ledgers, and the join of the rows with the horizon applied. What the floor keeps of these two is the join of the states.
+  -- Let the ledgers be united, the rows joined and the horizon applied. The items and rows that the floor keeps are then the join of the two states.
   pub states_joined : (floor : Option stamps.FileStamp) → IsFloor (map item_meant items ++ map item_meant others) floor
       → (union ledger : List LedgerItem) → HasUnion union items others
       → IsStrictlyAscending ledger_item_cmp (map item_meant ledger)
@@ -117,7 +117,7 @@ module _ (g h : ℕ) (items others : List LedgerItem) (first second : List (Key 
           joined_lapses (max g h) first second left right up_first up_second left_is
           (right_is ∙ ap (λ n. lapse_entries n (map row_meant second)) (max_comm h g)) entry_records whole joined whole_is is
 
-  -- the rows of the join are the join of the two tables, without what the floor doesn't keep, and with the horizon applied
+  -- the rows of the join are the join of the two tables, without the entries that the floor doesn't keep, and with the horizon applied
   pub rows_joined : (floor : Option stamps.FileStamp) → IsFloor (map item_meant items ++ map item_meant others) floor → (horizon : ℕ) → horizon ≡ max g h
       → (joined : State) → IsJoin (state_meant g items first) (state_meant h others second) joined → AreJoined first second floor horizon joined.entries
   rows_joined floor is_floor horizon horizon_is joined is = record {

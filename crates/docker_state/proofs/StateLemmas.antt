@@ -1,4 +1,4 @@
--- What the fields of a state of the code mean in the definitions.
+-- Converting the fields of a state from the code's types to the definitions' types.
 use Rattle.std.proofs.Common.{◌≡◌, ℕ, List, [], ◌∷◌, map, refl, ap, sym, ◌∙◌, subst, Bool, true, false, cond, Some, None, arith}
 use Rattle.std.specs.Prelude.{Option, find, option_and_then, ◌==◌}
 use Rattle.std.specs.Option.{option_map}
@@ -32,7 +32,7 @@ entry_of_rows horizon ledger (row ∷ rows) key = by (is_eq (key_cmp (key_meant 
     by true same = refl
     by false same = same
 
--- searching for the first full extract commutes with translating the items into the definitions
+-- searching for the first full extract commutes with converting the items to the definitions' type
 pub find_meant : (items : List item.LedgerItem)
     → find (λ (i : LedgerItem). i.indicator == 70) (map item_meant items) ≡ option_map item_meant
     (find (λ (i : item.LedgerItem). (item_meant i).indicator == 70) items)

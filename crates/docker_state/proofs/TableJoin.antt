@@ -37,7 +37,7 @@ by_key a b = key_cmp a.0 b.0
 abbrev pub file_of : Keyed → FileStamp
 file_of pair = pair.1.stamp.file
 
--- Says that the rows of the code have, at a key, an entry whose translation is this one.
+-- Says that the rows of the code have, at a key, an entry that is converted to this entry.
 abbrev pub ValueMeant : List (Key × Entry) → model.Key → ops.Entry → Type 0
 ValueMeant rows key entry = (value : Entry) × (value_at rows key ≡ Some value) × (entry_meant value ≡ entry)
 

@@ -32,7 +32,7 @@ use Rattle.docker_state.specs.Meaning.{row_meant}
 use Rattle.docker_state.specs.UidPiece.{to_uid, is_before, AreTo, IsBeginning, IsPieceOfUid}
 use Rattle.docker_state.proofs.LiveTable.{PutThere, from_live, to_live, live_has, live_put, ascends}
 
--- ---- a test that passes up to some row and fails from there on
+-- ---- a monotone test passes for the first rows and fails for all rows after them
 
 -- Says that a test of a comparison is monotone: it fails for greater, and if it passes for equal, it passes for less.
 abbrev GoesDown : (Ordering → Bool) → Type 0
@@ -89,7 +89,7 @@ parted_before uid rows up = parted is_lt (refl, λ same. refl) refl uid rows up
 pub parted_up_to : (uid : List ℕ) (rows : List (Key × Entry)) → AreAscending rows → IsPartitionedBy (is_up_to uid) rows
 parted_up_to uid rows up = parted is_le (refl, λ same. refl) refl uid rows up
 
--- ---- finding the first of the UID's schedules by a walk back
+-- ---- a walk back finds the UID's first schedule
 
 -- if a row isn't before the UID's schedules, no later row is
 module _ (uid : List ℕ) (rows : List (Key × Entry)) (up : AreAscending rows) (first : ℕ) (within : first < length rows)
@@ -166,7 +166,7 @@ behind_ascends rows zero up = up
 behind_ascends [] (suc n) up = tt
 behind_ascends (row ∷ rows) (suc n) up = behind_ascends rows n up.1
 
--- ---- the piece of the rows with the UID's schedules
+-- ---- the UID's schedules are one piece of the rows
 
 module _ {A : Type 0} (P : A → Type 0) where
   -- a property of all elements at indexes below n is a property of each of the first n elements
@@ -228,7 +228,7 @@ piece_is uid rows rest here n m bound rest_is bound_too here_is first second = r
   above = λ row among. greater_of (to_uid (key_meant row.0) uid) (back_all (λ r. is_up_to uid r ≡ false) rest m bound_too second.1 row among);
 }
 
--- ---- the live rows of the piece
+-- ---- the live rows of the piece are the UID's live schedules
 
 -- a key that compares as equal with the UID's schedules is the key of a schedule of this UID
 of_uid_is : (key : model.Key) (uid : List ℕ) → to_uid key uid ≡ Equal → (schedule : ScheduleKey) × (key ≡ schedule_key schedule) × (schedule.uid ≡ uid)
@@ -272,7 +272,8 @@ module _ (state : State) (valid : IsValid state) (uid : List ℕ) (rows piece : 
       (Contains-append_left (map row_meant is.before ++ map row_meant piece) (map row_meant is.behind) pair
       (Contains-append_right (map row_meant is.before) (map row_meant piece) pair among))
 
-  -- if some rows compare in one way with the UID's schedules, so do the translated rows
+  -- if comparing some rows with the UID's schedules gives this order, comparing the converted rows
+  -- gives it too
   stands : (order : Ordering) (some : List (Key × Entry)) → AreTo order uid some → (pair : model.Key × ops.Entry) → Contains (map row_meant some) pair
       → to_uid pair.0 uid ≡ order
   stands order some all pair among =

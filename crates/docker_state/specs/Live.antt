@@ -5,7 +5,7 @@ use Rattle.std.specs.Ordering.{on}
 use Rattle.docker_model.specs.state.Order.{IsStrictlyAscending}
 use Rattle.docker_model.specs.state.Op.{Op, deleted, lapsed, put_with, Entry, key_cmp}
 
--- a list with a key and its body in front, if the op is a put; otherwise the list unchanged
+-- the list with the key and its body prepended, if the op is a put; otherwise the unchanged list
 abbrev pub put_before : Key → Op → List (Key × Body) → List (Key × Body)
 put_before key deleted rest = rest
 put_before key lapsed rest = rest

@@ -1,4 +1,4 @@
--- Ledger items, floors and states of the code, translated into those that the definitions use.
+-- Converts ledger items, floors and states from the code's types to the definitions' types.
 use Rattle.std.specs.Prelude.{ℕ, List, map, Option}
 use Rattle.std.specs.Option.{option_map}
 use Rattle.docker_model.specs.state.Stamp as stamps
@@ -11,7 +11,7 @@ use Rattle.docker_join.specs.Meaning.{file_stamp_meant}
 pub use Rattle.docker_join.specs.Meaning.{row_meant, op_meant}
 use Rattle.docker_state.specs.declared.item.LedgerItem.{LedgerItem}
 
--- a ledger item of the code, translated into a ledger item of the definitions
+-- converts a ledger item from the code's type to the definitions' type
 abbrev pub item_meant : LedgerItem → stamps.LedgerItem
 item_meant item = record {
   stamp = record { moment = record { day = item.day; minute = item.minute }; reference = item.reference };
@@ -19,10 +19,10 @@ item_meant item = record {
   last_reference = item.last_reference;
 }
 
--- a floor of the code, translated into a floor of the definitions
+-- converts a floor from the code's type to the definitions' type
 abbrev pub floor_meant : Option FileStamp → Option stamps.FileStamp
 floor_meant floor = option_map file_stamp_meant floor
 
--- a horizon, a ledger and rows of the code, translated into a state of the definitions
+-- converts a horizon, a ledger and rows of the code to a state of the definitions
 abbrev pub state_meant : ℕ → List LedgerItem → List (Key × Entry) → states.State
 state_meant horizon ledger rows = record { horizon = horizon; ledger = map item_meant ledger; entries = map row_meant rows }

@@ -7,12 +7,14 @@ use Rattle.cif_file.specs.Key.{Key}
 use Rattle.cif_change.specs.Meaning.{key_meant}
 use Rattle.docker_join.specs.declared.entry.Entry.{Entry}
 
--- the key is below the key of the row at this index, or the rows end at this index
+-- Says that the key is below the key of the row at this index, or that this is the index just after
+-- the last row.
 abbrev pub IsBelowAt : model.Key → List (Key × Entry) → ℕ → Type 0
 IsBelowAt key rows at =
     (at ≤ length rows) × ((d : Key × Entry) → at < length rows → key_cmp (key_meant (get_or rows at d).0) key ≡ Greater)
 
--- the key is above the key of the row before this index, if there is one
+-- Says that the key is above the key of the row just before this index, or that there is no such
+-- row.
 abbrev pub IsAboveBefore : model.Key → List (Key × Entry) → ℕ → Type 0
 IsAboveBefore key rows at =
     (d : Key × Entry) → 0 < at → key_cmp (key_meant (get_or rows (at - 1) d).0) key ≡ Less

@@ -18,7 +18,7 @@ pub record AreParts (ledger : List LedgerItem) (rows : List (Kept × Row)) (note
   pub valid : IsValid (state_meant 0 ledger rows)
   pub noted : HasNotedIfAny (items_of (map row_meant rows)) notes
 
--- the ledger and the entries of a state under this horizon, instead of the state's own
+-- the state with its horizon replaced by this one
 abbrev pub under_horizon : ℕ → State → State
 under_horizon horizon state = record { horizon = horizon; ledger = state.ledger; entries = state.entries }
 

@@ -21,7 +21,7 @@ abbrev pub is_of_key : Option (Key × Entry) → model.Key → Bool
 is_of_key None key = false
 is_of_key (Some row) key = is_eq (key_cmp (key_meant row.0) key)
 
--- a row followed by the rest, but only the rest if the next row has the same key
+-- the list `rest` with the row prepended, unless the next row has the same key
 abbrev pub last_or : Key × Entry → List (Key × Entry) → List (Key × Entry) → List (Key × Entry)
 last_or row [] rest = row ∷ rest
 last_or row (next ∷ rows) rest = if is_of_key (Some next) (key_meant row.0) then rest else row ∷ rest
@@ -52,7 +52,7 @@ abbrev pub is_made_of_key : Option Made → model.Key → Bool
 is_made_of_key None key = false
 is_made_of_key (Some made) key = is_eq (key_cmp (key_meant made.0.0) key)
 
--- a numbered row followed by the rest, but only the rest if the next row has the same key
+-- the list `rest` with the numbered row prepended, unless the next row has the same key
 abbrev pub last_made_or : Made → List Made → List Made → List Made
 last_made_or made [] rest = made ∷ rest
 last_made_or made (next ∷ more) rest = if is_made_of_key (Some next) (key_meant made.0.0) then rest else made ∷ rest

@@ -1,4 +1,4 @@
--- What a state has received of another state before it commits.
+-- What a state has received from another state before the commit.
 use Rattle.std.specs.Prelude.{◌≡◌, List, ◌++◌, ◌∷◌, [], map, Option, Contains, ◌⊎◌}
 use Rattle.std.specs.declared.cmp.Ordering.TheVariants.{Less}
 use Rattle.docker_model.specs.file.Change as model
@@ -20,7 +20,7 @@ pub record Staging : Type 0 where
   pub items : List stamps.LedgerItem
   pub staged : List (model.Key × ops.Entry)
 
--- the `Staging` with this floor, ledger and rows of the code
+-- converts a floor, ledger items and rows of the code to a `Staging` of the definitions
 abbrev pub staging_meant : Option FileStamp → List LedgerItem → List (Key × Entry) → Staging
 staging_meant floor items rows = record {
   floor = floor_meant floor;
@@ -36,8 +36,8 @@ with_staged staging key entry = record {
   staged = staging.staged ++ (key, entry) ∷ [];
 }
 
--- Says what offering an entry does: if it has to be staged, it is staged, and otherwise nothing
--- changes.
+-- Says what offering an entry does: an entry that has to be staged is staged, and for any other
+-- entry nothing changes.
 abbrev pub IsOffered : State → Staging → model.Key → ops.Entry → Staging → Type 0
 IsOffered own before key entry after =
     (IsToStage own before.floor key entry × (after ≡ with_staged before key entry))

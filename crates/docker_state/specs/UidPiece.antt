@@ -33,13 +33,13 @@ abbrev pub IsBeginning : List ℕ → List (Key × Entry) → ℕ → Type 0
 IsBeginning uid rows count =
     IsPartitionPoint (λ row. is_before uid row ≡ true) (λ row. is_before uid row ≡ false) rows count
 
--- Says that each of these rows compares with the UID's schedules in this way.
+-- Says that comparing each of these rows with the UID's schedules gives this order.
 abbrev pub AreTo : Ordering → List ℕ → List (Key × Entry) → Type 0
 AreTo order uid rows =
     (row : Key × Entry) → Contains rows row → to_uid (key_meant row.0) uid ≡ order
 
--- Says that a piece of the rows has exactly the UID's schedules: all rows before it are below them,
--- and all rows after it are above them.
+-- Says that a piece of the rows consists of exactly the UID's schedules: all rows before it are
+-- below them, and all rows after it are above them.
 pub record IsPieceOfUid (uid : List ℕ) (rows piece : List (Key × Entry)) : Type 0 where
   pub before : List (Key × Entry)
   pub behind : List (Key × Entry)

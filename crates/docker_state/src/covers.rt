@@ -1,5 +1,5 @@
 //! Finds out whether a state already has everything that another state would bring. The join of the
-//! two is then this state under the greater of the two horizons.
+//! two states is then this state, under the greater of the two horizons.
 ghost use Rattle.std.specs.Prelude.{map, IsTrue, Contains};
 ghost use Rattle.docker_model.specs.state.Stamp.{ledger_item_cmp, IsKept};
 ghost use Rattle.docker_model.specs.state.Order.{IsStrictlyAscending};
@@ -26,8 +26,9 @@ fn are_below(ledger: &[LedgerItem], floor: &Option<FileStamp>) -> bool
     }
 }
 
-/// Whether these entries add nothing to a state: for each of them, the floor doesn't keep it, or
-/// the state has the same or a greater entry of its key. The keys of the rows must ascend.
+/// Whether these entries add nothing to a state. An entry adds nothing if the floor doesn't keep
+/// it, or if the state has the same or a greater entry of its key. The keys of the rows must
+/// ascend.
 fn none_to_stage(own: &State, rows: &[(Key, Entry)], floor: &Option<FileStamp>) -> bool
     ensures { IsTrue result
         → HasNoneToStage own.now (floor_meant floor.now) (map row_meant rows.now) }
@@ -43,8 +44,8 @@ fn none_to_stage(own: &State, rows: &[(Key, Entry)], floor: &Option<FileStamp>) 
     true
 }
 
-/// Whether another state has no entry that a state would have to take over. If all files of the
-/// other state are below the floor of both, none of its rows is read.
+/// Whether the other state has no entry that the state `own` would have to take over. If all files
+/// of the other state are below the floor, none of its rows is read.
 fn brings_none(own: &State, other: &State, floor: &Option<FileStamp>) -> bool
     ensures { IsTrue result → HasNoneToStage own.now (floor_meant floor.now) other.now.entries }
 {

@@ -42,8 +42,8 @@ pub(crate) fn common_floor(first: Option<FileStamp>, second: Option<FileStamp>) 
     }
 }
 
-/// Whether a floor keeps what comes from a file with this stamp: the stamp isn't below the floor.
-/// True if there is no floor.
+/// Whether a floor keeps the file with this stamp and the file's entries: the stamp isn't below the
+/// floor. True if there is no floor.
 pub(crate) fn is_kept(floor: &Option<FileStamp>, stamp: &FileStamp) -> bool
     ensures { IsTrue result ↔ IsKept (floor_meant floor.now) (file_stamp_meant stamp.now) }
 {

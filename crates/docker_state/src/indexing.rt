@@ -83,8 +83,8 @@ pub(crate) fn room_for_notes(alloc: Global, notes: &Option<Notes>) -> Result<Opt
 }
 
 /// Makes the index of the rows in the memory that was reserved for it, if rows were noted. `order`
-/// has the numbers that these rows have among all noted rows. `pieces` must be empty and have room
-/// for a piece of each row.
+/// gives the number of each row among all noted rows. `pieces` must be empty and have room for a
+/// piece of each row.
 pub(crate) fn picked_index(
     room: Option<Room>,
     notes: Option<Notes>,
@@ -108,7 +108,7 @@ pub(crate) fn picked_index(
     }
 }
 
-/// Removes the marks of rows that have lapsed from the index, if there is one.
+/// Removes the postings of lapsed rows from the index, if there is an index.
 pub(crate) fn lapse_index(index: &mut Option<Index>, rows: &[(Key, Entry)])
     ensures { (before : List (model.Key × ops.Entry)) (horizon : ℕ)
         → map row_meant rows.now ≡ lapse_entries horizon before

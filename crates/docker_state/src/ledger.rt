@@ -21,8 +21,8 @@ pub(crate) fn room_for(alloc: Global, first: usize, second: usize) -> Option<Vec
     Vec::with_capacity(alloc, first.checked_add(second)?).ok()
 }
 
-/// The items of two ledgers, in ascending order and each once. They are written to a vector that
-/// must have room for all.
+/// The union of two ledgers: their items in ascending order, without duplicates. It is written to a
+/// vector that must have room for the items of both.
 pub(crate) fn union_of(
     mut first: &[LedgerItem],
     mut second: &[LedgerItem],
@@ -106,7 +106,7 @@ pub(crate) fn has_kept_items(
     true
 }
 
-/// Whether a ledger has this item, or the floor doesn't keep it.
+/// Whether a ledger has this item, or the floor doesn't keep the item.
 fn has_if_kept(ledger: &[LedgerItem], item: &LedgerItem, floor: &Option<FileStamp>) -> bool
     requires { IsStrictlyAscending ledger_item_cmp (map item_meant ledger.now) }
     ensures { IsTrue result

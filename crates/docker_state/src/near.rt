@@ -1,4 +1,5 @@
-//! Looks up an entry, and first looks at the row where it is likely to be.
+//! Looks up the entry of a key: first in the rows where the key is likely to be, and then by binary
+//! search.
 ghost use Rattle.std.specs.Prelude.{◌≡◌, IsTrue};
 ghost use Rattle.std.specs.Option.{option_copied};
 ghost use Rattle.cif_change.specs.Meaning.{key_meant};
@@ -8,10 +9,10 @@ ghost use Rattle.docker_state.specs.Near.{IsAboveBefore, IsBelowAt};
 use cif_file::Key;
 use docker_join::Entry;
 
-/// The entry of a key, or None if no row has the key. The row at index `near` is looked at first,
-/// and the row before it. If the key isn't found there, and doesn't lie between the two, there is a
-/// binary search. Then `near` becomes the index of the first row after the key, which is likely to
-/// have the next key in order.
+/// The entry of a key. None if no row has the key. First reads the row at index `near` and the row
+/// before it. If neither has the key, and the key doesn't lie between the two rows, a binary search
+/// follows. At the end `near` is the index of the first row after the key. If keys are looked up in
+/// order, the next key is likely to be there.
 pub(crate) fn entry_near<'a>(
     rows: &'a [(Key, Entry)],
     key: &Key,
@@ -41,7 +42,8 @@ pub(crate) fn entry_near<'a>(
     }
 }
 
-/// Whether a key is below the row at this index, or the rows end there.
+/// Whether a key is below the key of the row at this index, or this is the index just after the
+/// last row.
 fn is_below_at(rows: &[(Key, Entry)], at: usize, key: &Key) -> bool
     ensures { IsTrue result → IsBelowAt (key_meant key.now) rows.now at }
 {
@@ -51,7 +53,7 @@ fn is_below_at(rows: &[(Key, Entry)], at: usize, key: &Key) -> bool
     }
 }
 
-/// Whether a key is above the row before this index, or there is no row before it.
+/// Whether a key is above the key of the row just before this index, or there is no such row.
 fn is_above_before(rows: &[(Key, Entry)], at: usize, key: &Key) -> bool
     ensures { IsTrue result → IsAboveBefore (key_meant key.now) rows.now at }
 {

@@ -1,4 +1,4 @@
-//! A state built from its parts, in their order.
+//! Builds a state from its parts, which are added in order.
 ghost use Rattle.std.specs.Prelude.{◌≡◌, ◌++◌, [], ◌∷◌, ◌-◌, map, IsOk, IsErr, IfOk};
 ghost use Rattle.std.specs.Option.{option_copied, option_map};
 ghost use Rattle.docker_model.specs.state.State.{IsLedger, IsOpOf, IsValid};
@@ -20,8 +20,8 @@ use state_index::Notes;
 use std::alloc::Global;
 use std::marker::Model;
 
-/// The parts of a state that were given so far: first its ledger items, then its entries, both in
-/// order. What was given is always a valid state.
+/// The parts of a state that were added: first ledger items, then entries, each in ascending order.
+/// After each addition the parts are a valid state.
 #[derive(Debug, Drop)]
 pub struct Parts {
     ledger: Vec<LedgerItem>,
@@ -43,7 +43,7 @@ impl Model for Parts {
 }
 
 impl Parts {
-    /// No parts yet.
+    /// Begins without parts, for a state with an index.
     pub fn new(alloc: Global) -> Parts
         ensures { result ≡ record { horizon = 0; ledger = []; entries = [] } }
     {
@@ -54,7 +54,7 @@ impl Parts {
         }
     }
 
-    /// No parts yet. The state of the parts will have no index.
+    /// Begins without parts, for a state without an index.
     pub fn unindexed(alloc: Global) -> Parts
         ensures { result ≡ record { horizon = 0; ledger = []; entries = [] } }
     {
@@ -65,7 +65,7 @@ impl Parts {
         }
     }
 
-    /// Gives the next ledger item. If memory runs out, the parts stay as they were.
+    /// Adds the next ledger item. If memory runs out, the parts are unchanged.
     pub fn item(&mut self, item: LedgerItem) -> Result<(), Memory>
         requires before_entries { self.old.entries ≡ [] }
         requires ledger { IsLedger (self.old.ledger ++ item_meant item ∷ []) }
@@ -77,8 +77,7 @@ impl Parts {
         Ok(())
     }
 
-    /// Gives the next entry, with its key. If memory runs out, the parts stay as they were, without
-    /// the entry.
+    /// Adds the next entry, with its key. If memory runs out, the parts are unchanged.
     pub fn entry(&mut self, key: Key, entry: Entry) -> Result<(), Memory>
         requires here { IsStampHere self.old (key_meant key) (entry_meant entry).stamp }
         requires op { IsOpOf (key_meant key) (entry_meant entry).op }
@@ -96,21 +95,21 @@ impl Parts {
         Ok(())
     }
 
-    /// The ledger items given so far, ascending.
+    /// The ledger items that were added, in ascending order.
     pub fn ledger(&self) -> &[LedgerItem]
         ensures { map item_meant result.now ≡ self.now.ledger }
     {
         self.ledger.as_slice()
     }
 
-    /// The entries given so far, each with its key, in the order of the keys.
+    /// The entries that were added, each with its key, in the order of the keys.
     pub fn entries(&self) -> &[(Key, Entry)]
         ensures { map row_meant result.now ≡ self.now.entries }
     {
         self.entries.as_slice()
     }
 
-    /// The key of the last entry given. None if there is none yet.
+    /// The key of the last entry that was added. None if no entry was added.
     pub fn last(&self) -> Option<&Key>
         ensures { option_map key_meant (option_copied result) ≡ last_key self.now.entries }
     {
@@ -120,9 +119,9 @@ impl Parts {
         }
     }
 
-    /// The state of the parts. If memory runs out, the parts are dropped. If the state is to have an
-    /// index, they are also dropped if there are more than 4,294,967,295 entries or places, which
-    /// are numbered in 32 bits.
+    /// Makes the state from the parts. If memory runs out, the parts are dropped. If the state is
+    /// to have an index, they are also dropped if there are more than 4,294,967,295 entries or
+    /// places, which are numbered in 32 bits.
     pub fn finish(self) -> Result<State, Memory>
         ensures { IfOk result (λ state. state ≡ self) }
     {
@@ -134,8 +133,8 @@ impl Parts {
         state_of(0, ledger, entries, notes)
     }
 
-    /// The state of the parts under a horizon. No entry may have to lapse under it, and no end date
-    /// is looked at. It fails as `finish` does.
+    /// Makes the state from the parts, under a horizon. No entry may have to lapse under this
+    /// horizon, so no end date is read. The call fails for the same reasons as `finish`.
     pub fn finish_under(self, horizon: Day) -> Result<State, Memory>
         requires { IsValid (under_horizon horizon self) }
         ensures { IfOk result (λ state. state ≡ under_horizon horizon self) }
@@ -149,7 +148,8 @@ impl Parts {
     }
 }
 
-/// The state of ledger items and entries under a horizon. It has an index if places are noted.
+/// Makes the state with this horizon, these ledger items and these entries. It has an index if the
+/// places of the entries were noted.
 fn state_of(
     horizon: u16,
     ledger: Vec<LedgerItem>,

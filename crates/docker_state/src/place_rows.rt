@@ -12,9 +12,9 @@ use std::marker::Model;
 /// How the live rows at a place are found.
 #[derive(Clone, Debug, Drop)]
 pub(crate) enum Walk<'a> {
-    /// By the postings of an index.
+    /// The rows are found by the postings of an index.
     Numbered(NumberedRows<'a>),
-    /// By a walk over all rows.
+    /// The rows are found by a walk over all rows.
     Sifted(SiftedRows<'a>),
 }
 

@@ -24,15 +24,15 @@ use std::alloc::Global;
 use std::marker::Model;
 use std::mem;
 
-/// What a state has received of another state: the other's ledger, and the entries of the other
-/// that this state will take over. The state itself doesn't change before the commit.
+/// What a state has received from another state: the other state's ledger, and the entries that the
+/// receiving state will take over. The receiving state doesn't change before the commit.
 #[derive(Debug, Drop)]
 pub struct Staging {
     floor: Option<FileStamp>,
     items: Vec<LedgerItem>,
     staged: Vec<(Key, Entry)>,
-    // Where the next key is looked up first: an index among the entries of the state. Keys are
-    // offered in ascending order, so it is likely to be near.
+    // The index of the state's entry that is read first to look up the next key. Keys are offered
+    // in ascending order, so the next key is likely to be near this index.
     near: usize,
 }
 
@@ -78,8 +78,8 @@ impl Staging {
         self.items.as_slice()
     }
 
-    /// The floor of both ledgers together, the received one and the state's own: the file stamp of
-    /// the newest full extract in either. None if neither has a full extract.
+    /// The floor of the received ledger and the state's ledger together: the file stamp of the
+    /// newest full extract in either. None if neither has a full extract.
     pub fn floor(&self) -> Option<FileStamp>
         ensures { floor_meant result ≡ self.now.floor }
     {
@@ -100,9 +100,9 @@ impl Staging {
         self.staged.is_empty()
     }
 
-    /// Offers the next entry of the state being received. The entry is staged if the floor keeps
-    /// it, and if it is greater than the state's entry of the same key or the state has none. If
-    /// memory runs out, nothing changes, and the entry isn't staged.
+    /// Offers the next entry of the state being received. The entry is staged if the floor keeps it
+    /// and the state has no equal or greater entry of the same key. If memory runs out, the entry
+    /// isn't staged and nothing changes.
     pub fn offer(&mut self, state: &State, key: Key, entry: Entry) -> Result<(), Memory>
         requires floor { IsFloor (state.now.ledger ++ self.old.items) self.old.floor }
         requires above { IsAboveStaged self.old.staged (key_meant key) }
@@ -132,8 +132,8 @@ impl Staging {
     }
 }
 
-/// Whether the floor keeps an entry, and it is greater than the state's entry of the same key or
-/// the state has none. The state's entry is first looked for at index `near`.
+/// Whether an entry has to be staged: the floor keeps it, and the state has no equal or greater
+/// entry of the same key. The state's entry is first looked for at index `near`.
 pub(crate) fn is_to_stage(
     state: &State,
     floor: &Option<FileStamp>,
@@ -156,12 +156,12 @@ pub(crate) fn is_to_stage(
 }
 
 impl State {
-    /// Joins the state with what was received. The ledger becomes the union of both ledgers, and
-    /// each staged entry is written at its key. Entries and items below the floor of both are
-    /// dropped, and bodies that end before this state's horizon lapse. The entries may have been
-    /// offered to another state with the same floor: a greater entry of this state then stays, and
-    /// the result is still the join. If nothing is staged and no item is new, nothing is done. If
-    /// memory runs out, the state is unchanged, and what was received is dropped.
+    /// Joins the state with the received ledger items and entries. The ledger becomes the union of
+    /// both ledgers, and each staged entry is written at its key. Entries and items below the floor
+    /// of both are dropped, and bodies that end before this state's horizon lapse. The entries may
+    /// have been offered to another state with the same floor: a greater entry of this state then
+    /// stays, and the result is still the join. If nothing is staged and no item is new, nothing is
+    /// done. If memory runs out, the state is unchanged, and what was received is dropped.
     pub fn commit(&mut self, staging: Staging) -> Result<(), Memory>
         requires floor { IsFloor (self.old.ledger ++ staging.items) staging.floor }
         ensures join { IsOk result

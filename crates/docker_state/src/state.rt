@@ -1,4 +1,4 @@
-//! The state of files.
+//! The state of a set of files.
 ghost use Rattle.std.specs.Prelude.{◌≡◌, ℕ, ◌+◌, ◌≤◌, List, [], ◌∷◌, ◌++◌, ◌↔◌, map, max, vec_len, vec_capacity, Contains, IfOk, IfErr};
 ghost use Rattle.docker_model.specs.file.Change as model;
 ghost use Rattle.docker_model.specs.state.State as states;
@@ -42,9 +42,9 @@ use state_index::{Index, Moves};
 use std::alloc::Global;
 use std::marker::Model;
 
-/// What files say, from the newest full extract on: the ledger of the known files, and for each key
-/// the greatest entry. Always valid. Its rows may have an index by place. Without one, the rows at a
-/// place are found by a walk over all rows.
+/// The state of a set of files, from the newest full extract on: the ledger of the known files, and
+/// the greatest entry of each key. A state is always valid. Its rows may have an index by place.
+/// Without one, the rows at a place are found by a walk over all rows.
 #[derive(Debug, Drop)]
 pub struct State {
     horizon: u16,
@@ -67,8 +67,8 @@ impl Model for State {
 }
 
 impl State {
-    /// Makes a state of a horizon, of ledger items, of rows and, if there is one, of the index of
-    /// these rows. The state must be valid. Horizon 0 stands for none.
+    /// Makes a state from a horizon, ledger items, rows and, if there is one, the index of these
+    /// rows. Together they must be a valid state. 0 means that there is no horizon.
     pub(crate) fn of_rows(
         horizon: u16,
         ledger: Vec<LedgerItem>,
@@ -100,8 +100,8 @@ impl State {
         }
     }
 
-    /// The state of no files, without an index. Its joins have none either, unless they are the
-    /// other state.
+    /// The state of no files, without an index. Its join with another state has no index either,
+    /// unless the join is simply that other state.
     pub fn unindexed(alloc: Global) -> State
         ensures empty { result ≡ record { horizon = 0; ledger = []; entries = [] } }
         ensures summary { IsSummary [] 0 result }
@@ -120,9 +120,8 @@ impl State {
     }
 
     /// The state of one file. It has an index if the places of the file's changes were noted. If
-    /// memory runs out, no change was moved yet, and the file comes back as it was. With an index, a
-    /// file of more than 4,294,967,295 changes or places, which are numbered in 32 bits, also comes
-    /// back.
+    /// memory runs out, the file is returned unchanged. For a state with an index, the file is also
+    /// returned if it has more than 4,294,967,295 changes or places, which are numbered in 32 bits.
     pub fn of_file(alloc: Global, file: CifFile) -> Result<State, CifFile>
         ensures ok { (records : List (List ℕ)) → IsOfRecords file records
             → IfOk result (IsSummary (records ∷ []) 0) }
@@ -137,9 +136,9 @@ impl State {
         }
     }
 
-    /// The state of what was kept of a file for the docker of one place on one day. It gives the
-    /// same docker as the state of the whole file, and is of no use for anything else. If memory
-    /// runs out, what was kept is dropped.
+    /// The state that the kept changes of a file make, for the docker of one place on one day. For
+    /// that place and day it has the same docker as the state of the whole file. It must not be
+    /// used for anything else. If memory runs out, the kept changes are dropped.
     pub fn of_thin(alloc: Global, file: ThinFile) -> Result<State, Memory>
         ensures { (records : List (List ℕ)) → IsOfRecords file.file records
             → IfOk result (IsStateOfChanges records file.kept) }
@@ -151,8 +150,8 @@ impl State {
         }
     }
 
-    /// The state that changes of the file with this ledger item make. If memory runs out, no change
-    /// was moved yet, and the parts come back as they were.
+    /// The state that changes of the file with this ledger item make. If memory runs out, the parts
+    /// are returned unchanged.
     fn of_changes(alloc: Global, item: LedgerItem, parts: FileParts) -> Result<State, FileParts>
         requires records { HaveRecords (map change_meant parts.changes.items) }
         requires noted { AreNotesOf (map change_meant parts.changes.items) parts.notes }
@@ -198,8 +197,8 @@ impl State {
     }
 
     /// The state, with its index, that changes of the file with this ledger item make. If there are
-    /// more than 4,294,967,295 changes or places, which are numbered in 32 bits, they also come
-    /// back.
+    /// more than 4,294,967,295 changes or places, which are numbered in 32 bits, the parts are also
+    /// returned.
     fn of_noted_changes(
         alloc: Global,
         item: LedgerItem,
@@ -242,8 +241,8 @@ impl State {
         Ok(State::of_rows(0, ledger, rows, index))
     }
 
-    /// The horizon: a day number from 0 for 1960-01-01. Nothing that is put ends before that day. 0
-    /// if none was set.
+    /// The horizon: a day number, counted from 0 for 1960-01-01. No live entry ends before that
+    /// day. 0 if no horizon was set.
     pub fn horizon(&self) -> u16
         ensures horizon { result ≡ self.now.horizon }
         ensures day { IsDay result }
@@ -251,10 +250,10 @@ impl State {
         self.horizon
     }
 
-    /// Sets a horizon: what is put and ends before this day lapses. Its body goes, and its stamp
-    /// stays, so that no older file brings it back. A day that isn't after the horizon changes
-    /// nothing. It may take one byte per row for a time. If the allocator refuses them, it takes
-    /// longer.
+    /// Sets a horizon: each live entry that ends before this day lapses. A lapsed entry loses its
+    /// body and keeps its stamp, so that no older file can put it again. A day that isn't after the
+    /// present horizon changes nothing. The call may allocate one byte per row while it runs. If
+    /// the allocator refuses, the call only takes longer.
     pub fn set_horizon(&mut self, day: Day)
         ensures raised { self.new ≡ raise_horizon day self.old }
         ensures summary { (files : List (List (List ℕ))) (horizon : ℕ)
@@ -285,7 +284,7 @@ impl State {
         self
     }
 
-    /// The ledger items, ascending.
+    /// The ledger items, in ascending order.
     pub fn ledger(&self) -> &[LedgerItem]
         ensures items { map item_meant result.now ≡ self.now.ledger }
         ensures valid { IsValid self.now }
@@ -301,7 +300,8 @@ impl State {
         self.entries.as_slice()
     }
 
-    /// The entry of a key. None if the state doesn't have the key. It is found by a binary search.
+    /// The entry of a key. None if the state doesn't have the key. The key is found by binary
+    /// search.
     pub fn get(&self, key: &Key) -> Option<&Entry>
         ensures entry { option_map entry_meant (option_copied result)
             ≡ entry_at self.now (key_meant key.now) }
@@ -310,8 +310,8 @@ impl State {
         self.entries.get(key)
     }
 
-    /// Like `get`, but the row with this index is looked at first. If that row has the key, nothing
-    /// is searched. If the entry is found, the index becomes the index of the next row.
+    /// Like `get`, but first reads the row at index `near`. If that row has the key, no search is
+    /// needed. `near` becomes the index of the first row after the key.
     pub(crate) fn get_near(&self, key: &Key, near: &mut usize) -> Option<&Entry>
         ensures entry { option_map entry_meant (option_copied result)
             ≡ entry_at self.now (key_meant key.now) }
@@ -335,9 +335,9 @@ impl State {
         Live::of(self.entries.as_slice())
     }
 
-    /// The live schedules that call at a TIPLOC, by an LO, an LI or an LT: each once, with its
-    /// lines, in the order of the keys. They are found by a binary search in the index, without
-    /// memory. A state without an index finds them by a walk over all rows.
+    /// The live schedules that call at a TIPLOC, in an LO, LI or LT record. Each is returned once,
+    /// with its lines, in the order of the keys. They are found by binary search in the index, and
+    /// nothing is allocated. A state without an index finds them by a walk over all rows.
     pub fn calling(&self, tiploc: &Tiploc) -> PlaceRows<'_>
         ensures { AreCalling (live_table self.now) tiploc.now result }
     {
@@ -348,8 +348,9 @@ impl State {
         }
     }
 
-    /// How many live schedules call at a TIPLOC, by an LO, an LI or an LT: each counts once. The
-    /// index has them side by side, so no schedule is looked at. Without an index all rows are.
+    /// How many live schedules call at a TIPLOC, in an LO, LI or LT record. Each counts once. In an
+    /// index these schedules are adjacent, so no schedule is read. Without an index, all rows are
+    /// read.
     pub fn count_calling(&self, tiploc: &Tiploc) -> usize
         ensures { IsCallingCount (live_table self.now) tiploc.now result }
     {
@@ -359,9 +360,9 @@ impl State {
         }
     }
 
-    /// The live associations at a location: each with its line, in the order of the keys. They are
-    /// found by a binary search in the index, without memory. A state without an index finds them by
-    /// a walk over all rows.
+    /// The live associations at a location. Each is returned with its line, in the order of the
+    /// keys. They are found by binary search in the index, and nothing is allocated. A state
+    /// without an index finds them by a walk over all rows.
     pub fn linked(&self, tiploc: &Tiploc) -> PlaceRows<'_>
         ensures { AreLinked (live_table self.now) tiploc.now result }
     {
@@ -372,24 +373,25 @@ impl State {
         }
     }
 
-    /// The live schedules of a UID: each with its lines, in the order of the keys. They are found
-    /// by a binary search, without memory.
+    /// The live schedules of a UID. Each is returned with its lines, in the order of the keys. They
+    /// are found by binary search, and nothing is allocated.
     pub fn of_uid(&self, uid: &Uid) -> Live<'_>
         ensures { AreOfUid (live_table self.now) uid.now result }
     {
         self.of_uid_near(uid, 0)
     }
 
-    /// Like `of_uid`, but first looks at the row at index `near`, such as `PlaceRows::numbered`
-    /// gives. If that row is of the UID, a few rows next to it are read, and no search is needed.
+    /// Like `of_uid`, but first reads the row at index `near`, for example an index from
+    /// `PlaceRows::numbered`. If that row is a schedule of the UID, a few neighbouring rows are
+    /// read, and no search is needed.
     pub fn of_uid_near(&self, uid: &Uid, near: usize) -> Live<'_>
         ensures { AreOfUid (live_table self.now) uid.now result }
     {
         Live::of(rows_of_uid(self.entries.as_slice(), uid, near))
     }
 
-    /// The index of the rows of the join with another state, if both have one. It is made before a
-    /// row is moved. `Memory` if the allocator refuses it.
+    /// The index of the rows of the join with another state, if both have one. It is made before
+    /// any row is moved. `Memory` if the allocator refuses.
     fn index_of_join(&self, alloc: Global, other: &State) -> Result<Option<Index>, Memory>
         ensures { IfOk result (λ index. (joined : states.State) → IsJoin self.now other.now joined
             → IsIndexIfAny joined.entries index) }
@@ -422,8 +424,8 @@ impl State {
         Ok(Some(index))
     }
 
-    /// The parts of the state, with room for `more` rows after its own. Its index is dropped. If
-    /// memory runs out, returns the state as it was.
+    /// Takes the state apart, makes room for `more` rows after its rows, and drops its index. If
+    /// memory runs out, returns the state unchanged.
     fn opened(self, more: usize) -> Result<OpenedState, State>
         ensures parts { IfOk result (λ opened.
             state_meant opened.horizon opened.ledger.items opened.rows.items ≡ self) }
@@ -470,8 +472,8 @@ impl State {
         }
     }
 
-    /// The join of any two states. The rows of the other are placed among this one's, in their
-    /// memory, and only the rows after the first of them move.
+    /// The join of any two states. The rows of the other state are placed among the rows of this
+    /// one, in the same memory. Only the rows after the first placed row move.
     fn join_rows(self, alloc: Global, other: State) -> Result<State, (State, State)>
         ensures ok { IfOk result (IsJoin self other) }
         ensures err { IfErr result (λ both. (both.0 ≡ self) × (both.1 ≡ other)) }
@@ -549,14 +551,14 @@ impl Merge for State {
 
     ghost idempotent = { join_idempotent };
 
-    /// The join of two states: the union of their ledgers, and for each key the greater entry. What
-    /// is below the floor of both is left out, and the entries lapse under the greater horizon. If
-    /// one state has all that the other would bring, the join is that state under the greater
-    /// horizon, and the other's memory is freed. The state of a full extract that is newer than
-    /// each file of the other is such a state, and then no row of the other is looked at. If memory
-    /// runs out, nothing was moved yet, and both states come back as they were. The join has an
-    /// index if both states have one. Then two states with more than 4,294,967,295 rows or places
-    /// together, which are numbered in 32 bits, also come back.
+    /// The join of two states: the union of their ledgers, and for each key the greater entry.
+    /// Items and entries below the floor of both are left out, and the entries lapse under the
+    /// greater horizon. If one state has all that the other would bring, the join is that state
+    /// under the greater horizon, and the other's memory is freed. For example, one state may be
+    /// made from a full extract that is newer than all files of the other state. Then no row of the
+    /// other state is read. If memory runs out, both states are returned unchanged. The join has an
+    /// index if both states have one. In this case both are also returned if together they have
+    /// more than 4,294,967,295 rows or places, which are numbered in 32 bits.
     fn join(self, alloc: Global, other: State) -> Result<State, (State, State)>
         ensures ok { IfOk result (IsJoin self other) }
         ensures err { IfErr result (λ both. (both.0 ≡ self) × (both.1 ≡ other)) }
@@ -584,7 +586,7 @@ struct OpenedState {
 }
 
 /// Applies the horizon `other` to rows that have already lapsed under the horizon `own`. If `other`
-/// isn't greater, no row is read. The room after the rows stays.
+/// isn't greater, no row is read. The spare room after the rows is kept.
 fn lapsed_under(mut rows: Vec<(Key, Entry)>, own: u16, other: u16) -> Vec<(Key, Entry)>
     requires lapsed { HaveLapsed own (map row_meant rows.items) }
     requires ascending { AreAscending rows.items }

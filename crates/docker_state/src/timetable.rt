@@ -19,8 +19,8 @@ use docker_join::Op;
 use std::marker::Model;
 
 /// The live entries of a state that count for a docker: all of them, or only its timing points and
-/// what is permanent. Its iterators skip the entries that don't count, so no second state has to be
-/// made.
+/// its permanent schedules and associations. Its iterators skip the entries that don't count, so no
+/// second state has to be made.
 #[derive(Debug, Drop)]
 pub struct Timetable<'a> {
     state: &'a State,

@@ -13,8 +13,8 @@ use cif_line::Stp;
 use std::marker::Model;
 
 /// An iterator over the rows at a place that count, in key order. It returns the index, the key and
-/// the body of each row. No clause says that the index is right: it is only a hint where to look
-/// first.
+/// the body of each row. No clause says that the index is right: it is only a hint for a later
+/// search.
 #[derive(Clone, Debug, Drop)]
 pub struct TimetableRows<'a> {
     rows: Numbered<'a>,

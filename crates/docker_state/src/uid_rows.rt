@@ -65,7 +65,8 @@ fn first_back(rows: &[(Key, Entry)], uid: &Uid, from: usize) -> usize
     first
 }
 
-/// The index just after the UID's last schedule: how many rows are at or below the UID's schedules.
+/// The index just after the UID's last schedule. This is the number of rows that are schedules of
+/// the UID or come before them.
 fn rows_up_to(rows: &[(Key, Entry)], uid: &Uid) -> usize
     ensures { result
         ≡ position_or_len (λ row. not (is_le (to_uid (key_meant row.0) uid.now))) rows.now }

@@ -35,7 +35,7 @@ const LT_0001: &[u8] =
 const LT_0006: &[u8] =
     b"LTBRAYTON 0006     2  FL                                                        ";
 
-/// The records of a small file with one schedule, which many rows use: `F2`.
+/// The records of a small file with one schedule, which many of these tests read.
 const F2: [&[u8]; 5] = [HD, BS, LO, LT, ZZ];
 
 /// The fault with this cause at this record.
@@ -109,13 +109,13 @@ fn fault_by(alloc: Global, text: &[u8], step: usize) -> Option<FileFault>
     parser.finish().err()
 }
 
-/// Checks with `judge_file` a text from a source. Returns why it is refused, or None.
+/// Checks a text from a source with `judge_file`. Returns why the text is refused, or None.
 fn judged_fault(alloc: Global, text: &[u8]) -> Option<ReadFault> {
     let mut source = Bytes::new(text, 7);
     judge_file(alloc, &mut source, 1000).err()
 }
 
-/// The fault of a text in the form in which `judge_file` returns it.
+/// Converts the fault of a text to the form in which `judge_file` returns it.
 fn read_fault(fault: Option<FileFault>) -> Option<ReadFault> {
     match fault {
         Some(fault) => Some(ReadFault::File(fault)),
@@ -381,8 +381,8 @@ fn cut_texts(rt: HostRuntime) {
     check_cuts(&rt, rt.alloc(), b"\r\n", 82);
 }
 
-/// Asserts that a parser with a limit of a thousand records accepts that many of an endless text,
-/// and refuses the next one.
+/// Asserts that a parser with a limit of a thousand records accepts a thousand records of an
+/// endless text and refuses the next record.
 fn check_records_without_end(rt: &impl Abort, alloc: Global) {
     let mut parser = FileParser::new(alloc, 1000);
     let mut again = Ok(());
@@ -447,8 +447,8 @@ fn memory_fault_from(
     }
 }
 
-/// Ends the input. Returns the file, or None if memory ran out, now at this record or before.
-/// Asserts that `finish` then returns that fault.
+/// Ends the input. Returns the file, or None if memory ran out: earlier, as `wanting` says, or now,
+/// at the record with this number. Asserts that `finish` returns this fault.
 fn file_at_end(
     rt: &impl Abort,
     parser: FileParser,

@@ -110,7 +110,8 @@ module _ {K : Type 0} (wrap : K → Key) (row_of : List ℕ → Key → Option (
   abbrev IsSeen : List Keyed → Spot → Type 0
   IsSeen rows spot = (row : Keyed) × (k : K) × (body : Body) × (slice_get rows spot.at ≡ Some row) × (row.0 ≡ wrap k) × (row.1.op ≡ put_with body)
 
-  -- if each spot has such a row, the index has the keys of these rows
+  -- if the row of each spot is put and has a key of the right kind, the index has the keys of these
+  -- rows
   same_keys : (rows : List Keyed) (piece : List Spot) → ((spot : Spot) → Contains piece spot → IsSeen rows spot)
       → map (λ (row : Row). row.0) (rows_at_spots rows piece) ≡ map (λ (row : IndexRow). wrap row.1) (filter_map (row_at rows) piece)
   same_keys rows [] seen = refl

@@ -48,7 +48,7 @@ module _ {A : Type 0} where
   at_ascends cmp (z ∷ zs) up (suc i) (suc j) x y before is_x is_y = at_ascends cmp zs up.1 i j x y (omega arith) is_x is_y
 
 module _ {A B : Type 0} (f : A → Option B) where
-  -- each result that a function has for the elements of a list is its result for some element of the list
+  -- each element of `filter_map f xs` is the result of f for some element of xs
   pub chosen_from : (xs : List A) (z : B) → Contains (filter_map f xs) z → (x : A) × Contains xs x × (f x ≡ Some z)
   chosen_from [] z among = absurd (nil-Contains z among)
   chosen_from (x ∷ xs) z among = by (f x) refl (chosen_from xs z) among
@@ -65,7 +65,7 @@ module _ {A B : Type 0} (f : A → Option B) where
           cases (inl same) = (x, cons-Contains-first x xs, is ∙ ap Some same)
           cases (inr behind) = later (rest behind)
 
-  -- the result that a function has for an element of a list is among its results for the list
+  -- the result of f for an element of xs, if there is one, is in `filter_map f xs`
   pub chosen_to : (xs : List A) (x : A) (z : B) → Contains xs x → f x ≡ Some z → Contains (filter_map f xs) z
   chosen_to [] x z among is = absurd (nil-Contains x among)
   chosen_to (y ∷ ys) x z among is = by (f y) refl (λ inside. chosen_to ys x z inside is) (Contains-cons y ys x among)
@@ -77,7 +77,7 @@ module _ {A B : Type 0} (f : A → Option B) where
       by None none rest (inr inside) = rest inside
       by (Some c) some rest (inr inside) = cons-Contains c (filter_map f ys) z (rest inside)
 
-  -- if a function preserves the order of elements, its results for an ascending list ascend
+  -- if f preserves the order of elements and xs ascends, `filter_map f xs` ascends
   module _ (low_cmp : A → A → Ordering) (cmp : B → B → Ordering) (keeps : (a b : A) (c d : B) → low_cmp a b ≡ Less → f a ≡ Some c → f b ≡ Some d → cmp c d
       ≡ Less) where
     chosen_above : (x : A) (c : B) → f x ≡ Some c → (xs : List A) → AllByRecursion (IsBelow low_cmp x) xs → AllByRecursion (IsBelow cmp c) (filter_map f xs)

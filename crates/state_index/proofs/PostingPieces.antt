@@ -41,7 +41,7 @@ module _ {A : Type 0} (P : A → Type 0) where
       by rest (inr inside) = rest inside
   dropped (x ∷ xs) (suc n) bound all z among = dropped xs n (omega arith) (λ k d low high. all (suc k) d (omega arith) (omega arith)) z among
 
--- ---- a test that passes up to some index and fails from there on
+-- ---- a monotone test passes for the first postings and fails for all postings after them
 
 above_at : (low : Posting) (postings : List Posting) (j : ℕ) (d : Posting) → AllByRecursion (IsBelow posting_cmp low) postings → j < length postings
     → posting_cmp low

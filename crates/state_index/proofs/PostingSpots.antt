@@ -1,4 +1,5 @@
--- Postings and their spots. A spot has the TIPLOC of the place whose index the posting has.
+-- Postings and their spots. A posting gives its place as an index in a list of places, and its spot
+-- gives the TIPLOC itself.
 use Rattle.std.proofs.Common.{◌≡◌, ℕ, List, [], ◌∷◌, ◌++◌, refl, ap, sym, ◌∙◌, subst, Some, None, Contains, Bool, true, false, cond, append-nil}
 use Rattle.std.specs.Prelude.{Option, ◌↔◌, filter, slice_get, option_map, option_and_then}
 use Rattle.std.specs.List.{cons_option}
@@ -142,7 +143,7 @@ postings_made places rows names made postings named are up same = record {
   };
 }
 
--- the postings whose rows are live have the spots whose rows are live
+-- the spots of the postings whose rows are live are exactly the spots whose rows are live
 pub kept_spots : (names : List (List ℕ)) (rows : List Keyed) (postings : List Posting)
     → spots_in names (filter (is_put_at_posting rows) postings) ≡ filter (is_put_at rows) (spots_in names postings)
 kept_spots names rows [] = refl

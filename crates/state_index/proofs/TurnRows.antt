@@ -31,7 +31,7 @@ winner (in_first one) = one
 winner (in_second other) = other
 winner (in_both one other) = (one.0, picked one.1 other.1)
 
--- Says that the rows of a turn have the same key, if it has two.
+-- Says that if a turn has two rows, they have the same key.
 abbrev pub IsLevel : AtKey → Type 0
 IsLevel (in_first one) = ⊤
 IsLevel (in_second other) = ⊤

@@ -1,4 +1,4 @@
--- At which index each row of two tables is in their join.
+-- The index that each row of two tables has in their join.
 use Rattle.std.specs.Prelude.{◌≡◌, ℕ, ◌+◌, ◌<◌, ◌≤◌, ◌^◌, [], ◌↔◌, ◌⊎◌, List, map, slice_get, Option, Some, option_map, option_and_then, Contains}
 use Rattle.std.specs.List.{filter_map}
 use Rattle.std.specs.Vec.{vec_len, vec_capacity}
@@ -20,7 +20,7 @@ use Rattle.state_index.specs.declared.posting.Posting.{Posting}
 use Rattle.state_index.specs.declared.moves.Moves.{Moves}
 use Rattle.state_index.specs.Spots.{Places, call_places, link_places, spots_of}
 
--- a floor of the code, translated into a floor of the definitions
+-- converts a floor from the code's type to the definitions' type
 abbrev pub floor_meant : Option stamp.FileStamp → Option FileStamp
 floor_meant floor = option_map file_stamp_meant floor
 
@@ -30,26 +30,26 @@ abbrev pub LapsesTo : List (model.Key × ops.Entry) → Option FileStamp → ℕ
 LapsesTo entries floor horizon key entry =
     (before : ops.Entry) × Contains entries (key, before) × IsKept floor before.stamp.file × (lapse_entry horizon before ≡ entry)
 
--- Says that these rows are the join of two tables, without what the floor doesn't keep, and with
--- the horizon applied.
+-- Says that these rows are the join of two tables, without the entries that the floor doesn't keep,
+-- and with the horizon applied.
 pub record AreJoined (first second : List (Key × Entry)) (floor : Option FileStamp) (horizon : ℕ) (joined : List (model.Key × ops.Entry)) : Type 0 where
   pub whole : List (Key × Entry)
   pub is_join : IsJoinOfRows (ord_max (on entry_meant entry_cmp)) first second whole
   pub ascending : states.AreAscending joined
   pub members : (key : model.Key) (entry : ops.Entry) → Contains joined (key, entry) ↔ LapsesTo (map row_meant whole) floor horizon key entry
 
--- a spot with the index that its row has in the join; none if the row isn't live there
+-- a spot with the index that its row has in the join; none if the row isn't live in the join
 abbrev pub moved_spot : List (Option ℕ) → Spot → Option Spot
 moved_spot moves spot =
     option_map (λ at. record { place = spot.place; at = at }) (option_and_then (λ (move : Option ℕ). move) (slice_get moves spot.at))
 
--- the spots with the indexes that their rows have in the join; spots of rows that aren't live there
--- are left out
+-- the spots with the indexes that their rows have in the join; spots of rows that aren't live in
+-- the join are left out
 abbrev pub moved_spots : List (Option ℕ) → List Spot → List Spot
 moved_spots moves spots = filter_map (moved_spot moves) spots
 
 -- a posting with the new indexes of its place and its row; none if the row isn't live in the join.
--- `ranks` has the new index of each place
+-- `ranks` gives the new index of each place
 abbrev pub moved_posting : List ℕ → List (Option ℕ) → Posting → Option Posting
 moved_posting ranks moves posting = option_and_then
     (λ rank. option_map (λ at. record { place = rank; at = at }) (option_and_then (λ (move : Option ℕ). move) (slice_get moves posting.at)))
@@ -60,8 +60,8 @@ moved_posting ranks moves posting = option_and_then
 abbrev pub moved_postings : List ℕ → List (Option ℕ) → List Posting → List Posting
 moved_postings ranks moves postings = filter_map (moved_posting ranks moves) postings
 
--- Says that the order of rows is kept: of two rows that are in the join, the one before has the
--- lower new index.
+-- Says that the new indexes are strictly increasing: of two rows that are in the join, the earlier
+-- row has the lower new index.
 abbrev pub AreRising : List (Option ℕ) → Type 0
 AreRising moves = (i j p q : ℕ) → i < j → slice_get moves i ≡ Some (Some p) → slice_get moves j ≡ Some (Some q) → p < q
 
@@ -70,7 +70,7 @@ abbrev pub HasMovedSpots : Places → List (model.Key × ops.Entry) → List (mo
 HasMovedSpots places first second joined moves = (spot : Spot) → Contains (spots_of places joined) spot
     ↔ (Contains (moved_spots moves.first.items (spots_of places first)) spot ⊎ Contains (moved_spots moves.second.items (spots_of places second)) spot)
 
--- Says that these moves have, for each row of two tables, its index in their join.
+-- Says that these moves give, for each row of two tables, its index in their join.
 pub record AreMoves (first second joined : List (model.Key × ops.Entry)) (moves : Moves) : Type 0 where
   pub first_rise : AreRising moves.first.items
   pub second_rise : AreRising moves.second.items

@@ -10,18 +10,17 @@ use Rattle.state_index.specs.declared.posting.Posting.{Posting}
 abbrev pub posting_of : List ℕ → ℕ → ℕ → Posting
 posting_of ranks at number = record { place = get_or ranks number 0; at = at }
 
--- the index of the row just before those whose pieces are still to come, given how many rows there
--- are
+-- the index of the last row whose piece was taken, given how many rows there are and the pieces
+-- that remain
 abbrev pub row_before : ℕ → List Piece → ℕ
 row_before rows left = rows - length left - 1
 
--- the postings of the rows whose pieces are still to come, given how many rows there are
+-- the postings of the rows whose pieces remain, given how many rows there are
 abbrev pub noted_postings : Bool → List ℕ → List ℕ → ℕ → List Piece → List Posting
 noted_postings links ranks numbers rows [] = []
 noted_postings links ranks numbers rows (piece ∷ pieces) =
     map (posting_of ranks (row_before rows pieces)) (numbers_of links numbers piece) ++ noted_postings links ranks numbers rows pieces
 
--- the postings for the remaining numbers of the current row, followed by the postings of the rows still
--- to come
+-- the postings for the remaining numbers of the current row, followed by the postings of the rows whose pieces remain
 abbrev pub postings_left : Bool → List ℕ → List ℕ → ℕ → List Piece → List ℕ → List Posting
 postings_left links ranks numbers rows pieces here = map (posting_of ranks (row_before rows pieces)) here ++ noted_postings links ranks numbers rows pieces

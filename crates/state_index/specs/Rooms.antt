@@ -22,7 +22,7 @@ pub record HasSlots (places postings : ℕ) (slots : Slots) : Type 0 where
   pub room : postings ≤ length slots.postings.items
 
 -- Says that there is room for the index of these rows. Their places are in order, each provisional
--- number has the index of its place, and there is memory for all postings.
+-- number is mapped to the index of its place, and there is memory for all postings.
 pub record HasRoomFor (rows : List (model.Key × ops.Entry)) (names : List (List ℕ)) (room : Room) : Type 0 where
   pub named : IsStrictlyAscending bytes_cmp room.places.items
   pub ranks : AreRanks room.places.items names room.ranks.items

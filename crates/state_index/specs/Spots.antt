@@ -1,5 +1,5 @@
--- What an index of rows has: the spots of all calls of live schedules, and the spots of all live
--- associations.
+-- What an index of rows contains: the spots of all calls of live schedules, and the spots of all
+-- live associations.
 use Rattle.std.specs.Prelude.{ℕ, ◌+◌, ◌↔◌, List, [], ◌∷◌, ◌++◌, map, Contains, Option, option_map, slice_get}
 use Rattle.std.specs.List.{filter_map}
 use Rattle.docker_model.specs.file.Change.{Key}
@@ -33,7 +33,7 @@ spots_from places at (row ∷ rows) = map (spot_at at) (places_of places row) ++
 abbrev pub spots_of : Places → List (Key × Entry) → List Spot
 spots_of places rows = spots_from places 0 rows
 
--- Says that these are the spots of the rows, in ascending order and each once.
+-- Says that these are exactly the spots of the rows, in strictly ascending order.
 pub record AreSpotsOf (places : Places) (rows : List (Key × Entry)) (spots : List Spot) : Type 0 where
   pub ascending : IsStrictlyAscending spot_cmp spots
   pub members : (spot : Spot) → Contains spots spot ↔ Contains (spots_of places rows) spot

@@ -1,4 +1,4 @@
--- Translates spots into rows of the two indexes of a live table in the definitions.
+-- Converts spots to rows of the two indexes that the definitions give a live table.
 use Rattle.std.specs.Prelude.{ℕ, List, Option, Some, None, slice_get, option_and_then}
 use Rattle.std.specs.List.{filter_map}
 use Rattle.docker_model.specs.file.Change.{Key, association_key, schedule_key}

@@ -20,7 +20,7 @@ pub data AtKey : Type 0 where
   in_second : (other : Key × Entry) → AtKey
   in_both : (one other : Key × Entry) → AtKey
 
--- the turn of the code as an `AtKey`
+-- converts a `Turn` of the code to an `AtKey`
 abbrev pub turn_meant : Turn → AtKey
 turn_meant (turn.First one) = in_first one.now
 turn_meant (turn.Second other) = in_second other.now
@@ -56,8 +56,8 @@ abbrev pub turns_of : List (Key × Entry) → List (Key × Entry) → List AtKey
 turns_of [] ys = map in_second ys
 turns_of (x ∷ xs) ys = turns_from x (turns_of xs) ys
 
--- whether a floor keeps what comes from a file: its stamp isn't below the floor. Without a floor
--- everything is kept
+-- whether a floor keeps the entries of the file with this stamp: the stamp isn't below the floor.
+-- Without a floor everything is kept
 abbrev pub is_kept : Option FileStamp → FileStamp → Bool
 is_kept None stamp = true
 is_kept (Some floor) stamp = not (is_gt (file_stamp_cmp floor stamp))

@@ -28,10 +28,10 @@ use cif_change::{Key, Memory, Notes, Tiploc};
 use docker_join::Entry;
 use std::alloc::Global;
 
-/// An index of a table's rows by place: for each TIPLOC, the rows that call or are linked at it.
+/// An index of a table's rows by place: for each TIPLOC, the rows that call or are linked there.
 #[derive(Debug, Drop)]
 pub struct Index {
-    /// The TIPLOCs that the rows name, in ascending order and each once.
+    /// The TIPLOCs that the rows name, in ascending order and without duplicates.
     pub places: Vec<[u8; 7]>,
     /// One posting for each live schedule and each place at which it calls, in an LO, LI or LT
     /// record. Postings ascend by place and then by row, and none is repeated.

@@ -25,8 +25,8 @@ pub struct Moves {
 }
 
 impl Moves {
-    /// No moves yet, but memory for the moves of this many rows of each table. Returns `Memory` if
-    /// the allocator refuses.
+    /// Reserves memory for the moves of this many rows of each table. No row has a move yet.
+    /// Returns `Memory` if the allocator refuses.
     pub fn with_room(alloc: Global, first: usize, second: usize) -> Result<Moves, Memory>
         ensures { IfOk result (HasRows first second) }
     {
@@ -165,8 +165,8 @@ fn index_after(entry: &Entry, floor: &Option<FileStamp>, at: u32) -> u32
     }
 }
 
-/// Whether a floor keeps what comes from a file: its stamp isn't below the floor. Without a floor
-/// everything is kept.
+/// Whether a floor keeps the entries of the file with this stamp: the stamp isn't below the floor.
+/// Without a floor everything is kept.
 fn is_kept(floor: &Option<FileStamp>, stamp: &FileStamp) -> bool
     ensures { result ≡ is_kept (floor_meant floor.now) (file_stamp_meant stamp.now) }
 {

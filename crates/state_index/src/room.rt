@@ -15,7 +15,7 @@ use std::alloc::Global;
 /// What making an index needs: the ordered places, and memory for the postings.
 #[derive(Debug, Drop)]
 pub struct Room {
-    /// The TIPLOCs that the rows name, in ascending order and each once.
+    /// The TIPLOCs that the rows name, in ascending order and without duplicates.
     pub places: Vec<[u8; 7]>,
     /// The index in `places` for each provisional number of the notes.
     pub ranks: Vec<u32>,

@@ -1,4 +1,5 @@
--- Giving a state with one ledger item and one entry as parts: first the item, and then the entry.
+-- Adding the parts of a state with one ledger item and one entry: first the item, and then the
+-- entry.
 use Rattle.std.proofs.Common.{◌≡◌, List, [], ◌∷◌, ◌++◌, map, length, get_or, ap, sym, ◌∙◌, subst, arith}
 use Rattle.docker_model.specs.state.Stamp as stamps
 use Rattle.docker_model.specs.state.State.{State, IsLedger, IsValid, IsGoodEntry}
@@ -16,7 +17,7 @@ only_element [] x d one is = absurd (let bad : 0 ≡ 1 = one in omega arith)
 only_element (y ∷ []) x d one is = ap (λ v. v ∷ []) (sym is)
 only_element (y ∷ z ∷ xs) x d one is = absurd (omega arith)
 
--- the only item of a valid state can be given as the first item
+-- the only item of a valid state can be added as the first item
 pub one_item : (items : List LedgerItem) (item other : LedgerItem) → length items ≡ 1 → item ≡ get_or items 0 other
     → (state : State) → map item_meant items ≡ state.ledger → IsValid state → (before : List stamps.LedgerItem) → before ≡ []
     → IsLedger (before ++ item_meant item ∷ [])
@@ -25,7 +26,7 @@ one_item items item other one is state items_are valid before none =
     (sym items_are ∙ ap (map item_meant) (only_element items item other one is) ∙ ap (λ (xs : List stamps.LedgerItem). xs ++ item_meant item ∷ []) (sym none))
     valid.ledger
 
--- the only entry of a valid state is good with the only item as the ledger
+-- the only entry of a valid state is good if the ledger has just the only item
 good_entry : (items : List LedgerItem) (item other : LedgerItem) → length items ≡ 1 → item ≡ get_or items 0 other
     → (rows : List (Key × Entry)) (row next : Key × Entry) → length rows ≡ 1 → row ≡ get_or rows 0 next
     → (state : State) → map item_meant items ≡ state.ledger → map row_meant rows ≡ state.entries → IsValid state
@@ -38,7 +39,7 @@ good_entry items item other one is rows row next single is_row state items_are r
     let here : IsValid (record { horizon = state.horizon; ledger = item_meant item ∷ []; entries = row_meant row ∷ [] }) = subst IsValid whole valid in
     here.entries.0 0 (row_meant row) (omega arith)
 
--- the only entry of a valid state can be given after the only item
+-- the only entry of a valid state can be added after the only item
 pub one_entry : (items : List LedgerItem) (item other : LedgerItem) → length items ≡ 1 → item ≡ get_or items 0 other
     → (rows : List (Key × Entry)) (row next : Key × Entry) → length rows ≡ 1 → row ≡ get_or rows 0 next
     → (state : State) → map item_meant items ≡ state.ledger → map row_meant rows ≡ state.entries → IsValid state

@@ -1,5 +1,5 @@
-//! Worked examples of entries, tables and states, which are made from files, joined, put under
-//! horizons and received. Also of calls at a place, and of indexes. This crate has only tests.
+//! Worked examples of entries, tables, states and indexes. States are made from files, joined,
+//! received, set under horizons, and searched for the calls at a place. This crate has only tests.
 #![tactic(auto)]
 
 #[cfg(test)]

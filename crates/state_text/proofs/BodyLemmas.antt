@@ -9,8 +9,8 @@ use Rattle.docker_model.specs.state.State.{IsAssociationOf}
 use Rattle.cif_laws.proofs.records.Columns.{good_fields}
 use Rattle.state_text.specs.Judged.{IsFirstOf}
 
--- an association record with good fields is this key's body if and only if its transaction is N and
--- its key is this one
+-- an association record with good fields is a body of the given key if and only if its transaction
+-- is N and its key equals the given key
 pub association_test : (key : AssociationKey) (line view : List ℕ) (test : Bool) → IsRecord line → HasKind association line → HasGoodFields line → view ≡ line
     → IsTrue test ↔ (HasNewTransaction view × (association_named view ≡ association_key key)) → IsTrue test ↔ IsAssociationOf key line
 association_test key line view test is kind fields same tested = (
@@ -20,7 +20,8 @@ association_test key line view test is kind fields same tested = (
   (λ of. tested.1 (subst (λ l. HasNewTransaction l × (association_named l ≡ association_key key)) (sym same) (of.new, of.key_is))),
 )
 
--- a line whose transaction isn't N, or whose key is another, isn't a first line
+-- a line whose transaction isn't N, or whose key is another one, isn't the first line of a schedule
+-- with the given key
 pub not_named : (horizon : ℕ) (key : ScheduleKey) (line : List ℕ) (test : Bool)
     → IsTrue test ↔ (HasNewTransaction line × IsTrue (is_date (columns 10 15 line)) × (schedule_named line ≡ schedule_key key)) → test ≡ false
     → ¬ IsFirstOf horizon key line

@@ -32,11 +32,11 @@ takes_then (Some taken) x y c e first second =
     longer None = None
     longer (Some t) = Some (t ++ y)
 
--- a piece that is added to the buffer is gathered
+-- appending a piece to the buffer gathers the piece
 pub gathers_add : (start : Told) (held piece more : List ℕ) → more ≡ held ++ piece → Gathers start held piece start more
 gathers_add start held piece more is = ([], is, takes_none start)
 
--- if two pieces are gathered one after the other, both are gathered
+-- if two pieces are gathered one after the other, their concatenation is gathered
 pub gathers_then : (a : Told) (b p : List ℕ) (c : Told) (d q : List ℕ) (e : Told) (f : List ℕ)
     → Gathers a b p c d → Gathers c d q e f → Gathers a b (p ++ q) e f
 gathers_then a b p c d q e f first second = (
@@ -52,7 +52,7 @@ take_past (x ∷ xs) ys n =
     let same : length (x ∷ xs) + n ≡ suc (length xs + n) = omega arith in
     ap (λ k. take k (x ∷ xs ++ ys)) same ∙ ap (λ zs. x ∷ zs) (take_past xs ys n)
 
--- a proper prefix of some bytes is also a proper prefix of those bytes and more
+-- if a sink took a proper prefix of x, it took a proper prefix of x ++ y
 part_longer : (a : Told) (x y : List ℕ) (e : Told) → TakesPart a x e → TakesPart a (x ++ y) e
 part_longer a x y e part =
     let size = length-append x y in
@@ -60,7 +60,8 @@ part_longer a x y e part =
     let within : part.0 ≤ length x = omega arith in
     (part.0, omega arith, subst (λ xs. Takes a xs e) (sym (take-append-le part.0 x y within)) part.2)
 
--- if a piece was gathered and then a part of the bytes after it was taken, a part of both was taken
+-- let the buffer first hold b. If p was gathered, and then a proper prefix of the held bytes and q
+-- was taken, a proper prefix of b ++ p ++ q was taken in all
 gathers_part : (a : Told) (b p : List ℕ) (c : Told) (d q : List ℕ) (e : Told)
     → Gathers a b p c d → TakesPart c (d ++ q) e → TakesPart a (b ++ (p ++ q)) e
 gathers_part a b p c d q e first part =
@@ -74,10 +75,10 @@ gathers_part a b p c d q e first part =
       subst (λ xs. Takes a xs e) same (takes_then a first.0 (take part.0 (d ++ q)) c e first.2 part.2),
     )
 
--- ---- what is given, by the result
+-- ---- what a result says about the sink
 
 module _ {S A E : Type 0} (taken : S → Told) (failures : S → ℕ) where
-  -- writing the buffer writes its bytes to the sink
+  -- flushing the buffer is writing the empty piece through the buffer
   pub flush_gives : (old new : S) (held holds : List ℕ) (result : Result A E) → Flushes taken failures old held result new
       → OnOk result (holds ≡ []) → Gives taken failures old held [] result new holds
   flush_gives old new held holds (Ok done) whole empty = ((held, ap (λ xs. held ++ xs) empty, whole.0), whole.1)
@@ -134,8 +135,8 @@ module _ {S A E : Type 0} (taken : S → Told) (failures : S → ℕ) where
 -- ---- the bytes of a list, element by element
 
 module _ {X : Type 0} (bytes : List X → List ℕ) (joined : (xs ys : List X) → bytes (xs ++ ys) ≡ bytes xs ++ bytes ys) where
-  -- the bytes of the first elements, followed by the bytes of the next one, are the bytes of one
-  -- element more
+  -- the bytes of the first i + 1 elements are the bytes of the first i elements, followed by the
+  -- bytes of the next element
   pub one_more : (xs : List X) (i : ℕ) (x : X) (piece : List ℕ) → i < length xs → x ≡ get_or xs i x → bytes (x ∷ []) ≡ piece
       → bytes (take (i + 1) xs) ≡ bytes (take i xs) ++ piece
   one_more xs i x piece below at is =
@@ -143,14 +144,15 @@ module _ {X : Type 0} (bytes : List X → List ℕ) (joined : (xs ys : List X) �
       ∙ ap (λ p. bytes (take i xs) ++ p) is
 
   module _ (xs : List X) (i : ℕ) (x : X) (piece : List ℕ) (below : i < length xs) (at : x ≡ get_or xs i x) (is : bytes (x ∷ []) ≡ piece) where
-    -- if the first elements and then the next one are gathered, one element more is gathered
+    -- if the first i elements are gathered and then the next element, the first i + 1 elements are
+    -- gathered
     pub each_given : (a : Told) (b : List ℕ) (c : Told) (d : List ℕ) (e : Told) (f : List ℕ)
         → Gathers a b (bytes (take i xs)) c d → Gathers c d piece e f → Gathers a b (bytes (take (i + 1) xs)) e f
     each_given a b c d e f first second =
         subst (λ p. Gathers a b p e f) (sym (one_more xs i x piece below at is)) (gathers_then a b (bytes (take i xs)) c d piece e f first second)
 
-    -- if the first elements are gathered and the sink takes a proper prefix of the next one's
-    -- bytes, it has taken a proper prefix of the whole list's bytes
+    -- let the first i elements be gathered. If the sink then takes a proper prefix of the next
+    -- element's bytes, it has taken a proper prefix of the list's bytes
     pub each_part : (a : Told) (b : List ℕ) (c : Told) (d : List ℕ) (e : Told)
         → Gathers a b (bytes (take i xs)) c d → TakesPart c (d ++ piece) e → TakesPart a (b ++ bytes xs) e
     each_part a b c d e first part =
@@ -191,6 +193,6 @@ pub concat_join : (xs ys : List (List ℕ)) → concat (xs ++ ys) ≡ concat xs 
 concat_join [] ys = refl
 concat_join (x ∷ xs) ys = ap (λ zs. x ++ zs) (concat_join xs ys) ∙ sym (append_assoc x (concat xs) (concat ys))
 
--- a piece that is added after room was made for it is gathered
+-- making room for a piece and then appending the piece gathers it
 pub room_then_add : (a : Told) (b : List ℕ) (c : Told) (d piece f : List ℕ) → Gathers a b [] c d → f ≡ d ++ piece → Gathers a b piece c f
 room_then_add a b c d piece f room is = gathers_then a b [] c d piece c f room (gathers_add c d piece f is)

@@ -1,4 +1,4 @@
--- The head of an entry: its bytes are its parts, written.
+-- The bytes of an entry's head are the concatenation of the bytes of its parts.
 use Rattle.std.proofs.Common.{◌≡◌, ℕ, suc, ◌+◌, ◌<◌, List, [], ◌∷◌, ◌++◌, length, take, get_or, refl, ap, sym}
 use Rattle.std.proofs.Common.{◌∙◌, subst, inl, inr, arith, append_assoc, append-nil, length-append}
 use Rattle.std.specs.Prelude.{slice_index}
@@ -35,13 +35,13 @@ behind_are (b ∷ front) behind small = behind_are front behind small.1
 taken : (n : ℕ) (all front behind : List ℕ) → all ≡ front ++ behind → n ≡ length front → take n all ≡ front
 taken n all front behind split size = ap (λ m. take m all) size ∙ ap (take (length front)) split ∙ take-append_seam front behind
 
--- the number of a tag is one of the three
+-- the number of a tag is 1, 2 or 3
 pub is_tag : (kind : Tag) → IsTag (tag_meant kind)
 is_tag tag.Tiploc = inl refl
 is_tag tag.Assoc = inr (inl refl)
 is_tag tag.Schedule = inr (inr refl)
 
--- a put's key, stamp and op, written, are the bytes from which they were read
+-- writing a put's key, stamp and op gives the bytes from which they were read
 pub put_text : (number : ℕ) (bytes key rest stamp op : List ℕ) → IsTag number → bytes ≡ key ++ rest → rest ≡ stamp ++ op → length key ≡ key_width number
     → length stamp ≡ 15 → length op ≡ 1 → slice_index op 0 ≡ 1 → ((i : ℕ) → get_or bytes i 0 < 256)
     → key_text (key_in number key) ++ stamp_bytes (stamp_in stamp) ++ 1 ∷ [] ≡ number ∷ bytes
@@ -61,7 +61,7 @@ put_text number bytes key rest stamp op is front back key_size stamp_size op_siz
     op_is : 1 ∷ [] ≡ op
     op_is = ap (λ b. b ∷ []) (sym put) ∙ single op op_size
 
--- the body comes after a put's key, stamp and op
+-- after a put's key, stamp and op, the next part is the body
 pub body_after : (count : ℕ) (state : State) (key : Key) (stamp : Stamp) (number n : ℕ) (bytes put body : List ℕ) → bytes ≡ put ++ body → length put ≡ n
     → IsStampHere state (key_meant key) (stamp_meant stamp)
     → key_text (key_meant key) ++ stamp_bytes (stamp_meant stamp) ++ 1 ∷ [] ≡ number ∷ put
@@ -79,7 +79,7 @@ body_after count state key stamp number n bytes put body split size here text =
       },
     )
 
--- the lines come after a schedule's key, stamp, op and number of lines
+-- after a schedule's key, stamp, op and number of lines, the next part is the first line
 pub lines_after : (count : ℕ) (state : State) (key : ScheduleKey) (stamp : Stamp) (n : ℕ) (bytes put rest number lines : List ℕ) → bytes ≡ put ++ rest
     → rest ≡ number ++ lines → length put ≡ 25 → length number ≡ 4 → ((i : ℕ) → get_or bytes i 0 < 256)
     → IsStampHere state (schedule_key (schedule_meant key)) (stamp_meant stamp)

@@ -9,7 +9,7 @@ use Rattle.std.specs.Cmp.{IsTotalOrder}
 use Rattle.std.proofs.lemmas.List.Elements.{All-from_recursion, recursion_from_All}
 use Rattle.docker_model.specs.state.Order.{IsBelow, IsStrictlyAscending}
 
--- if the test for less passes, the comparison is less
+-- if `is_lt` is true of an ordering, the ordering is `Less`
 pub less_by_test : (o : Ordering) → is_lt o ≡ true → o ≡ Less
 less_by_test Less is = refl
 less_by_test Equal is = cc

@@ -18,7 +18,7 @@ lines_length : (lines : List (List ℕ)) → AllByRecursion IsRecord lines → l
 lines_length [] all = refl
 lines_length (line ∷ lines) all = let rest = lines_length lines all.1 in let one = all.0.0 in let size = length-append line (concat lines) in omega arith
 
--- the length of a schedule's body
+-- the text of a schedule's body with n lines has 4 + 80 * n bytes
 pub schedule_length : (key : Key) (body : Body) (lines : List (List ℕ)) (n : ℕ) → body ≡ schedule_body lines → IsBodyOf key body → n ≡ length lines
     → 4 + 80 * n ≡ length (put_bytes body)
 schedule_length key body lines n is of count = subst (λ o. 4 + 80 * n ≡ length (put_bytes o)) (sym is) (by key (subst (IsBodyOf key) is of))
@@ -32,7 +32,8 @@ schedule_length key body lines n is of count = subst (λ o. 4 + 80 * n ≡ lengt
     by (tiploc_key code) of = absurd of
     by (association_key k) of = absurd of
 
--- the length of an entry
+-- the length of an entry's text is the length of its key with its tag, plus 15, plus the length of
+-- its op with its body
 pub entry_length : (entry : Key × Entry) → IsOfWidth entry → length (key_text entry.0) + 15 + length (op_bytes entry.1.op) ≡ length (entry_bytes entry)
 entry_length entry is =
     let wide = is.2 in
@@ -45,7 +46,7 @@ widths : (ledger : List LedgerItem) (entries : List (Key × Entry)) → IsLedger
 widths ledger [] is good = tt
 widths ledger (entry ∷ entries) is good = ((good.0.key, good.0.op, stamp_width ledger entry.1.stamp is good.0.stamp), widths ledger entries is good.1)
 
--- the entries of a valid state have their exact widths
+-- in a valid state, each entry's key is good, its op fits the key, and its stamp has 15 bytes
 pub valid_widths : (state : State) → IsValid state → All IsOfWidth state.entries
 valid_widths state valid =
     All-from_recursion IsOfWidth state.entries
@@ -59,7 +60,8 @@ items_length (item ∷ items) good =
     let joined = length-append (item_bytes item) (flat_map item_bytes items) in
     omega arith
 
--- the length of a valid state's text
+-- the length of a valid state's text is 22, plus 19 for each ledger item, plus the length of its
+-- entries
 pub text_length : {A B : Type 0} (state : State) (item : A → LedgerItem) (row : B → Key × Entry) (items : List A) (rows : List B) (total : ℕ) → IsValid state
     → map item items ≡ state.ledger → map row rows ≡ state.entries → total ≡ length (flat_map entry_bytes (map row rows))
     → 22 + 19 * length items + total ≡ length (state_text dks_2 state)

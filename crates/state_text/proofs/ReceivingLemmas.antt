@@ -21,7 +21,7 @@ pub above_staged : (own : State) (floor : Option FileStamp) (entries staged : Li
 above_staged own floor entries staged key are above other among =
     member_of (λ (entry : Key × Entry). IsBelow key_cmp entry.0 key) entries other above ((are.members other.0 other.1).0 among).0
 
--- after one more entry is offered, an earlier entry or this one is staged if and only if the state
+-- offering one more entry keeps the staging correct: an entry is staged if and only if the state
 -- has to take it over
 pub offered_more : (own : State) (staging after : Staging) (entries : List (Key × Entry)) (key : Key) (entry : Entry) → IsStagedOf own staging entries
     → IsAboveStaged staging.staged key → IsOffered own staging key entry after → IsStagedOf own after (entries ++ (key, entry) ∷ [])

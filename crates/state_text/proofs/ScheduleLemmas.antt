@@ -22,7 +22,7 @@ first_kind line begin =
     let same : line ≡ begin.1.basic = ap first_record begin.1.whole in
     (subst (HasKind basic_schedule) (sym same) begin.1.kind, subst HasGoodFields (sym same) begin.1.fields)
 
--- a line that isn't a first line for the key begins no schedule of the key
+-- a line that isn't a first line for the key doesn't begin a schedule with this key
 pub not_first : (state : State) (key : ScheduleKey) (count : ℕ) (lines : Lines) (line : List ℕ) → lines ≡ [] → ¬ IsFirstOf state.horizon key line
     → ¬ AreLinesUpToIn state key count (lines ++ line ∷ [])
 not_first state key count lines line none bad are =
@@ -30,7 +30,8 @@ not_first state key count lines line none bad are =
     let first = first_kind line one.0.lines_of.begin in
     bad (record { kind = first.0; fields = first.1; of_key = record { new = one.0.lines_of.new; key_is = one.0.lines_of.key_is; stays = one.1 } })
 
--- with one more line, the lines still have the key, and the schedule still doesn't lapse
+-- after one more line is appended, the lines still have the key, and the schedule still doesn't
+-- lapse
 pub one_line_more : (state : State) (key : ScheduleKey) (lines : Lines) (line : List ℕ) → (lines ≡ []) ⊎ AreLinesIn state key lines
     → (lines ≡ [] → IsOfKey state.horizon key line)
     → BeginsSchedule (lines ++ line ∷ []) → AreLinesIn state key (lines ++ line ∷ [])
@@ -75,7 +76,8 @@ written_last lines after line found at put last is =
     is ∙ ap (λ rows. slice_index_or rows at found) put ∙ ap (λ n. slice_index_or (lines ++ line ∷ []) n found) last
     ∙ get_or-append_seam lines line [] found
 
--- lines with which some schedule begins are the first of the key's `count` lines
+-- let a line be allowed next among `count` lines. If the lines before it have the key, then with
+-- this line they are the first lines of a schedule with the key
 pub lines_up_to : (state : State) (key : ScheduleKey) (count : ℕ) (lines : Lines) (line bytes : List ℕ) → line ≡ bytes
     → (lines ≡ []) ⊎ AreLinesIn state key lines → (lines ≡ [] → IsOfKey state.horizon key line)
     → BeginUpTo count (lines ++ line ∷ []) → AreLinesUpToIn state key count (lines ++ bytes ∷ [])
@@ -83,7 +85,8 @@ lines_up_to state key count lines line bytes same here first up_to =
     let are = one_line_more state key lines line here first up_to.begin in
     subst (λ b. AreLinesUpToIn state key count (lines ++ b ∷ [])) same (record { lines_of = are.0; complete = up_to.complete }, are.1)
 
--- the fault of a refused line says whether the line continues the key's lines
+-- if a line is refused after some lines of the key's schedule, it is refused for the same reason as
+-- a line of the schedule with this key
 pub line_refused : (state : State) (key : ScheduleKey) (count : ℕ) (lines : Lines) (line bytes : List ℕ) → line ≡ bytes
     → (lines ≡ []) ⊎ AreLinesIn state key lines → (lines ≡ [] → IsOfKey state.horizon key line)
     → (cause : Option StateCause) → IsLineRefusal count lines line cause → IsUpToRefusal state key count lines bytes cause

@@ -53,7 +53,7 @@ module _ {A : Type 0} (item : A → LedgerItem) where
 abbrev pub stamp_order : {A : Type 0} → (A → LedgerItem) → FileStamp → A → Ordering
 stamp_order item file x = file_stamp_cmp (item x).stamp file
 
--- the stamps of a ledger's items never descend
+-- the comparison of a ledger's stamps with a given stamp is non-decreasing along the ledger
 pub stamps_rise : {A : Type 0} (item : A → LedgerItem) (items : List A) (file : FileStamp) → IsLedger (map item items)
     → IsNonDecreasingBy (λ x. ordering_index (stamp_order item file x)) items
 stamps_rise item items file is = λ i j d before within. by i j d before within (cases_lt i j)
@@ -81,7 +81,7 @@ mapped f (x ∷ xs) i y within is = (
     first (z ∷ ys) zero below at = at z
     first (z ∷ ys) (suc j) below at = first ys j (omega arith) at
 
--- the search finds a file if an item has its stamp
+-- if an item's stamp equals a file's stamp, the ledger contains this stamp
 pub file_found : {A : Type 0} (item : A → LedgerItem) (items : List A) (file : FileStamp) (at : ℕ) → at < length items
     → ((d : A) → stamp_order item file (get_or items at d) ≡ Equal) → IsTrue true ↔ Contains (file_stamps (map item items)) file
 file_found item items file at within tied = (
@@ -125,7 +125,7 @@ file_missing item items file at parts = ((λ yes. absurd (let no : false ≡ tru
             let tied = equal in cc
         by (inr after) = let above = parts.1 told.0 told.1 after told.2 in let same = ap (stamp_order item file) (told.3 told.1) in let tied = equal in cc
 
--- a stamp with a day after the last one isn't any file's in a ledger
+-- no file in a ledger has a stamp whose day is after the last day
 pub day_too_late : (ledger : List LedgerItem) (stamp : Stamp) → IsLedger ledger → last_day < stamp.file.moment.day → ¬ IsStampIn ledger stamp
 day_too_late ledger stamp is late in_it =
     let found = Contains-map (λ (it : LedgerItem). it.stamp) ledger stamp.file in_it.in_ledger in

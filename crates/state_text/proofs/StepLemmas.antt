@@ -1,4 +1,4 @@
--- From one part to the next: ledger items and lines.
+-- How the parts that were read grow by a ledger item or a line.
 use Rattle.std.proofs.Common.{◌≡◌, ℕ, ◌+◌, ◌-◌, ◌<◌, ◌≤◌, ◌^◌, List, [], ◌∷◌, ◌++◌, length, ap, sym, ◌∙◌, subst, arith, length-append, Ok, Err}
 use Rattle.std.specs.Prelude.{Result, IfOk, IfErr}
 use Rattle.docker_model.specs.file.Change.{ScheduleKey, schedule_key, schedule_body}
@@ -17,7 +17,7 @@ use Rattle.state_text.specs.Judged.{MayFollow, Judges}
 use Rattle.state_text.specs.declared.stage.Stage.{Stage}
 use Rattle.state_text.specs.Stage.{stage_meant, IsFresh}
 
--- a ledger and one more item that may follow it are a ledger
+-- if an item may follow a ledger, appending the item to the ledger gives a ledger
 pub item_follows : (ledger told : List LedgerItem) (item meant : LedgerItem) → told ≡ ledger → IsLedger ledger → meant ≡ item → MayFollow told item
     → IsLedger (ledger ++ meant ∷ [])
 item_follows ledger told item meant same is equal may =
@@ -31,7 +31,8 @@ taken_all lines line taken n is last =
     let same : length taken ≡ length (lines ++ line ∷ []) = ap (λ (ls : List (List ℕ)). length ls) is in
     omega arith
 
--- if a result is the stage after an entry, or out of memory, the entry is judged
+-- a result that is the stage after an entry, or out of memory, is a correct judgement of the
+-- entry's last part
 pub entry_judged : (format : Format) (before after : Before) (bytes : List ℕ) (new : State) (lines : List (List ℕ)) (result : Result Stage StateCause)
     → IfOk result (λ s. (ls : List (List ℕ)) → stage_meant s new ls ≡ after) → IfOk result (λ s. IsFresh s new)
     → IfErr result (λ told. told ≡ cause.Memory) → after ≡ advance format before bytes → IsWantingHere format before bytes
@@ -41,7 +42,7 @@ entry_judged format before after bytes new lines (Ok s) is fresh err same here =
 entry_judged format before after bytes new lines (Err told) is fresh err same here =
     subst (λ (k : StateCause). IsBadHere format before bytes (cause_meant k)) (sym err) here
 
--- equal stages judge a part in the same way
+-- a correct judgement of a part at one stage is correct at any equal stage
 pub judged_at : (meant format : Format) (at exact : Stage) → meant ≡ format → at ≡ exact → (state new : State) (lines after : List (List ℕ)) (bytes : List ℕ)
     (result : Result Stage StateCause) → Judges format (stage_meant exact state lines) bytes new after result
     → Judges meant (stage_meant at state lines) bytes new after result
@@ -68,7 +69,7 @@ module _ (format : Format) (count : ℕ) (state : State) (key : ScheduleKey) (st
       ∙ sym (all_lines count state key stamp (lines ++ line ∷ []))
       ∙ ap (λ m. after_lines count state key stamp m (lines ++ line ∷ [])) (sym (count_is enough))
 
-  -- after the last line the lines are a schedule
+  -- after the last line, the lines are a schedule with the key
   pub whole_schedule : (body : List (List ℕ)) → body ≡ taken → n ≤ length taken → AreLinesUpTo key n (lines ++ line ∷ []) → IsScheduleOf key body
   whole_schedule body same enough are =
       subst (IsScheduleOf key) (sym (same ∙ is))

@@ -1,4 +1,4 @@
--- The text of a state, in the pieces in which it is written.
+-- The text of a state is the concatenation of the pieces in which it is written.
 use Rattle.std.proofs.Common.{◌≡◌, ℕ, ◌+◌, ◌<◌, List, [], ◌∷◌, ◌++◌, length, map, get_or, ap, sym, ◌∙◌, subst}
 use Rattle.std.proofs.Common.{arith, append_assoc, append-nil, All, Ok, Err, Result}
 use Rattle.std.specs.Prelude.{Option, IsErrAnd}
@@ -31,13 +31,14 @@ entry_text entry = by entry.1.op
     by (put_with (association_body line)) = append-nil (front ++ 1 ∷ line)
     by (put_with (schedule_body lines)) = append_assoc front (1 ∷ to_be_bytes w32 (length lines)) (concat lines)
 
--- a property of all images is a property of each element's image
+-- if all elements of a mapped list have a property, the image of each element has it
 pub at_mapped : {A B : Type 0} (P : B → Type 0) (m : A → B) (xs : List A) (i : ℕ) (x : A) → All P (map m xs) → i < length xs → x ≡ get_or xs i x → P (m x)
 at_mapped P m xs i x all below at =
     let size = length-map xs m in
     subst P (get_or-map m xs i x ∙ ap m (sym at)) (all i (m x) (omega arith))
 
--- the text of a state is its head, the number of its items, and the text after that
+-- the text of a state is the concatenation of its head, the number of its items, and the text after
+-- this number
 pub state_text_is : {A : Type 0} (state : State) (item : A → LedgerItem) (items : List A) → map item items ≡ state.ledger
     → (head_text dks_2 state.horizon ++ to_be_bytes w64 (length items)) ++ body_text state ≡ state_text dks_2 state
 state_text_is state item items ledger =
@@ -73,7 +74,8 @@ module _ {S A B : Type 0} (taken : S → Option (List ℕ)) (failures : S → �
         (then_gives {A = X} taken failures old first second b (flat_map item_bytes state.ledger) d (to_be_bytes w64 (length state.entries)) holds
         (Err failed) given same (subst (λ n. TakesPart (taken first) (d ++ to_be_bytes w64 n) (taken second)) many part.0, part.1))
 
-    -- after the number of entries, the entries are written in full or in part
+    -- if the number of entries was gathered, the result of writing the entries is the result of
+    -- writing the whole text after the head
     pub body_given : {X E : Type 0} (third : S) (f h : List ℕ) (result : Result X E)
         → Gathers (taken first) d (to_be_bytes w64 (length rows)) (taken second) f × (failures second ≡ failures first)
         → Gives taken failures second f (flat_map entry_bytes (map row rows)) result third h

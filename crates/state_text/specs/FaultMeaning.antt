@@ -1,5 +1,5 @@
--- Converts causes of faults from the code's type to the type of the definitions. It also defines
--- what a fault says of the part at which it occurs.
+-- Converts causes of faults from the code's type to the definitions' type, and defines when a part
+-- of a text is bad for a cause.
 use Rattle.std.specs.Prelude.{◌≢◌, ℕ, List, Option, Some, None, slice_index, ⊤}
 use Rattle.docker_model.specs.file.Change.{tiploc_key, association_key, schedule_key}
 use Rattle.docker_model.specs.state.StateText.{Format}
@@ -11,8 +11,8 @@ use Rattle.docker_model.specs.state.StateFault as model
 use Rattle.state_text.specs.declared.cause.StateCause.{StateCause}
 use Rattle.state_text.specs.declared.cause.StateCause.TheVariants as cause
 
--- a cause of the code, converted to the definitions' type. `None` for out of memory, which is never
--- a fault of a text
+-- converts a cause from the code's type to the definitions' type. The result is `None` for out of
+-- memory, which is never a fault of a text
 abbrev pub cause_meant : StateCause → Option model.StateCause
 cause_meant cause.Mark = Some bad_mark
 cause_meant cause.Item = Some bad_item
@@ -27,8 +27,8 @@ cause_meant cause.Long = Some too_long
 cause_meant cause.Memory = None
 cause_meant cause.Horizon = Some bad_horizon
 
--- says that this part of an entry needs memory: a line of a schedule, or the part with which the
--- entry ends. An op ends its entry unless it is 1, which is a put
+-- says that this part of an entry needs memory. Each line of a schedule does, and so does the last
+-- part of an entry: its body or, if the op isn't a put (1), its op
 abbrev pub PartTakesMemory : EntryPart → List ℕ → Type 0
 PartTakesMemory before_tag bytes = ⊥
 PartTakesMemory (before_key tag) bytes = ⊥

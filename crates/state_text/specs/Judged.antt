@@ -21,8 +21,8 @@ use Rattle.state_text.specs.FaultMeaning.{cause_meant, IsBadHere}
 use Rattle.state_text.specs.declared.stage.Stage.{Stage}
 use Rattle.state_text.specs.Stage.{LeadsTo}
 
--- says what the result for a part means: the stage after the part, or a cause. With a cause, the
--- part is bad, or memory ran out for it
+-- says what the result of judging a part means. `Ok` gives the stage after the part, which is good.
+-- `Err` gives a cause: the part is bad for this cause, or memory ran out for the part
 abbrev pub Judges : Format → fault_statepart.Before → List ℕ → State → List (List ℕ) → Result Stage StateCause → Type 0
 Judges format before bytes state lines (Ok stage) = LeadsTo format before bytes stage state lines
 Judges format before bytes state lines (Err cause) = IsBadHere format before bytes (cause_meant cause)
@@ -39,8 +39,8 @@ abbrev pub IsItemCause : List stamps.LedgerItem → stamps.LedgerItem → Option
 IsItemCause ledger item None = ⊥
 IsItemCause ledger item (Some cause) = IsBadItem ledger item cause
 
--- says what the result for a ledger item means: the item, which may come next, or the cause why the
--- item may not come next
+-- says what the result of judging a ledger item means. `Ok` gives the item, which may come next.
+-- `Err` gives the cause why the item may not come next
 abbrev pub IsJudgedItem : List stamps.LedgerItem → stamps.LedgerItem → Result LedgerItem StateCause → Type 0
 IsJudgedItem ledger item (Ok told) = (item_meant told ≡ item) × MayFollow ledger item
 IsJudgedItem ledger item (Err cause) = IsItemCause ledger item (cause_meant cause)
@@ -50,8 +50,8 @@ abbrev pub IsKeyCause : State → model.Key → Option fault.StateCause → Type
 IsKeyCause state key None = ⊥
 IsKeyCause state key (Some cause) = IsBadKey state key cause
 
--- says what the result for a key means: the key, which may come next, or the cause why the key may
--- not come next
+-- says what the result of judging a key means. `Ok` gives the key, which may come next. `Err` gives
+-- the cause why the key may not come next
 abbrev pub IsJudgedKey : State → model.Key → Result Key StateCause → Type 0
 IsJudgedKey state key (Ok told) = (key_meant told ≡ key) × IsGoodKey key × IsAboveEntries state key
 IsJudgedKey state key (Err cause) = IsKeyCause state key (cause_meant cause)

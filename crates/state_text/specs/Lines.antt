@@ -6,15 +6,15 @@ use Rattle.docker_model.specs.state.State.{State}
 use Rattle.docker_model.specs.state.StateFault.{StateCause, bad_body}
 use Rattle.docker_model.specs.state.StatePart.{AreLinesOf, AreLinesUpTo, HaveNotToLapse}
 
--- says that some schedule begins with these lines. If there are `count` of them, they are a whole
+-- says that some schedule begins with these lines. If they are `count` lines, they are a whole
 -- schedule
 pub record BeginUpTo (count : ℕ) (lines : List (List ℕ)) : Type 0 where
   pub begin : BeginsSchedule lines
   pub complete : length lines ≡ count → IsSchedule lines
 
 -- says why a line that comes after these lines is refused. For `bad_body`, the lines and this one
--- aren't the first of any schedule of `count` lines. For `None`, they are, but memory ran out for
--- the line
+-- aren't the first lines of any schedule of `count` lines. For `None`, they are, but memory ran out
+-- for the line
 abbrev pub IsLineRefusal : ℕ → List (List ℕ) → List ℕ → Option StateCause → Type 0
 IsLineRefusal count lines line None = BeginUpTo count (lines ++ line ∷ [])
 IsLineRefusal count lines line (Some bad_body) = ¬ BeginUpTo count (lines ++ line ∷ [])
@@ -30,8 +30,8 @@ abbrev pub AreLinesUpToIn : State → model.ScheduleKey → ℕ → List (List �
 AreLinesUpToIn state key n lines = AreLinesUpTo key n lines × HaveNotToLapse state lines
 
 -- says why a line is refused as one of the `n` lines of a schedule with this key. For `bad_body`,
--- the lines and this one aren't the first of such a schedule. For `None`, they are, but memory ran
--- out for the line
+-- the lines and this one aren't the first lines of such a schedule. For `None`, they are, but
+-- memory ran out for the line
 abbrev pub IsUpToRefusal : State → model.ScheduleKey → ℕ → List (List ℕ) → List ℕ → Option StateCause → Type 0
 IsUpToRefusal state key n lines line None = AreLinesUpToIn state key n (lines ++ line ∷ [])
 IsUpToRefusal state key n lines line (Some bad_body) = ¬ AreLinesUpToIn state key n (lines ++ line ∷ [])

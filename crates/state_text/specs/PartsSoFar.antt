@@ -14,14 +14,14 @@ horizon_meant (Some day) = day
 abbrev pub file_stamps : List LedgerItem → List FileStamp
 file_stamps items = map (λ (item : LedgerItem). item.stamp) items
 
--- the state with this horizon in place of the state's horizon
+-- the state with its horizon replaced by this one
 abbrev pub under : ℕ → State → State
 under horizon state = record { horizon = horizon; ledger = state.ledger; entries = state.entries }
 
--- the state with one more ledger item, and without entries
+-- the state with this item appended to its ledger, and without entries
 abbrev pub with_item : State → LedgerItem → State
 with_item state item = record { horizon = state.horizon; ledger = state.ledger ++ item ∷ []; entries = [] }
 
--- the state with one more entry
+-- the state with this entry appended to its entries
 abbrev pub with_row : State → Key × Entry → State
 with_row state row = record { horizon = state.horizon; ledger = state.ledger; entries = state.entries ++ row ∷ [] }

@@ -1,4 +1,4 @@
--- What a state has received of another state's text.
+-- What a state has received from another state's text.
 use Rattle.std.specs.Prelude.{◌≡◌, List, ◌++◌, [], length, map, Option, Some, None}
 use Rattle.std.specs.Option.{option_map}
 use Rattle.docker_model.specs.file.Change as model
@@ -18,7 +18,7 @@ use Rattle.state_text.specs.declared.receiving.Receiving.{Receiving}
 abbrev pub given_state : List stamps.LedgerItem → List (model.Key × ops.Entry) → State
 given_state items entries = record { horizon = 0; ledger = items; entries = entries }
 
--- the ledger items that were received. Once the staging has begun, the staging has them
+-- the ledger items that were received. Once the staging has begun, they are in the staging
 abbrev pub items_of : List LedgerItem → Option Staging → List stamps.LedgerItem
 items_of items None = map item_meant items
 items_of items (Some staging) = staging.items
@@ -27,8 +27,8 @@ items_of items (Some staging) = staging.items
 abbrev pub given_of : {R : Type 0} → Receiving R → State
 given_of it = given_state (items_of it.items.items it.staging) it.given.entries
 
--- says that the staging is right: a given entry is staged if and only if this state has to take it
--- over, under the floor of both ledgers
+-- says that the staging is correct: a given entry is staged if and only if this state has to take
+-- it over, under the floor of both ledgers
 pub record IsStagedOf (own : State) (staging : Staging) (entries : List (model.Key × ops.Entry)) : Type 0 where
   pub floor : IsFloor (own.ledger ++ staging.items) staging.floor
   pub staged : IsStaged own staging.floor entries staging.staged

@@ -1,6 +1,6 @@
--- Converts stages from the code's type to the type of the definitions. A stage says which part
--- comes next. What comes before that part follows from the stage, the parts that were read, and the
--- lines of a schedule that isn't complete.
+-- Converts stages from the code's type to the definitions' type. A stage says which part comes
+-- next. What comes before that part follows from the stage, the parts that were read, and the lines
+-- of a schedule that isn't complete.
 use Rattle.std.specs.Prelude.{◌≡◌, ℕ, ◌+◌, ◌≤◌, Bool, true, false, List, [], length, ⊤}
 use Rattle.docker_model.specs.file.Change.{schedule_key}
 use Rattle.docker_model.specs.file.Change as model
@@ -26,11 +26,11 @@ tag_meant tag.Tiploc = 1
 tag_meant tag.Assoc = 2
 tag_meant tag.Schedule = 3
 
--- a schedule's key of the code, converted to the definitions' type
+-- converts a schedule's key from the code's type to the definitions' type
 abbrev pub schedule_meant : ScheduleKey → model.ScheduleKey
 schedule_meant key = record { uid = key.uid; runs_from = key.runs_from; indicator = stp_letter key.stp }
 
--- an association's key of the code, converted to the definitions' type
+-- converts an association's key from the code's type to the definitions' type
 abbrev pub assoc_meant : AssocKey → model.AssociationKey
 assoc_meant key = record {
   base = key.base;
@@ -41,8 +41,8 @@ assoc_meant key = record {
   indicator = stp_letter key.stp;
 }
 
--- what comes before the next part, for this stage, the parts that were read, and the lines of a
--- schedule that isn't complete
+-- converts a stage to a point in the text, with the values of the parts before that point. Besides
+-- the stage it needs the parts that were read, and the lines of a schedule that isn't complete
 abbrev pub stage_meant : Stage → State → List (List ℕ) → Before
 stage_meant stage.Mark state lines = before_mark
 stage_meant stage.Horizon state lines = before_horizon
@@ -57,17 +57,18 @@ stage_meant (stage.Body count key stamp) state lines = in_entry count state (bef
 stage_meant (stage.Line count key stamp n) state lines = in_entry count state (before_line (schedule_meant key) (stamp_meant stamp) n lines)
 stage_meant stage.End state lines = at_end state
 
--- whether the next part is the first of an entry
+-- whether the next part is the tag, with which an entry begins
 abbrev pub begins_part : EntryPart → Bool
 begins_part before_tag = true
 begins_part _ = false
 
--- whether the next part is the first of an item, not in the middle of an entry
+-- whether the next part isn't inside an entry. The tag, with which an entry begins, doesn't count
+-- as inside
 abbrev pub begins_item : Before → Bool
 begins_item (in_entry count state part) = begins_part part
 begins_item _ = true
 
--- says that at this stage the later parts of the state are still empty
+-- says that the parts of the state that are read after this stage are still empty
 abbrev pub IsFresh : Stage → State → Type 0
 IsFresh stage.Mark state = (state.ledger ≡ []) × (state.entries ≡ []) × (state.horizon ≡ 0)
 IsFresh stage.Horizon state = (state.ledger ≡ []) × (state.entries ≡ [])
@@ -76,12 +77,12 @@ IsFresh (stage.Item count) state = state.entries ≡ []
 IsFresh stage.EntryCount state = state.entries ≡ []
 IsFresh _ state = ⊤
 
--- says that the next part isn't a line, or is its schedule's last line
+-- says that the next part isn't a line of a schedule, or is the schedule's last line
 abbrev pub IsLast : Stage → List (List ℕ) → Type 0
 IsLast (stage.Line count key stamp n) lines = n ≤ length lines + 1
 IsLast _ lines = ⊤
 
--- says that the parts before this stage are good, and that the later ones are still empty
+-- says that the parts before this stage are good, and that the later parts are still empty
 pub record IsReady (format : Format) (stage : Stage) (state : State) (lines : List (List ℕ)) : Type 0 where
   pub good : AreGood format (stage_meant stage state lines)
   pub fresh : IsFresh stage state

@@ -11,8 +11,8 @@ use Rattle.cif_device.specs.Device.{Takes, TakesPart}
 abbrev pub body_text : State → List ℕ
 body_text state = flat_map item_bytes state.ledger ++ to_be_bytes w64 (length state.entries) ++ flat_map entry_bytes state.entries
 
--- says that a piece was appended to the bytes that the buffer held. Of all these bytes the sink has
--- taken the first ones, and the buffer holds the others
+-- says that a piece was appended to the bytes that the buffer held. The sink has taken a prefix of
+-- the result, and the buffer holds the rest
 abbrev pub Gathers : Option (List ℕ) → List ℕ → List ℕ → Option (List ℕ) → List ℕ → Type 0
 Gathers old held piece new holds = (front : List ℕ) × (front ++ holds ≡ held ++ piece) × Takes old front new
 

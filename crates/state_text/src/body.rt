@@ -22,7 +22,7 @@ const ASSOC_END_AT: usize = 21;
 /// The index of the end date in a basic schedule.
 const SCHEDULE_END_AT: usize = 15;
 
-/// The TIPLOC body with these bytes. `None` if one of them isn't printable.
+/// Reads the body of a TIPLOC. `None` if a byte isn't printable.
 pub(crate) fn tiploc_body(bytes: &[u8]) -> Option<Body>
     requires { length bytes.now ≡ TIPLOC_BODY }
     ensures { MatchOption result (¬ IsTextOfLength TIPLOC_BODY bytes.now)
@@ -34,8 +34,8 @@ pub(crate) fn tiploc_body(bytes: &[u8]) -> Option<Body>
     Some(Body::Tiploc(*field(bytes, 0)))
 }
 
-/// The body with these bytes, for the association with this key. `None` if the bytes aren't such a
-/// body, or if it ends before the horizon.
+/// Reads the body of the association with this key. `None` if the bytes aren't a body of this
+/// association, or if the association ends before the horizon.
 pub(crate) fn assoc_body(key: &AssocKey, horizon: u16, bytes: &[u8]) -> Option<Body>
     ensures { MatchOption result (¬ IsAssociationUnder horizon (assoc_meant key.now) bytes.now)
         (λ body. (body_meant body ≡ association_body bytes.now)
@@ -53,8 +53,8 @@ pub(crate) fn assoc_body(key: &AssocKey, horizon: u16, bytes: &[u8]) -> Option<B
     Some(Body::Assoc(line))
 }
 
-/// Whether the end date at an index of a line is the horizon or later. A date that can't be read
-/// means no end.
+/// Whether the end date that begins at this index of the line is on the horizon or later. An end
+/// date that can't be read counts as no end.
 fn stays(line: &Line, at: usize, horizon: u16) -> bool
     requires { at + 6 ≤ LINE }
     ensures { IsTrue result ↔ (horizon ≤ readable_end (slice_range line.now at (at + 6))) }
@@ -116,7 +116,7 @@ fn is_same(first: &Key, second: &Key) -> bool
 }
 
 /// Whether a line has the transaction `N` and this schedule key, and doesn't end before the
-/// horizon. The line's fields aren't checked.
+/// horizon. The line's other fields aren't checked.
 pub(crate) fn is_first_of(key: &ScheduleKey, horizon: u16, line: &Line) -> bool
     ensures of_key { IsTrue result → IsOfKey horizon (schedule_meant key.now) line.now }
     ensures refused { result ≡ false → ¬ IsFirstOf horizon (schedule_meant key.now) line.now }
@@ -145,7 +145,7 @@ fn is_new_schedule(key: &ScheduleKey, line: &Line) -> bool
     begins_on(line, &key.runs_from)
 }
 
-/// Whether the first day in a line is this day. False if the date can't be read.
+/// Whether the line's first day is this day. False if the date can't be read.
 fn begins_on(line: &Line, day: &Day) -> bool
     ensures { IsTrue result ↔ (IsTrue (is_date (columns 10 15 line.now))
         × (date_number (columns 10 15 line.now) ≡ day.now)) }

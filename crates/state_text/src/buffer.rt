@@ -1,4 +1,4 @@
-//! A buffer in front of a sink: small pieces are gathered and reach the sink together.
+//! A buffer in front of a sink: small pieces are gathered and then written to the sink together.
 ghost use Rattle.std.specs.Prelude.{◌≡◌, ◌+◌, ◌-◌, ◌^◌, ◌<◌, ◌≤◌, [], OnOk};
 ghost use Rattle.arrayvec.specs.ArrayVec.{array_vec_len};
 ghost use Rattle.state_text.specs.Written.{Gives, Flushes};

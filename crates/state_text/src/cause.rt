@@ -12,22 +12,24 @@ use std::fmt;
 pub enum StateCause {
     /// The text doesn't begin with the mark of its format.
     Mark,
-    /// No header of a file has this ledger item.
+    /// No file's header can give this ledger item.
     Item,
-    /// The ledger item, or the entry's key, isn't above the one before it.
+    /// The ledger item isn't above the previous item, or the entry's key isn't above the previous
+    /// key.
     Order,
-    /// The ledger item is of a full extract and above the first item, which then wouldn't be kept.
+    /// The ledger item is a full extract above the first item. With this extract, the ledger would
+    /// not keep its first item.
     Floor,
     /// The tag isn't 1, 2 or 3.
     Tag,
-    /// No file in the ledger has this stamp, or no change can have its record number.
+    /// The stamp's file isn't in the ledger, or no change can have the stamp's record number.
     Stamp,
     /// The key, the op or the body isn't well formed; or the body doesn't fit its key, or ends
     /// before the horizon.
     Body,
     /// The text ends before its state is complete.
     Short,
-    /// A byte comes after the state's last one.
+    /// More bytes follow the last byte of the state.
     Tail,
     /// The state's text is longer than the limit allows.
     Long,

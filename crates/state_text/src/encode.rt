@@ -19,7 +19,7 @@ use docker_join::{Entry, FileStamp, Op, Stamp};
 use docker_state::LedgerItem;
 use fixed_text::put;
 
-/// Adds a file stamp.
+/// Appends a file stamp.
 fn add_file_stamp(buffer: &mut Buffer, stamp: &FileStamp)
     requires { array_vec_len buffer.old + FILE_STAMP ≤ ROOM }
     ensures items { buffer.new.items ≡ buffer.old.items
@@ -31,7 +31,7 @@ fn add_file_stamp(buffer: &mut Buffer, stamp: &FileStamp)
     put(buffer, &stamp.reference);
 }
 
-/// Adds a ledger item.
+/// Appends a ledger item.
 pub(crate) fn add_item(buffer: &mut Buffer, item: &LedgerItem)
     requires { array_vec_len buffer.old + ITEM ≤ ROOM }
     ensures items { buffer.new.items ≡ buffer.old.items ++ item_bytes (item_meant item.now) }
@@ -42,7 +42,7 @@ pub(crate) fn add_item(buffer: &mut Buffer, item: &LedgerItem)
     put(buffer, &item.last_reference);
 }
 
-/// Adds a stamp.
+/// Appends a stamp.
 fn add_stamp(buffer: &mut Buffer, stamp: &Stamp)
     requires { array_vec_len buffer.old + STAMP ≤ ROOM }
     ensures items { buffer.new.items ≡ buffer.old.items ++ stamp_bytes (stamp_meant stamp.now) }
@@ -52,7 +52,7 @@ fn add_stamp(buffer: &mut Buffer, stamp: &Stamp)
     put(buffer, &stamp.number.to_be_bytes());
 }
 
-/// Adds an association's key with its tag.
+/// Appends an association's tag and key.
 fn add_assoc_key(buffer: &mut Buffer, key: &AssocKey)
     requires { array_vec_len buffer.old + (TAG + ASSOC_KEY) ≤ ROOM }
     ensures items { buffer.new.items ≡ buffer.old.items
@@ -67,7 +67,7 @@ fn add_assoc_key(buffer: &mut Buffer, key: &AssocKey)
     put(buffer, &[key.suffix, key.stp.letter()]);
 }
 
-/// Adds a schedule's key with its tag.
+/// Appends a schedule's tag and key.
 fn add_schedule_key(buffer: &mut Buffer, key: &ScheduleKey)
     requires { array_vec_len buffer.old + (TAG + SCHEDULE_KEY) ≤ ROOM }
     ensures items { buffer.new.items ≡ buffer.old.items
@@ -80,7 +80,8 @@ fn add_schedule_key(buffer: &mut Buffer, key: &ScheduleKey)
     put(buffer, &[key.stp.letter()]);
 }
 
-/// Adds a key with its tag. The buffer needs room for an association's key, which is the longest.
+/// Appends a key's tag and the key. The buffer needs room for an association's key, which is the
+/// longest.
 fn add_key(buffer: &mut Buffer, key: &Key)
     requires { array_vec_len buffer.old + (TAG + ASSOC_KEY) ≤ ROOM }
     ensures items { buffer.new.items ≡ buffer.old.items ++ key_text (key_meant key.now) }
@@ -96,8 +97,8 @@ fn add_key(buffer: &mut Buffer, key: &Key)
     }
 }
 
-/// Adds an op with its body, but without a schedule's lines. The buffer needs room for an
-/// association's op, which is the longest.
+/// Appends an op and its body. For a schedule's body it appends only the number of lines. The
+/// buffer needs room for an association's op, which is the longest.
 fn add_op(buffer: &mut Buffer, op: &Op)
     requires room { array_vec_len buffer.old + (OP + LINE) ≤ ROOM }
     requires few { length (op_lines (op_meant op.now)) < 2 ^ 32 }
@@ -117,7 +118,7 @@ fn add_op(buffer: &mut Buffer, op: &Op)
     }
 }
 
-/// Adds the head of an entry: all of it except a schedule's lines.
+/// Appends the head of an entry: the whole entry except a schedule's lines.
 pub(crate) fn add_entry_head(buffer: &mut Buffer, row: &(Key, Entry))
     requires room { array_vec_len buffer.old + ENTRY_HEAD ≤ ROOM }
     requires few { HasFewLines (row_meant row.now) }

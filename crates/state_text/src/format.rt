@@ -1,5 +1,5 @@
-//! The formats of a state's text: their marks, the width of each part, and where the fields of a
-//! part begin. Widths and offsets are in bytes.
+//! The formats of a state's text: the width of each part, and the offset of each field in its part.
+//! Widths and offsets are in bytes.
 
 /// The formats, each named by its mark. In `DKS1` there is no horizon, and no op says that an entry
 /// has lapsed.
@@ -57,40 +57,40 @@ pub const LINE: usize = 80;
 /// stamp, an op and a line.
 pub const ENTRY_HEAD: usize = 120;
 
-/// Where the minute of a file stamp begins.
+/// The offset of the minute in a file stamp.
 pub const MINUTE_AT: usize = 2;
 
-/// Where the reference of a file stamp begins.
+/// The offset of the reference in a file stamp.
 pub const REFERENCE_AT: usize = 4;
 
-/// Where a ledger item has its extract indicator.
+/// The offset of the extract indicator in a ledger item.
 pub const INDICATOR_AT: usize = 11;
 
-/// Where a ledger item has the reference of the previous file.
+/// The offset of the previous file's reference in a ledger item.
 pub const LAST_REFERENCE_AT: usize = 12;
 
-/// Where the record number of a stamp begins.
+/// The offset of the record number in a stamp.
 pub const NUMBER_AT: usize = 11;
 
-/// Where the associated UID of an association's key begins.
+/// The offset of the associated UID in an association's key.
 pub const ASSOCIATED_AT: usize = 6;
 
-/// Where the first day of an association's key begins.
+/// The offset of the first day in an association's key.
 pub const START_AT: usize = 12;
 
-/// Where the location of an association's key begins.
+/// The offset of the location in an association's key.
 pub const LOCATION_AT: usize = 14;
 
-/// Where an association's key has its suffix.
+/// The offset of the suffix in an association's key.
 pub const SUFFIX_AT: usize = 21;
 
-/// Where an association's key has its STP indicator.
+/// The offset of the STP indicator in an association's key.
 pub const ASSOC_STP_AT: usize = 22;
 
-/// Where the first day of a schedule's key begins.
+/// The offset of the first day in a schedule's key.
 pub const RUNS_FROM_AT: usize = 6;
 
-/// Where a schedule's key has its STP indicator.
+/// The offset of the STP indicator in a schedule's key.
 pub const SCHEDULE_STP_AT: usize = 8;
 
 /// The tag of a TIPLOC.

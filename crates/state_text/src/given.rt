@@ -22,14 +22,14 @@ impl Model for Given {
 }
 
 impl Given {
-    /// No entries.
+    /// Begins with no entries.
     pub fn new() -> Given
         ensures { result.entries ≡ [] }
     {
         Given {}
     }
 
-    /// The entries that were given before, and one more.
+    /// Returns the entries of `_before` with one more entry appended.
     pub fn with(_before: &Given, _key: &Key, _entry: &Entry) -> Given
         ensures { result.entries ≡ _before.now.entries
             ++ (key_meant _key.now, entry_meant _entry.now) ∷ [] }

@@ -1,4 +1,5 @@
-//! Reads the head of a put at once: its parts up to the body, or up to a schedule's lines.
+//! Reads the head of a put in one step: the parts before its body or, for a schedule, the parts
+//! before its lines.
 ghost use Rattle.std.specs.Prelude.{◌≡◌, ◌+◌, [], ◌∷◌, ◌++◌, length, IfSome};
 ghost use Rattle.docker_model.specs.state.State.{IsValid};
 ghost use Rattle.docker_model.specs.state.StateText.{stamp_bytes};
@@ -20,11 +21,12 @@ use crate::steps::line_count;
 use cif_file::Key;
 use docker_join::Stamp;
 
-/// The width of what a schedule's put has between its tag and the number of its lines.
+/// The width of a schedule's key, stamp and op together. These are the parts of its put between the
+/// tag and the number of lines.
 const SCHEDULE_PUT: usize = SCHEDULE_KEY + STAMP + OP;
 
-/// The key and the stamp of a put, from its bytes between the tag and the body. `None` if a part is
-/// bad, or if the op is another.
+/// Reads the key and the stamp of a put from its bytes between the tag and the body. `None` if a
+/// part is bad, or if the op isn't a put.
 #[inline(always)]
 fn put_of<K: Keeper>(tag: Tag, parts: &PartsSoFar<K>, bytes: &[u8]) -> Option<(Key, Stamp)>
     requires valid { IsValid parts.now }
@@ -49,7 +51,8 @@ fn put_of<K: Keeper>(tag: Tag, parts: &PartsSoFar<K>, bytes: &[u8]) -> Option<(K
     Some((key, stamp))
 }
 
-/// The head of a put of this kind up to its body, from the bytes after its tag.
+/// Reads the head of a TIPLOC's or an association's put from the bytes after its tag. The result is
+/// explained at `put_head`.
 #[inline(always)]
 fn body_head<K: Keeper>(
     tag: Tag,
@@ -71,7 +74,8 @@ fn body_head<K: Keeper>(
     }
 }
 
-/// The head of a schedule's put up to its lines, from the bytes after its tag.
+/// Reads the head of a schedule's put, up to its lines, from the bytes after its tag. The result is
+/// explained at `put_head`.
 #[inline(always)]
 fn schedule_head<K: Keeper>(
     count: u64,
@@ -99,9 +103,10 @@ fn schedule_head<K: Keeper>(
     }
 }
 
-/// The head of the next entry, one of `count`: the stage after it, and how many bytes it has. It is
-/// the tag, the key, the stamp and the op of a put, and for a schedule the number of its lines.
-/// `None` if the head isn't whole in the bytes, if one of its parts is bad, or if the op is another.
+/// Reads the head of a put at the start of the bytes: its tag, key, stamp and op, and for a
+/// schedule also the number of its lines. Returns the stage after the head and the head's length in
+/// bytes. `count` is the number of all entries in the text. `None` if the bytes end before the head
+/// does, if a part of the head is bad, or if the op isn't a put.
 pub fn put_head<K: Keeper>(
     count: u64,
     parts: &PartsSoFar<K>,

@@ -12,10 +12,10 @@ use crate::format::{INDICATOR_AT, ITEM, LAST_REFERENCE_AT, MINUTE_AT, REFERENCE_
 use cif_line::{Day, Extract};
 use docker_state::LedgerItem;
 
-/// How many minutes a day has.
+/// The number of minutes in a day.
 const MINUTES: u16 = 1440;
 
-/// The ledger item with these bytes. `None` if no header of a file has such an item.
+/// Reads a ledger item. `None` if no file's header can give this item.
 fn item_in(bytes: &[u8]) -> Option<LedgerItem>
     requires { length bytes.now ≡ ITEM }
     ensures { MatchOption result (¬ IsGoodItem (item_in bytes.now))
@@ -44,7 +44,7 @@ fn item_in(bytes: &[u8]) -> Option<LedgerItem>
     })
 }
 
-/// Whether an item is above a ledger's last item, if there is one.
+/// Whether an item is above the ledger's last item. True if the ledger is empty.
 fn is_above(ledger: &[LedgerItem], item: &LedgerItem) -> bool
     requires { IsLedger (map item_meant ledger.now) }
     ensures { IsTrue result ↔ IsAboveItems (map item_meant ledger.now) (item_meant item.now) }
@@ -55,7 +55,7 @@ fn is_above(ledger: &[LedgerItem], item: &LedgerItem) -> bool
     }
 }
 
-/// Whether an item is a full extract above a ledger's first item.
+/// Whether an item is a full extract above the ledger's first item.
 fn raises_floor(ledger: &[LedgerItem], item: &LedgerItem) -> bool
     ensures { IsTrue result ↔ RaisesFloor (map item_meant ledger.now) (item_meant item.now) }
 {
@@ -65,7 +65,7 @@ fn raises_floor(ledger: &[LedgerItem], item: &LedgerItem) -> bool
     }
 }
 
-/// The next ledger item, or why it is bad.
+/// Reads the next ledger item, or returns why it is bad.
 pub(crate) fn judged_item(ledger: &[LedgerItem], bytes: &[u8]) -> Result<LedgerItem, StateCause>
     requires wide { length bytes.now ≡ ITEM }
     requires ledger { IsLedger (map item_meant ledger.now) }

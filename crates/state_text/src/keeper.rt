@@ -21,16 +21,16 @@ pub trait Keeper: Drop + Sized {
     // without a horizon
     ghost given: { Self → State };
 
-    /// Takes the next ledger item. Returns `Memory` if there is no room for the item; no clause
-    /// says what the keeper has then.
+    /// Takes the next ledger item. Returns `Memory` if there is no memory for the item. No clause
+    /// says what the keeper contains after that.
     fn item(&mut self, item: LedgerItem) -> Result<(), Memory>
         requires before_entries { (given self.old).entries ≡ [] }
         requires ledger { IsLedger ((given self.old).ledger ++ item_meant item ∷ []) }
         ensures { IsOk result
             → given self.new ≡ with_item (given self.old) (item_meant item) };
 
-    /// Takes the next entry, with its key. Returns `Memory` if there is no room for the entry; no
-    /// clause says what the keeper has then.
+    /// Takes the next entry, with its key. Returns `Memory` if there is no memory for the entry. No
+    /// clause says what the keeper contains after that.
     fn entry(&mut self, key: Key, entry: Entry) -> Result<(), Memory>
         requires few { length (given self.old).entries < 2 ^ 64 - 1 }
         requires here { IsStampHere (given self.old) (key_meant key) (entry_meant entry).stamp }
@@ -52,7 +52,7 @@ pub trait Keeper: Drop + Sized {
             ≡ last_key (given self.now).entries };
 }
 
-/// A keeper that makes a value of the parts.
+/// A keeper that makes a value from the parts.
 pub trait Maker: Keeper {
     /// The type of the value that the keeper makes.
     type Made: Drop;
@@ -60,8 +60,8 @@ pub trait Maker: Keeper {
     // says that a value is made from a state
     ghost makes: { Self.Made → State → Type 0 };
 
-    /// Makes the value of the parts, under the text's horizon if it has one. If memory runs out,
-    /// the parts are dropped.
+    /// Makes the value from the parts, under the text's horizon if the text has one. If memory runs
+    /// out, the parts are dropped.
     fn finish(self, horizon: Option<Day>) -> Result<Self::Made, Memory>
         requires { IsValid (under (horizon_meant horizon) (Self.given self)) }
         ensures { IfOk result (λ made.

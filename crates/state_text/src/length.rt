@@ -17,7 +17,7 @@ use cif_file::{Body, Key};
 use docker_join::{Entry, Op};
 use docker_state::State;
 
-/// How many bytes a key and its tag have.
+/// The length in bytes of a key with its tag.
 fn key_len(key: &Key) -> usize
     requires { IsGoodKey (key_meant key.now) }
     ensures value { result ≡ length (key_text (key_meant key.now)) }
@@ -30,7 +30,7 @@ fn key_len(key: &Key) -> usize
     }
 }
 
-/// How many bytes a body has. The body fits the key.
+/// The length in bytes of a body that fits the key.
 fn body_len(key: &Key, body: &Body) -> u128
     requires { IsBodyOf (key_meant key.now) (body_meant body.now) }
     ensures value { result ≡ length (put_bytes (body_meant body.now)) }
@@ -43,7 +43,7 @@ fn body_len(key: &Key, body: &Body) -> u128
     }
 }
 
-/// How many bytes an op with its body has. The op fits the key.
+/// The length in bytes of an op with its body. The op must fit the key.
 fn op_len(key: &Key, op: &Op) -> u128
     requires { IsOpOf (key_meant key.now) (op_meant op.now) }
     ensures value { result ≡ length (op_bytes (op_meant op.now)) }
@@ -55,7 +55,7 @@ fn op_len(key: &Key, op: &Op) -> u128
     }
 }
 
-/// How many bytes an entry has.
+/// The length of an entry in bytes.
 fn row_len(row: &(Key, Entry)) -> u128
     requires { IsOfWidth (row_meant row.now) }
     ensures value { result ≡ length (entry_bytes (row_meant row.now)) }
@@ -64,7 +64,7 @@ fn row_len(row: &(Key, Entry)) -> u128
     (key_len(&row.0) + STAMP) as u128 + op_len(&row.0, &row.1.op)
 }
 
-/// How many bytes these entries have together.
+/// The total length of these entries in bytes.
 fn rows_len(rows: &[(Key, Entry)]) -> u128
     requires { All IsOfWidth (map row_meant rows.now) }
     ensures value { result ≡ length (flat_map entry_bytes (map row_meant rows.now)) }
@@ -77,7 +77,7 @@ fn rows_len(rows: &[(Key, Entry)]) -> u128
     total
 }
 
-/// How many bytes the text of a state has: its mark, horizon and counts, its ledger items, and its
+/// The length of a state's text in bytes: its mark, horizon and counts, its ledger items, and its
 /// entries.
 pub fn encoded_len(state: &State) -> u128
     ensures { result ≡ length (state_text dks_2 state.now) }

@@ -1,4 +1,4 @@
-//! The parts of a text that were read: the horizon, and the keeper that was given the other parts.
+//! The parts of a text that were read: the horizon, and a keeper that was given the other parts.
 ghost use Rattle.std.specs.Prelude.{◌≡◌, ◌-◌, ◌^◌, ◌<◌, [], ◌∷◌, ◌++◌, length, map, IsOk, IsErr, IfOk};
 ghost use Rattle.std.specs.Option.{option_copied, option_map};
 ghost use Rattle.docker_model.specs.state.State.{IsLedger, IsOpOf, IsValid, IsJoin};
@@ -18,7 +18,7 @@ use docker_join::Entry;
 use docker_state::{LedgerItem, State};
 use std::marker::Model;
 
-/// The horizon, if one was read, and the keeper that was given the parts read.
+/// The horizon, if one was read, and the keeper that was given the other parts.
 #[derive(Debug, Drop)]
 pub struct PartsSoFar<K: Keeper> {
     horizon: Option<Day>,
@@ -35,7 +35,7 @@ impl<K: Keeper> Model for PartsSoFar<K> {
 }
 
 impl<K: Keeper> PartsSoFar<K> {
-    /// The parts that a keeper was given, as a state without a horizon.
+    /// Returns the parts that a keeper was given, without a horizon.
     pub fn new(keeper: K) -> PartsSoFar<K>
         ensures { result ≡ under 0 (K.given keeper) }
     {
@@ -45,14 +45,14 @@ impl<K: Keeper> PartsSoFar<K> {
         }
     }
 
-    /// Takes the horizon.
+    /// Sets the horizon.
     pub(crate) fn set_horizon(&mut self, day: Day)
         ensures { self.new ≡ under day self.old }
     {
         self.horizon = Some(day);
     }
 
-    /// The number of the horizon. 0 if none was read.
+    /// The day number of the horizon. 0 if no horizon was read.
     pub(crate) fn horizon(&self) -> u16
         ensures { result ≡ self.now.horizon }
     {
@@ -62,7 +62,7 @@ impl<K: Keeper> PartsSoFar<K> {
         }
     }
 
-    /// Takes the next ledger item.
+    /// Gives the keeper the next ledger item.
     pub(crate) fn item(&mut self, item: LedgerItem) -> Result<(), Memory>
         requires before_entries { self.old.entries ≡ [] }
         requires ledger { IsLedger (self.old.ledger ++ item_meant item ∷ []) }
@@ -71,7 +71,7 @@ impl<K: Keeper> PartsSoFar<K> {
         self.keeper.item(item)
     }
 
-    /// Takes the next entry, with its key.
+    /// Gives the keeper the next entry, with its key.
     pub(crate) fn entry(&mut self, key: Key, entry: Entry) -> Result<(), Memory>
         requires few { length self.old.entries < 2 ^ 64 - 1 }
         requires here { IsStampHere self.old (key_meant key) (entry_meant entry).stamp }
@@ -105,8 +105,8 @@ impl<K: Keeper> PartsSoFar<K> {
 }
 
 impl<K: Maker> PartsSoFar<K> {
-    /// What the keeper makes of the parts, with the horizon that was read. If memory runs out, the
-    /// parts are dropped.
+    /// Makes the keeper's value from the parts, under the horizon that was read. If memory runs
+    /// out, the parts are dropped.
     pub fn finish(self) -> Result<K::Made, Memory>
         requires { IsValid self }
         ensures { IfOk result (λ made. K.makes made self) }
@@ -117,7 +117,7 @@ impl<K: Maker> PartsSoFar<K> {
 }
 
 impl<R: Receiver> PartsSoFar<Received<R>> {
-    /// The receiving state, joined with the parts, and then with the horizon that was read. If
+    /// Returns the receiving state joined with the parts, under the horizon that was read. If
     /// memory runs out, the state is unchanged.
     pub fn join(self) -> (State, Result<(), Memory>)
         requires { IsValid self }
@@ -128,7 +128,7 @@ impl<R: Receiver> PartsSoFar<Received<R>> {
         keeper.join(horizon)
     }
 
-    /// The receiving state, unchanged.
+    /// Returns the receiving state unchanged.
     pub fn into_own(self) -> State
         ensures { result ≡ R.own }
     {

@@ -30,7 +30,7 @@ impl<R: Receiver> Model for Received<R> {
 }
 
 impl<R: Receiver> Received<R> {
-    /// A keeper for the state `own`, which has received no part.
+    /// Returns a keeper for the state `own`, which has received no part yet.
     pub fn new(alloc: Global, own: State) -> Received<R>
         requires valid { IsValid own }
         requires own { own ≡ R.own }

@@ -1,4 +1,4 @@
-//! What a state has received of another state's text. Only the entries that the state will take
+//! What a state has received from another state's text. Only the entries that the state will take
 //! over are staged.
 ghost use Rattle.std.specs.Prelude.{◌≡◌, ◌+◌, ◌-◌, ◌^◌, ◌<◌, ℕ, [], ◌∷◌, ◌++◌, length, map, IsOk, IsErr, IsSome, None};
 ghost use Rattle.std.specs.Option.{option_copied, option_map};
@@ -34,9 +34,9 @@ impl Receiver for Brand {
     ghost own = { record { horizon = 0; ledger = []; entries = [] } };
 }
 
-/// A state that receives another state's text. It has the ledger items received and, after the
-/// first entry, the staging. It also has the last key and the number of the entries given, whether
-/// staged or not.
+/// A state that receives another state's text. Before the first entry, `items` contains the ledger
+/// items received. The first entry begins the staging, which then contains them. `last` is the last
+/// key and `count` the number of all entries given, whether staged or not.
 #[derive(Drop)]
 pub(crate) struct Receiving<R> {
     alloc: Global,
@@ -49,7 +49,7 @@ pub(crate) struct Receiving<R> {
     of: PhantomData<R>,
 }
 
-/// Offers the next entry to the staging. `given` are the entries before it, for proofs.
+/// Offers the next entry to the staging. `given` records the earlier entries for proofs.
 fn offer(
     own: &State,
     staging: &mut Staging,
@@ -71,7 +71,7 @@ fn offer(
 }
 
 impl<R: Receiver> Receiving<R> {
-    /// The state `own`, which has received nothing.
+    /// Begins with the state `own`, which has received nothing yet.
     pub(crate) fn new(alloc: Global, own: State) -> Receiving<R>
         requires valid { IsValid own }
         requires own { own ≡ R.own }

@@ -18,7 +18,7 @@ use std::alloc::{AllocError, Global};
 use std::marker::Model;
 use std::{mem, slice};
 
-/// The lines of a schedule so far, in one buffer, and their reader.
+/// The lines of a schedule that were read, in one buffer, and the journey that judges them.
 #[derive(Debug, Drop)]
 pub struct Gathered {
     journey: Journey,
@@ -36,7 +36,7 @@ impl Model for Gathered {
     ghost invariant = { λ gathered. HasLines gathered.journey gathered.lines.items };
 }
 
-/// Drops the lines, and keeps their buffer.
+/// Drops the lines and keeps the buffer's memory.
 fn let_go(journey: &mut Journey, lines: &mut Vec<Line>)
     ensures none { lines.new.items ≡ [] }
     ensures reader { HasLines journey.new lines.new.items }
@@ -45,8 +45,8 @@ fn let_go(journey: &mut Journey, lines: &mut Vec<Line>)
     lines.clear();
 }
 
-/// Takes room for `count` lines in place of what an empty buffer has. If memory runs out, the
-/// buffer stays as it is.
+/// Replaces the memory of an empty buffer, unless the buffer has room for just `count` lines
+/// already. The new memory has room for `count` lines. If memory runs out, the buffer is unchanged.
 fn room_for(lines: &mut Vec<Line>, alloc: Global, count: usize)
     requires { lines.old.items ≡ [] }
     ensures { lines.new.items ≡ [] }
@@ -60,7 +60,7 @@ fn room_for(lines: &mut Vec<Line>, alloc: Global, count: usize)
 }
 
 impl Gathered {
-    /// No lines yet.
+    /// Returns a buffer without lines.
     pub fn new(alloc: Global) -> Gathered
         ensures { result ≡ [] }
     {
@@ -77,21 +77,21 @@ impl Gathered {
         let_go(&mut self.journey, &mut self.lines);
     }
 
-    /// How many lines there are.
+    /// How many lines were read.
     pub(crate) fn len(&self) -> usize
         ensures { result ≡ length self.now }
     {
         self.lines.len()
     }
 
-    /// Whether there are no lines.
+    /// Whether no line was read.
     fn is_empty(&self) -> bool
         ensures { IsTrue result ↔ (self.now ≡ []) }
     {
         self.lines.is_empty()
     }
 
-    /// Whether more of `count` lines are to come after the next one.
+    /// Whether other lines follow the next line, in a schedule of `count` lines.
     pub fn has_more(&self, count: u32) -> bool
         ensures { IsTrue result ↔ (length self.now + 1 < count) }
     {
@@ -101,7 +101,7 @@ impl Gathered {
         self.lines.len() < (count - 1) as usize
     }
 
-    /// How many more lines come before the last of `count`.
+    /// How many lines are still to be read before the last line, in a schedule of `count` lines.
     pub fn before_last(&self, count: u32) -> usize
         ensures { result ≡ count - 1 - length self.now }
     {
@@ -110,8 +110,9 @@ impl Gathered {
             .saturating_sub(self.lines.len())
     }
 
-    /// Takes room for `count` lines at once, if there are no lines yet and the next `bytes` bytes
-    /// have all of them. If memory runs out, each line takes room as it comes.
+    /// Allocates room for all `count` lines at once, if no line was read and the next `bytes` bytes
+    /// contain all the lines. If memory runs out, nothing fails here: room is allocated later, as
+    /// lines are added.
     pub fn make_room(&mut self, alloc: Global, count: u32, bytes: usize)
         ensures { self.new ≡ self.old }
     {
@@ -123,8 +124,8 @@ impl Gathered {
         }
     }
 
-    /// The lines, in memory of just their size. They are copied only if their room has another
-    /// size.
+    /// Returns the lines in memory of just their size. They are copied only if the buffer's memory
+    /// is larger than that.
     pub(crate) fn take_body(&mut self, alloc: Global) -> Result<Lines, AllocError>
         ensures { IfOk result (λ lines. lines ≡ self.old) }
     {
@@ -137,10 +138,10 @@ impl Gathered {
         Ok(Lines::of(body))
     }
 
-    /// Takes the next of `count` lines. The line is judged before memory grows. `Body` if the lines
-    /// with this one don't begin a schedule, or if they are `count` lines and don't complete one.
-    /// If they don't begin one, the lines stay as they were. If they don't complete one, or memory
-    /// runs out, all lines are dropped.
+    /// Judges the next line of a schedule of `count` lines, and then adds the line. `Body` if no
+    /// schedule begins with the lines and this one; the lines are then unchanged. `Body` also if
+    /// this is the last line and the lines with it aren't a schedule; all lines are then dropped.
+    /// If memory runs out, all lines are dropped too.
     fn take(&mut self, line: &Line, count: u32) -> Result<(), StateCause>
         requires { length self.old < count }
         ensures taken { IsOk result → self.new ≡ self.old ++ line.now ∷ [] }
@@ -164,8 +165,8 @@ impl Gathered {
         Ok(())
     }
 
-    /// Takes the next of `count` lines where memory has to grow. `Body` as in `take`, and for bytes
-    /// that are no line.
+    /// Adds the next line of a schedule of `count` lines when the buffer is full. `Body` if the
+    /// bytes aren't a line, and for the reasons given at `take`.
     #[cold]
     #[inline(never)]
     fn take_growing(&mut self, bytes: &[u8], count: u32) -> Result<(), StateCause>
@@ -182,8 +183,8 @@ impl Gathered {
         self.take(&line, count)
     }
 
-    /// Takes the next of `count` lines, with more to come after it. If there is room, the line is
-    /// written where it stays, and judged there: a refused one is taken out again.
+    /// Adds the next line of a schedule of `count` lines; it must not be the last line. If the
+    /// buffer has room, the line is first added and then judged. A refused line is removed again.
     #[inline(always)]
     fn take_inner(&mut self, bytes: &[u8], count: u32) -> Result<(), StateCause>
         requires { length self.old + 1 < count }
@@ -209,9 +210,9 @@ impl Gathered {
     }
 }
 
-/// Whether a line may come next, as far as the key and the horizon decide. It may after other
-/// lines, or as the first line of a new schedule with this key that doesn't lapse. The reader of
-/// lines judges its fields.
+/// Whether the key and the horizon allow this line to come next. They allow any line after the
+/// first. The first line must have the transaction `N` and this key, and its schedule must not
+/// lapse. `Journey::line` judges the other fields.
 fn may_follow<K: Keeper>(
     key: &ScheduleKey,
     parts: &PartsSoFar<K>,
@@ -226,9 +227,9 @@ fn may_follow<K: Keeper>(
     !lines.is_empty() || is_first_of(key, parts.horizon(), line)
 }
 
-/// Takes the next of `count` lines of this key. `Body` if the line doesn't continue a schedule with
-/// this key and `count` lines, or if the schedule lapses under the horizon that was read. `Memory`
-/// if the lines have no room to grow.
+/// Judges the next line of the schedule with this key and `count` lines, and then adds the line.
+/// `Body` if the line doesn't continue such a schedule, or if the schedule lapses under the horizon
+/// that was read. `Memory` if there is no memory for the line.
 pub fn judged_line<K: Keeper>(
     key: &ScheduleKey,
     parts: &PartsSoFar<K>,
@@ -254,7 +255,7 @@ pub fn judged_line<K: Keeper>(
     lines.take(&line, count)
 }
 
-/// `judged_line`, for a line with more of `count` lines to come after it.
+/// Does the same as `judged_line`, for any line but the last of the `count` lines.
 #[inline(always)]
 pub fn judged_inner_line<K: Keeper>(
     key: &ScheduleKey,

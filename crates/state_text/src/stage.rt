@@ -12,7 +12,7 @@ use crate::format::{
 use cif_file::{Key, ScheduleKey};
 use docker_join::Stamp;
 
-/// The kinds of keys.
+/// The kind of an entry's key, which the entry's tag gives.
 #[derive(Clone, Copy, Debug)]
 pub enum Tag {
     /// A TIPLOC.
@@ -37,9 +37,9 @@ impl Tag {
     }
 }
 
-/// Which part comes next, with what is kept of the entry's earlier parts. The first number is how
-/// many items or entries there are in all, and a line's last number is how many lines its schedule
-/// has.
+/// The part that comes next in the text, with the earlier parts of the same entry that are still
+/// needed. The first number is the number of all ledger items or all entries in the text. The last
+/// number of `Line` is the number of the schedule's lines.
 #[derive(Clone, Copy, Debug)]
 pub enum Stage {
     /// The mark of the format.
@@ -69,7 +69,7 @@ pub enum Stage {
 }
 
 impl Stage {
-    /// The width of the part. It is 0 after the last part.
+    /// The width of the next part in bytes. 0 if the text has ended.
     pub fn width(&self) -> usize
         ensures value { (state : states.State) (lines : List (List ℕ)) →
             result ≡ width (stage_meant self.now state lines) }
@@ -90,7 +90,8 @@ impl Stage {
         }
     }
 
-    /// Whether the part isn't in the middle of an entry.
+    /// Whether the next part isn't inside an entry. The tag, with which an entry begins, doesn't
+    /// count as inside.
     pub fn begins_item(&self) -> bool
         ensures { (state : states.State) (lines : List (List ℕ)) →
             result ≡ begins_item (stage_meant self.now state lines) }
@@ -103,7 +104,8 @@ impl Stage {
     }
 }
 
-/// The width of what comes after a put's op: the body, or for a schedule the number of its lines.
+/// The width of the part after a put's op. This part is the body or, for a schedule, the number of
+/// its lines.
 fn body_width(key: &Key) -> usize
     ensures value { result ≡ body_width (key_meant key.now) }
     ensures bound { result ≤ LINE }

@@ -1,4 +1,4 @@
-//! From one part of the text to the next.
+//! Reads the parts of a state's text one by one: judges each part and returns the stage after it.
 ghost use Rattle.std.specs.Prelude.{◌≡◌, ◌+◌, ◌<◌, ◌≤◌, ◌↔◌, ℕ, List, [], length, IsTrue, IfOk, IfErr, MatchOption};
 ghost use Rattle.std.specs.Int.{w32, from_be_bytes};
 ghost use Rattle.docker_model.specs.file.Change.{tiploc_key, association_key, schedule_key};
@@ -36,7 +36,7 @@ use std::alloc::Global;
 /// The most lines that a schedule may have.
 const MOST_LINES: u32 = 4_294_967_294;
 
-/// Whether bytes are the mark with which a text of the format begins.
+/// Whether the bytes are the mark of the format.
 fn is_mark(format: Format, bytes: &[u8]) -> bool
     ensures { IsTrue result ↔ (bytes.now ≡ mark (format_meant format)) }
 {
@@ -46,7 +46,7 @@ fn is_mark(format: Format, bytes: &[u8]) -> bool
     )
 }
 
-/// Takes the mark.
+/// Reads the mark. `Mark` if the bytes aren't the mark of the format.
 fn after_mark(format: Format, bytes: &[u8]) -> Result<Stage, StateCause>
     ensures { (state : states.State) (lines : List (List ℕ)) → IsFresh Stage.Mark state →
         Judges (format_meant format) before_mark bytes.now state lines result }
@@ -60,7 +60,7 @@ fn after_mark(format: Format, bytes: &[u8]) -> Result<Stage, StateCause>
     }
 }
 
-/// Takes the horizon.
+/// Reads the horizon and sets it. `Horizon` if the bytes aren't a day number.
 fn after_horizon<K: Keeper>(parts: &mut PartsSoFar<K>, bytes: &[u8]) -> Result<Stage, StateCause>
     ghost format: { formats.Format }
     requires fresh { IsFresh Stage.Horizon parts.old }
@@ -77,7 +77,8 @@ fn after_horizon<K: Keeper>(parts: &mut PartsSoFar<K>, bytes: &[u8]) -> Result<S
     }
 }
 
-/// The stage after the items so far, of `count` items.
+/// The stage after the ledger items that were read. The next part is another item or, if all
+/// `count` items were read, the number of entries.
 fn stage_in_ledger<K: Keeper>(count: u64, parts: &PartsSoFar<K>) -> Stage
     requires entries { parts.now.entries ≡ [] }
     ensures is { (lines : List (List ℕ)) →
@@ -92,7 +93,8 @@ fn stage_in_ledger<K: Keeper>(count: u64, parts: &PartsSoFar<K>) -> Stage
     }
 }
 
-/// The stage after the entries so far, of `count` entries.
+/// The stage after the entries that were read. The next part is the tag of another entry. If all
+/// `count` entries were read, the text has ended.
 fn stage_in_entries<K: Keeper>(count: u64, parts: &PartsSoFar<K>) -> Stage
     ensures is { (lines : List (List ℕ)) →
         stage_meant result parts.now lines ≡ after_entries count parts.now }
@@ -105,7 +107,7 @@ fn stage_in_entries<K: Keeper>(count: u64, parts: &PartsSoFar<K>) -> Stage
     }
 }
 
-/// Takes a ledger item.
+/// Reads a ledger item and gives it to the keeper. Fails if the item is bad or memory runs out.
 fn after_item<K: Keeper>(
     count: u64,
     parts: &mut PartsSoFar<K>,
@@ -125,7 +127,7 @@ fn after_item<K: Keeper>(
     Ok(stage_in_ledger(count, parts))
 }
 
-/// Takes the tag of an entry.
+/// Reads the tag of an entry. `Tag` if the byte isn't a tag.
 fn after_tag(count: u64, bytes: &[u8]) -> Result<Stage, StateCause>
     ghost format: { formats.Format }
     requires { length bytes.now ≡ TAG }
@@ -140,7 +142,7 @@ fn after_tag(count: u64, bytes: &[u8]) -> Result<Stage, StateCause>
     }
 }
 
-/// Takes the key of an entry.
+/// Reads the key of an entry. Fails if the key is bad or isn't above the previous key.
 fn after_key<K: Keeper>(
     count: u64,
     tag: Tag,
@@ -158,7 +160,7 @@ fn after_key<K: Keeper>(
     Ok(Stage::Stamp(count, key))
 }
 
-/// Takes the stamp of an entry.
+/// Reads the stamp of an entry. `Stamp` if no change from a file in the ledger can have it.
 fn after_stamp<K: Keeper>(
     count: u64,
     key: Key,
@@ -178,7 +180,7 @@ fn after_stamp<K: Keeper>(
     }
 }
 
-/// Gives the keeper an entry whose parts are all there.
+/// Gives the keeper an entry whose parts have all been read, and returns the next stage.
 fn give<K: Keeper>(
     count: u64,
     parts: &mut PartsSoFar<K>,
@@ -199,7 +201,8 @@ fn give<K: Keeper>(
     Ok(stage_in_entries(count, parts))
 }
 
-/// Takes the op of an entry.
+/// Reads the op of an entry. The op of a put is followed by a body. Any other op completes the
+/// entry. `Body` if the format has no such op.
 fn after_op<K: Keeper>(
     format: Format,
     count: u64,
@@ -224,7 +227,7 @@ fn after_op<K: Keeper>(
     }
 }
 
-/// Takes the body of a TIPLOC.
+/// Reads the body of a TIPLOC, which completes the entry. `Body` if a byte isn't printable.
 fn after_tiploc_body<K: Keeper>(
     count: u64,
     code: Tiploc,
@@ -247,7 +250,8 @@ fn after_tiploc_body<K: Keeper>(
     }
 }
 
-/// Takes the body of an association.
+/// Reads the body of an association, which completes the entry. `Body` if the bytes aren't a body
+/// for the key, or if the association ends before the horizon.
 fn after_assoc_body<K: Keeper>(
     count: u64,
     key: AssocKey,
@@ -269,7 +273,8 @@ fn after_assoc_body<K: Keeper>(
     }
 }
 
-/// The number of a schedule's lines, from four bytes. `None` if no schedule can have this many.
+/// Reads the number of a schedule's lines from four bytes. `None` if no schedule can have this many
+/// lines.
 pub(crate) fn line_count(bytes: &[u8]) -> Option<u32>
     requires { length bytes.now ≡ LINE_COUNT }
     ensures { MatchOption result (¬ IsLineCount (from_be_bytes w32 bytes.now))
@@ -286,7 +291,8 @@ pub(crate) fn line_count(bytes: &[u8]) -> Option<u32>
     Some(count)
 }
 
-/// Takes the number of a schedule's lines.
+/// Reads the number of a schedule's lines, and drops the lines of the schedule before it. `Body` if
+/// no schedule can have this many lines.
 fn after_line_count(
     count: u64,
     key: ScheduleKey,
@@ -310,7 +316,7 @@ fn after_line_count(
     }
 }
 
-/// The schedule whose lines are read: its key, its stamp and the number of its lines.
+/// The schedule whose lines are being read: its key, its stamp and the number of its lines.
 #[derive(Clone, Copy)]
 struct Schedule {
     key: ScheduleKey,
@@ -318,7 +324,8 @@ struct Schedule {
     count: u32,
 }
 
-/// Takes the last line of a schedule.
+/// Reads the last line of a schedule, which completes the entry. `Body` if the lines aren't a
+/// schedule with this key.
 fn after_last_line<K: Keeper>(
     alloc: Global,
     count: u64,
@@ -341,8 +348,8 @@ fn after_last_line<K: Keeper>(
     give(count, parts, key, schedule.stamp, op)
 }
 
-/// Takes the next part: any but a line with more lines to come, which `judged_inner_line` takes.
-/// Returns the stage after it, or why the part is bad.
+/// Reads the next part and returns the stage after it, or why it can't be read. A line must be the
+/// last line of its schedule: `judged_inner_line` reads the lines before the last one.
 pub fn step<K: Keeper>(
     alloc: Global,
     format: Format,

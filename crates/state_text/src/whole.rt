@@ -1,4 +1,4 @@
-//! A keeper of all parts, which makes a state of them.
+//! A keeper that keeps all parts and makes a state from them.
 ghost use Rattle.std.specs.Prelude.{◌≡◌, []};
 
 use crate::keeper::{Keeper, Maker};
@@ -9,7 +9,7 @@ use docker_state::{LedgerItem, Parts, State};
 use std::alloc::Global;
 use std::marker::Model;
 
-/// All parts so far, for the state that is made of them.
+/// All parts that the keeper was given. At the end a state is made from them.
 #[derive(Debug, Drop)]
 pub struct Whole {
     parts: Parts,
@@ -27,8 +27,8 @@ impl Model for Whole {
 }
 
 impl Whole {
-    /// No parts yet. `noted` says whether the places of the parts are to be noted, so that the state
-    /// has an index.
+    /// Returns a keeper without parts. If `noted` is true, the keeper notes the places of the
+    /// entries, so that the state has an index.
     pub fn new(alloc: Global, noted: bool) -> Whole
         ensures { result ≡ record { horizon = 0; ledger = []; entries = [] } }
     {
@@ -38,7 +38,7 @@ impl Whole {
     }
 }
 
-/// No parts yet. `noted` says whether their places are to be noted.
+/// Begins without parts. If `noted` is true, the places of the entries will be noted.
 fn no_parts(alloc: Global, noted: bool) -> Parts
     ensures { result ≡ record { horizon = 0; ledger = []; entries = [] } }
 {

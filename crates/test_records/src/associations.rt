@@ -44,7 +44,7 @@ pub const AA_BLANK: &[u8] =
 pub const AA_X: &[u8] =
     b"AANC40001C400022406102406101000000NPXCOLWELL  TP                               P";
 
-/// C40001 and C40002, associated with an unknown category.
+/// C40001 and C40002 are associated at Colwell, with an unknown category.
 pub const AA_OTHER: &[u8] =
     b"AANC40001C400022406102406101000000XXNCOLWELL  TP                               P";
 

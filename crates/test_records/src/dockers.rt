@@ -1,5 +1,5 @@
-//! Printed dockers: their headings, their lines and their last line, each of 56 bytes, and whole
-//! dockers made of these.
+//! Printed dockers: headings, lines and the last line, each of 56 bytes, and whole dockers made
+//! from them.
 
 /// The heading of the docker of Ashfeld on 10 June 2024.
 pub const AT_ASHFELD: &[u8] = b"DOCKER ASHFELD 2024-06-10                               ";

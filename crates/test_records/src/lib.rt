@@ -1,4 +1,4 @@
-//! The records and the printed lines that worked examples use, in one place for all test crates.
+//! The records and the printed lines that the tests use, each defined once for all test crates.
 #![tactic(auto)]
 
 mod associations;

@@ -68,11 +68,11 @@ pub const LO_COLWELL_1045: &[u8] =
 pub const LI_0000: &[u8] =
     b"LICOLWELL 0000H0000H     000000012  SL FL                                       ";
 
-/// Dunmere, passed at 00:05.
+/// A pass of Dunmere at 00:05.
 pub const LI_0005: &[u8] =
     b"LIDUNMERE           0005                                                        ";
 
-/// Dunmere, passed at 00:10.
+/// A pass of Dunmere at 00:10.
 pub const LI_0010: &[u8] =
     b"LIDUNMERE           0010                                                        ";
 
@@ -84,11 +84,11 @@ pub const LI_1010: &[u8] =
 pub const LI_1040: &[u8] =
     b"LICOLWELL21040 1042              4                                              ";
 
-/// Colwell, passed at 12:10.
+/// A pass of Colwell at 12:10.
 pub const LI_COLWELL_1210: &[u8] =
     b"LICOLWELL           1210                                                        ";
 
-/// Colwell, without a time.
+/// An intermediate location: Colwell, without any time.
 pub const LI_TIMELESS: &[u8] =
     b"LICOLWELL                        2                                              ";
 

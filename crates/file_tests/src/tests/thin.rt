@@ -10,13 +10,13 @@ use test_records::{
     text,
 };
 
-/// A timing point, a night train on 10 June, a train on 15 and 16 June, and the deletion of a
-/// schedule.
+/// A file with a timing point, a night train on 10 June, a train on 15 and 16 June, and the
+/// deletion of a schedule.
 const MIXED: [&[u8]; 12] = [
     HD, TI, BS_NIGHT, LO_2355, LI_0000, LI_0010, LT_0020, BS_WEEKEND, LO, LT, BS_DELETED, ZZ,
 ];
 
-/// A schedule that is put and then deleted.
+/// A file that puts a schedule and then deletes it.
 const PUT_AND_DELETED: [&[u8]; 6] = [HD, BS, LO, LT, BS_DELETED, ZZ];
 
 /// How many lines an act puts. A deletion puts none.
@@ -28,7 +28,8 @@ fn lines_of(act: &Act) -> usize {
     }
 }
 
-/// Asserts how many lines each change has that is kept of a file for this place and day.
+/// Asserts which changes of a file are kept for this place and day. `wanted` gives, for each kept
+/// change, how many lines it puts.
 fn keeps(
     rt: &impl Abort,
     alloc: Global,

@@ -1,5 +1,5 @@
 //! Functions with which the tests compare values. They end the test if the values differ. Each is a
-//! function of its own, so that its assertion is proved once for all rows.
+//! function of its own, so that its assertion is proved only once for all tests.
 use std::alloc::Global;
 use std::fmt::{Debug, Display};
 use std::process::Abort;

@@ -1,5 +1,5 @@
-//! A function with which the tests compare values. It ends the test if they differ. It is a
-//! function of its own, so that its assertion is proved once for all rows.
+//! A function with which the tests compare values. It ends the test if the values differ. It is a
+//! function of its own, so that its assertion is proved only once for all tests.
 use std::fmt::Debug;
 use std::process::Abort;
 

@@ -48,7 +48,7 @@ const PUT_AND_DELETED: &[&[u8]] = &[
     b"deleted",
 ];
 
-/// How that state is shown if the file is a full extract.
+/// How the state is shown if the file that puts and deletes the schedule is a full extract.
 const PUT_AND_DELETED_IN_FULL: &[&[u8]] = &[
     b"item 23536 1260 DFROC1A F DFROC1Z",
     b"floor 23536 1260 DFROC1A",
@@ -227,7 +227,8 @@ fn a_late_full_extract(rt: HostRuntime) {
     three_are(&rt, alloc, u9, f7, u5);
 }
 
-/// Joins two states. If memory runs out, joins the two states that the call has returned once more.
+/// Joins two states. If memory runs out, tries once more with the two states that the call has
+/// returned.
 fn joined_again(
     rt: &impl Abort,
     alloc: Global,

@@ -9,17 +9,17 @@ use std::alloc::Global;
 use std::process::Abort;
 use test_records::{BS_DELETED, HD, ZZ};
 
-/// Asserts that this key was given last.
+/// Asserts that the entry with this key was added last.
 fn last_is(rt: &impl Abort, parts: &Parts, wanted: Option<Key>) {
     same(rt, parts.last().copied(), wanted);
 }
 
-/// Asserts that exactly these ledger items were given.
+/// Asserts that exactly these ledger items were added.
 fn ledger_is(rt: &impl Abort, parts: &Parts, wanted: &[LedgerItem]) {
     assert_eq!(rt; parts.ledger(), wanted);
 }
 
-/// Builds a state with one item and one deletion again, from its parts.
+/// Rebuilds a state with one item and one deletion from its parts.
 fn rebuilt(rt: &impl Abort, alloc: Global, one: &State) -> State {
     let (items, rows) = (one.ledger(), one.entries());
     if items.len() != 1 {

@@ -76,7 +76,7 @@ const FILE: &[&[u8]] = &[
     ZZ,
 ];
 
-/// What is found at Colwell in the state of that file.
+/// What is found at Colwell in the state of `FILE`.
 const AT_COLWELL: &[&[u8]] = &[
     b"calls 1: C30001 23537",
     BS_C30001,
@@ -104,7 +104,7 @@ const AT_ELM: &[&[u8]] = &[
     LT_DUNMERE_1100,
 ];
 
-/// What is found at Colwell after C10001 was put and C30002 deleted: the rows 1 and 3 of four.
+/// What is found at Colwell after C10001 was put and C30002 deleted: rows 1 and 3 of the four rows.
 const LEFT_AT_COLWELL: &[&[u8]] = &[
     b"calls 2: C30001 23537",
     BS_C30001,

@@ -13,7 +13,7 @@ fn key(rt: &impl Abort, code: &str) -> Key {
     Key::Tiploc(Tiploc::from_text(code).expect(rt, "a TIPLOC"))
 }
 
-/// A table with one timing point, whose entry is the one with this number.
+/// A table with one timing point, which has the entry with this number.
 fn one_row(rt: &impl Abort, alloc: Global, code: &str, place: u8) -> Table<Entry> {
     let mut rows = Vec::new(alloc);
     rows.push((key(rt, code), entry(rt, place)))
@@ -31,7 +31,7 @@ fn table(rt: &impl Abort, alloc: Global, rows: &[(&str, u8)]) -> Table<Entry> {
     all
 }
 
-/// Asserts that the entry of a timing point is the one with this number.
+/// Asserts that a timing point has the entry with this number.
 fn entry_is(rt: &impl Abort, table: &Table<Entry>, code: &str, place: u8) {
     same(rt, table.get(&key(rt, code)), Some(&entry(rt, place)));
 }

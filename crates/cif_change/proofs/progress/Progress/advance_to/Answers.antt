@@ -1,5 +1,5 @@
 -- A record of the line's kind may come next. Whether the line is taken depends on its fields and
--- its times, and in a deletion on neither.
+-- its times. In a deletion it depends on neither.
 use Rattle.std.proofs.Common.{ap, ◌∙◌, refl}
 use Rattle.std.proofs.lemmas.Bool.{false≢true}
 use Rattle.cif_change.specs.JourneyRead.{progress_meant, stage_then, stage_meant}

@@ -1,4 +1,4 @@
--- With the basic schedule, a schedule begins.
+-- A schedule begins with its basic schedule.
 use Rattle.std.proofs.Common.{◌∙◌, refl}
 use Rattle.cif_file.proofs.FrontLemmas.{basic_added}
 use Rattle.cif_file.proofs.UnitLemmas.{schedule_is_first}

@@ -1,4 +1,4 @@
--- Whether the next record may come depends on the place after the earlier records.
+-- Whether a record may come next depends on the reader's place in the file.
 use Rattle.std.proofs.Common.{◌∙◌, ap, sym}
 use Rattle.std.specs.Prelude.{option_map}
 use Rattle.cif_line.specs.Kind.{meaning}

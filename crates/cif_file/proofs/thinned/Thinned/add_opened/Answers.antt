@@ -1,5 +1,5 @@
--- A schedule that is a deletion or doesn't run near the day is handled as a deletion. Of any other
--- schedule the lines that the place needs are kept.
+-- A schedule that is a deletion or doesn't run near the day is handled as a deletion. For any other
+-- schedule, only the lines that matter at the place are kept.
 use Rattle.std.proofs.Common.{◌≡◌, refl, sym, ap, ◌∙◌, true, false}
 use Rattle.std.specs.Prelude.{◌||◌, not}
 use Rattle.cif_file.proofs.FrontLemmas.{on_ok_one}
