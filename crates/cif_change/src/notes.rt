@@ -20,8 +20,8 @@ use std::alloc::Global;
 pub struct Notes {
     /// The list of places. The number of a place is its index in this list.
     pub names: PlaceNames,
-    /// The numbers of all places that the rows name: first those named by row 0, then by row 1, and
-    /// so on.
+    /// The numbers of all places that the rows name: those that the first row names, then those
+    /// that the second row names, and so on.
     pub numbers: Vec<u32>,
     /// The piece of `numbers` that belongs to each row.
     pub pieces: Vec<Piece>,

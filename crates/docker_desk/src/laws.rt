@@ -69,11 +69,13 @@ pub fn known_texts_are_heard()
         (known : Known) → DoesRequest setting (merge_request other) before (done_with text) after
         → HoldsKnown (events_of other) before after known
         → HearsState (events_of other) before after known }
-    ensures renewed { (setting : Setting) (text : List ℕ) (before after : SessionView) (known : Known)
+    ensures renewed { (setting : Setting) (text : List ℕ) (before after : SessionView)
+        (known : Known)
         → DoesRequest setting renew_request before (done_with text) after
         → HoldsKnown (renewing setting.name) before after known
         → HearsState (renewing setting.name) before after known }
-    ensures learned { (setting : Setting) (first last : SessionView) (steps : List Step) (old : Known)
+    ensures learned { (setting : Setting) (first last : SessionView) (steps : List Step)
+        (old : Known)
         → AreSteps setting first steps last → AllHearKnown setting steps
         → (new : Known) × AreLearned setting old steps new }
 {}
