@@ -17,8 +17,7 @@ AreAt {K} place rows = (row : List ℕ × K) → Contains rows row → row.0 ≡
 abbrev pub AreElsewhere : {K : Type 0} → List ℕ → List (List ℕ × K) → Type 0
 AreElsewhere {K} place rows = (row : List ℕ × K) → Contains rows row → ¬ (row.0 ≡ place)
 
--- after an event that was done, the states and messages match what offices and messages know. The
--- office's state after the event is `now`
+-- `Holds` is true after an event that was carried out. The office's state after the event is `now`
 abbrev pub HoldsAfter : Format → KnownSets → RunEvent → List State → ℕ → State → List (List ℕ) → Type 0
 HoldsAfter format known event states office now messages =
     Holds format (after_reply known (event, done)) (slice_set states office now) messages

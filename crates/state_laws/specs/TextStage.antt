@@ -46,7 +46,7 @@ after_body count state (association_key key) stamp bytes =
     after_entries count (with_entry state (association_key key) stamp (put_with (association_body bytes)))
 after_body count state (schedule_key key) stamp bytes = after_lines count state key stamp (from_be_bytes w32 bytes) []
 
--- the point after a part of an entry, which has these bytes
+-- the point after the next part of an entry, if this part has these bytes
 abbrev pub after_part : ℕ → State → EntryPart → List ℕ → Before
 after_part count state before_tag bytes = in_entry count state (before_key (slice_index bytes 0))
 after_part count state (before_key tag) bytes = in_entry count state (before_stamp (key_in tag bytes))
@@ -60,7 +60,7 @@ abbrev pub after_mark : Format → Before
 after_mark dks_1 = before_ledger_count 0
 after_mark dks_2 = before_horizon
 
--- the point after a part of the text, which has these bytes
+-- the point after the next part of the text, if this part has these bytes
 abbrev pub advance : (format : Format) → Before → List ℕ → Before
 advance format before_mark bytes = after_mark format
 advance format before_horizon bytes = before_ledger_count (from_be_bytes w16 bytes)

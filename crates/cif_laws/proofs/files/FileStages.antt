@@ -352,8 +352,8 @@ stage_stops in_journey (Some change_en_route) h = cc
 stage_stops in_journey (Some terminating_location) h = cc
 stage_stops _ _ h = refl
 
--- after a schedule that may end, a record that can't follow a basic schedule leads to the same
--- place as from between units
+-- a record that can't follow a basic schedule leads to the same next place from a schedule that may
+-- end as from `between_units`
 pub next_behind : (stage : Stage) (lines : Lines) (line : List ℕ) → may_end stage lines ≡ true → follows_basic (kind_of line) ≡ false
     → next_place (in_schedule stage lines) line ≡ next_place between_units line
 next_behind stage lines line may anew =
@@ -410,7 +410,7 @@ place_of_file file is =
     }) i))
     ∙ units_pass is.units is.last (recursion_from_All IsUnit is.units is.each) is.trailer_record is.trailer_kind
 
--- ---- the laws
+-- ---- the laws of places
 
 place_from_front : (front rest : Lines) (place final : Place) → place_from place (front ++ rest) ≡ Some final
     → (middle : Place) × (place_from place front ≡ Some middle)

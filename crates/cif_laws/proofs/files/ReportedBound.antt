@@ -1,4 +1,4 @@
--- Bytes that determine no fault have a bounded number: at most 82 for each complete line with its
+-- If bytes determine no fault, their number is bounded: at most 82 for each complete line with its
 -- line feed, and at most 81 for the incomplete line.
 use Rattle.std.proofs.Common.{◌≡◌, ℕ, List, length, [], ◌∷◌, Some, ◌+◌, ◌<◌, arith, refl, ap, Bool, true, false, ◌*◌, ◌≤◌, map, ◌⊎◌, inl, inr}
 use Rattle.std.specs.Prelude.{◌==◌}
@@ -80,7 +80,7 @@ bound_of_none limit text none =
     let short = none.short in
     omega arith
 
--- bytes that determine no fault are at most `82 * limit + 81` bytes
+-- if bytes determine no fault, their number is at most `82 * limit + 81`
 pub text_without_fault_is_bounded : (limit : ℕ) (text : List ℕ) → ((fault : FileFault) → ¬ IsFaultSoFar limit text fault) → length text ≤ 82 * limit + 81
 text_without_fault_is_bounded limit text never = by (fault_so_far_or_none limit text)
   where

@@ -15,7 +15,8 @@ use Rattle.cif_laws.proofs.files.GoodChanges.{StopsHere, Follows, rest_is, sched
 abbrev change_of_act : ℕ → Key × Act → Change
 change_of_act n act = record { number = n; key = act.0; act = act.1 }
 
--- ---- the first record of a unit determines the changes, with the rest of a schedule
+-- ---- the changes of a unit depend only on its first record and, for a schedule, on the rest of
+-- the schedule
 
 -- if the acts of a record don't depend on the records after it, neither do its changes
 alike_by : (n : ℕ) (kind : Kind) (line : List ℕ) (following others : List (List ℕ)) → HasKind kind line

@@ -1,5 +1,5 @@
--- The docker line of an association for one start day of the base train. The docker has each of
--- these lines, and no other lines of associations.
+-- Lemmas on the docker line of an association for one start day of the base train. The association
+-- lines of a docker are exactly these lines, for all associations and start days.
 use Rattle.std.proofs.Common.{◌≡◌, ℕ, List, [], ◌∷◌, refl, ap, sym, ◌∙◌, subst, inl, inr, Some, None, Bool, true, false, cond, Contains, eqb-true, arith}
 use Rattle.std.specs.Prelude.{Option, not, ◌&&◌, ◌==◌}
 use Rattle.std.specs.Ordering.{is_eq}
@@ -107,7 +107,7 @@ module _ (live : Table) (trains : List ℕ → ℕ → Option Train) (links : Gr
       counted : counts_as (links (group_of key) start) key ≡ true
       counted = by (links (group_of key) start) (tell_links (group_of key) start)
 
-  -- ---- the docker has each line of an association, and no other lines of associations
+  -- ---- the association lines of the docker are exactly the lines in `link_piece`
 
   made_at : (key : AssociationKey) (line : List ℕ) (start : ℕ) → key.location ≡ place → IsInForce live start key line → (occasion : Occasion)
       → category_occasion (columns 35 36 line) ≡ Some occasion

@@ -51,8 +51,8 @@ still_here state part key stamp is same here = (
   subst (λ ledger. IsStampIn ledger stamp) (sym same) here.1,
 )
 
--- if an entry may follow the entries of a state, a state may also have these entries with that
--- entry appended
+-- if an entry may follow the entries of a state, a state with the same ledger may have these
+-- entries with that entry appended
 pub entries_more : (state : State) (key : Key) (entry : Entry) → AreEntries state.ledger state.entries → IsStampHere state key entry.stamp
     → IsOpOf key entry.op
     → AreEntries state.ledger (state.entries ++ (key, entry) ∷ [])
@@ -213,11 +213,12 @@ is_name uid (Some name) = bytes_eq name uid
 abbrev pub names_as : List ℕ → List ℕ → Keyed → Bool
 names_as place uid entry = is_here place entry.0 && is_name uid (name_in entry.0 entry.1.op)
 
--- whether the docker of the place may depend on the schedules of this UID, by a test of the entries
+-- whether, according to the entries, the docker of the place may depend on the schedules of this
+-- UID
 abbrev pub is_concerned : List ℕ → List Keyed → List ℕ → Bool
 is_concerned place entries uid = list_any (names_as place uid) entries || list_any (calls_as place uid) entries
 
--- whether the docker of the place may depend on this key, by a test of the entries
+-- whether, according to the entries, the docker of the place may depend on this key
 abbrev pub is_needed : List ℕ → List Keyed → Key → Bool
 is_needed place entries (tiploc_key code) = bytes_eq code place
 is_needed place entries (association_key key) = bytes_eq key.location place

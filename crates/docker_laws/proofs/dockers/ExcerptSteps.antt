@@ -1,4 +1,5 @@
--- The walk that computes an excerpt: the kept entries after each entry and at the end.
+-- Lemmas on the walk that computes an excerpt. They say which entries are kept after each step and
+-- at the end.
 use Rattle.std.proofs.Common.{All, ◌≡◌, ℕ, List, [], ◌∷◌, ◌++◌, subst, inl, inr, ◌⊎◌, refl, ap, sym}
 use Rattle.std.proofs.Common.{◌∙◌, Bool, true, false, cond, Some, Contains, append-nil, append_assoc}
 use Rattle.std.specs.Prelude.{Option, ◌||◌, ◌↔◌, filter, fold, option_and_then}

@@ -31,8 +31,8 @@ use Rattle.docker_laws.proofs.runs.RunEnd.{greater_prints, one_text}
 
 -- ---- leaving out the short-term plan commutes with applying changes
 
--- if a change is of a permanent key, making the change commutes with leaving out the short-term
--- plan. A change of any other key leaves the permanent table unchanged
+-- applying a change of a permanent key commutes with leaving out the short-term plan. A change of
+-- any other key leaves the permanent table unchanged
 after_one : (table : Table) (change : Change)
     → permanent_table (after_change table change)
     ≡ cond (is_permanent change.key) (after_change (permanent_table table) change) (permanent_table table)
@@ -126,7 +126,7 @@ lapsed_iff horizon live place day text is_day good printed =
         ap (λ h. lapse_table h (permanent_table live)) zero_is ∙ (λ i key. lapse_table_none (permanent_table live) key i) in
         subst (λ (t : Table). IsDockerText (permanent_table live) place day text ↔ IsDockerText t place day text) (sym all) (λ x. x, λ x. x)
 
--- ---- the laws
+-- ---- the laws of permanent dockers
 
 -- a permanent docker printed from a summary is the permanent docker of the plain table
 pub permanent_is_plain : (files : List (List (List ℕ))) (horizon : ℕ) (state : State) (table : Table) (place : List ℕ) (day : ℕ) (text : List ℕ)

@@ -1,5 +1,5 @@
--- The docker lines of a schedule for one start day. The docker has each of these lines, and no
--- other lines of events.
+-- Lemmas on the docker lines of a schedule for one start day. The event lines of a docker are
+-- exactly these lines, for all schedules and start days.
 use Rattle.std.proofs.Common.{◌≡◌, ℕ, true, rules, List, Contains, ◌<◌, ap, sym, ◌∙◌, subst, Bool, eqb-true, arith, [], cond, refl, Some, None, false}
 use Rattle.std.specs.Prelude.{◌==◌, filter, ◌&&◌, Option}
 use Rattle.std.specs.Str.{bytes_eq}
@@ -31,7 +31,7 @@ use Rattle.docker_laws.proofs.dockers.Events.{numbers_ascend}
 use Rattle.docker_laws.proofs.dockers.OneDockerLine.{tied_lines_agree}
 use Rattle.cif_laws.proofs.orders.AtMost.{eq_is}
 
--- each number equals itself in the test `==`
+-- `n == n` is true for each number
 pub number_itself : (n : ℕ) → (n == n) ≡ true
 number_itself n = search rules
 

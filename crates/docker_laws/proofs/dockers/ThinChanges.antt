@@ -46,7 +46,8 @@ thin_left place day (put body) = by (may_count day (put_with body))
     by true = refl
     by false = refl
 
--- after a change the table has the change's body at its key, and the old body at every other key
+-- after a change, the table has at the change's key the body that the change leaves, and at any
+-- other key the same body as before
 after_here : (table : Table) (change : Change) (key : Key) → is_of key change ≡ true → after_change table change key ≡ left_by change.act
 after_here table change key h = λ i. cond (h i) (left_by change.act) (table key)
 
@@ -275,7 +276,7 @@ sublist_map {A} f (x ∷ xs) (y ∷ ys) is = by (sublist_map f xs ys) (sublist_m
     by both_step skip (inr later) = inr (skip later)
 
 module _ (place : List ℕ) (day : ℕ) where
-  -- each change whose key may matter may be kept in its thin form
+  -- the thin forms of all changes whose keys may matter are a thinning
   pub thinning_of_all : (changes : List Change) → IsThinning place day changes (thin_changes place day changes)
   thinning_of_all changes = record {
     some = sublist_map (thin_change place day) (filter (λ (change : Change). may_matter place change.key) changes) changes
@@ -399,9 +400,9 @@ near_of_new day line = λ i. list_any
     (λ start. runs_within (new_columns line 10 15 (omega arith) i) (new_columns line 16 21 (omega arith) i) (new_columns line 22 28 (omega arith) i) start)
     (near_starts day)
 
--- ---- no change of a key above the greatest kept key is kept
+-- ---- no kept change has a key above an upper bound of the kept keys
 
--- no kept change has a key above the highest kept key
+-- if a key is above an upper bound of the kept keys, no kept change has this key
 pub none_above : (highest key : Key) (kept : List Change) → AreAtMost highest kept → IsBelow key_cmp highest key → HasNoChangeOf key kept
 none_above highest key kept low below change among same =
     low change among (subst (λ (k : Key). key_cmp k highest ≡ Greater) (sym same) (key_total.antisymm key highest ∙ ap ordering_reverse below))
@@ -410,7 +411,7 @@ none_above highest key kept low below change among same =
 pub none_at_first : (highest : Key) → AreAtMost highest []
 none_at_first highest change among = absurd (nil-Contains change among)
 
--- after a change with a key that isn't above the highest key is kept, the highest key is still an
+-- if a change is kept whose key is at most an upper bound of the kept keys, the bound is still an
 -- upper bound
 pub still_at_most : (highest : Key) (kept : List Change) (change : Change) → AreAtMost highest kept → IsAtMost key_cmp change.key highest
     → AreAtMost highest (kept ++ change ∷ [])
@@ -420,7 +421,8 @@ still_at_most highest kept change low more other among = by (Contains-append_cas
     by (inl before) = low other before
     by (inr last) = subst (λ (c : Change). IsAtMost key_cmp c.key highest) (Contains-single change other last) more
 
--- after a change with a key above the highest key is kept, its key is an upper bound
+-- if a change is kept whose key is above an upper bound of the kept keys, the key of this change is
+-- an upper bound
 pub raised_at_most : (highest : Key) (kept : List Change) (change : Change) → AreAtMost highest kept → IsBelow key_cmp highest change.key
     → AreAtMost change.key (kept ++ change ∷ [])
 raised_at_most highest kept change low below =

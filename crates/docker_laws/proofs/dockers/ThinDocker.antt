@@ -44,7 +44,8 @@ turned place day one other is = record {
     swap (inl calls) = inr calls
     swap (inr calls) = inl calls
 
--- records with the same first record may replace a schedule, if neither calls at the place
+-- records with the same first record may replace a schedule, if neither these records nor the
+-- schedule call at the place
 pub stand_in_by_first : (place : List ℕ) (day : ℕ) (whole lines : List (List ℕ)) → first_record lines ≡ first_record whole → calls_at place whole ≡ false
     → calls_at place lines ≡ false → IsStandIn place day whole lines
 stand_in_by_first place day whole lines same none no_other = record {

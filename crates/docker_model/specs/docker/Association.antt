@@ -1,6 +1,6 @@
--- Association lines, which are the lines of a docker that say that two trains join or divide at a
--- place, or that one train becomes the other's next working. Here a day is any number, without a
--- bound; dockers are made only for days 0 to 36524.
+-- The association lines of a docker. Each says that two trains join or divide at a place, or that
+-- one train becomes the other's next working. These definitions accept any number as a day, but
+-- dockers are made only for days 0 to 36524.
 use Rattle.std.specs.Prelude.{◌≡◌, ℕ, ◌+◌, ◌-◌, Bool, ◌||◌, ◌⊎◌, ◌==◌, nat_lt, if◌then◌else◌, IsTrue, List, Option, Some, None, codes}
 use Rattle.std.specs.Str.{bytes_eq}
 use Rattle.docker_model.specs.records.Record.{columns, column}

@@ -119,7 +119,8 @@ occasion_rank dividing = 3
 occasion_rank next_working = 4
 occasion_rank departure = 5
 
--- the associated train's UID in an association's line, and no bytes in the line of an event
+-- the associated train's UID, which only the line of an association has. For the line of an event
+-- the result is empty
 abbrev pub associated_uid : Detail → List ℕ
 associated_uid (ends origin destination) = []
 associated_uid (partner uid identity) = uid

@@ -1,5 +1,5 @@
--- The list of a docker: the lines of all events and associations at a place on a day. The day is
--- any number here, without a bound; dockers are made only for days 0 to 36524.
+-- The list of a docker: the lines of all events and associations at a place on a day. These
+-- definitions accept any number as a day, but dockers are made only for days 0 to 36524.
 use Rattle.std.specs.Prelude.{◌≡◌, ℕ, ◌↔◌, ◌⊎◌, List, Contains}
 use Rattle.docker_model.specs.records.Record.{columns}
 use Rattle.docker_model.specs.file.Change.{ScheduleKey}

@@ -43,7 +43,7 @@ pub data Act : Type 0 where
   delete : Act
   put : (body : Body) → Act
 
--- a change of a key by a record: the number of the record, the key, and the act
+-- a change that a record makes to one key: the number of the record, the key, and the act
 pub record Change : Type 0 where
   pub number : ℕ
   pub key : Key

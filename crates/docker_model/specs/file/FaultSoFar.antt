@@ -18,8 +18,8 @@ abbrev pub sure_lines : List ℕ → ℕ
 sure_lines text =
     count_by (λ b. b == 10) text + (if nat_le 82 (length (last_of (slice_split (λ b. b == 10) text))) then 1 else 0)
 
--- these bytes determine this fault, which is the fault of every text that begins with these bytes:
--- the record at fault is one of the certain lines
+-- these bytes determine this fault: the record at fault is one of the certain lines. Every text
+-- that begins with these bytes has the same fault
 pub record IsFaultSoFar (limit : ℕ) (text : List ℕ) (fault : FileFault) : Type 0 where
   pub is : IsRecordFault limit (lines_of text) fault
   pub told : fault.number ≤ sure_lines text

@@ -58,8 +58,8 @@ body_bytes (tiploc_body bytes) = bytes
 body_bytes (association_body line) = line
 body_bytes (schedule_body lines) = concat lines
 
--- the end number of an end date of six bytes, or the number 65535 for no end if the bytes aren't an
--- end date
+-- converts six bytes to an end number. If the bytes aren't an end date, the result is 65535, which
+-- means no end
 abbrev pub readable_end : List ℕ → ℕ
 readable_end field = if is_end_date field then end_number field else no_end_number
 

@@ -20,7 +20,7 @@ pub record State : Type 0 where
   pub ledger : List LedgerItem
   pub entries : List (Key × Entry)
 
--- this can be the ledger item of a header: its day and minute exist, and its references and
+-- this can be the ledger item of a header: its day and minute are in range, and its references and
 -- indicator are well formed
 pub record IsGoodItem (item : LedgerItem) : Type 0 where
   pub day : IsDay item.stamp.moment.day
@@ -81,7 +81,7 @@ IsOpOf key lapsed = ⊤
 IsOpOf key (put_with body) = IsBodyOf key body
 
 -- the ledger is well formed: its items are strictly ascending, each can be the item of a header,
--- and no item is below their floor
+-- and none is below the ledger's floor
 pub record IsLedger (ledger : List LedgerItem) : Type 0 where
   pub each : All IsGoodItem ledger
   pub ascending : IsStrictlyAscending ledger_item_cmp ledger
@@ -127,8 +127,8 @@ pub record IsValid (state : State) : Type 0 where
 abbrev pub entry_at : State → Key → Option Entry
 entry_at state key = option_and_then (λ (entry : Key × Entry). Some entry.1) (find (λ entry. is_eq (key_cmp entry.0 key)) state.entries)
 
--- the live table of a state: the body of each key that is put. A key that is deleted or lapsed, or
--- has no entry, has no body
+-- the live table of a state: the body at each key whose entry is a put. A key has no body if its
+-- entry is a deletion or a lapse, or if it has no entry
 abbrev pub live_table : State → Key → Option Body
 live_table state key = option_and_then (λ (entry : Entry). body_of entry.op) (entry_at state key)
 

@@ -144,8 +144,8 @@ one_floor state = floor_unique state.ledger state.ledger (λ item. (λ x. x, λ 
 abbrev pub first_full : List LedgerItem → Option FileStamp
 first_full ledger = option_map (λ (item : LedgerItem). item.stamp) (find (λ (item : LedgerItem). item.indicator == 70) ledger)
 
--- this is the file stamp of some full extract among the items, or `None` if no item is for a full
--- extract
+-- this is the file stamp of some full extract among the items, or it is `None` and no item is for a
+-- full extract
 FirstFull : List LedgerItem → Option FileStamp → Type 0
 FirstFull ledger None = (item : LedgerItem) → Contains ledger item → ¬ IsFull item
 FirstFull ledger (Some stamp) = (item : LedgerItem) × Contains ledger item × IsFull item × (item.stamp ≡ stamp)

@@ -1,5 +1,5 @@
--- Entries under a floor and a horizon. If an entry isn't below the floor, no greater entry is below
--- the floor. The lapse preserves the key order of entries.
+-- Lemmas on entries under a floor and a horizon. If an entry isn't below the floor, no greater
+-- entry is below the floor. The lapse preserves the key order of entries.
 use Rattle.std.proofs.Common.{◌≡◌, ℕ, ◌<◌, ◌≤◌, List, [], ◌∷◌, subst, inl, inr, ◌⊎◌, refl, sym, ◌∙◌, Some, None}
 use Rattle.std.specs.Prelude.{Option}
 use Rattle.std.specs.List.{AllByRecursion}

@@ -30,7 +30,8 @@ use Rattle.cif_laws.proofs.orders.AtMost.{less_not_greater, at_most_trans}
 abbrev pub Keyed : Type 0
 Keyed = Key × Entry
 
--- the table after one more entry: the key of the entry has the entry's body
+-- the table after one more entry: at the entry's key it has the body that the entry's op puts, if
+-- any
 abbrev pub step : Table → Keyed → Table
 step table entry key = cond (is_eq (key_cmp entry.0 key)) (body_of entry.1.op) (table key)
 
@@ -132,7 +133,7 @@ within_file file first second (inl below) same =
     (λ i. ordering_then (tied_itself file_stamp_total (file_stamp_of file) i) (number_below first.number second.number below i))
 within_file file first second (inr apart) same = absurd (apart same)
 
--- the entry is from a file with a later moment
+-- the moment of the entry's file is after the moment of this file
 abbrev IsLaterThan : List (List ℕ) → Keyed → Type 0
 IsLaterThan file entry = IsBelow moment_cmp (moment_of file) entry.1.stamp.file.moment
 

@@ -26,8 +26,8 @@ KeptOf entries floor horizon key entry =
     (greatest : Entry) × IsGreatestAmong entries key greatest × IsKept floor greatest.stamp.file × (lapse_entry horizon greatest ≡ entry)
 
 -- the state is the reduction of these items and entries under its horizon. The state has the items
--- that aren't below their floor, and the greatest entry of each key after its lapse, unless that
--- entry is below the floor
+-- that aren't below the floor of all items, and the greatest entry of each key after its lapse,
+-- unless that entry is below the floor
 pub record IsReduced (items : List LedgerItem) (entries : List Keyed) (state : State) : Type 0 where
   pub floor : Option FileStamp
   pub is_floor : IsFloor items floor
@@ -140,8 +140,8 @@ module _ (items more : List LedgerItem) (entries others : List Keyed) (once twic
         → IsKept second.floor best.stamp.file → IsKept second.floor top.stamp.file → lapse_entry twice.horizon best ≡ lapse_entry twice.horizon top
     same_lapse best top is_best is_top kept_best kept_top = by (stands best is_best kept_best)
       where
-        -- if the second step contains the greatest of all entries itself, both are equal after the
-        -- lapse
+        -- if the second step contains the greatest of all entries itself, the greatest entry of the
+        -- second step has the same lapse
         itself : Contains (once.entries ++ others) (key, best) → lapse_entry twice.horizon best ≡ lapse_entry twice.horizon top
         itself there =
             one_per_key twice.entries second.entries_ascend key (lapse_entry twice.horizon best) (lapse_entry twice.horizon top)
@@ -154,8 +154,8 @@ module _ (items more : List LedgerItem) (entries others : List Keyed) (once twic
             ))
             ((second.of_keys key (lapse_entry twice.horizon top)).1 (top, is_top, kept_top, λ i. lapse_entry twice.horizon top))
 
-        -- if the second step contains the lapse of the greatest of all entries, both are equal
-        -- after the lapse
+        -- if the second step contains the lapse of the greatest of all entries, the greatest entry
+        -- of the second step has the same lapse
         between : lapse once.horizon best.op ≡ lapsed → Contains once.entries (key, lapse_entry once.horizon best)
             → lapse_entry twice.horizon best ≡ lapse_entry twice.horizon top
         between has there =

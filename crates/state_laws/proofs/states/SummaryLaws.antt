@@ -85,7 +85,7 @@ entries_of_union files others entry = (
     by file inside (inr here) =
         Contains-append_left (entries_along others) (entries_along files) entry (flat_map-Contains entries_of others file entry here inside)
 
--- ---- the laws
+-- ---- the laws of summaries
 
 -- a set of files has at most one summary under a horizon, whatever the order of the list
 pub summary_unique : (files others : List File) → SameMembers files others → (horizon : ℕ) (s t : State) → IsSummary files horizon s
