@@ -36,7 +36,8 @@ letter_at line is = ap is_stp_letter (sym (one_column line 80 (omega arith))) �
 tiploc_at : (line : List ℕ) → IsRecord line → is_tiploc (columns 3 9 line) ≡ true → IsTiploc (columns 3 9 line)
 tiploc_at line is good = (text_in line 3 9 is (omega arith) (omega arith), tiploc_starts (columns 3 9 line) good)
 
--- the fields of an association that its key and its deletion use are good
+-- the fields in the key of an association that are checked are good: its first date, its timing
+-- point and its STP indicator
 record AssociationFields (line : List ℕ) : Type 0 where
   pub start : is_date (columns 16 21 line) ≡ true
   pub location : is_tiploc (columns 38 44 line) ≡ true

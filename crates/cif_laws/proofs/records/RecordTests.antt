@@ -124,7 +124,8 @@ pub no_fall_last : (times : List ℕ) → AllByRecursion (λ t. t ≤ last_time)
 no_fall_last [] all = refl
 no_fall_last (time ∷ times) all = no_fall_behind time times all
 
--- the times of a concatenation of records are the concatenation of the times of both lists
+-- the times of two concatenated lists of records are the times of the first list, followed by the
+-- times of the second list
 pub times_append : (lines more : List (List ℕ)) → times_along (lines ++ more) ≡ times_along lines ++ times_along more
 times_append lines more =
     ap (map (λ (time : Occasion × ℕ). time.1)) (flat_map-append times_of lines more) ∙ map-append (λ (time : Occasion × ℕ). time.1) (flat_map times_of lines)

@@ -84,7 +84,7 @@ first_line_iff_test line = (
       record { is = (record_iff_test line).1 first.0; kind = basic_by_test (kind_of line) first.1; fields = none_by_test (leftmost_bad_field line) parts.1 },
 )
 
--- the first record by itself is at the stage after the basic schedule
+-- a record that can be the first record of a schedule is, by itself, at the stage `after_basic`
 pub front_of_basic : (line : List ℕ) → IsFirstLine line → IsFront after_basic (line ∷ [])
 front_of_basic line told = record {
   basic = line;
@@ -213,8 +213,8 @@ journey_more journey line so_far is = (
   all_append IsWithinJourney so_far.1 (line ∷ []) so_far.4 (is, tt),
 )
 
--- one more record gives a schedule with the structure of the next stage, judged by the record's
--- kind
+-- appending a record whose kind leads to a next stage gives a schedule with the structure of that
+-- stage
 shape_more : (stage : Stage) (kind : Kind) (next : Stage) (extra journey : Lines) (line : List ℕ) → HasShape stage extra journey → HasKind kind line
     → stage_after stage (Some kind) ≡ Some next
     → (HasShape next extra (journey ++ line ∷ [])) ⊎ (HasShape next (line ∷ []) journey × (extra ≡ []) × (journey ≡ []))
@@ -658,7 +658,7 @@ stage_of_schedule lines is = subst (λ l. (stage : Stage) × IsWholeBy l stage) 
         (stage_from after_basic (is.basic ∷ []) (is.extra ++ is.journey)) None)
         ∙ stage_from_along (is.extra ++ is.journey) after_basic is.basic [] lead.final records.1 (sound is.sound) lead.along
 
--- ---- the laws
+-- ---- the laws of stages
 
 -- records are a schedule if and only if they lead to a stage at which the schedule may end
 pub schedule_iff_stage : (lines : Lines) → IsSchedule lines ↔ ((stage : Stage) × IsWholeBy lines stage)
