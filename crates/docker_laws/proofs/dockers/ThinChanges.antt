@@ -376,20 +376,20 @@ thinning_more place day all kept (change ∷ more) is =
 -- ---- the thin form of an act in each case
 
 module _ (place : List ℕ) (day : ℕ) (lines : List (List ℕ)) where
-  -- the thin form of a put of a schedule that can't count is a deletion
+  -- if a schedule can't count, the thin form of its put is a deletion
   pub act_far : runs_near day (first_record lines) ≡ false → thin_act place day (put (schedule_body lines)) ≡ delete
   act_far far = λ i. cond (far i) (put (schedule_body (lines_for place lines))) delete
 
   act_near : runs_near day (first_record lines) ≡ true → thin_act place day (put (schedule_body lines)) ≡ put (schedule_body (lines_for place lines))
   act_near near = λ i. cond (near i) (put (schedule_body (lines_for place lines))) delete
 
-  -- the thin form of a put of a schedule that calls at the place is the same put
+  -- if a schedule may count and calls at the place, the thin form of its put is the same put
   pub act_calls : runs_near day (first_record lines) ≡ true → calls_at place lines ≡ true
       → thin_act place day (put (schedule_body lines)) ≡ put (schedule_body lines)
   act_calls near calls = act_near near ∙ (λ i. put (schedule_body (cond (calls i) lines (thin_lines lines))))
 
-  -- the thin form of a put of a schedule that doesn't call at the place is a put of the thin
-  -- records
+  -- if a schedule may count and doesn't call at the place, the thin form of its put is a put of the
+  -- thin records
   pub act_thin : runs_near day (first_record lines) ≡ true → calls_at place lines ≡ false
       → thin_act place day (put (schedule_body lines)) ≡ put (schedule_body (thin_lines lines))
   act_thin near none = act_near near ∙ (λ i. put (schedule_body (cond (none i) lines (thin_lines lines))))

@@ -166,7 +166,7 @@ step_deleted format count state key stamp below =
     (λ cause bad. bad.1 (zero_told format)) refl
     (entry_done_text format count state key stamp deleted below ∙ part_more format count state (key_text key ++ stamp_bytes stamp) (0 ∷ []))
 
--- in the format that has lapsed ops, a reader reaches the part after the entry of a lapsed op
+-- after a lapsed op, in a format that has such ops, a reader reaches the part after the op's entry
 pub step_lapsed : (format : Format) → (count : ℕ) (state : State) (key : Key) (stamp : Stamp) → TellsOp format lapsed → length state.entries < count
     → Leads format (in_entry count state (before_op key stamp)) (after_entries count (with_entry state key stamp lapsed))
 step_lapsed format count state key stamp told below =
