@@ -143,8 +143,8 @@ last_rest : (piece : List ℕ) (pieces : Lines) → 0 < length pieces → last_o
 last_rest piece [] some = absurd (omega arith)
 last_rest piece (next ∷ pieces) some = refl
 
--- a line feed completes the incomplete line. The complete lines of the bytes after the line feed
--- follow
+-- the first line feed in appended bytes completes the incomplete line. The complete lines of the
+-- bytes after this line feed follow
 pub complete_lines_cut : (text front rest : List ℕ) → HasNoFeed front
     → complete_lines (text ++ (front ++ 10 ∷ rest)) ≡ complete_lines text ++ strip_carriage_return (open_line text ++ front) ∷ complete_lines rest
 complete_lines_cut text front rest plain =
@@ -154,7 +154,8 @@ complete_lines_cut text front rest plain =
     ∙ ap (λ pieces. but_last (pieces_of text) ++ pieces) (but_first (open_line text ++ front) (pieces_of rest) (some_pieces (λ b. b == 10) rest)))
     ∙ map-append strip_carriage_return (but_last (pieces_of text)) ((open_line text ++ front) ∷ but_last (pieces_of rest))
 
--- after a line feed, the incomplete line is the incomplete line of the bytes after this line feed
+-- after bytes with a line feed are appended, the incomplete line of the text is the incomplete line
+-- of the bytes after the first line feed
 pub open_line_cut : (text front rest : List ℕ) → HasNoFeed front → open_line (text ++ (front ++ 10 ∷ rest)) ≡ open_line rest
 open_line_cut text front rest plain =
     ap last_of (pieces_cut text front rest plain)

@@ -53,7 +53,7 @@ IsAt between_units records = IsBetween records
 IsAt (in_schedule stage lines) records = IsWithin stage lines records
 IsAt after_end records = IsFile records
 
--- ---- a record leads to a next place if and only if it passes each part of the test
+-- ---- a record leads to a next place if and only if it satisfies `IsNext`
 
 -- the record is sound at this place, and by its kind it leads to the place `next`
 pub record IsNext (place : Place) (line : List ℕ) (next : Place) : Type 0 where
@@ -61,7 +61,7 @@ pub record IsNext (place : Place) (line : List ℕ) (next : Place) : Type 0 wher
   pub sound : is_sound_at place line ≡ true
   pub place_is : place_by_kind place (kind_of line) line ≡ Some next
 
--- a record that leads to a next place passes each part of the test
+-- a record that leads to a next place satisfies `IsNext`
 pub next_by_test : (place : Place) (line : List ℕ) (next : Place) → next_place place line ≡ Some next → IsNext place line next
 next_by_test place line next found = by (is_record line && is_sound_at place line) refl found
   where
@@ -70,7 +70,7 @@ next_by_test place line next found = by (is_record line && is_sound_at place lin
     by true h told = let parts = both (is_record line) _ h in record { is = (record_iff_test line).1 parts.0; sound = parts.1; place_is = told }
     by false h told = cc
 
--- a record that passes each part of the test leads to this next place
+-- a record that satisfies `IsNext` leads to this next place
 pub test_by_next : (place : Place) (line : List ℕ) (next : Place) → IsNext place line next → next_place place line ≡ Some next
 test_by_next place line next told =
     (λ i. cond (and_true (is_record line) _ ((record_iff_test line).0 told.is) told.sound i) (place_by_kind place (kind_of line) line) None) ∙ told.place_is
@@ -157,8 +157,8 @@ within_more stage lines records line next within found = record {
   front = next_front stage lines line next within.front found;
 }
 
--- if records have the structure of a place, one more record that leads from there to a next place
--- gives records with the structure of the next place
+-- if records have the structure of a place, appending a record that leads from this place to a next
+-- place gives records with the structure of the next place
 pub next_at : (place : Place) (records : Lines) (line : List ℕ) (next : Place) → IsAt place records → next_place place line ≡ Some next
     → IsAt next (records ++ line ∷ [])
 next_at before_header records line next at found = by (next_by_test before_header line next found) (kind_of line) refl
@@ -285,7 +285,7 @@ place_from_append (line ∷ front) place middle more found =
     let step = then_some (λ next. place_from next front) (next_place place line) middle found in
     (λ i. option_and_then (λ next. place_from next (front ++ more)) (step.1 i)) ∙ place_from_append front step.0 middle more step.2
 
--- if a record has a next stage in a schedule, it leads to the place in the file with that stage
+-- if a record has a next stage in a schedule, it leads in the file to `place_in` of that stage
 pub next_of_stage : (stage : Stage) (lines : Lines) (line : List ℕ) (next : Stage) → next_stage stage lines line ≡ Some next
     → next_place (in_schedule stage lines) line ≡ Some (place_in next (lines ++ line ∷ []))
 next_of_stage stage lines line next found =

@@ -186,7 +186,7 @@ pub record IsNextLine (stage : Stage) (lines : Lines) (line : List ℕ) (next : 
   pub sound : is_sound_next lines line ≡ true
   pub stage_is : stage_after stage (kind_of line) ≡ Some next
 
--- a record that has a next stage passes each part of the test
+-- a record that has a next stage satisfies `IsNextLine`
 pub next_line_by_test : (stage : Stage) (lines : Lines) (line : List ℕ) (next : Stage) → next_stage stage lines line ≡ Some next
     → IsNextLine stage lines line next
 next_line_by_test stage lines line next is = by (is_record line && is_sound_next lines line) refl is
@@ -196,7 +196,7 @@ next_line_by_test stage lines line next is = by (is_record line && is_sound_next
     by true h found = let parts = both (is_record line) _ h in record { is = (record_iff_test line).1 parts.0; sound = parts.1; stage_is = found }
     by false h found = cc
 
--- a record that passes each part of the test has this next stage
+-- a record that satisfies `IsNextLine` has this next stage
 pub test_by_next_line : (stage : Stage) (lines : Lines) (line : List ℕ) (next : Stage) → IsNextLine stage lines line next
     → next_stage stage lines line ≡ Some next
 test_by_next_line stage lines line next told =
@@ -521,8 +521,8 @@ stage_of_append (basic ∷ rest) stage more found = by (is_first_line basic) ref
 pub stage_of_more : (lines : Lines) (stage : Stage) (line : List ℕ) → stage_of lines ≡ Some stage → stage_of (lines ++ line ∷ []) ≡ next_stage stage lines line
 stage_of_more lines stage line found = stage_of_append lines stage (line ∷ []) found ∙ some_then (next_stage stage lines line)
 
--- the stage after a single record is the stage after the basic schedule if the record can be the
--- first record of a schedule, and otherwise `None`
+-- the stage after a single record is `after_basic` if the record can be the first record of a
+-- schedule, and otherwise `None`
 pub stage_of_first : (line : List ℕ) → stage_of (line ∷ []) ≡ cond (is_first_line line) (Some after_basic) None
 stage_of_first line = refl
 
@@ -548,7 +548,7 @@ stage_of_front basic front rest final found = by (is_first_line basic) refl foun
 
 -- ---- the records of a schedule lead to a stage
 
--- the stage after these records, judged only by their kinds
+-- the stage to which these records lead from this stage, judged only by their kinds
 abbrev pub stage_along : Stage → Lines → Option Stage
 stage_along stage [] = Some stage
 stage_along stage (line ∷ rest) = option_and_then (λ next. stage_along next rest) (stage_after stage (kind_of line))

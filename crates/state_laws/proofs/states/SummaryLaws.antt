@@ -97,7 +97,8 @@ summary_unique files others same horizon s t is_s is_t =
     (summary_reduced files horizon s is_s))
     (summary_reduced others horizon t is_t)
 
--- the join of two summaries is the summary of the union under the greater horizon
+-- the join of two summaries is the summary of both sets of files together, under the greater of the
+-- two horizons
 pub join_is_summary : (files others : List File) (g h : ℕ) (one two joined : State) → IsSummary files g one → IsSummary others h two → IsJoin one two joined
     → IsSummary (files ++ others) (max g h) joined
 join_is_summary files others g h one two joined of_files of_others is =
