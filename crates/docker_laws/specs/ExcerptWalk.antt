@@ -9,8 +9,8 @@ use Rattle.docker_model.specs.file.Change.{Key, tiploc_key, association_key, sch
 use Rattle.docker_model.specs.state.Op.{Op, put_with, Entry}
 use Rattle.docker_model.specs.state.State.{State}
 
--- the state of a walk after some entries: the kept entries, and the entries of the current run. The
--- run may still be dropped
+-- the state of a walk after any number of entries: the kept entries, and the entries of the current
+-- run. The run may still be dropped
 pub record ExcerptSoFar : Type 0 where
   pub kept : List (Key × Entry)
   pub run : List (Key × Entry)

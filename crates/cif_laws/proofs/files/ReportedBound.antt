@@ -50,8 +50,8 @@ bytes_of_split p (b ∷ text) = by (p b) refl (bytes_of_split p text)
         let more = bytes_more b (slice_split p text) (omega arith) in
         omega arith
 
--- `bytes_in` of some pieces is `bytes_in` of all pieces but the last, plus the length of the last
--- piece, plus one
+-- `bytes_in` of pieces is `bytes_in` of all pieces but the last, plus the length of the last piece,
+-- plus one
 bytes_but_last : (pieces : Lines) → 0 < length pieces → bytes_in pieces ≡ bytes_in (but_last pieces) + length (last_of pieces) + 1
 unfolding bytes_in
 bytes_but_last [] some = absurd (omega arith)

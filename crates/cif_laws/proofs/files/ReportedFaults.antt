@@ -326,7 +326,7 @@ no_fault_told limit text place found within short fault =
       short = short;
     }))
 
--- a complete line that leads to no next place is at fault, whatever follows
+-- a complete line that leads to no next place is at fault. The bytes after the line don't matter
 pub fault_at_feed : (limit : ℕ) (text front rest : List ℕ) (place : Place) → HasNoFeed front → IsPlaceOf (complete_lines text) place
     → length (complete_lines text) ≤ limit
     → (limit ≤ length (complete_lines text)) ⊎ (next_place place (strip_carriage_return (open_line text ++ front)) ≡ None)
@@ -350,7 +350,7 @@ fault_at_feed limit text front rest place plain found within here = record {
       omega arith;
 }
 
--- an incomplete line of more than 81 bytes is at fault, whatever follows
+-- an incomplete line of more than 81 bytes is at fault. The bytes after these don't matter
 pub fault_at_long : (limit : ℕ) (text : List ℕ) (place : Place) → IsPlaceOf (complete_lines text) place → length (complete_lines text) ≤ limit
     → 82 ≤ length (open_line text)
     → IsFaultSoFar limit text (record { number = length (complete_lines text) + 1; cause = cause_of_long limit (length (complete_lines text)) place })

@@ -23,7 +23,7 @@ use Rattle.cif_laws.proofs.lists.BoolsAndOptions.{both, none_by_test, test_by_no
 use Rattle.cif_laws.proofs.records.RecordTests.{record_iff_test, no_times, no_times_before, midnights_step, last_time}
 use Rattle.cif_laws.proofs.records.RecordTests.{no_fall_last, times_append, along_within, fewer_midnights}
 
--- ---- the structure of the records read, for each stage
+-- ---- the structure of the records that have been read at each stage
 
 -- the records are an origin, then any number of intermediate locations and changes en route
 abbrev pub IsOpenJourney : Lines → Type 0

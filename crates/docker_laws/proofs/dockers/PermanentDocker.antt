@@ -69,7 +69,7 @@ after_one table change = by (is_permanent change.key) refl
     by false h = λ i key.
         (outside key (is_permanent key) refl ∙ passed h key (is_eq (key_cmp change.key key)) refl) i
 
--- leaving out the short-term plan after some changes equals leaving out the plan first and then
+-- leaving out the short-term plan after applying changes equals leaving out the plan first and then
 -- applying only the changes of permanent keys
 pub permanent_along : (table : Table) (changes : List Change)
     → permanent_table (fold after_change table changes)

@@ -258,8 +258,8 @@ module _ (place : List ℕ) (day : ℕ) (live part : Table) (stands : StandsFor 
 -- ---- the thinned table may replace the table
 
 module _ (place : List ℕ) (day : ℕ) (live : Table) where
-  -- if a schedule in the table runs near the day, the thinned table has, at the same key, those
-  -- records of the schedule that the docker of the place needs
+  -- if a schedule in the table runs near the day, the thinned table has at the same key `lines_for`
+  -- of the schedule's records
   schedule_left : (key : ScheduleKey) (lines : List (List ℕ)) → live (schedule_key key) ≡ Some (schedule_body lines)
       → runs_near day (first_record lines) ≡ true → thinned place day live (schedule_key key) ≡ Some (schedule_body (lines_for place lines))
   schedule_left key lines is_live runs =

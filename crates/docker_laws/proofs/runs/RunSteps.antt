@@ -149,7 +149,8 @@ module _ (format : Format) (known : KnownSets) (states : List State) (messages :
       (max_comm (office_known known office).horizon day)
       (raised_summary (office_known known office).files (office_known known office).horizon day (office_state states office) (office_is office there)))
 
--- at the start each office has the summary of no files, without a horizon
+-- `Holds` is true at the start of a run, if each office's state is the summary of no files without
+-- a horizon
 pub holds_at_first : (format : Format) (offices : ℕ) (states : List State) → length states ≡ offices → All (IsSummary [] 0) states
     → Holds format (none_known offices) states []
 holds_at_first format offices states long all = record {

@@ -76,7 +76,7 @@ schedule_named line = schedule_key (record {
   indicator = column 80 line;
 })
 
--- the body of a TIPLOC, from its record
+-- converts the record of a TIPLOC to the TIPLOC's body, which is columns 10 to 72
 abbrev pub tiploc_details : List ℕ → Body
 tiploc_details line = tiploc_body (columns 10 72 line)
 

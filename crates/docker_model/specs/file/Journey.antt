@@ -37,7 +37,7 @@ times_by_kind _ line = []
 abbrev pub times_of : List ℕ → List (Occasion × ℕ)
 times_of line = times_by_kind (kind_of line) line
 
--- the times in a schedule's records, in order, in half minutes
+-- the times in a schedule's records, in the order of the records. Each time is in half minutes
 abbrev pub times_along : List (List ℕ) → List ℕ
 times_along lines = map (λ time. time.1) (flat_map times_of lines)
 

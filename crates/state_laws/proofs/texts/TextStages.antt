@@ -57,8 +57,8 @@ then_leads format before between after first second = by before first.parts firs
         let rest = by (advance format from part) parts follow.1 to in
         record { parts = part ∷ rest.parts; follow = (follow.0, rest.follow); to = rest.to }
 
--- the text before the point after some parts is the text before these parts, followed by their
--- concatenation
+-- the text up to the point after these parts is the text up to the point before them, followed by
+-- the concatenation of the parts
 pub after_text : (format : Format) → (before : Before) (parts : List (List ℕ)) → Follow format before parts
     → text_before format (after_parts format before parts) ≡ text_before format before ++ concat parts
 after_text format before [] follow = sym (append-nil (text_before format before))
