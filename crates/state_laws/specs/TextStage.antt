@@ -32,8 +32,8 @@ after_lines count state key stamp n lines =
     if nat_le n (length lines) then after_entries count (with_entry state (schedule_key key) stamp (put_with (schedule_body lines)))
     else in_entry count state (before_line key stamp n lines)
 
--- the point after the first byte of an op. After 1 a body follows. After 0, for deleted, and after
--- 2, for lapsed, the entry ends
+-- the point after the first byte of an op. After the byte 1 a body follows. After the byte 0, for
+-- deleted, and after the byte 2, for lapsed, the entry ends
 abbrev pub after_op : ℕ → State → Key → Stamp → ℕ → Before
 after_op count state key stamp zero = after_entries count (with_entry state key stamp deleted)
 after_op count state key stamp (suc zero) = in_entry count state (before_body key stamp)

@@ -1,4 +1,4 @@
--- Membership in lists: in lists of one element, in `x ∷ xs`, in mapped lists, and in
+-- Lemmas on membership in lists: in lists of one element, in `x ∷ xs`, in mapped lists, and in
 -- concatenations.
 use Rattle.std.proofs.Common.{◌≡◌, ℕ, zero, suc, ◌<◌, List, ◌∷◌, length, inl, inr, arith, Contains, get_or, ◌⊎◌, refl, [], subst, lit<, map, ap, ◌++◌, sym, All}
 use Rattle.std.proofs.lemmas.List.Elements.{Contains-append_cases, Contains-append_left, Contains-append_right, All-from_recursion}

@@ -1,4 +1,4 @@
--- Day numbers, and their relation to the calendar of the crate `jiff`.
+-- Lemmas on day numbers, and on their relation to the calendar of the crate `jiff`.
 use Rattle.std.proofs.Common.{◌≡◌, ℕ, ◌≤◌, true, pos, arith, zero, suc, ◌+◌, ◌<◌, ◌∙◌, subst, Bool, false, cond, refl, ◌⊎◌, inl, inr, sym, ℤ, ap, ◌-◌, ◌+ℤ◌}
 use Rattle.std.specs.Prelude.{◌↔◌, nat_le, count_by, unsigned_abs}
 use Rattle.std.specs.List.{range_with_len}

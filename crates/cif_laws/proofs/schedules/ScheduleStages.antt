@@ -604,8 +604,7 @@ pub record IsWholeBy (lines : Lines) (stage : Stage) : Type 0 where
   pub found : stage_of lines ≡ Some stage
   pub may : may_end stage lines ≡ true
 
--- judged by the kinds of the records after the first, the records lead to a stage at which the
--- schedule may end
+-- the kinds of the records after the first lead to a stage at which the schedule may end
 record LeadsToEnd (basic : List ℕ) (rest : Lines) : Type 0 where
   pub final : Stage
   pub along : stage_along after_basic rest ≡ Some final

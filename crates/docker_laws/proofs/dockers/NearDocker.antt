@@ -178,8 +178,8 @@ list_over one other place day forth back lines is = record {
 abbrev pub IsLeftOut : ℕ → Table → Key → Type 0
 IsLeftOut day live key = (lines : List (List ℕ)) × (live key ≡ Some (schedule_body lines)) × (runs_near day (first_record lines) ≡ false)
 
--- `part` is the table without some schedules that don't run near the day. At each key `part` equals
--- `live`, or `part` has no body and the key may be left out
+-- `part` results from `live` by leaving out schedules that don't run near the day. At each key
+-- `part` equals `live`, or `part` has no body and the key may be left out
 abbrev pub IsNearPart : ℕ → Table → Table → Type 0
 IsNearPart day live part = (key : Key) → (part key ≡ live key) ⊎ ((part key ≡ None) × IsLeftOut day live key)
 

@@ -53,7 +53,7 @@ night_here = refl
 abbrev change_of : ℕ → Key → Act → Change
 change_of number key act = record { number = number; key = key; act = act }
 
--- on 11 June an overlay takes another way and doesn't call at COLWELL
+-- on 11 June an overlay takes another route and doesn't call at COLWELL
 abbrev way_round : List (List ℕ)
 way_round =
     bs (codes "N") (codes "C40001") (codes "240611") (codes "240611") (codes "0100000") (codes "4D40") (codes "O")

@@ -142,7 +142,7 @@ HasGoodBodies live = (key : Key) (body : Body) → live key ≡ Some body → Is
 abbrev pub lapse_state : ℕ → State → State
 lapse_state horizon state = record { horizon = horizon; ledger = state.ledger; entries = lapse_entries horizon state.entries }
 
--- the state after this horizon was set. Its horizon is the greater of the old and the new horizon,
+-- the state after this horizon is set. Its horizon is the greater of the old and the new horizon,
 -- and its entries have lapsed under that horizon
 abbrev pub raise_horizon : ℕ → State → State
 raise_horizon horizon state = lapse_state (max state.horizon horizon) state

@@ -17,7 +17,7 @@ use Rattle.state_laws.proofs.states.Lapse.{entry_twice, entry_stays, lapse_none}
 use Rattle.state_laws.proofs.states.LapsedGreatest.{lapsed_from, lapsed_to}
 use Rattle.state_laws.proofs.states.KeptEntries.{lapse_ascends, entries_stay}
 
--- ---- setting a horizon that isn't greater leaves a valid state unchanged
+-- ---- setting a horizon that isn't greater than the state's horizon leaves a valid state unchanged
 
 -- if no body ended before a horizon, the lapse under this horizon changes only the state's horizon
 pub lapsed_already : (horizon : ℕ) (state : State) → HaveLapsed horizon state.entries

@@ -22,7 +22,7 @@ body_gone horizon body below = λ i. cond (lt-ltb (body_end body) horizon below 
 pub body_stays : (horizon : ℕ) (body : Body) → horizon ≤ body_end body → unlapsed horizon body ≡ Some body
 body_stays horizon body above = λ i. cond (le-ltb (body_end body) horizon above i) None (Some body)
 
--- a body in a table that didn't end before the horizon is still in the table after the lapse
+-- if a body in a table didn't end before the horizon, it is still in the table after the lapse
 pub live_stays : (horizon : ℕ) (table : Table) (key : Key) (body : Body) → table key ≡ Some body → horizon ≤ body_end body
     → lapse_table horizon table key ≡ Some body
 live_stays horizon table key body is above = ap (option_and_then (unlapsed horizon)) is ∙ body_stays horizon body above
