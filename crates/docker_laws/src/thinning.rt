@@ -130,9 +130,9 @@ pub fn thin_act_by_case()
         → runs_near day (as_new line) ≡ runs_near day line }
 {}
 
-/// A thinning can be made change by change. A change of a key that can't matter at the place may be
+/// A thinning can be made change by change. A change to a key that can't matter at the place may be
 /// dropped, and any other change may be kept in its thin form. A deletion may be dropped if no
-/// change of its key is kept. When a key is deleted or put again, the kept changes of that key may
+/// change to its key is kept. When a key is deleted or put again, the kept changes to that key may
 /// be removed.
 pub fn thinning_change_by_change()
     ensures first { (place : List ℕ) (day : ℕ) → IsThinning place day [] [] }
@@ -159,7 +159,7 @@ pub fn thinning_change_by_change()
         → IsThinning place day all (thin_changes place day all) }
 {}
 
-/// If a key is above the keys of all kept changes, no change of this key is kept. So a reader that
+/// If a key is above the keys of all kept changes, no change to this key is kept. So a reader that
 /// knows the greatest kept key may drop a deletion of a higher key without a search.
 pub fn nothing_kept_of_a_key_above()
     ensures none { (highest key : Key) (kept : List Change)

@@ -122,7 +122,7 @@ complete_lines_plain text piece plain =
     (split_append (λ b. b == 10) text piece ∙ (λ i. but_last (pieces_of text) ++ going_on (open_line text) (slice_split_none (λ b. b == 10) piece plain i)))
     ∙ ap (map strip_carriage_return) (but_last_append (but_last (pieces_of text)) (open_line text ++ piece) [] ∙ append-nil (but_last (pieces_of text)))
 
--- bytes without a line feed are appended to the incomplete line
+-- appending bytes without a line feed to a text appends these bytes to the text's incomplete line
 pub open_line_plain : (text piece : List ℕ) → HasNoFeed piece → open_line (text ++ piece) ≡ open_line text ++ piece
 open_line_plain text piece plain =
     ap last_of (split_append (λ b. b == 10) text piece

@@ -11,7 +11,7 @@ use Rattle.docker_model.specs.file.Change.{Key, Act, Change, schedule_rest, acts
 use Rattle.cif_laws.specs.UnitChange.{changes_of_unit, changes_of_units, change_of_schedule}
 use Rattle.cif_laws.proofs.files.GoodChanges.{StopsHere, Follows, rest_is, schedule_follows, units_stop}
 
--- the change of this key and act, with this record number
+-- the change with this key, this act and this record number
 abbrev change_of_act : ℕ → Key × Act → Change
 change_of_act n act = record { number = n; key = act.0; act = act.1 }
 

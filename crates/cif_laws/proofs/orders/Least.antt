@@ -1,5 +1,5 @@
--- The least member of a list that passes a test. There is a least member if any member passes the
--- test.
+-- The least of the members of a list that pass a test. There is such a member if any member passes
+-- the test.
 use Rattle.std.proofs.Common.{◌≡◌, List, [], ◌∷◌, refl, ap, sym, ◌∙◌, subst, inl, inr, ◌⊎◌, Some, None, Bool, true, false, Contains}
 use Rattle.std.specs.Prelude.{find, ◌&&◌, not}
 use Rattle.std.specs.List.{list_all}

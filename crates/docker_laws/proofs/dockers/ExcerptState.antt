@@ -200,7 +200,7 @@ module _ (test : Key → Bool) where
 
 -- ---- the keys that the docker of a place needs can be found from the entries
 
--- whether the entry is a live schedule of the UID that calls at the place
+-- whether the entry is a live schedule that belongs to the UID and calls at the place
 abbrev pub calls_as : List ℕ → List ℕ → Keyed → Bool
 calls_as place uid entry = has_uid uid entry.0 && is_call place entry.1.op
 
@@ -257,7 +257,7 @@ needed_passes place state (schedule_key key) concerned = by concerned
         or_left (list_any (names_as place key.uid) state.entries) (list_any (calls_as place key.uid) state.entries)
         (any_forth (names_as place key.uid) state.entries (association_key named.key, found.0) found.1 passes)
 
--- the entries whose keys pass the test `is_needed` are an excerpt
+-- the state with only the entries whose keys pass the test `is_needed` is an excerpt
 pub passing_is_excerpt : (place : List ℕ) (state : State) → IsExcerptState place state (with_passing (is_needed place state.entries) state)
 passing_is_excerpt place state = record {
   horizon = refl;

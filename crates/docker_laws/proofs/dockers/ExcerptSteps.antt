@@ -384,7 +384,7 @@ names_with xs entry = filter_map-append (λ (e : Keyed). name_in e.0 e.1.op) xs 
 
 -- ---- at the end, an entry is kept if and only if the docker of the place needs its key
 
--- at the key of an entry, the live table has the body of that entry
+-- at the key of an entry, the live table has the body that the entry puts, if any
 live_of : (state : State) → AreAscending state.entries → (key : Key) (entry : Entry) → Contains state.entries (key, entry)
     → live_table state key ≡ body_of entry.op
 live_of state up key entry among =

@@ -138,7 +138,7 @@ record IsAt (place : List ℕ) (all done : List Keyed) (so_far : ExcerptSoFar) (
 abbrev IsEnded : List Keyed → List Keyed → Type 0
 IsEnded run rest = (r y : Keyed) (other : List ℕ) → Contains run r → Contains rest y → has_uid other r.0 ≡ true → has_uid other y.0 ≡ true → ⊥
 
--- if an optional UID passes the test `is_name`, it is this UID
+-- if an optional UID passes the test `is_name` for a UID, it is present and equals that UID
 pub name_of : (uid : List ℕ) (found : Option (List ℕ)) → is_name uid found ≡ true → (name : List ℕ) × (found ≡ Some name) × (name ≡ uid)
 name_of uid None h = false_true h
 name_of uid (Some name) h = (name, refl, (bytes_eq-Decides name uid).0 h)

@@ -31,7 +31,7 @@ use Rattle.docker_laws.proofs.runs.RunEnd.{greater_prints, one_text}
 
 -- ---- leaving out the short-term plan commutes with applying changes
 
--- applying a change of a permanent key commutes with leaving out the short-term plan. A change of
+-- applying a change to a permanent key commutes with leaving out the short-term plan. A change to
 -- any other key leaves the permanent table unchanged
 after_one : (table : Table) (change : Change)
     → permanent_table (after_change table change)
@@ -70,7 +70,7 @@ after_one table change = by (is_permanent change.key) refl
         (outside key (is_permanent key) refl ∙ passed h key (is_eq (key_cmp change.key key)) refl) i
 
 -- leaving out the short-term plan after applying changes equals leaving out the plan first and then
--- applying only the changes of permanent keys
+-- applying only the changes to permanent keys
 pub permanent_along : (table : Table) (changes : List Change)
     → permanent_table (fold after_change table changes)
     ≡ fold after_change (permanent_table table) (filter (λ (it : Change). is_permanent it.key) changes)

@@ -63,7 +63,7 @@ none_or true = refl
 none_or false = refl
 
 module _ (place : List ℕ) (day : ℕ) where
-  -- a change of a key that can't matter leaves the thinned table unchanged
+  -- a change to a key that can't matter leaves the thinned table unchanged
   step_elsewhere : (table : Table) (change : Change) (key : Key) → may_matter place change.key ≡ false
       → thinned place day (after_change table change) key ≡ thinned place day table key
   step_elsewhere table change key no_matter = by (is_of key change) refl
@@ -96,7 +96,7 @@ module _ (place : List ℕ) (day : ℕ) where
 
   -- ---- thinning commutes with all changes of a list
 
-  -- the changes of keys that may matter
+  -- the changes to keys that may matter
   abbrev matter : List Change → List Change
   matter changes = filter (λ (change : Change). may_matter place change.key) changes
 
@@ -137,7 +137,7 @@ table_more : (table : Table) (changes : List Change) (change : Change)
 table_more table [] change = refl
 table_more table (first ∷ changes) change = table_more (after_change table first) changes change
 
--- changes of other keys leave the body at a key unchanged
+-- changes to other keys leave the body at a key unchanged
 untouched : (changes : List Change) (table : Table) (key : Key) → HasNoChangeOf key changes → fold after_change table changes key ≡ table key
 untouched [] table key none = refl
 untouched (change ∷ changes) table key none =
@@ -149,7 +149,7 @@ untouched (change ∷ changes) table key none =
     by true h rest = absurd (none change (cons-Contains-first change changes) (same_key change.key key h))
     by false h rest = rest ∙ after_there table change key h
 
--- if all changes of a key are left out, the body at this key is unchanged
+-- if all changes to a key are left out, the body at this key is unchanged
 without_here : (key : Key) (changes : List Change) (table : Table) → fold after_change table (without key changes) key ≡ table key
 without_here key [] table = refl
 without_here key (change ∷ changes) table = by (is_of key change) refl (without_here key changes)
@@ -162,7 +162,7 @@ without_here key (change ∷ changes) table = by (is_of key change) refl (withou
         ∙ rest (after_change table change)
         ∙ after_there table change key h
 
--- leaving out the changes of one key leaves the bodies at all other keys unchanged
+-- leaving out the changes to one key leaves the bodies at all other keys unchanged
 without_there : (key other : Key) → is_eq (key_cmp key other) ≡ false → (changes : List Change) (one two : Table) → one other ≡ two other
     → fold after_change one (without key changes) other ≡ fold after_change two changes other
 without_there key other apart [] one two same = same
@@ -188,7 +188,7 @@ module _ (place : List ℕ) (day : ℕ) where
     all_more : (key : Key) → thinned place day (table_of (changes ++ change ∷ [])) key ≡ thinned place day (after_change (table_of changes) change) key
     all_more key = ap (λ (table : Table). thinned place day table key) (table_more empty_table changes change)
 
-    -- a change of a key that can't matter may be dropped
+    -- a change to a key that can't matter may be dropped
     enough_elsewhere : may_matter place change.key ≡ false → AreEnough place day (changes ++ change ∷ []) kept
     enough_elsewhere no_matter key =
         so_far key ∙ sym (step_elsewhere place day (table_of changes) change key no_matter) ∙ sym (all_more key)
@@ -215,7 +215,7 @@ module _ (place : List ℕ) (day : ℕ) where
         → thinned place day (after_change (table_of changes) change) key ≡ thinned place day (table_of changes) key
     same_elsewhere key h = left_at place day (after_change (table_of changes) change) (table_of changes) key (after_there (table_of changes) change key h)
 
-    -- a change whose thin form is a deletion may be dropped if no change of the same key is kept
+    -- a change whose thin form is a deletion may be dropped if no change to the same key is kept
     enough_dropped : thin_act place day change.act ≡ delete → HasNoChangeOf change.key kept → AreEnough place day (changes ++ change ∷ []) kept
     enough_dropped deletes none key = by (is_of key change) refl
       where
@@ -225,7 +225,7 @@ module _ (place : List ℕ) (day : ℕ) where
             untouched kept empty_table key of_key ∙ sym (none_left deletes key h) ∙ sym (all_more key)
         by false h = so_far key ∙ sym (same_elsewhere key h) ∙ sym (all_more key)
 
-    -- after a change whose thin form is a deletion, the kept changes of the same key may be removed
+    -- after a change whose thin form is a deletion, the kept changes to the same key may be removed
     enough_removed : thin_act place day change.act ≡ delete → AreEnough place day (changes ++ change ∷ []) (without change.key kept)
     enough_removed deletes key = by (is_of key change) refl
       where
@@ -238,7 +238,7 @@ module _ (place : List ℕ) (day : ℕ) where
         by false h =
             without_there change.key key h kept empty_table empty_table refl ∙ so_far key ∙ sym (same_elsewhere key h) ∙ sym (all_more key)
 
-    -- if the thin form of a change is kept, the earlier kept changes of the same key may be removed
+    -- if the thin form of a change is kept, the earlier kept changes to the same key may be removed
     enough_replaced : may_matter place change.key ≡ true
         → AreEnough place day (changes ++ change ∷ []) (without change.key kept ++ thin_change place day change ∷ [])
     enough_replaced matters key =
@@ -309,7 +309,7 @@ module _ (place : List ℕ) (day : ℕ) where
         (sublist_append others before (thin_change place day change ∷ []) (thin_change place day change ∷ [])
         (sublist_onward others kept before inside is.some) (sublist_itself (thin_change place day change ∷ [])))
 
-    -- a change of a key that can't matter may be dropped
+    -- a change to a key that can't matter may be dropped
     pub thinning_elsewhere : may_matter place change.key ≡ false → IsThinning place day (changes ++ change ∷ []) kept
     thinning_elsewhere no_matter = record {
       some = still_some kept (sublist_itself kept);
@@ -323,21 +323,21 @@ module _ (place : List ℕ) (day : ℕ) where
       enough = enough_kept place day changes kept change is.enough matters;
     }
 
-    -- a change whose thin form is a deletion may be dropped if no change of the same key is kept
+    -- a change whose thin form is a deletion may be dropped if no change to the same key is kept
     pub thinning_dropped : thin_act place day change.act ≡ delete → HasNoChangeOf change.key kept → IsThinning place day (changes ++ change ∷ []) kept
     thinning_dropped deletes none = record {
       some = still_some kept (sublist_itself kept);
       enough = enough_dropped place day changes kept change is.enough deletes none;
     }
 
-    -- after a change whose thin form is a deletion, the kept changes of the same key may be removed
+    -- after a change whose thin form is a deletion, the kept changes to the same key may be removed
     pub thinning_removed : thin_act place day change.act ≡ delete → IsThinning place day (changes ++ change ∷ []) (without change.key kept)
     thinning_removed deletes = record {
       some = still_some (without change.key kept) (sublist_filter (λ (other : Change). not (is_of change.key other)) kept);
       enough = enough_removed place day changes kept change is.enough deletes;
     }
 
-    -- if the thin form of a change is kept, the earlier kept changes of the same key may be removed
+    -- if the thin form of a change is kept, the earlier kept changes to the same key may be removed
     pub thinning_replaced : may_matter place change.key ≡ true
         → IsThinning place day (changes ++ change ∷ []) (without change.key kept ++ thin_change place day change ∷ [])
     thinning_replaced matters = record {

@@ -32,11 +32,11 @@ module _ (format : Format) (known : KnownSets) (states : List State) (messages :
   pub message_is : (message : ℕ) → IsMessage known message → IsMessageOf format (message_known known message) (message_text messages message)
   message_is message there = zip_at (IsMessageOf format) known.messages messages message nothing [] holds.messages_are there
 
-  -- the knowledge of an office is good
+  -- the knowledge of an office satisfies `IsGoodKnown`
   pub office_good : (office : ℕ) → IsOffice known office → IsGoodKnown format (office_known known office)
   office_good office there = All-get_or (IsGoodKnown format) known.offices office nothing there holds.offices
 
-  -- the knowledge of a message is good
+  -- the knowledge of a message satisfies `IsGoodKnown`
   pub message_good : (message : ℕ) → IsMessage known message → IsGoodKnown format (message_known known message)
   message_good message there = All-get_or (IsGoodKnown format) known.messages message nothing there holds.sent
 

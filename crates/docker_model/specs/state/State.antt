@@ -137,8 +137,8 @@ live_table state key = option_and_then (λ (entry : Entry). body_of entry.op) (e
 abbrev pub HasGoodBodies : Table → Type 0
 HasGoodBodies live = (key : Key) (body : Body) → live key ≡ Some body → IsBodyOf key body
 
--- the state with its horizon replaced by this horizon, and with its entries lapsed under this
--- horizon
+-- the state with its horizon replaced by this horizon. Each entry whose body ended before this
+-- horizon has lapsed
 abbrev pub lapse_state : ℕ → State → State
 lapse_state horizon state = record { horizon = horizon; ledger = state.ledger; entries = lapse_entries horizon state.entries }
 
@@ -160,7 +160,7 @@ pub record IsGreatestAmong (entries : List (Key × Entry)) (key : Key) (entry : 
 -- this is the join of two states: the result of merging one into the other. The join's ledger is
 -- the union of both ledgers, and for each key the join has the greater of the two entries. Ledger
 -- items and entries below the floor of the union are left out. The join's horizon is the greater of
--- the two horizons, and its entries have lapsed under that horizon
+-- the two horizons, and each entry whose body ended before that horizon has lapsed
 pub record IsJoin (first second joined : State) : Type 0 where
   pub horizon : joined.horizon ≡ max first.horizon second.horizon
   pub floor : Option FileStamp

@@ -23,8 +23,8 @@ pub record IsKeptFile (files : List (List (List ℕ))) (floor : Option FileStamp
 abbrev pub entry_of : List (List ℕ) → Change → Entry
 entry_of file change = record { stamp = record { file = file_stamp_of file; number = change.number }; op = op_of change.act }
 
--- a change of this key leaves this entry. The change is in a file of the set that isn't older than
--- the floor
+-- a change to this key leaves this entry. The change is in a file that belongs to the set and isn't
+-- older than the floor
 pub record IsEntryOf (files : List (List (List ℕ))) (floor : Option FileStamp) (key : Key) (entry : Entry) : Type 0 where
   pub file : List (List ℕ)
   pub kept : IsKeptFile files floor file
@@ -33,8 +33,8 @@ pub record IsEntryOf (files : List (List (List ℕ))) (floor : Option FileStamp)
   pub key_is : change.key ≡ key
   pub entry_is : entry_of file change ≡ entry
 
--- this is the greatest entry that a change of this key leaves, in any file of the set that isn't
--- older than the floor
+-- this is the greatest entry that a change to this key leaves, in any file that belongs to the set
+-- and isn't older than the floor
 pub record IsGreatestEntryOf (files : List (List (List ℕ))) (floor : Option FileStamp) (key : Key) (entry : Entry) : Type 0 where
   pub is : IsEntryOf files floor key entry
   pub greatest : (other : Entry) → IsEntryOf files floor key other → IsAtMost entry_cmp other entry

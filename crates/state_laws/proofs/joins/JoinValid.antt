@@ -34,8 +34,8 @@ kept_floor items ledger (Some stamp) greatest from to = record {
   greatest = λ item among. greatest.greatest item (from item among);
 }
 
--- if the joined ledger has all items of a ledger that aren't below the floor, the joined ledger has
--- the file stamp of each of these items
+-- if the joined ledger contains those items of a ledger that aren't below the floor, it contains
+-- the file stamps of these items
 pub stamp_stays : (ledger joined : List LedgerItem) (floor : Option FileStamp) → ((item : LedgerItem) → Contains ledger item → IsKept floor item.stamp
     → Contains joined item)
     → (stamp : FileStamp) → IsKept floor stamp → Contains (map (λ (item : LedgerItem). item.stamp) ledger) stamp

@@ -414,7 +414,7 @@ one_per_key (entry ∷ entries) up key first second in_first in_second =
     by rest (inr inside) (inl f) = absurd (not_both_here first second f inside)
     by rest (inr inside) (inr within) = rest inside within
 
--- at a key with an entry, the live table has the body of that entry
+-- at a key with an entry, the live table has the body that the entry puts, if any
 pub live_at : (state : State) (key : Key) (pair : Keyed) → find (λ entry. is_eq (key_cmp entry.0 key)) state.entries ≡ Some pair
     → live_table state key ≡ body_of pair.1.op
 live_at state key pair h = λ i. option_and_then (λ (entry : Entry). body_of entry.op) (option_and_then (λ (entry : Keyed). Some entry.1) (h i))

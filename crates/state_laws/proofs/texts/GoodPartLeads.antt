@@ -201,7 +201,8 @@ step_tiploc format count state code stamp bytes below is =
     (after_entries count (with_entry state (tiploc_key code) stamp (put_with (tiploc_body bytes)))) bytes is.0 (omega arith)
     (λ cause bad. bad.1 is) refl (body_text format count state (tiploc_key code) stamp (tiploc_body bytes) below)
 
--- after the body of an association that hasn't lapsed, a reader reaches the part after its entry
+-- after the body of an association that doesn't have to lapse, a reader reaches the part after its
+-- entry
 pub step_association : (format : Format) → (count : ℕ) (state : State) (key : _) (stamp : Stamp) (line : List ℕ) → length state.entries < count
     → IsAssociationOf key line → state.horizon ≤ body_end (association_body line)
     → Leads format (in_entry count state (before_body (association_key key) stamp))

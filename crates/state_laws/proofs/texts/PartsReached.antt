@@ -101,7 +101,7 @@ lines_front key n front rest some are within =
     by [] low whole done = subst IsSchedule (append-nil front) (done (ap length (append-nil front) ∙ whole))
     by (line ∷ more) low whole done = let size = length-append front (line ∷ more) in absurd (omega arith)
 
--- if the lines of a schedule haven't lapsed, a prefix that isn't empty hasn't lapsed
+-- if the lines of a schedule don't have to lapse, neither does a prefix of them that isn't empty
 front_stays : (state : State) (front rest : List (List ℕ)) → 0 < length front → HaveNotToLapse state (front ++ rest) → HaveNotToLapse state front
 front_stays state front rest some stays = subst (λ line. state.horizon ≤ readable_end (columns 16 21 line)) (first_of_front front rest some) stays
 
@@ -237,7 +237,8 @@ entry_count_leads format horizon ledger is_horizon is fits =
     then_leads format _ _ _ (ledger_leads format horizon (length ledger) ledger is_horizon is fits (omega arith))
     (no_step format _ _ (all_items horizon ledger))
 
--- the format can hold entries that are good, haven't lapsed, and have only ops of the format
+-- the format can hold entries that are good, don't have to lapse, and have only ops that the format
+-- can hold
 told_entries : (format : Format) (horizon : ℕ) (ledger : List LedgerItem) (entries : List (Key × Entry)) → AllByRecursion (IsGoodEntry ledger) entries
     → AllByRecursion (λ (entry : Key × Entry). HasNotToLapse horizon entry.1.op) entries
     → AllByRecursion (λ (entry : Key × Entry). TellsOp format entry.1.op) entries

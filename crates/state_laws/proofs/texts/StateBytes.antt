@@ -112,6 +112,6 @@ tag_of_key tag bytes (inl e) = subst (λ t. key_tag (key_in t bytes) ≡ t) (sym
 tag_of_key tag bytes (inr (inl e)) = subst (λ t. key_tag (key_in t bytes) ≡ t) (sym e) refl
 tag_of_key tag bytes (inr (inr e)) = subst (λ t. key_tag (key_in t bytes) ≡ t) (sym e) refl
 
--- a list of one byte is the list of its first byte
+-- a list of one byte contains only its first byte
 pub single : (bytes : List ℕ) → length bytes ≡ 1 → slice_index bytes 0 ∷ [] ≡ bytes
 single bytes size = subst (λ xs. slice_index xs 0 ∷ [] ≡ xs) (cells_are 1 bytes size) refl
