@@ -114,7 +114,7 @@ module _ (counts : Key → Bool) where
   pub counted_bodies : (live : Table) → HasGoodBodies live → HasGoodBodies (counted_table counts live)
   counted_bodies live good key body is = good key body (was_counted live key body is).1
 
-  -- if the whole table has a list of good rows, so does the restricted table
+  -- if the whole table satisfies `IsOfGoodRows`, so does the restricted table
   pub counted_good : (live : Table) → IsOfGoodRows live → IsOfGoodRows (counted_table counts live)
   counted_good live good = record {
     rows = counted_rows counts good.rows;

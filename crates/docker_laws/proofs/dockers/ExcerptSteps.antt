@@ -256,8 +256,8 @@ module _ (place : List ℕ) where
   named_more done so_far (tiploc_key code) entry here = named_other done so_far (tiploc_key code, entry) (is_here place (tiploc_key code)) refl here
   named_more done so_far (association_key key) entry here = named_other done so_far (association_key key, entry) (is_here place (association_key key)) refl here
 
-  -- in the kept entries, the UIDs of associated trains are those in all live associations at the
-  -- place that the walk has passed
+  -- the UIDs of associated trains in the kept entries are the UIDs of associated trains in all
+  -- passed entries at the place
   pub names_so_far : (entries : List Keyed)
       → names_in (kept_so_far place entries).kept ≡ names_in (filter (λ (entry : Keyed). is_here place entry.0) entries)
   names_so_far entries = (all_along place AreNamed (λ done so_far x here. named_more done so_far x.0 x.1 here) (refl, refl) entries).0

@@ -36,8 +36,8 @@ partner_start indicator day =
     if indicator == 78 then (if nat_lt day last_day then Some (day + 1) else None)
     else (if indicator == 80 then (if nat_lt 0 day then Some (day - 1) else None) else Some day)
 
--- no train of this UID starts on the day: no schedule of the UID runs on that day, or the chosen
--- schedule is a cancellation
+-- no train of this UID starts on the day: either no schedule of the UID runs on that day, or the
+-- chosen schedule is a cancellation
 abbrev pub RunsNot : Table → List ℕ → ℕ → Type 0
 RunsNot live uid day = (key : ScheduleKey) (lines : List (List ℕ)) → ¬ TrainRuns live uid day key lines
 

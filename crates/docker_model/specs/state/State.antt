@@ -143,7 +143,7 @@ abbrev pub lapse_state : ℕ → State → State
 lapse_state horizon state = record { horizon = horizon; ledger = state.ledger; entries = lapse_entries horizon state.entries }
 
 -- the state after this horizon is set. Its horizon is the greater of the old and the new horizon,
--- and its entries have lapsed under that horizon
+-- and each entry whose body ended before that horizon has lapsed
 abbrev pub raise_horizon : ℕ → State → State
 raise_horizon horizon state = lapse_state (max state.horizon horizon) state
 
