@@ -79,7 +79,7 @@ behind_front (first ∷ front) last (second ∷ earlier) line later e same =
     let rest = behind_front front last earlier line later tails (omega arith) in
     (λ i. sym heads i ∷ rest.0 i, rest.1)
 
--- ---- appending bytes preserves a determined fault
+-- ---- a fault that bytes determine is preserved when more bytes are appended
 
 -- after the same earlier records, two lines that don't have 80 bytes have the same cause
 cause_stays : (limit : ℕ) (earlier : Lines) (line other : List ℕ) (cause : FileCause) → length line ≢ 80 → length other ≢ 80 → IsCause limit earlier line cause

@@ -1,4 +1,5 @@
--- A part of a state's text is bad, or a reader reaches the next part after it.
+-- A part of a state's text that has the right number of bytes either is bad for some cause or is
+-- good.
 use Rattle.std.proofs.Common.{◌≡◌, ℕ, ◌-◌, ◌<◌, ◌≤◌, ◌^◌, List, [], ◌∷◌, ◌++◌, length, refl, ap, sym, ◌∙◌, subst}
 use Rattle.std.proofs.Common.{inl, inr, ◌⊎◌, arith, true, false, cond, nat_le, append-nil, length-append}
 use Rattle.std.specs.Prelude.{slice_index}
