@@ -308,7 +308,7 @@ passes_no_fault limit text fault passes told = by told.is.here
 
 -- ---- which fault a reader reports while it reads a text in pieces
 
--- if a line doesn't have 80 bytes, its cause doesn't depend on its bytes
+-- if a line doesn't have 80 bytes, the cause of the line doesn't depend on the line's bytes
 pub cause_of_length : (limit count : ℕ) (place : Place) (line : List ℕ) → length line ≢ 80 → cause_of limit count place line ≡ cause_of_long limit count place
 cause_of_length limit count place line apart =
     λ i. cond (nat_le limit count) too_many

@@ -1,4 +1,5 @@
--- The columns of a record and its good fields, before and after its transaction is set to N.
+-- Lemmas on the columns and the good fields of a record, before and after the record's transaction
+-- is set to N.
 use Rattle.std.proofs.Common.{◌≡◌, ℕ, zero, suc, ◌+◌, ◌-◌, ◌<◌, ◌≤◌, List, [], ◌∷◌, take, drop, set, get_or, subst, refl}
 use Rattle.std.proofs.Common.{ap, sym, ◌∙◌, Bool, true, false, cond, Some, None, arith, length-drop, length-set}
 use Rattle.std.specs.Prelude.{not, option_map, find, slice_index}

@@ -382,7 +382,7 @@ calls_more place run entry =
 pub names_with : (xs : List Keyed) (entry : Keyed) → names_in (xs ++ entry ∷ []) ≡ names_in xs ++ names_in (entry ∷ [])
 names_with xs entry = filter_map-append (λ (e : Keyed). name_in e.0 e.1.op) xs (entry ∷ [])
 
--- ---- at the end, an entry is kept if and only if the docker of the place needs its key
+-- ---- at the end, an entry is kept if and only if the docker of the place needs the entry's key
 
 -- at the key of an entry, the live table has the body that the entry puts, if any
 live_of : (state : State) → AreAscending state.entries → (key : Key) (entry : Entry) → Contains state.entries (key, entry)
@@ -464,7 +464,7 @@ module _ (place : List ℕ) (state : State) (up : AreAscending state.entries) wh
       concerned_back key.uid (either (list_any (names_as place key.uid) state.entries) (list_any (calls_as place key.uid) state.entries) h)
 
   -- an entry is in the excerpt if and only if it is in the state and the docker of the place needs
-  -- its key
+  -- the entry's key
   pub excerpt_members : (key : Key) (entry : Entry)
       → Contains (excerpt_for place state).entries (key, entry) ↔ (Contains state.entries (key, entry) × IsNeeded (live_table state) place key)
   excerpt_members key entry =

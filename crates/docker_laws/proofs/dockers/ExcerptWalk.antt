@@ -1,5 +1,5 @@
--- A walk over entries in key order keeps an entry if and only if the docker of the place needs its
--- key. The test `is_needed` decides this from the entries.
+-- A walk over entries in key order keeps an entry if and only if the docker of the place needs the
+-- entry's key. The test `is_needed` decides this from the entries.
 use Rattle.std.proofs.Common.{◌≡◌, ℕ, List, [], ◌∷◌, ◌++◌, subst, inl, inr, ◌⊎◌, refl, ap, sym, ◌∙◌}
 use Rattle.std.proofs.Common.{Bool, true, false, cond, Some, None, Contains, append-nil, append_assoc}
 use Rattle.std.specs.Prelude.{◌↔◌, Option, ◌||◌, filter}

@@ -72,8 +72,8 @@ needed_stand_in place day lines = by (calls_at place lines) refl
 -- ---- two tables have the same docker if each has all parts that the docker needs
 
 -- the table `other` has all parts of `one` that the docker needs. For each schedule of `one` that
--- runs near the day, `other` has a schedule that may replace it. It also has each association at
--- the place
+-- runs near the day, `other` has a schedule that may replace it. The table `other` also has each
+-- association at the place
 record Covers (one other : Table) (place : List ℕ) (day : ℕ) : Type 0 where
   runs : (start : ℕ) → IsStartNear day start → (uid : List ℕ) (key : ScheduleKey) (lines : List (List ℕ)) → IsRunning one uid start key lines
       → (others : List (List ℕ)) × IsRunning other uid start key others × IsStandIn place day lines others

@@ -141,7 +141,8 @@ module _ (format : Format) (offices others : ℕ) (events more : List RunEvent) 
       (message_known (sets_of others more two) j).horizon this.0 that.0
       (subst (λ h. IsSummary (message_known (sets_of offices events one) i).files h this.0) same.1 this.1) that.1) ∙ sym that.2
 
--- a docker that an office prints is the docker of the plain table of its files
+-- a docker that an office prints is the docker of the plain table of the files that the office
+-- knows
 pub plain_docker : (format : Format) (offices : ℕ) (events : List RunEvent) (exchange : Exchange) → IsRun format offices events exchange
     → All (IsGoodEvent format) events
     → (office : ℕ) → IsOffice (sets_of offices events exchange) office → (plain : Table)

@@ -24,7 +24,7 @@ use Rattle.cif_laws.proofs.lists.ZipSteps.{zip_set, zip_end, zip_at, zip_long, z
 module _ (format : Format) (known : KnownSets) (states : List State) (messages : List (List ℕ)) (holds : Holds format known states messages) where
   -- ---- what `Holds` says of each office and of each message
 
-  -- the state of an office is the summary of the files that it knows
+  -- the state of an office is the summary of the files that the office knows
   pub office_is : (office : ℕ) → IsOffice known office → IsStateOf (office_known known office) (office_state states office)
   office_is office there = zip_at IsStateOf known.offices states office nothing (record { horizon = 0; ledger = []; entries = [] }) holds.states_are there
 
@@ -50,7 +50,7 @@ module _ (format : Format) (known : KnownSets) (states : List State) (messages :
   office_told office there = summary_told format (office_known known office) (office_state states office) (office_good office there) (office_is office there)
 
   -- a message can be read with a limit equal to its length: the message is the text of the summary
-  -- of the files that it knows
+  -- of the files that the message knows
   pub message_reads : (message : ℕ) → IsMessage known message → length (message_text messages message) < 2 ^ 64
       → (state : State) × IsStateOf (message_known known message) state × IsStateText format (length (message_text messages message))
       (message_text messages message) state

@@ -13,9 +13,9 @@ use Rattle.docker_model.specs.docker.Event.{Event, event_day, first_event_at}
 use Rattle.docker_model.specs.docker.Choice.{TrainRuns, IsChosenAssociation, IsCancellation, group_of}
 use Rattle.docker_model.specs.docker.DockerLine.{DockerLine, line_of_association}
 
--- converts the category of an association, which has two bytes, to its occasion. `JJ` is a join,
--- `VV` a division and `NP` a next working. Any other category has no occasion, and an association
--- with such a category has no docker line
+-- converts an association's category, a field of two bytes, to its occasion. `JJ` is a join, `VV` a
+-- division and `NP` a next working. Any other category has no occasion, and an association with
+-- such a category has no docker line
 abbrev pub category_occasion : List ℕ → Option Occasion
 category_occasion category =
     if bytes_eq category (codes "JJ") then Some joining

@@ -16,7 +16,7 @@ pub data Detail : Type 0 where
   partner : (uid identity : List ℕ) → Detail
 
 -- one line of a docker. Most fields are printed, and the time is in half minutes. Two fields aren't
--- printed and only decide the order of lines: the train's start day and the number of its event
+-- printed and only decide the order of lines: the train's start day and the event's number
 pub record DockerLine : Type 0 where
   pub time : ℕ
   pub occasion : Occasion

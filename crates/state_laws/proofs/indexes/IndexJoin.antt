@@ -70,8 +70,8 @@ lapse_from_either horizon live key = by (live key) refl
     by (Some body) is = pick body is (below_or horizon body)
 
 module _ (one two live : Table) (from : IsFromEither one two live) where
-  -- if a table has at each key the body of one of two tables or no body, the table's index of calls
-  -- can be computed from the indexes of calls of the two tables
+  -- let a table have at each key the body of one of two tables, or no body. The table's index of
+  -- calls can be computed from the indexes of calls of the two tables
   pub calling_from_either : (first second index : List CallingRow) → IsCallingIndex one first → IsCallingIndex two second
       → IsStrictlyAscending calling_cmp index
       → ((row : CallingRow) → Contains index row ↔ IsCallingFromEither one two live first second row) → IsCallingIndex live index
@@ -99,7 +99,7 @@ module _ (one two live : Table) (from : IsFromEither one two live) where
       back place key lines made (inr (inl e)) = inr ((is_second.members place key).1 (lines, record { is_live = sym e ∙ made.is_live; calls = made.calls }), e)
       back place key lines made (inr (inr none)) = none_some (schedule_body lines) (sym none ∙ made.is_live)
 
-  -- if a table has at each key the body of one of two tables or no body, the table's index of
+  -- let a table have at each key the body of one of two tables, or no body. The table's index of
   -- associations can be computed from the indexes of associations of the two tables
   pub linked_from_either : (first second index : List LinkedRow) → IsLinkedIndex one first → IsLinkedIndex two second → IsStrictlyAscending linked_cmp index
       → ((row : LinkedRow) → Contains index row ↔ IsLinkedFromEither one two live first second row) → IsLinkedIndex live index
