@@ -128,7 +128,8 @@ pub record HasTail (format : Format) (limit : ℕ) (text : List ℕ) (fault : St
   pub cause : fault.cause ≡ has_tail
   pub end_at : fault.at ≡ length (state_text format state)
 
--- this is the fault of a text, read as a state in this format under a limit on its bytes
+-- this is the fault of a text that is read as a state in this format, if the text may have at most
+-- `limit` bytes
 abbrev pub IsStateFault : Format → ℕ → List ℕ → StateFault → Type 0
 IsStateFault format limit text fault =
     HasBadPart format limit text fault ⊎ IsLong format limit text fault ⊎ IsShort format limit text fault ⊎ HasTail format limit text fault

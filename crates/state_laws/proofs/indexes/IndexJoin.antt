@@ -1,6 +1,6 @@
 -- The indexes of a join can be computed from the indexes of the two states. At each key the join
 -- has the live body of one of the states, or no body. The indexes after a horizon is set can be
--- computed from the indexes before it.
+-- computed from the indexes before the horizon is set.
 use Rattle.std.proofs.Common.{◌≡◌, ℕ, ◌<◌, ◌≤◌, List, refl, ap, sym, ◌∙◌, inl, inr, ◌⊎◌, Some, None, Contains}
 use Rattle.std.specs.Prelude.{Option, ◌↔◌, option_and_then}
 use Rattle.std.proofs.lemmas.List.Elements.{Contains-append_cases}

@@ -45,8 +45,8 @@ set_last state valid =
 
 -- ---- a horizon may be set after a join instead of before
 
--- joining with a state without its horizon, and then setting this horizon, equals joining with the
--- state
+-- joining with a state whose horizon has been removed, and then setting this horizon, equals
+-- joining with the state
 pub join_then_set : (a b c : State) → IsJoin a (without_horizon b) c → IsJoin a b (raise_horizon b.horizon c)
 join_then_set a b c is = record {
   horizon = horizons;

@@ -1,4 +1,5 @@
--- If the files of a set have distinct moments, the live table of its summary is its plain table.
+-- If the files of a set have distinct moments, the live table of the set's summary is the set's
+-- plain table.
 use Rattle.std.proofs.Common.{cond, ◌≡◌, List, Contains, ◌⊎◌, ◌∷◌, subst, inl, inr, ap, sym, ◌∙◌, Bool, true, false, [], refl, ℕ, map, ◌++◌, ◌<◌, Some, None}
 use Rattle.std.specs.Prelude.{fold, ◌==◌, ◌||◌, Option, ◌↔◌, find, option_and_then}
 use Rattle.std.specs.List.{AllByRecursion, flat_map, list_any}

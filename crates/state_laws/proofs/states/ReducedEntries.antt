@@ -118,8 +118,8 @@ module _ (items more : List LedgerItem) (entries others : List Keyed) (once twic
             (subst (λ e. IsAtMost entry_cmp e told.0) told.3 (lapse_below once.horizon told.0))
             (is.greatest told.0 (Contains-append_left entries others (key, told.0) told.1.among))
 
-    -- if the greatest of all entries isn't below the floor, it is among the other entries, or the
-    -- result of the first step contains its lapse
+    -- if the greatest of all entries isn't below the floor, either it is among the other entries,
+    -- or its lapse is in the result of the first step
     stands : (best : Entry) → IsGreatestAmong (entries ++ others) key best → IsKept second.floor best.stamp.file
         → Contains once.entries (key, lapse_entry once.horizon best) ⊎ Contains others (key, best)
     stands best is kept = by (Contains-append_cases entries others (key, best) is.among)

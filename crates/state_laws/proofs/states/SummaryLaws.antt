@@ -114,8 +114,8 @@ join_is_summary files others g h one two joined of_files of_others is =
     (entries_along (files ++ others))
     (items_of_union files others) (entries_of_union files others) joined second)
 
--- the lapse of a summary under a horizon that is at least its own horizon is the summary under that
--- horizon
+-- the lapse of a summary under a horizon that is at least the summary's horizon is the summary
+-- under that horizon
 pub lapsed_summary : (files : List File) (low high : ℕ) (state : State) → low ≤ high → IsSummary files low state → IsSummary files high (lapse_state high state)
 lapsed_summary files low high state rises is = record {
   horizon_is = λ i. high;

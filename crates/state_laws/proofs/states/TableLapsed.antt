@@ -39,7 +39,7 @@ was_live horizon table key body is = by (table key) is
         which (inl below) = let gone = body_gone horizon here below in cc
         which (inr above) = sym (body_stays horizon here above) ∙ some
 
--- ---- the live table of a state after the lapse is the lapse of its live table
+-- ---- the live table of a state after the lapse is the lapse of the state's live table
 
 -- the body of an op after the lapse is the op's body, unless that body ended before the horizon
 pub body_lapses : (horizon : ℕ) (op : Op) → body_of (lapse horizon op) ≡ option_and_then (unlapsed horizon) (body_of op)

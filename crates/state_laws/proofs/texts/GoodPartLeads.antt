@@ -158,7 +158,7 @@ two_told : (format : Format) → TellsOp format lapsed → IsOpByte format 2
 two_told dks_1 told = absurd told
 two_told dks_2 told = inr (inr refl)
 
--- after a deletion, a reader reaches the part after its entry
+-- after a deletion, a reader reaches the part after the deletion's entry
 pub step_deleted : (format : Format) → (count : ℕ) (state : State) (key : Key) (stamp : Stamp) → length state.entries < count
     → Leads format (in_entry count state (before_op key stamp)) (after_entries count (with_entry state key stamp deleted))
 step_deleted format count state key stamp below =
@@ -191,7 +191,7 @@ body_text format count state key stamp body below =
     ∙ ap (λ xs. entries_text format count state ++ xs) (sym (append_assoc (key_text key ++ stamp_bytes stamp) (1 ∷ []) (put_bytes body)))
     ∙ part_more format count state (key_text key ++ stamp_bytes stamp ++ 1 ∷ []) (put_bytes body)
 
--- after the body of a TIPLOC, a reader reaches the part after its entry
+-- after the body of a TIPLOC, a reader reaches the part after the TIPLOC's entry
 pub step_tiploc : (format : Format) → (count : ℕ) (state : State) (code : List ℕ) (stamp : Stamp) (bytes : List ℕ) → length state.entries < count
     → IsTextOfLength 63 bytes
     → Leads format (in_entry count state (before_body (tiploc_key code) stamp))
@@ -201,8 +201,8 @@ step_tiploc format count state code stamp bytes below is =
     (after_entries count (with_entry state (tiploc_key code) stamp (put_with (tiploc_body bytes)))) bytes is.0 (omega arith)
     (λ cause bad. bad.1 is) refl (body_text format count state (tiploc_key code) stamp (tiploc_body bytes) below)
 
--- after the body of an association that doesn't have to lapse, a reader reaches the part after its
--- entry
+-- after the body of an association that doesn't have to lapse, a reader reaches the part after the
+-- association's entry
 pub step_association : (format : Format) → (count : ℕ) (state : State) (key : _) (stamp : Stamp) (line : List ℕ) → length state.entries < count
     → IsAssociationOf key line → state.horizon ≤ body_end (association_body line)
     → Leads format (in_entry count state (before_body (association_key key) stamp))

@@ -67,7 +67,7 @@ after_text format before (part ∷ parts) follow =
     ∙ append_assoc (text_before format before) part (concat parts)
 
 -- the point `after` is later than the point `before`: the text before `after` is the text before
--- `before`, followed by its next part and any further bytes
+-- `before`, followed by the part that begins at `before` and any further bytes
 pub record IsLater (format : Format) (before after : Before) : Type 0 where
   pub part : List ℕ
   pub more : List ℕ
