@@ -18,7 +18,8 @@ change_of_act n act = record { number = n; key = act.0; act = act.1 }
 -- ---- the changes of a unit depend only on its first record and, for a schedule, on the rest of
 -- the schedule
 
--- if the acts of a record don't depend on the records after it, neither do its changes
+-- if the acts of a record don't depend on the records after it, the changes of the record don't
+-- depend on them either
 alike_by : (n : ℕ) (kind : Kind) (line : List ℕ) (following others : List (List ℕ)) → HasKind kind line
     → acts_by_kind (Some kind) line following ≡ acts_by_kind (Some kind) line others → changes_of_record n line following ≡ changes_of_record n line others
 alike_by n kind line following others is same =

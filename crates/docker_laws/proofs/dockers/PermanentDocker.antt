@@ -1,4 +1,4 @@
--- Permanent dockers, which are dockers of tables without the short-term plan.
+-- Lemmas on permanent dockers, which are the dockers of tables without the short-term plan.
 use Rattle.std.proofs.Common.{◌≡◌, ℕ, ◌+◌, List, [], ◌∷◌, refl, ap, sym, ◌∙◌, subst, inl, inr, ◌⊎◌, Bool, true, false, cond, Some, None, arith}
 use Rattle.std.specs.Prelude.{◌↔◌, ◌==◌, Option, filter, fold, max, nat_lt, option_and_then}
 use Rattle.std.specs.Ordering.{is_eq}

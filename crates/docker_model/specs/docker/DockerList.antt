@@ -30,6 +30,6 @@ pub record Lists (IsLine : DockerLine → Type 0) (lines : List DockerLine) : Ty
   pub members : (line : DockerLine) → Contains lines line ↔ IsLine line
 
 -- these lines are the docker of a live table for a place and a day: all event lines and association
--- lines, in order
+-- lines, in the order of docker lines
 abbrev pub IsDockerList : Table → List ℕ → ℕ → List DockerLine → Type 0
 IsDockerList live place day lines = Lists (λ line. IsEventLine live place day line ⊎ IsAssociationLine live place day line) lines

@@ -90,7 +90,7 @@ part_width (before_op key stamp) = 1
 part_width (before_body key stamp) = body_width key
 part_width (before_line key stamp count lines) = 80
 
--- the number of bytes of the next part; 0 at the end of the text
+-- the number of bytes of the next part. At the end of the text the result is 0
 abbrev pub width : Before → ℕ
 width before_mark = 4
 width before_horizon = 2

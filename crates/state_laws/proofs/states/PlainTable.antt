@@ -1,5 +1,6 @@
--- If the files of a set have distinct moments, the live table of the set's summary is the set's
--- plain table.
+-- Lemmas on the plain table of a set of files with distinct moments. At each key, the table has the
+-- body of the last entry that the files' changes leave. Only the last full extract and the files
+-- after it count.
 use Rattle.std.proofs.Common.{cond, ◌≡◌, List, Contains, ◌⊎◌, ◌∷◌, subst, inl, inr, ap, sym, ◌∙◌, Bool, true, false, [], refl, ℕ, map, ◌++◌, ◌<◌, Some, None}
 use Rattle.std.specs.Prelude.{fold, ◌==◌, ◌||◌, Option, ◌↔◌, find, option_and_then}
 use Rattle.std.specs.List.{AllByRecursion, flat_map, list_any}
