@@ -33,7 +33,7 @@ use Rattle.state_laws.proofs.states.SummaryValid.{summary_is_valid}
 use Rattle.state_laws.proofs.states.Lapse.{entry_stays}
 use Rattle.docker_laws.proofs.dockers.ThinState.{no_lapse}
 
--- ---- the order of keys is strict
+-- ---- two keys can't each be below the other
 
 not_both : (a b : Key) → key_cmp a b ≡ Less → ¬ (key_cmp b a ≡ Less)
 not_both a b less back =

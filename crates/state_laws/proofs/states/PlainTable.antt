@@ -155,7 +155,8 @@ across_files file change second below same =
     λ i. ordering_then (ordering_then (below i) (bytes_cmp (file_stamp_of file).reference second.1.stamp.file.reference))
     (nat_cmp change.number second.1.stamp.number)
 
--- if files are in moment order, the entries of their changes are in the order of their stamps
+-- if files are in moment order, then of two entries of one key, the later entry has the greater
+-- stamp
 pub entries_ascend : (files : List (List (List ℕ))) → IsStrictlyAscending (on moment_of moment_cmp) files → AllLater Ascends (entries_along files)
 entries_ascend [] up = tt
 entries_ascend (file ∷ files) up =

@@ -37,7 +37,7 @@ pub record Leads (format : Format) (before after : Before) : Type 0 where
 pub no_step : (format : Format) → (before after : Before) → before ≡ after → Leads format before after
 no_step format before after same = record { parts = []; follow = tt; to = same }
 
--- a reader reaches the point after a part from the point before it, if the part isn't bad
+-- if a part isn't bad, a reader reaches the point after the part from the point before the part
 pub one_step : (format : Format) → (before after : Before) (part : List ℕ) → length part ≡ width before → 0 < width before
     → ((cause : StateCause) → ¬ IsBadPart format before part cause) → advance format before part ≡ after
     → text_before format after ≡ text_before format before ++ part → Leads format before after
