@@ -156,7 +156,7 @@ pub sound_next_by_count : (lines : Lines) (line : List ℕ)
     (times_along (line ∷ []))) 2))
 sound_next_by_count lines line = λ i. is_deletion (first_record lines) || (has_good_fields line && nat_le (midnights_step lines line i) 2)
 
--- a sound journey is still sound after a record that passes the test is appended
+-- a sound journey is still sound after a record that passes the test `is_sound_next` is appended
 sound_more : (stage : Stage) (lines : Lines) (line : List ℕ) (front : IsFront stage lines) → is_sound_next lines line ≡ true
     → IsSound front.basic (front.journey ++ line ∷ [])
 sound_more stage lines line front test = by (sound_next_by_test lines line test) front.sound

@@ -46,20 +46,21 @@ pub head_leads : (format : Format) (horizon : ℕ) → IsHorizonOf format horizo
 head_leads dks_1 horizon none = subst (λ h. Leads dks_1 before_mark (before_ledger_count h)) (sym none) step_mark_1
 head_leads dks_2 horizon day = then_leads dks_2 before_mark before_horizon (before_ledger_count horizon) step_mark_2 (step_horizon horizon day)
 
--- the text before the first item ends with the number of items
+-- the text up to the point after the number of items ends with this number
 pub count_of_ledger : (format : Format) (horizon count : ℕ) → text_before format (after_items horizon count []) ≡ text_before format
     (before_ledger_count horizon) ++ to_be_bytes w64 count
 count_of_ledger format horizon count =
     after_items_text format horizon count [] (omega arith) ∙ append-nil (head_text format horizon ++ to_be_bytes w64 count)
     ∙ ap (λ xs. xs ++ to_be_bytes w64 count) (sym (append-nil (head_text format horizon)))
 
--- after the number of items, a reader reaches the first item
+-- after the number of items, a reader reaches the first item, or the number of entries if there are
+-- no items
 pub step_ledger_count : (format : Format) (horizon : ℕ) (count : ℕ) → count < 2 ^ 64 → Leads format (before_ledger_count horizon) (after_items horizon count [])
 step_ledger_count format horizon count fits =
     one_step format (before_ledger_count horizon) (after_items horizon count []) (to_be_bytes w64 count) refl (omega arith) (λ cause bad. bad)
     (ap (λ n. after_items horizon n []) (read_64 count fits)) (count_of_ledger format horizon count)
 
--- the text before the next item ends with the bytes of the item before it
+-- the text up to the point after an item ends with the bytes of the item
 pub item_text : (format : Format) (horizon : ℕ) → (count : ℕ) (ledger : List LedgerItem) (item : LedgerItem) → length ledger < count
     → text_before format (after_items horizon count (ledger ++ item ∷ [])) ≡ text_before format (before_item horizon count ledger) ++ item_bytes item
 item_text format horizon count ledger item below =
@@ -88,7 +89,8 @@ step_item format horizon count ledger item below good above floor =
     (ap (λ it. after_items horizon count (ledger ++ it ∷ [])) (item_read item good))
     (item_text format horizon count ledger item below)
 
--- after the number of entries, a reader reaches the first entry
+-- after the number of entries, a reader reaches the first entry, or the end of the text if there
+-- are no entries
 pub step_entry_count : (format : Format) (horizon : ℕ) → (count : ℕ) (ledger : List LedgerItem) → count < 2 ^ 64
     → Leads format (before_entry_count horizon ledger) (after_entries count (record { horizon = horizon; ledger = ledger; entries = [] }))
 step_entry_count format horizon count ledger fits =
@@ -212,7 +214,7 @@ step_association format count state key stamp line below is stays =
     (after_entries count (with_entry state (association_key key) stamp (put_with (association_body line)))) line is.is_record.0 (omega arith)
     (λ cause bad. bad.1 (is, stays)) refl (body_text format count state (association_key key) stamp (association_body line) below)
 
--- the text before the first line of a schedule ends with the number of lines
+-- the text up to the point after a schedule's number of lines ends with this number
 pub count_text : (format : Format) → (count : ℕ) (state : State) (key : ScheduleKey) (stamp : Stamp) (n : ℕ) → length state.entries < count
     → text_before format (after_lines count state key stamp n []) ≡ text_before format
     (in_entry count state (before_body (schedule_key key) stamp)) ++ to_be_bytes w32 n
