@@ -90,8 +90,8 @@ between_more records unit between is = record {
   each = all_append IsUnit between.units (unit ∷ []) between.each (is, tt);
 }
 
--- if the records are a header and complete units, one more record of this kind gives records with
--- the structure of the next place
+-- if the records are a header and complete units, appending a good record of this kind gives
+-- records with the structure of the next place
 unit_more : (records : Lines) (kind : Kind) (line : List ℕ) (next : Place) → IsBetween records → IsRecord line → HasKind kind line → HasGoodFields line
     → unit_by_kind (Some kind) line ≡ Some next
     → IsAt next (records ++ line ∷ [])
@@ -127,8 +127,8 @@ unit_more records trailer line next between is kind fields found =
     })
 unit_more records _ line next between is kind fields found = cc
 
--- if the records are a header and complete units, one more record gives records with the structure
--- of the next place
+-- if the records are a header and complete units, appending a good record gives records with the
+-- structure of the next place
 unit_more_of : (records : Lines) (line : List ℕ) (next : Place) → IsBetween records → IsRecord line → HasGoodFields line
     → unit_by_kind (kind_of line) line ≡ Some next → IsAt next (records ++ line ∷ [])
 unit_more_of records line next between is fields found = by (kind_of line) refl found
@@ -352,8 +352,8 @@ stage_stops in_journey (Some change_en_route) h = cc
 stage_stops in_journey (Some terminating_location) h = cc
 stage_stops _ _ h = refl
 
--- a record that can't follow a basic schedule leads to the same next place from a schedule that may
--- end as from `between_units`
+-- let a schedule be at a stage at which it may end. A record that can't follow a basic schedule
+-- leads from this schedule to the same next place as from `between_units`
 pub next_behind : (stage : Stage) (lines : Lines) (line : List ℕ) → may_end stage lines ≡ true → follows_basic (kind_of line) ≡ false
     → next_place (in_schedule stage lines) line ≡ next_place between_units line
 next_behind stage lines line may anew =

@@ -117,14 +117,14 @@ module _ (place : List ℕ) (day : ℕ) where
           (λ i. fold after_change left (map (thin_change place day) (cond (h i) (change ∷ matter changes) (matter changes))) key)
           ∙ rest (after_change table change) left (λ k. same k ∙ sym (step_elsewhere table change k h)) key
 
-  -- from a thinned table, the table after the kept changes equals the thinning of the table after
-  -- all changes
+  -- applying the thin changes to a thinned table equals applying all changes to the table and then
+  -- thinning the result
   pub thin_over : (table : Table) (changes : List Change) (key : Key)
       → fold after_change (thinned place day table) (thin_changes place day changes) key ≡ thinned place day (fold after_change table changes) key
   thin_over table changes key = kept_from changes table (thinned place day table) (λ k. refl) key
 
-  -- from the empty table, the table after the kept changes equals the thinning of the table after
-  -- all changes
+  -- the table after the thin changes of a list equals the thinned table after all changes of the
+  -- list
   thin_enough : (changes : List Change) → AreEnough place day changes (thin_changes place day changes)
   thin_enough changes = kept_from changes empty_table empty_table (λ key. sym (none_or (may_matter place key)))
 
