@@ -31,7 +31,7 @@ pub tells_put : (format : Format) (body : Body) → TellsOp format (put_with bod
 tells_put dks_1 body = tt
 tells_put dks_2 body = tt
 
--- a state without entries is valid
+-- a state without entries is valid, if its horizon is a day number and its ledger is well formed
 pub valid_without : (horizon : ℕ) (ledger : List LedgerItem) → IsDay horizon → IsLedger ledger
     → IsValid (record { horizon = horizon; ledger = ledger; entries = [] })
 valid_without horizon ledger day is = record {
@@ -41,7 +41,8 @@ valid_without horizon ledger day is = record {
   have_lapsed = All-from_recursion (λ (entry : Key × Entry). HasNotToLapse horizon entry.1.op) [] tt;
 }
 
--- the format can hold a state with a ledger and no entries
+-- the format can hold a state without entries, if the format allows the state's horizon and the
+-- state's ledger is well formed
 pub no_entries : (format : Format) (horizon : ℕ) (ledger : List LedgerItem) → IsHorizonOf format horizon → IsLedger ledger
     → IsToldState format (record { horizon = horizon; ledger = ledger; entries = [] })
 no_entries format horizon ledger is_horizon is = record {
