@@ -1,5 +1,5 @@
--- Removing schedules that run on no start day near a day from a table leaves the dockers of the day
--- unchanged.
+-- The dockers of a day are unchanged if schedules that run on no start day near the day are removed
+-- from the table.
 use Rattle.std.proofs.Common.{◌≡◌, ℕ, zero, suc, ◌+◌, ◌-◌, ◌≤◌, List, [], ◌∷◌, subst, inl, inr, ◌⊎◌, refl}
 use Rattle.std.proofs.Common.{ap, sym, ◌∙◌, Bool, true, false, cond, Some, None, Contains, arith}
 use Rattle.std.specs.Prelude.{Option, ◌↔◌, ◌==◌, nat_lt, IsTrue}
