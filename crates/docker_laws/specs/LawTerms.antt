@@ -17,7 +17,8 @@ AreAt {K} place rows = (row : List ℕ × K) → Contains rows row → row.0 ≡
 abbrev pub AreElsewhere : {K : Type 0} → List ℕ → List (List ℕ × K) → Type 0
 AreElsewhere {K} place rows = (row : List ℕ × K) → Contains rows row → ¬ (row.0 ≡ place)
 
--- `Holds` is true after an event that was carried out. The office's state after the event is `now`
+-- after an event that was carried out, the states and messages match the knowledge (`Holds`). The
+-- office's state after the event is `now`
 abbrev pub HoldsAfter : Format → KnownSets → RunEvent → List State → ℕ → State → List (List ℕ) → Type 0
 HoldsAfter format known event states office now messages =
     Holds format (after_reply known (event, done)) (slice_set states office now) messages

@@ -231,7 +231,8 @@ pub record TellsNoFault (limit : ℕ) (text : List ℕ) : Type 0 where
 number_within : (limit : ℕ) (records : Lines) (fault : FileFault) → IsRecordFault limit records fault → fault.number ≤ length records
 number_within limit records fault is = let size = ap length is.whole ∙ length-append is.earlier (is.line ∷ is.later) in let number = is.number in omega arith
 
--- bytes determine a fault, or satisfy `TellsNoFault`
+-- either bytes determine a fault, or their complete lines begin some file within the limit and
+-- their incomplete line has at most 81 bytes
 pub fault_so_far_or_none : (limit : ℕ) (text : List ℕ) → ((fault : FileFault) × IsFaultSoFar limit text fault) ⊎ TellsNoFault limit text
 fault_so_far_or_none limit text = by (cases_lt (length (open_line text)) 82)
   where
@@ -269,14 +270,15 @@ abbrev pub PassesSoFar : ℕ → List ℕ → Type 0
 PassesSoFar limit text =
     BeginsFile (take (sure_lines text) (lines_of text)) × (sure_lines text ≤ limit) × (length (last_of (slice_split (λ b. b == 10) text)) ≤ 81)
 
--- bytes that satisfy `TellsNoFault` satisfy `PassesSoFar`
+-- `TellsNoFault` implies `PassesSoFar`, which says the same in terms of the definitions that the
+-- laws use
 pub passes_so_far : (limit : ℕ) (text : List ℕ) → TellsNoFault limit text → PassesSoFar limit text
 passes_so_far limit text none =
     let same = sure_lines_short text none.short in
     let within = none.within in
     (subst BeginsFile (sym (take_told text none.short)) none.begin, omega arith, none.short)
 
--- bytes determine a fault, or satisfy `PassesSoFar`
+-- like `fault_so_far_or_none`, in terms of the definitions that the laws use
 pub fault_so_far_or_passes : (limit : ℕ) (text : List ℕ) → ((fault : FileFault) × IsFaultSoFar limit text fault) ⊎ PassesSoFar limit text
 fault_so_far_or_passes limit text = by (fault_so_far_or_none limit text)
   where
@@ -285,7 +287,8 @@ fault_so_far_or_passes limit text = by (fault_so_far_or_none limit text)
     by (inl fault) = inl fault
     by (inr none) = inr (passes_so_far limit text none)
 
--- bytes that satisfy `PassesSoFar` determine no fault
+-- if the complete lines of bytes begin some file within the limit, and their incomplete line has at
+-- most 81 bytes, the bytes determine no fault
 pub passes_no_fault : (limit : ℕ) (text : List ℕ) (fault : FileFault) → PassesSoFar limit text → ¬ IsFaultSoFar limit text fault
 passes_no_fault limit text fault passes told = by told.is.here
   where

@@ -33,7 +33,8 @@ single_alike n line following others (inr (inl is)) = alike_by n tiploc_amend li
 single_alike n line following others (inr (inr (inl is))) = alike_by n tiploc_delete line following others is refl
 single_alike n line following others (inr (inr (inr is))) = alike_by n association line following others is refl
 
--- the change of a basic schedule depends only on its `schedule_rest`
+-- the change of a basic schedule depends only on the basic schedule and on the other records of its
+-- schedule
 basic_alike : (n : ℕ) (basic : List ℕ) (following others : List (List ℕ)) → HasKind basic_schedule basic → schedule_rest following ≡ others
     → changes_of_record n basic following ≡ change_of_schedule n basic others ∷ []
 basic_alike n basic following others is run =

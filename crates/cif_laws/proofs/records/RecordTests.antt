@@ -136,8 +136,8 @@ pub fewer_midnights : (lines more : List (List ℕ)) → midnights lines ≤ mid
 fewer_midnights lines more =
     subst (λ times. midnights lines ≤ fall_count times) (sym (times_append lines more)) (fewer_falls (times_along lines) (times_along more))
 
--- when a record is appended, the number of falls grows by `falls_after` of the last time before the
--- record and of the record's times
+-- when a record is appended, the new number of falls is the old number plus the falls in the
+-- record's times, counted from the last time before the record
 pub midnights_step : (lines : List (List ℕ)) (line : List ℕ) → midnights (lines ++ line ∷ []) ≡ midnights lines + falls_after (last_of (times_along lines))
     (times_along (line ∷ []))
 midnights_step lines line = ap fall_count (times_append lines (line ∷ [])) ∙ fall_count-append (times_along lines) (times_along (line ∷ []))

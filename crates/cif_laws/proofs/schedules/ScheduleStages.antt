@@ -186,7 +186,7 @@ pub record IsNextLine (stage : Stage) (lines : Lines) (line : List ℕ) (next : 
   pub sound : is_sound_next lines line ≡ true
   pub stage_is : stage_after stage (kind_of line) ≡ Some next
 
--- a record that has a next stage satisfies `IsNextLine`
+-- if a record has a next stage, the record is sound, and its kind leads to that stage
 pub next_line_by_test : (stage : Stage) (lines : Lines) (line : List ℕ) (next : Stage) → next_stage stage lines line ≡ Some next
     → IsNextLine stage lines line next
 next_line_by_test stage lines line next is = by (is_record line && is_sound_next lines line) refl is
@@ -196,7 +196,7 @@ next_line_by_test stage lines line next is = by (is_record line && is_sound_next
     by true h found = let parts = both (is_record line) _ h in record { is = (record_iff_test line).1 parts.0; sound = parts.1; stage_is = found }
     by false h found = cc
 
--- a record that satisfies `IsNextLine` has this next stage
+-- if a record is sound, and its kind leads to a next stage, the record has that next stage
 pub test_by_next_line : (stage : Stage) (lines : Lines) (line : List ℕ) (next : Stage) → IsNextLine stage lines line next
     → next_stage stage lines line ≡ Some next
 test_by_next_line stage lines line next told =
@@ -748,7 +748,8 @@ IsNoNextLine stage lines line =
     ⊎ (((at : ℕ) × (leftmost_bad_field line ≡ Some at) × (is_deletion (first_record lines) ≡ false))
     ⊎ (HasGoodFields line × (2 < midnights (lines ++ line ∷ [])) × (is_deletion (first_record lines) ≡ false)))
 
--- a record that has no next stage satisfies `IsNoNextLine`
+-- if a record has no next stage, its kind is out of place, a field is bad, or the schedule passes
+-- midnight for the third time
 pub no_next_line : (stage : Stage) (lines : Lines) (line : List ℕ) → IsRecord line → next_stage stage lines line ≡ None → IsNoNextLine stage lines line
 no_next_line stage lines line is nowhere = by (stage_after stage (kind_of line)) refl
   where

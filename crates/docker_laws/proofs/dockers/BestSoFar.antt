@@ -65,7 +65,7 @@ module _ {A : Type 0} {cmp : A → A → Ordering} (total : IsTotalOrder cmp) (t
       by z passes (inl here) = best.2 z here passes
       by z passes (inr last) = subst (IsAtMost cmp b) (Contains-single x z last) at_most
 
-  -- `with_one_more` is the best element of the list after an element is appended
+  -- `with_one_more` computes the best element of the list after an element is appended
   pub best_more : (xs : List A) (x : A) (found : Option A) → IsBest cmp test xs found → IsBest cmp test (xs ++ x ∷ []) (with_one_more cmp test found x)
   best_more xs x found best = by (test x) refl found best
     where

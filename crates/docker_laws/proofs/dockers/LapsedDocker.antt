@@ -44,7 +44,8 @@ partner_after indicator start day is = by (indicator == 78) (indicator == 80) is
     by false true told = earlier (nat_lt 0 start) refl told
     by false false some = let same : start ≡ day = cc in omega arith
 
--- ---- if `CarriesOver` holds, the other table has all docker lines of the first
+-- ---- if `other` has the trains, associations and identities of `one`, `other` has all docker
+-- lines of `one`
 
 -- the table `other` has each train of `one` with an event on the day. For each of these trains,
 -- `other` also has the associations with this base train, and the identities of the associated

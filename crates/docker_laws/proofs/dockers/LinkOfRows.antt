@@ -92,8 +92,8 @@ module _ (live : Table) (rows : List Row) (group : Group) (has : HasAssociations
     best_is_link found best =
         first_is_link found (best_is_first by_key (is_linked group day) (associations_in rows) Runs associated among_linked passes_linked found best)
 
-    -- if the rows are in the live table and include every association of the group, `link_in` of
-    -- the rows is the chosen association of the group
+    -- `link_in` computes the chosen association of a group from rows that are in the live table and
+    -- include every association of the group
     pub link_tells : IsLinkOn live group day (link_in rows group day)
     link_tells =
         first_is_link (link_in rows group day)

@@ -32,7 +32,7 @@ use Rattle.docker_laws.proofs.dockers.ThinBody.{first_of_thin, thin_elsewhere, n
 
 -- ---- which records may replace a schedule
 
--- the relation `IsStandIn` is symmetric
+-- the relation "may replace in the docker" between schedules is symmetric
 turned : (place : List ℕ) (day : ℕ) (one other : List (List ℕ)) → IsStandIn place day one other → IsStandIn place day other one
 turned place day one other is = record {
   runs = λ start near. sym (is.runs start near);
@@ -258,14 +258,15 @@ module _ (place : List ℕ) (day : ℕ) (live part : Table) (stands : StandsFor 
 -- ---- the thinned table may replace the table
 
 module _ (place : List ℕ) (day : ℕ) (live : Table) where
-  -- if a schedule in the table runs near the day, the thinned table has at the same key `lines_for`
-  -- of the schedule's records
+  -- if a schedule in the table runs near the day, the thinned table has at the same key the
+  -- schedule's records that the docker needs (`lines_for`)
   schedule_left : (key : ScheduleKey) (lines : List (List ℕ)) → live (schedule_key key) ≡ Some (schedule_body lines)
       → runs_near day (first_record lines) ≡ true → thinned place day live (schedule_key key) ≡ Some (schedule_body (lines_for place lines))
   schedule_left key lines is_live runs =
       ap (option_and_then (thin_body place day)) is_live ∙ (λ i. cond (runs i) (Some (schedule_body (lines_for place lines))) None)
 
-  -- each schedule in the thinned table is `lines_for` of a schedule at the same key of the table
+  -- for each schedule in the thinned table, the table has a schedule at the same key. The thinned
+  -- table has the records of that schedule that the docker needs (`lines_for`)
   schedule_was : (key : ScheduleKey) (lines : List (List ℕ)) → thinned place day live (schedule_key key) ≡ Some (schedule_body lines)
       → (whole : List (List ℕ)) × (live (schedule_key key) ≡ Some (schedule_body whole)) × (lines_for place whole ≡ lines)
   schedule_was key lines is = by (then_some (thin_body place day) (live (schedule_key key)) (schedule_body lines) is)

@@ -70,15 +70,15 @@ module _ (live : Table) (rows : List Row) (uid : List ℕ) (has : HasSchedulesOf
     best_is_chosen found best =
         first_is_chosen found (best_is_first by_key (is_running uid day) (schedules_in rows) Runs running among_running passes_running found best)
 
-    -- if the rows are in the live table and include every schedule of the UID, `chosen_in` of the
-    -- rows is the chosen schedule of the UID
+    -- `chosen_in` computes the chosen schedule of a UID from rows that are in the live table and
+    -- include every schedule of the UID
     pub chosen_tells : IsChosenOn live uid day (chosen_in rows uid day)
     chosen_tells =
         first_is_chosen (chosen_in rows uid day)
         (found_is_first by_key (is_running uid day) (schedules_in rows) Runs running among_running passes_running)
 
-    -- if the rows are in the live table and include every schedule of the UID, `train_in` of the
-    -- rows is the train of the UID
+    -- `train_in` computes the train of a UID from rows that are in the live table and include every
+    -- schedule of the UID
     pub train_tells : IsTrainOn live uid day (train_in rows uid day)
     train_tells = by (chosen_in rows uid day) chosen_tells
       where

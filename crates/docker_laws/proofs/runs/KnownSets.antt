@@ -14,8 +14,8 @@ zip_more [] (b ∷ ys) x y same = absurd (omega arith)
 zip_more (a ∷ xs) [] x y same = absurd (omega arith)
 zip_more (a ∷ xs) (b ∷ ys) x y same = ap (λ rest. (a, b) ∷ rest) (zip_more xs ys x y (omega arith))
 
--- the knowledge after one more event is `after_reply` of the earlier knowledge and of this event
--- with its reply
+-- `after_reply` computes the knowledge after one more event from the earlier knowledge and from
+-- this event with its reply
 pub sets_more : (offices : ℕ) (events : List RunEvent) (replies : List Reply) (event : RunEvent) (reply : Reply) → length events ≡ length replies
     → known_sets offices (events ++ event ∷ []) (replies ++ reply ∷ []) ≡ after_reply (known_sets offices events replies) (event, reply)
 sets_more offices events replies event reply same =

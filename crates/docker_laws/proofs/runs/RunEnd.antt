@@ -25,13 +25,13 @@ use Rattle.state_laws.proofs.states.SummaryLaws.{summary_unique, lapsed_summary}
 use Rattle.state_laws.proofs.states.OneJoin.{docker_unique}
 use Rattle.cif_laws.proofs.lists.ZipSteps.{zip_at}
 
--- if the replies of an exchange are allowed, and `Holds` is true of its states and messages, the
--- exchange is a possible result of the run
+-- if the replies of an exchange are allowed, and its states and messages match the knowledge
+-- (`Holds`), the exchange is a possible result of the run
 pub holds_at_end : (format : Format) (offices : ℕ) (events : List RunEvent) (exchange : Exchange) → AreReplies (none_known offices) events exchange.replies
     → Holds format (sets_of offices events exchange) exchange.states exchange.messages → IsRun format offices events exchange
 holds_at_end format offices events exchange replies holds = record { replies = replies; states = holds.states_are; messages = holds.messages_are }
 
--- after a run of good events, `Holds` is true of the states and messages
+-- after a run of good events, the states and messages match the knowledge (`Holds`)
 pub run_holds : (format : Format) (offices : ℕ) (events : List RunEvent) (exchange : Exchange) → All (IsGoodEvent format) events
     → IsRun format offices events exchange
     → Holds format (sets_of offices events exchange) exchange.states exchange.messages
