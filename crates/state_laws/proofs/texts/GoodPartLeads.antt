@@ -103,7 +103,8 @@ step_entry_count format horizon count ledger fits =
     ∙ ap (λ xs. xs ++ to_be_bytes w64 count) (sym (append-nil (ledger_text format horizon (length ledger) ledger)))
     )
 
--- the text read after one more part of an entry is the text read before, followed by this part
+-- the text up to the point after one more part of an entry is the earlier text, followed by this
+-- part
 pub part_more : (format : Format) → (count : ℕ) (state : State) (old part : List ℕ) → entries_text format count state ++ (old ++ part) ≡
     (entries_text format count state ++ old) ++ part
 part_more format count state old part = sym (append_assoc (entries_text format count state) old part)
