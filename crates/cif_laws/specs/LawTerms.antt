@@ -1,4 +1,4 @@
--- Relations that several laws use.
+-- A property of bytes that several laws use.
 use Rattle.std.specs.Prelude.{ℕ, ◌≤◌, List, length, take}
 use Rattle.docker_model.specs.file.File.{BeginsFile}
 use Rattle.docker_model.specs.file.Text.{lines_of}

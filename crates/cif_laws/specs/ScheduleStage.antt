@@ -1,5 +1,5 @@
--- The stage of a reader in a schedule, after some of its records. The stage determines which
--- records may follow, and whether the records are a schedule.
+-- The stage of a reader in a schedule, after a number of the schedule's records. The stage
+-- determines which records may follow, and whether the records are a schedule.
 use Rattle.std.specs.Prelude.{Some, None, ℕ, List, Bool, true, false, [], ◌∷◌, ◌++◌, Option, ◌==◌, ◌||◌, ◌&&◌, nat_le, option_and_then}
 use Rattle.std.proofs.Common.{cond}
 use Rattle.docker_model.specs.records.Record.{Kind, extra_details, origin_location, intermediate_location}

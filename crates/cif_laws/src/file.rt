@@ -110,8 +110,8 @@ pub fn no_fault_in_complete_lines()
         → BeginsWithin limit text → ¬ IsFaultSoFar limit text fault }
 {}
 
-/// Bytes that determine no fault are at most `82 * limit + 81` bytes, where `limit` is the greatest
-/// number of records.
+/// If bytes determine no fault, their number is at most `82 * limit + 81`, where `limit` is the
+/// greatest number of records that a file may have.
 pub fn text_without_fault_is_bounded()
     ensures { (limit : ℕ) (text : List ℕ) → ((fault : FileFault) → ¬ IsFaultSoFar limit text fault)
         → length text ≤ 82 * limit + 81 }

@@ -1,12 +1,12 @@
--- A table cut to the keys that pass a test, and the rows with these keys. For example, the test may
--- be `is_permanent`.
+-- A table restricted to the keys that pass a test, and the rows with these keys. For example, the
+-- test may be `is_permanent`.
 use Rattle.std.specs.Prelude.{Bool, if◌then◌else◌, None, List, filter}
 use Rattle.docker_model.specs.file.Change.{Key}
 use Rattle.docker_model.specs.state.State.{HasGoodBodies}
 use Rattle.docker_model.specs.state.Table.{Table}
 use Rattle.state_laws.specs.Row.{Row, AreRowsOf}
 
--- the table cut to the keys that pass the test
+-- the table restricted to the keys that pass the test
 abbrev pub counted_table : (Key → Bool) → Table → Table
 counted_table counts table key = if counts key then table key else None
 

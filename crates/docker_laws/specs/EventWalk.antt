@@ -17,8 +17,8 @@ abbrev pub events_from : ℕ → ℕ → List (List ℕ) → List Event
 events_from number place [] = []
 events_from number place (line ∷ lines) = events_here number place (times_of line) ++ events_from (number + length (times_of line)) (place + 1) lines
 
--- 1 if the time is a fall, which means that it is earlier than the time before it, and otherwise 0.
--- The result is 0 if there is no time before it
+-- 1 if the time is earlier than the time before it, and otherwise 0. If there is no time before it,
+-- the result is 0
 abbrev pub fall_at : Option ℕ → ℕ → ℕ
 fall_at None time = 0
 fall_at (Some last) time = if nat_lt time last then 1 else 0

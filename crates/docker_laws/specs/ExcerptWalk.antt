@@ -9,8 +9,8 @@ use Rattle.docker_model.specs.file.Change.{Key, tiploc_key, association_key, sch
 use Rattle.docker_model.specs.state.Op.{Op, put_with, Entry}
 use Rattle.docker_model.specs.state.State.{State}
 
--- the state of a walk after some entries: the kept entries, and the entries of the current run. The
--- run may still be dropped
+-- the state of a walk after any number of entries: the kept entries, and the entries of the current
+-- run. The run may still be dropped
 pub record ExcerptSoFar : Type 0 where
   pub kept : List (Key × Entry)
   pub run : List (Key × Entry)
@@ -85,7 +85,7 @@ next_kept place so_far entry = with_entry_of place so_far entry.0 entry.1
 abbrev pub kept_from : List ℕ → ExcerptSoFar → List (Key × Entry) → List (Key × Entry)
 kept_from place so_far rest = kept_after_run place (fold (next_kept place) so_far rest)
 
--- the state of the walk after these entries, from its start
+-- the state of a walk that has passed these entries, from the first to the last
 abbrev pub kept_so_far : List ℕ → List (Key × Entry) → ExcerptSoFar
 kept_so_far place entries = fold (next_kept place) nothing_kept entries
 

@@ -23,7 +23,7 @@ abbrev pub with_earlier : Key × Entry → List (Key × Entry) → List (Key × 
 with_earlier entry [] = entry ∷ []
 with_earlier entry (first ∷ entries) = placed (key_cmp entry.0 first.0) entry first entries (with_earlier entry entries)
 
--- the last entry of each key in a list of entries, in key order
+-- the last entry of each key in a list of entries. The result is in key order
 abbrev pub latest_entries : List (Key × Entry) → List (Key × Entry)
 latest_entries [] = []
 latest_entries (entry ∷ entries) = with_earlier entry (latest_entries entries)

@@ -1,4 +1,4 @@
--- Relations that several laws use.
+-- Definitions that several laws use.
 use Rattle.std.specs.Prelude.{◌≡◌, ℕ, ◌+◌, ◌≤◌, List, slice_set, Contains}
 use Rattle.docker_model.specs.state.State.{State}
 use Rattle.docker_model.specs.state.StateText.{Format}
@@ -17,7 +17,7 @@ AreAt {K} place rows = (row : List ℕ × K) → Contains rows row → row.0 ≡
 abbrev pub AreElsewhere : {K : Type 0} → List ℕ → List (List ℕ × K) → Type 0
 AreElsewhere {K} place rows = (row : List ℕ × K) → Contains rows row → ¬ (row.0 ≡ place)
 
--- after an event that was done, the states and messages match what offices and messages know. The
+-- after an event that was carried out, the states and messages match the knowledge (`Holds`). The
 -- office's state after the event is `now`
 abbrev pub HoldsAfter : Format → KnownSets → RunEvent → List State → ℕ → State → List (List ℕ) → Type 0
 HoldsAfter format known event states office now messages =

@@ -66,19 +66,19 @@ is_choice trains uid day train =
     is_running uid day train
     && list_all (λ other. not (is_running uid day other && is_gt (schedule_choice_cmp train.key other.key))) trains
 
--- the chosen schedule of the UID on the day, from these rows, or `None` if no schedule of the UID
--- runs on the day
+-- of the UID's schedules in these rows, the one that is chosen on the day. The result is `None` if
+-- no schedule of the UID in these rows runs on the day
 abbrev pub chosen_in : List Row → List ℕ → ℕ → Option Train
 chosen_in rows uid day = find (is_choice (schedules_in rows) uid day) (schedules_in rows)
 
--- the train that runs by the chosen schedule, or `None` if there is no chosen schedule or it is a
--- cancellation
+-- the train that runs by the chosen schedule, or `None` if there is no chosen schedule or the
+-- chosen schedule is a cancellation
 abbrev pub unless_cancelled : Option Train → Option Train
 unless_cancelled None = None
 unless_cancelled (Some train) = if train.key.indicator == 67 then None else Some train
 
--- the UID's train that starts on the day, from these rows, or `None` if no train of the UID starts
--- on that day
+-- the UID's train that starts on the day, according to the schedules in these rows, or `None` if
+-- there is no such train
 abbrev pub train_in : List Row → List ℕ → ℕ → Option Train
 train_in rows uid day = unless_cancelled (chosen_in rows uid day)
 
@@ -98,13 +98,13 @@ is_link_choice links group day link =
     is_linked group day link
     && list_all (λ other. not (is_linked group day other && is_gt (association_choice_cmp link.key other.key))) links
 
--- the chosen association of the group on the base train's start day, from these rows, or `None` if
--- no association of the group runs on that day
+-- of the group's associations in these rows, the one that is chosen on the base train's start day.
+-- The result is `None` if no association of the group in these rows runs on that day
 abbrev pub link_in : List Row → Group → ℕ → Option Link
 link_in rows group day = find (is_link_choice (associations_in rows) group day) (associations_in rows)
 
--- this is the UID's train that starts on the day, or `None` if no train of the UID starts on that
--- day
+-- this is the UID's train that starts on the day, or it is `None` and no train of the UID starts on
+-- that day
 abbrev pub IsTrainOn : Table → List ℕ → ℕ → Option Train → Type 0
 IsTrainOn live uid day None = RunsNot live uid day
 IsTrainOn live uid day (Some train) = TrainRuns live uid day train.key train.lines
@@ -114,8 +114,8 @@ IsTrainOn live uid day (Some train) = TrainRuns live uid day train.key train.lin
 abbrev pub TellsTrains : Table → (List ℕ → ℕ → Option Train) → Type 0
 TellsTrains live trains = (uid : List ℕ) (day : ℕ) → IsTrainOn live uid day (trains uid day)
 
--- this is the chosen association of the group on the day, or `None` if no association of the group
--- runs on that day
+-- this is the chosen association of the group on the day, or it is `None` and no association of the
+-- group is chosen on that day
 abbrev pub IsLinkOn : Table → Group → ℕ → Option Link → Type 0
 IsLinkOn live group day None = (key : AssociationKey) (line : List ℕ) → ¬ IsChosenAssociation live group day key line
 IsLinkOn live group day (Some link) = IsChosenAssociation live group day link.key link.line

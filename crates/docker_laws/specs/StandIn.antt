@@ -11,7 +11,7 @@ use Rattle.docker_laws.specs.NearDay.{near_starts, runs_near}
 
 -- `lines` may replace the schedule `whole` in the docker of the place and the day. Both run on the
 -- same start days near the day, and have the same train identity. If `whole` or `lines` calls at
--- the place, both are equal
+-- the place, the two are equal
 pub record IsStandIn (place : List ℕ) (day : ℕ) (whole lines : List (List ℕ)) : Type 0 where
   pub runs : (start : ℕ) → Contains (near_starts day) start → schedule_runs (first_record whole) start ≡ schedule_runs (first_record lines) start
   pub identity : columns 33 36 (first_record whole) ≡ columns 33 36 (first_record lines)

@@ -85,7 +85,7 @@ pub record IsThinning (place : List ℕ) (day : ℕ) (changes kept : List Change
   pub some : IsSublist kept (map (thin_change place day) changes)
   pub enough : AreEnough place day changes kept
 
--- no change in the list is a change of this key
+-- no change in the list is a change to this key
 abbrev pub HasNoChangeOf : Key → List Change → Type 0
 HasNoChangeOf key changes = (change : Change) → Contains changes change → ¬ (change.key ≡ key)
 
@@ -93,11 +93,11 @@ HasNoChangeOf key changes = (change : Change) → Contains changes change → ¬
 abbrev pub AreAtMost : Key → List Change → Type 0
 AreAtMost highest changes = (change : Change) → Contains changes change → IsAtMost key_cmp change.key highest
 
--- the list without the changes of this key
+-- the list without the changes to this key
 abbrev pub without : Key → List Change → List Change
 without key changes = filter (λ (change : Change). not (is_eq (key_cmp change.key key))) changes
 
--- this is the state after some changes of a file. The changes may be thin. The state has the file's
+-- this is the state after these changes of a file, which may be thin. The state has the file's
 -- ledger item and, at each key, the greatest of the entries that the changes leave
 pub record IsStateOfChanges (file : List (List ℕ)) (changes : List Change) (state : State) : Type 0 where
   pub horizon : state.horizon ≡ 0

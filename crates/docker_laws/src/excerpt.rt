@@ -71,8 +71,8 @@ pub fn walk_leaves_excerpt()
 {}
 
 /// The walk that computes an excerpt can stop after any entry and continue from there, with the
-/// same result. The kept entries followed by the run are a sublist of the entries passed. They may
-/// be the entries of a state with the same ledger, if the entries passed may.
+/// same result. The kept entries followed by the run are a sublist of the entries passed. If the
+/// entries passed may be the entries of a state, so may the kept entries followed by the run.
 pub fn excerpt_in_a_walk()
     ensures none { (place : List ℕ) → kept_so_far place [] ≡ nothing_kept }
     ensures more { (place : List ℕ) (entries : List (Key × Entry)) (entry : Key × Entry)
@@ -192,9 +192,9 @@ pub fn excerpt_in_a_loop()
         → AreEntries ledger entries → AreEntries ledger (kept ++ run) }
 {}
 
-/// A valid state with a sublist of its entries is valid. An entry that may follow the entries of a
-/// state may also follow a sublist of these entries. Each entry of a valid state may follow the
-/// entries before it.
+/// If entries are left out of a valid state, the state is still valid. An entry that may follow the
+/// entries of a state may also follow a sublist of these entries. Each entry of a valid state may
+/// follow the entries before it.
 pub fn some_of_entries()
     ensures more { (state : State) (key : Key) (entry : Entry)
         → AreEntries state.ledger state.entries → IsStampHere state key entry.stamp

@@ -14,8 +14,8 @@ ghost use Rattle.docker_model.specs.docker.Permanent.{is_permanent, permanent_ta
 ghost use Rattle.docker_model.specs.run.Knowledge.{AreFiles, HaveSameFiles};
 ghost use Rattle.docker_laws.specs.Gathering.{IsDockerLine};
 
-/// Leaving out the short-term plan after some changes equals leaving out the plan first and then
-/// applying only the changes of permanent keys.
+/// Leaving out the short-term plan after applying changes equals leaving out the plan first and
+/// then applying only the changes to permanent keys.
 pub fn permanent_table_of_changes()
     ensures { (table : Table) (changes : List Change)
         → permanent_table (fold after_change table changes) ≡ fold after_change

@@ -60,10 +60,10 @@ pub fn stand_in_has_one_docker()
         → HasGoodBodies live → StandsFor place day live (thinned place day live) }
 {}
 
-/// For the docker of a place and a day, a schedule may be replaced by the records that `lines_for`
-/// gives. If the schedule doesn't call at the place, it may be replaced by any records that have
-/// the same first record and don't call at the place. The first record followed by any origin and
-/// any terminus with good fields is a schedule with the same key.
+/// For the docker of a place and a day, a schedule may be replaced by its records that the docker
+/// needs (`lines_for`). If the schedule doesn't call at the place, it may be replaced by any
+/// records that have the same first record and don't call at the place. The first record followed
+/// by any origin and any terminus with good fields is a schedule with the same key.
 pub fn stand_in_of_a_schedule()
     ensures needed { (place : List ℕ) (day : ℕ) (lines : List (List ℕ))
         → IsStandIn place day lines (lines_for place lines) }
@@ -130,9 +130,9 @@ pub fn thin_act_by_case()
         → runs_near day (as_new line) ≡ runs_near day line }
 {}
 
-/// A thinning can be made change by change. A change of a key that can't matter at the place may be
+/// A thinning can be made change by change. A change to a key that can't matter at the place may be
 /// dropped, and any other change may be kept in its thin form. A deletion may be dropped if no
-/// change of its key is kept. When a key is deleted or put again, the kept changes of that key may
+/// change to its key is kept. When a key is deleted or put again, the kept changes to that key may
 /// be removed.
 pub fn thinning_change_by_change()
     ensures first { (place : List ℕ) (day : ℕ) → IsThinning place day [] [] }
@@ -159,7 +159,7 @@ pub fn thinning_change_by_change()
         → IsThinning place day all (thin_changes place day all) }
 {}
 
-/// If a key is above the keys of all kept changes, no change of this key is kept. So a reader that
+/// If a key is above the keys of all kept changes, no change to this key is kept. So a reader that
 /// knows the greatest kept key may drop a deletion of a higher key without a search.
 pub fn nothing_kept_of_a_key_above()
     ensures none { (highest key : Key) (kept : List Change)
@@ -173,8 +173,9 @@ pub fn nothing_kept_of_a_key_above()
         → AreAtMost change.key (kept ++ change ∷ []) }
 {}
 
-/// The table after the kept changes equals the thinned table after all changes, from the empty
-/// table or from any thinned table. The kept changes of a file are well formed.
+/// The table after the kept changes equals the thinned table after all changes. Applying the thin
+/// changes to a thinned table equals applying all changes to the table and then thinning the
+/// result. The kept changes of a file are well formed.
 pub fn kept_changes_make_the_thinned_table()
     ensures table { (place : List ℕ) (day : ℕ) (all kept : List Change) (key : Key)
         → IsThinning place day all kept

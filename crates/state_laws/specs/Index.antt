@@ -29,8 +29,8 @@ calling_cmp a b = ordering_then (bytes_cmp a.0 b.0) (schedule_key_cmp a.1 b.1)
 abbrev pub linked_cmp : LinkedRow → LinkedRow → Ordering
 linked_cmp a b = ordering_then (bytes_cmp a.0 b.0) (association_key_cmp a.1 b.1)
 
--- the index rows of calls for one row of the table. A TIPLOC occurs once for each location record
--- of the schedule that has this TIPLOC
+-- the index rows of calls for one row of the table: one for each location record of the row's
+-- schedule, so a TIPLOC may occur several times. A row without a schedule has no index row
 abbrev pub calls_of : Key → Body → List CallingRow
 calls_of (schedule_key key) (schedule_body lines) = map (λ line. (columns 3 9 line, key)) (filter (λ line. is_location (kind_of line)) lines)
 calls_of _ _ = []

@@ -1,4 +1,4 @@
--- Relations that several laws use.
+-- Definitions that several laws use.
 use Rattle.std.specs.Prelude.{◌==◌, List, ◌++◌, Option, option_map, find}
 use Rattle.docker_model.specs.file.Change.{Key}
 use Rattle.docker_model.specs.state.Stamp.{FileStamp, LedgerItem, IsFloor}

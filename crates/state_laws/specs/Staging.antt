@@ -36,9 +36,9 @@ IsPutIn own staged floor key entry =
     Contains staged (key, entry) ⊎ (Contains own.entries (key, entry) × IsKept floor entry.stamp.file × HasNoEntryOf staged key)
 
 -- this is the state after a commit. The horizon is unchanged. The ledger is the union of both
--- ledgers without the items below their floor. Each key with a staged entry has that entry. Each
--- other key keeps its entry, unless that entry is below the floor. All entries have lapsed under
--- the horizon
+-- ledgers without the items below the floor of the union. Each key with a staged entry has that
+-- entry. Each other key keeps its entry, unless that entry is below the floor. Each entry whose
+-- body ended before the horizon has lapsed
 pub record IsCommit (own : State) (items : List LedgerItem) (staged : List (Key × Entry)) (after : State) : Type 0 where
   pub horizon : after.horizon ≡ own.horizon
   pub floor : Option FileStamp

@@ -32,8 +32,8 @@ after_lines count state key stamp n lines =
     if nat_le n (length lines) then after_entries count (with_entry state (schedule_key key) stamp (put_with (schedule_body lines)))
     else in_entry count state (before_line key stamp n lines)
 
--- the point after the first byte of an op. After 1 a body follows. After 0, for deleted, and after
--- 2, for lapsed, the entry ends
+-- the point after the first byte of an op. After the byte 1 a body follows. After the byte 0, for
+-- deleted, and after the byte 2, for lapsed, the entry ends
 abbrev pub after_op : ℕ → State → Key → Stamp → ℕ → Before
 after_op count state key stamp zero = after_entries count (with_entry state key stamp deleted)
 after_op count state key stamp (suc zero) = in_entry count state (before_body key stamp)
@@ -46,7 +46,7 @@ after_body count state (association_key key) stamp bytes =
     after_entries count (with_entry state (association_key key) stamp (put_with (association_body bytes)))
 after_body count state (schedule_key key) stamp bytes = after_lines count state key stamp (from_be_bytes w32 bytes) []
 
--- the point after a part of an entry, which has these bytes
+-- the point after the next part of an entry, if this part has these bytes
 abbrev pub after_part : ℕ → State → EntryPart → List ℕ → Before
 after_part count state before_tag bytes = in_entry count state (before_key (slice_index bytes 0))
 after_part count state (before_key tag) bytes = in_entry count state (before_stamp (key_in tag bytes))
@@ -60,7 +60,7 @@ abbrev pub after_mark : Format → Before
 after_mark dks_1 = before_ledger_count 0
 after_mark dks_2 = before_horizon
 
--- the point after a part of the text, which has these bytes
+-- the point after the next part of the text, if this part has these bytes
 abbrev pub advance : (format : Format) → Before → List ℕ → Before
 advance format before_mark bytes = after_mark format
 advance format before_horizon bytes = before_ledger_count (from_be_bytes w16 bytes)

@@ -103,8 +103,8 @@ pub fn laws_of_lapse()
 {}
 
 /// A valid state is still valid after a horizon is set, if the horizon is a day number. Setting a
-/// horizon that isn't greater than the state's leaves a valid state unchanged, since no entry of a
-/// valid state lapses under the state's horizon.
+/// horizon that isn't greater than the state's horizon leaves a valid state unchanged, since no
+/// entry of a valid state lapses under the state's horizon.
 pub fn laws_of_setting()
     ensures valid { (horizon : ℕ) (state : State) → IsDay horizon → IsValid state
         → IsValid (raise_horizon horizon state) }

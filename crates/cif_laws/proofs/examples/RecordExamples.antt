@@ -125,8 +125,8 @@ changes_of_same_code : changes (f2_header ∷ ta (codes "ASHFELD") (codes "ASHFI
     } ∷ []
 changes_of_same_code = refl
 
--- an amendment, a schedule of three records and another amendment: the change of each unit has the
--- number of the unit's first record
+-- an amendment, a schedule of three records and another amendment: the changes of each unit have
+-- the number of the unit's first record
 numbers_of_units : map (λ (change : Change). change.number) (changes_of_units 2 ((rename_amend ∷ []) ∷ f2_schedule ∷ (rename_amend ∷ []) ∷ []))
     ≡ 2 ∷ 2 ∷ 3 ∷ 6 ∷ 6 ∷ []
 numbers_of_units = refl

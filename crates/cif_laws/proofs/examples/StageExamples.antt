@@ -58,7 +58,8 @@ deleted_time = refl
 deleted_alone : place_at (f2_header ∷ deleted_basic ∷ zz ∷ []) ≡ Some after_end
 deleted_alone = refl
 
--- records at which a schedule passes midnight for the third time
+-- an intermediate location at COLWELL that the train passes at this time. In the examples below, a
+-- schedule passes midnight for the third time at such a record
 abbrev call_at : List ℕ → List ℕ
 call_at time = li (codes "COLWELL") no_text no_text no_text time no_text no_text no_text no_text no_text
 

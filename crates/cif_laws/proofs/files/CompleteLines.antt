@@ -44,7 +44,7 @@ without_last_append [] piece pieces = refl
 without_last_append (first ∷ []) piece pieces = refl
 without_last_append (first ∷ second ∷ front) piece pieces = ap (λ rest. first ∷ rest) (without_last_append (second ∷ front) piece pieces)
 
--- these pieces, with these bytes put at the front of the first piece
+-- these pieces, with these bytes prepended to the first piece
 abbrev pub going_on : List ℕ → Lines → Lines
 going_on bytes [] = bytes ∷ []
 going_on bytes (piece ∷ pieces) = (bytes ++ piece) ∷ pieces
@@ -122,7 +122,7 @@ complete_lines_plain text piece plain =
     (split_append (λ b. b == 10) text piece ∙ (λ i. but_last (pieces_of text) ++ going_on (open_line text) (slice_split_none (λ b. b == 10) piece plain i)))
     ∙ ap (map strip_carriage_return) (but_last_append (but_last (pieces_of text)) (open_line text ++ piece) [] ∙ append-nil (but_last (pieces_of text)))
 
--- bytes without a line feed are appended to the incomplete line
+-- appending bytes without a line feed to a text appends these bytes to the text's incomplete line
 pub open_line_plain : (text piece : List ℕ) → HasNoFeed piece → open_line (text ++ piece) ≡ open_line text ++ piece
 open_line_plain text piece plain =
     ap last_of (split_append (λ b. b == 10) text piece
@@ -143,8 +143,8 @@ last_rest : (piece : List ℕ) (pieces : Lines) → 0 < length pieces → last_o
 last_rest piece [] some = absurd (omega arith)
 last_rest piece (next ∷ pieces) some = refl
 
--- a line feed completes the incomplete line. The complete lines of the bytes after the line feed
--- follow
+-- the first line feed in appended bytes completes the incomplete line. The complete lines of the
+-- bytes after this line feed follow
 pub complete_lines_cut : (text front rest : List ℕ) → HasNoFeed front
     → complete_lines (text ++ (front ++ 10 ∷ rest)) ≡ complete_lines text ++ strip_carriage_return (open_line text ++ front) ∷ complete_lines rest
 complete_lines_cut text front rest plain =
@@ -154,7 +154,8 @@ complete_lines_cut text front rest plain =
     ∙ ap (λ pieces. but_last (pieces_of text) ++ pieces) (but_first (open_line text ++ front) (pieces_of rest) (some_pieces (λ b. b == 10) rest)))
     ∙ map-append strip_carriage_return (but_last (pieces_of text)) ((open_line text ++ front) ∷ but_last (pieces_of rest))
 
--- after a line feed, the incomplete line is the incomplete line of the bytes after this line feed
+-- after bytes with a line feed are appended, the incomplete line of the text is the incomplete line
+-- of the bytes after the first line feed
 pub open_line_cut : (text front rest : List ℕ) → HasNoFeed front → open_line (text ++ (front ++ 10 ∷ rest)) ≡ open_line rest
 open_line_cut text front rest plain =
     ap last_of (pieces_cut text front rest plain)
@@ -181,7 +182,8 @@ pub record GoesOn (text more : List ℕ) : Type 0 where
   pub told : complete_lines (text ++ more) ≡ complete_lines text ++ map strip_carriage_return (but_last ((open_line text ++ first) ∷ pieces))
   pub open_is : open_line (text ++ more) ≡ last_of ((open_line text ++ first) ∷ pieces)
 
--- `GoesOn` holds for each text and any appended bytes
+-- each text and any appended bytes satisfy `GoesOn`: the bytes before the first line feed extend
+-- the incomplete line, and each line feed completes a line
 pub goes_on : (text more : List ℕ) → GoesOn text more
 goes_on text more = by (slice_split (λ b. b == 10) more) refl
   where

@@ -53,7 +53,8 @@ IsAt between_units records = IsBetween records
 IsAt (in_schedule stage lines) records = IsWithin stage lines records
 IsAt after_end records = IsFile records
 
--- ---- a record leads to a next place if and only if it passes each part of the test
+-- ---- a record leads to a next place if and only if the record is sound and its kind leads to that
+-- place
 
 -- the record is sound at this place, and by its kind it leads to the place `next`
 pub record IsNext (place : Place) (line : List ℕ) (next : Place) : Type 0 where
@@ -61,7 +62,7 @@ pub record IsNext (place : Place) (line : List ℕ) (next : Place) : Type 0 wher
   pub sound : is_sound_at place line ≡ true
   pub place_is : place_by_kind place (kind_of line) line ≡ Some next
 
--- a record that leads to a next place passes each part of the test
+-- if a record leads to a next place, the record is sound, and its kind leads to that place
 pub next_by_test : (place : Place) (line : List ℕ) (next : Place) → next_place place line ≡ Some next → IsNext place line next
 next_by_test place line next found = by (is_record line && is_sound_at place line) refl found
   where
@@ -70,7 +71,7 @@ next_by_test place line next found = by (is_record line && is_sound_at place lin
     by true h told = let parts = both (is_record line) _ h in record { is = (record_iff_test line).1 parts.0; sound = parts.1; place_is = told }
     by false h told = cc
 
--- a record that passes each part of the test leads to this next place
+-- if a record is sound, and its kind leads to a next place, the record leads to that place
 pub test_by_next : (place : Place) (line : List ℕ) (next : Place) → IsNext place line next → next_place place line ≡ Some next
 test_by_next place line next told =
     (λ i. cond (and_true (is_record line) _ ((record_iff_test line).0 told.is) told.sound i) (place_by_kind place (kind_of line) line) None) ∙ told.place_is
@@ -90,8 +91,8 @@ between_more records unit between is = record {
   each = all_append IsUnit between.units (unit ∷ []) between.each (is, tt);
 }
 
--- if the records are a header and complete units, one more record of this kind gives records with
--- the structure of the next place
+-- if the records are a header and complete units, appending a good record of this kind gives
+-- records with the structure of the next place
 unit_more : (records : Lines) (kind : Kind) (line : List ℕ) (next : Place) → IsBetween records → IsRecord line → HasKind kind line → HasGoodFields line
     → unit_by_kind (Some kind) line ≡ Some next
     → IsAt next (records ++ line ∷ [])
@@ -127,8 +128,8 @@ unit_more records trailer line next between is kind fields found =
     })
 unit_more records _ line next between is kind fields found = cc
 
--- if the records are a header and complete units, one more record gives records with the structure
--- of the next place
+-- if the records are a header and complete units, appending a good record gives records with the
+-- structure of the next place
 unit_more_of : (records : Lines) (line : List ℕ) (next : Place) → IsBetween records → IsRecord line → HasGoodFields line
     → unit_by_kind (kind_of line) line ≡ Some next → IsAt next (records ++ line ∷ [])
 unit_more_of records line next between is fields found = by (kind_of line) refl found
@@ -157,8 +158,8 @@ within_more stage lines records line next within found = record {
   front = next_front stage lines line next within.front found;
 }
 
--- if records have the structure of a place, one more record that leads from there to a next place
--- gives records with the structure of the next place
+-- if records have the structure of a place, appending a record that leads from this place to a next
+-- place gives records with the structure of the next place
 pub next_at : (place : Place) (records : Lines) (line : List ℕ) (next : Place) → IsAt place records → next_place place line ≡ Some next
     → IsAt next (records ++ line ∷ [])
 next_at before_header records line next at found = by (next_by_test before_header line next found) (kind_of line) refl
@@ -285,7 +286,8 @@ place_from_append (line ∷ front) place middle more found =
     let step = then_some (λ next. place_from next front) (next_place place line) middle found in
     (λ i. option_and_then (λ next. place_from next (front ++ more)) (step.1 i)) ∙ place_from_append front step.0 middle more step.2
 
--- if a record has a next stage in a schedule, it leads to the place in the file with that stage
+-- if a record has a next stage in a schedule, it leads in the file to the place with that stage. If
+-- the journey is then complete, the place is between units
 pub next_of_stage : (stage : Stage) (lines : Lines) (line : List ℕ) (next : Stage) → next_stage stage lines line ≡ Some next
     → next_place (in_schedule stage lines) line ≡ Some (place_in next (lines ++ line ∷ []))
 next_of_stage stage lines line next found =
@@ -296,7 +298,7 @@ next_of_stage stage lines line next found =
       place_is = λ i. in_stage_or (lines ++ line ∷ []) (told.stage_is i) (cond (may_end stage lines) (unit_by_kind (kind_of line) line) None);
     })
 
--- like `next_of_stage`, for a schedule whose journey may be complete
+-- like `next_of_stage`, from the place that belongs to the stage
 next_in : (stage : Stage) (lines : Lines) (line : List ℕ) (next : Stage) → next_stage stage lines line ≡ Some next
     → next_place (place_in stage lines) line ≡ Some (place_in next (lines ++ line ∷ []))
 next_in stage lines line next found = by stage (next_line_by_test stage lines line next found)
@@ -352,8 +354,8 @@ stage_stops in_journey (Some change_en_route) h = cc
 stage_stops in_journey (Some terminating_location) h = cc
 stage_stops _ _ h = refl
 
--- after a schedule that may end, a record that can't follow a basic schedule leads to the same
--- place as from between units
+-- let a schedule be at a stage at which it may end. A record that can't follow a basic schedule
+-- then leads to the same next place as from between two units
 pub next_behind : (stage : Stage) (lines : Lines) (line : List ℕ) → may_end stage lines ≡ true → follows_basic (kind_of line) ≡ false
     → next_place (in_schedule stage lines) line ≡ next_place between_units line
 next_behind stage lines line may anew =
@@ -410,7 +412,7 @@ place_of_file file is =
     }) i))
     ∙ units_pass is.units is.last (recursion_from_All IsUnit is.units is.each) is.trailer_record is.trailer_kind
 
--- ---- the laws
+-- ---- the laws of places
 
 place_from_front : (front rest : Lines) (place final : Place) → place_from place (front ++ rest) ≡ Some final
     → (middle : Place) × (place_from place front ≡ Some middle)
@@ -435,8 +437,8 @@ file_iff_place records = (place_of_file records, at_of_place records after_end)
 pub one_place : (records : Lines) (first second : Place) → IsPlaceOf records first → IsPlaceOf records second → first ≡ second
 one_place records first second one two = let both_are : Some first ≡ Some second = sym one ∙ two in cc
 
--- if records lead to a place, then with one more record they lead to the `next_place` of that place
--- and record
+-- if one more record is appended to records that lead to a place, `next_place` computes the new
+-- place
 pub place_of_more : (records : Lines) (place : Place) (line : List ℕ) → IsPlaceOf records place → place_at (records ++ line ∷ []) ≡ next_place place line
 place_of_more records place line found = place_from_append records before_header place (line ∷ []) found ∙ some_then (next_place place line)
 

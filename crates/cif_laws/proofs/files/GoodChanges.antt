@@ -36,7 +36,8 @@ letter_at line is = ap is_stp_letter (sym (one_column line 80 (omega arith))) �
 tiploc_at : (line : List ℕ) → IsRecord line → is_tiploc (columns 3 9 line) ≡ true → IsTiploc (columns 3 9 line)
 tiploc_at line is good = (text_in line 3 9 is (omega arith) (omega arith), tiploc_starts (columns 3 9 line) good)
 
--- the fields of an association that its key and its deletion use are good
+-- the fields in the key of an association that are checked are good: its first date, its timing
+-- point and its STP indicator
 record AssociationFields (line : List ℕ) : Type 0 where
   pub start : is_date (columns 16 21 line) ≡ true
   pub location : is_tiploc (columns 38 44 line) ≡ true
@@ -260,8 +261,8 @@ prefix_is [] (line ∷ rest) all stops = λ i. cond (stops i) (1 + prefix_len (�
 prefix_is (line ∷ lines) rest all stops =
     (λ i. cond (all.0 i) (1 + prefix_len (λ line. follows_basic (kind_of line)) (lines ++ rest)) 0) ∙ (let e = prefix_is lines rest all.1 stops in omega arith)
 
--- `schedule_rest` of a concatenation is its first list, if all records of the first list can follow
--- a basic schedule and the first record of the second list can't
+-- if all records of a list can follow a basic schedule, and the first record after the list can't,
+-- the list is the rest of the schedule (`schedule_rest`)
 pub rest_is : (lines rest : List (List ℕ)) → AllByRecursion Follows lines → StopsHere rest → schedule_rest (lines ++ rest) ≡ lines
 rest_is lines rest all stops = ap (λ n. take n (lines ++ rest)) (prefix_is lines rest all stops) ∙ take-append_seam lines rest
 

@@ -1,4 +1,4 @@
--- Bytes that determine no fault have a bounded number: at most 82 for each complete line with its
+-- If bytes determine no fault, their number is bounded: at most 82 for each complete line with its
 -- line feed, and at most 81 for the incomplete line.
 use Rattle.std.proofs.Common.{◌≡◌, ℕ, List, length, [], ◌∷◌, Some, ◌+◌, ◌<◌, arith, refl, ap, Bool, true, false, ◌*◌, ◌≤◌, map, ◌⊎◌, inl, inr}
 use Rattle.std.specs.Prelude.{◌==◌}
@@ -50,8 +50,8 @@ bytes_of_split p (b ∷ text) = by (p b) refl (bytes_of_split p text)
         let more = bytes_more b (slice_split p text) (omega arith) in
         omega arith
 
--- `bytes_in` of some pieces is `bytes_in` of all pieces but the last, plus the length of the last
--- piece, plus one
+-- `bytes_in` of pieces is `bytes_in` of all pieces but the last, plus the length of the last piece,
+-- plus one
 bytes_but_last : (pieces : Lines) → 0 < length pieces → bytes_in pieces ≡ bytes_in (but_last pieces) + length (last_of pieces) + 1
 unfolding bytes_in
 bytes_but_last [] some = absurd (omega arith)
@@ -80,7 +80,7 @@ bound_of_none limit text none =
     let short = none.short in
     omega arith
 
--- bytes that determine no fault are at most `82 * limit + 81` bytes
+-- if bytes determine no fault, their number is at most `82 * limit + 81`
 pub text_without_fault_is_bounded : (limit : ℕ) (text : List ℕ) → ((fault : FileFault) → ¬ IsFaultSoFar limit text fault) → length text ≤ 82 * limit + 81
 text_without_fault_is_bounded limit text never = by (fault_so_far_or_none limit text)
   where

@@ -79,7 +79,7 @@ behind_front (first ∷ front) last (second ∷ earlier) line later e same =
     let rest = behind_front front last earlier line later tails (omega arith) in
     (λ i. sym heads i ∷ rest.0 i, rest.1)
 
--- ---- appending bytes preserves a determined fault
+-- ---- a fault that bytes determine is preserved when more bytes are appended
 
 -- after the same earlier records, two lines that don't have 80 bytes have the same cause
 cause_stays : (limit : ℕ) (earlier : Lines) (line other : List ℕ) (cause : FileCause) → length line ≢ 80 → length other ≢ 80 → IsCause limit earlier line cause
@@ -231,7 +231,8 @@ pub record TellsNoFault (limit : ℕ) (text : List ℕ) : Type 0 where
 number_within : (limit : ℕ) (records : Lines) (fault : FileFault) → IsRecordFault limit records fault → fault.number ≤ length records
 number_within limit records fault is = let size = ap length is.whole ∙ length-append is.earlier (is.line ∷ is.later) in let number = is.number in omega arith
 
--- bytes determine a fault, or satisfy `TellsNoFault`
+-- either bytes determine a fault, or their complete lines begin some file within the limit and
+-- their incomplete line has at most 81 bytes
 pub fault_so_far_or_none : (limit : ℕ) (text : List ℕ) → ((fault : FileFault) × IsFaultSoFar limit text fault) ⊎ TellsNoFault limit text
 fault_so_far_or_none limit text = by (cases_lt (length (open_line text)) 82)
   where
@@ -269,14 +270,15 @@ abbrev pub PassesSoFar : ℕ → List ℕ → Type 0
 PassesSoFar limit text =
     BeginsFile (take (sure_lines text) (lines_of text)) × (sure_lines text ≤ limit) × (length (last_of (slice_split (λ b. b == 10) text)) ≤ 81)
 
--- bytes that satisfy `TellsNoFault` satisfy `PassesSoFar`
+-- `TellsNoFault` implies `PassesSoFar`, which says the same in terms of the definitions that the
+-- laws use
 pub passes_so_far : (limit : ℕ) (text : List ℕ) → TellsNoFault limit text → PassesSoFar limit text
 passes_so_far limit text none =
     let same = sure_lines_short text none.short in
     let within = none.within in
     (subst BeginsFile (sym (take_told text none.short)) none.begin, omega arith, none.short)
 
--- bytes determine a fault, or satisfy `PassesSoFar`
+-- like `fault_so_far_or_none`, in terms of the definitions that the laws use
 pub fault_so_far_or_passes : (limit : ℕ) (text : List ℕ) → ((fault : FileFault) × IsFaultSoFar limit text fault) ⊎ PassesSoFar limit text
 fault_so_far_or_passes limit text = by (fault_so_far_or_none limit text)
   where
@@ -285,7 +287,8 @@ fault_so_far_or_passes limit text = by (fault_so_far_or_none limit text)
     by (inl fault) = inl fault
     by (inr none) = inr (passes_so_far limit text none)
 
--- bytes that satisfy `PassesSoFar` determine no fault
+-- if the complete lines of bytes begin some file within the limit, and their incomplete line has at
+-- most 81 bytes, the bytes determine no fault
 pub passes_no_fault : (limit : ℕ) (text : List ℕ) (fault : FileFault) → PassesSoFar limit text → ¬ IsFaultSoFar limit text fault
 passes_no_fault limit text fault passes told = by told.is.here
   where
@@ -308,7 +311,7 @@ passes_no_fault limit text fault passes told = by told.is.here
 
 -- ---- which fault a reader reports while it reads a text in pieces
 
--- if a line doesn't have 80 bytes, its cause doesn't depend on its bytes
+-- if a line doesn't have 80 bytes, the cause of the line doesn't depend on the line's bytes
 pub cause_of_length : (limit count : ℕ) (place : Place) (line : List ℕ) → length line ≢ 80 → cause_of limit count place line ≡ cause_of_long limit count place
 cause_of_length limit count place line apart =
     λ i. cond (nat_le limit count) too_many
@@ -326,7 +329,7 @@ no_fault_told limit text place found within short fault =
       short = short;
     }))
 
--- a complete line that leads to no next place is at fault, whatever follows
+-- a complete line that leads to no next place is at fault. The bytes after the line don't matter
 pub fault_at_feed : (limit : ℕ) (text front rest : List ℕ) (place : Place) → HasNoFeed front → IsPlaceOf (complete_lines text) place
     → length (complete_lines text) ≤ limit
     → (limit ≤ length (complete_lines text)) ⊎ (next_place place (strip_carriage_return (open_line text ++ front)) ≡ None)
@@ -350,7 +353,7 @@ fault_at_feed limit text front rest place plain found within here = record {
       omega arith;
 }
 
--- an incomplete line of more than 81 bytes is at fault, whatever follows
+-- an incomplete line of more than 81 bytes is at fault. The bytes after these don't matter
 pub fault_at_long : (limit : ℕ) (text : List ℕ) (place : Place) → IsPlaceOf (complete_lines text) place → length (complete_lines text) ≤ limit
     → 82 ≤ length (open_line text)
     → IsFaultSoFar limit text (record { number = length (complete_lines text) + 1; cause = cause_of_long limit (length (complete_lines text)) place })

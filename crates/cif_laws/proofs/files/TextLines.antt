@@ -35,8 +35,8 @@ piece_is piece = by (slice_index piece (length piece - 1) == 13) refl
     by true h = inr (last_is piece (eqb-true _ _ h) ∙ (λ i. cond (sym h i) (take (length piece - 1) piece) piece ++ 13 ∷ []))
     by false h = inl (λ i. cond (sym h i) (take (length piece - 1) piece) piece)
 
--- if a text consists of some lines, then putting a piece and a line feed before the text puts the
--- line in this piece before these lines
+-- if a text consists of `lines`, then the text with a piece and a line feed put before it consists
+-- of the line in this piece, followed by `lines`
 one_more : (piece : List ℕ) (lines : List (List ℕ)) (rest : List ℕ) → IsTextOf lines rest → IsTextOf (strip_carriage_return piece ∷ lines) (piece ++ 10 ∷ rest)
 one_more piece [] rest told = by (piece_is piece)
   where

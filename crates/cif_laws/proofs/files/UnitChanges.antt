@@ -11,13 +11,15 @@ use Rattle.docker_model.specs.file.Change.{Key, Act, Change, schedule_rest, acts
 use Rattle.cif_laws.specs.UnitChange.{changes_of_unit, changes_of_units, change_of_schedule}
 use Rattle.cif_laws.proofs.files.GoodChanges.{StopsHere, Follows, rest_is, schedule_follows, units_stop}
 
--- the change of this key and act, with this record number
+-- the change with this key, this act and this record number
 abbrev change_of_act : ℕ → Key × Act → Change
 change_of_act n act = record { number = n; key = act.0; act = act.1 }
 
--- ---- the first record of a unit determines the changes, with the rest of a schedule
+-- ---- the changes of a unit depend only on its first record and, for a schedule, on the rest of
+-- the schedule
 
--- if the acts of a record don't depend on the records after it, neither do its changes
+-- if the acts of a record don't depend on the records after it, the changes of the record don't
+-- depend on them either
 alike_by : (n : ℕ) (kind : Kind) (line : List ℕ) (following others : List (List ℕ)) → HasKind kind line
     → acts_by_kind (Some kind) line following ≡ acts_by_kind (Some kind) line others → changes_of_record n line following ≡ changes_of_record n line others
 alike_by n kind line following others is same =
@@ -31,7 +33,8 @@ single_alike n line following others (inr (inl is)) = alike_by n tiploc_amend li
 single_alike n line following others (inr (inr (inl is))) = alike_by n tiploc_delete line following others is refl
 single_alike n line following others (inr (inr (inr is))) = alike_by n association line following others is refl
 
--- the change of a basic schedule depends only on its `schedule_rest`
+-- the change of a basic schedule depends only on the basic schedule and on the other records of its
+-- schedule
 basic_alike : (n : ℕ) (basic : List ℕ) (following others : List (List ℕ)) → HasKind basic_schedule basic → schedule_rest following ≡ others
     → changes_of_record n basic following ≡ change_of_schedule n basic others ∷ []
 basic_alike n basic following others is run =

@@ -1,4 +1,5 @@
--- Properties of all elements of a list, by recursion.
+-- Lemmas on properties that all elements of a list have. The properties are defined by recursion on
+-- the list.
 use Rattle.std.proofs.Common.{List, [], ◌∷◌, ◌++◌, map}
 use Rattle.std.specs.List.{AllByRecursion}
 

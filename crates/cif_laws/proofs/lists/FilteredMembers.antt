@@ -1,4 +1,5 @@
--- Membership in the lists that `filter` and `filter_map` return, and the results of a search.
+-- Lemmas on membership in the lists that `filter` and `filter_map` return, and on the results of a
+-- search.
 use Rattle.std.proofs.Common.{◌≡◌, List, [], ◌∷◌, refl, ap, sym, ◌∙◌, subst, inl, inr, ◌⊎◌, Some, None, Bool, true, false, cond, Contains}
 use Rattle.std.specs.Prelude.{Option, filter, find, ◌&&◌}
 use Rattle.std.specs.List.{list_all, filter_map, cons_option}

@@ -1,4 +1,5 @@
--- Lists in which each member is related to each later member, by any relation.
+-- Lemmas on relations between the members of a list. A list has a relation if each member is
+-- related to each later member.
 use Rattle.std.proofs.Common.{arith, List, [], ◌∷◌, ◌≡◌, sym, ◌∙◌, subst, inl, inr, ◌⊎◌, Contains, Bool, true, false, cond, map, ◌++◌}
 use Rattle.std.specs.Prelude.{⊤, filter}
 use Rattle.std.specs.List.{AllByRecursion, AllPairs, flat_map}
@@ -13,7 +14,7 @@ abbrev pub AllLater : {A : Type 0} → (A → A → Type 0) → List A → Type 
 AllLater R [] = ⊤
 AllLater R (x ∷ xs) = AllByRecursion (R x) xs × AllLater R xs
 
--- two members are equal, or one is related to the other
+-- if a list has a relation, any two members are equal, or one is related to the other
 pub one_before : {A : Type 0} (R : A → A → Type 0) (xs : List A) (a b : A) → AllLater R xs → Contains xs a → Contains xs b → (a ≡ b) ⊎ R a b ⊎ R b a
 one_before R [] a b later in_a in_b = absurd (nil-Contains a in_a)
 one_before R (x ∷ xs) a b later in_a in_b = by (one_before R xs a b later.1) (Contains-cons x xs a in_a) (Contains-cons x xs b in_b)
@@ -24,8 +25,8 @@ one_before R (x ∷ xs) a b later in_a in_b = by (one_before R xs a b later.1) (
     by rest (inr here) (inl f) = inr (inr (subst (λ v. R v a) f (below_by_recursion (R x) xs a later.0 here)))
     by rest (inr here) (inr there) = rest here there
 
--- if each member is related to each later one, and this relation implies another relation for
--- members, the list has the other relation too
+-- if a list has a relation, and this relation implies another relation for members of the list, the
+-- list has the other relation too
 pub later_weaker : {A : Type 0} (R S : A → A → Type 0) (xs : List A) → ((a b : A) → Contains xs a → Contains xs b → R a b → S a b) → AllLater R xs
     → AllLater S xs
 later_weaker R S [] to later = tt
@@ -51,7 +52,7 @@ later_filter {A} R test (x ∷ xs) later = by (test x) (later_filter R test xs l
     by true rest = (above xs later.0, rest)
     by false rest = rest
 
--- if the image of each member is related to the image of each later one, the mapped list has the
+-- if the image of each member is related to the image of each later member, the mapped list has the
 -- relation
 pub later_map : {A B : Type 0} (R : B → B → Type 0) (f : A → B) (xs : List A) → AllLater (λ a b. R (f a) (f b)) xs → AllLater R (map f xs)
 later_map R f [] later = tt
@@ -109,7 +110,7 @@ pub later_weaker_always : {A : Type 0} (R S : A → A → Type 0) → ((x y : A)
 later_weaker_always R S weaker [] all = tt
 later_weaker_always R S weaker (x ∷ xs) all = (all_weaker (R x) (S x) (weaker x) xs all.0, later_weaker_always R S weaker xs all.1)
 
--- an element is related to each element with a higher index
+-- if a list has a relation, each element is related to each element with a higher index
 pub pairs_from_later : {A : Type 0} (R : A → A → Type 0) (xs : List A) → AllLater R xs → AllPairs R xs
 pairs_from_later R [] all = λ i j d below within. absurd (omega arith)
 pairs_from_later R (x ∷ xs) all = AllPairs-cons R x xs (All-from_recursion (R x) xs all.0) (pairs_from_later R xs all.1)

@@ -1,4 +1,4 @@
--- Membership in lists: in lists of one element, in `x ∷ xs`, in mapped lists, and in
+-- Lemmas on membership in lists: in lists of one element, in `x ∷ xs`, in mapped lists, and in
 -- concatenations.
 use Rattle.std.proofs.Common.{◌≡◌, ℕ, zero, suc, ◌<◌, List, ◌∷◌, length, inl, inr, arith, Contains, get_or, ◌⊎◌, refl, [], subst, lit<, map, ap, ◌++◌, sym, All}
 use Rattle.std.proofs.lemmas.List.Elements.{Contains-append_cases, Contains-append_left, Contains-append_right, All-from_recursion}
@@ -25,7 +25,7 @@ cons-Contains x xs z among = (suc among.0, (let below = among.1 in omega arith),
 pub nil-Contains : {A : Type 0} (z : A) → Contains [] z → ⊥
 nil-Contains z among = let below : among.0 < length {A = ℕ} [] = among.1 in omega arith
 
--- a property of all elements, stated by recursion, is a property of each member
+-- if `AllByRecursion` holds for a property, each member of the list has the property
 pub below_by_recursion : {A : Type 0} (P : A → Type 0) (xs : List A) (z : A) → AllByRecursion P xs → Contains xs z → P z
 below_by_recursion P [] z all among = absurd (nil-Contains z among)
 below_by_recursion P (x ∷ xs) z all among = by (below_by_recursion P xs z all.1) (Contains-cons x xs z among)
@@ -43,7 +43,7 @@ only x y (suc k) below is = absurd (omega arith)
 pub Contains-single : {A : Type 0} (x y : A) → Contains (x ∷ []) y → x ≡ y
 Contains-single x y among = only x y among.0 among.1 among.2
 
--- the only element of a list is a member
+-- the only element of a list of one element is a member of the list
 pub single-Contains : {A : Type 0} (x y : A) → x ≡ y → Contains (x ∷ []) y
 single-Contains x y same = (0, lit< tt, same)
 
@@ -84,11 +84,11 @@ flat_map-Contains f (z ∷ xs) x y among there = by (λ inside. flat_map-Contain
     by rest (inl same) = Contains-append_left (f z) (flat_map f xs) y (subst (λ v. Contains (f v) y) (sym same) there)
     by rest (inr inside) = Contains-append_right (f z) (flat_map f xs) y (rest inside)
 
--- a property of all elements, stated by `All`, is a property of each member
+-- if `All` holds for a property, each member of the list has the property
 pub member_of : {A : Type 0} (P : A → Type 0) (xs : List A) (x : A) → All P xs → Contains xs x → P x
 member_of P xs x all among = subst P among.2 (all among.0 x among.1)
 
--- a property of each member is a property of all elements, stated by `All`
+-- if each member of a list has a property, `All` holds for the property
 pub all_members : {A : Type 0} (P : A → Type 0) (xs : List A) → ((x : A) → Contains xs x → P x) → All P xs
 all_members P xs each = All-from_recursion P xs (by xs each)
   where
@@ -96,7 +96,7 @@ all_members P xs each = All-from_recursion P xs (by xs each)
     by [] all = tt
     by (y ∷ ys) all = (all y (cons-Contains-first y ys), by ys (λ z among. all z (cons-Contains y ys z among)))
 
--- a property of each member is a property of all elements, stated by recursion
+-- if each member of a list has a property, `AllByRecursion` holds for the property
 pub each_member : {A : Type 0} (P : A → Type 0) (xs : List A) → ((z : A) → Contains xs z → P z) → AllByRecursion P xs
 each_member P [] each = tt
 each_member P (x ∷ xs) each = (each x (cons-Contains-first x xs), each_member P xs (λ z among. each z (cons-Contains x xs z among)))

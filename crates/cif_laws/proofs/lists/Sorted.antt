@@ -94,7 +94,7 @@ module _ {A : Type 0} {cmp : A → A → Ordering} (total : IsTotalOrder cmp) wh
           let bad : true ≡ false = sym (ap is_lt back) ∙ sorted 0 x (omega arith) (omega arith) in
           cc
 
-  -- a sorted list of elements of which no two tie is strictly ascending
+  -- if no two elements of a list tie, the sorted list is strictly ascending
   pub sort_ascends : (xs ys : List A) → AreApart cmp xs → IsPermutation xs ys → IsSorted cmp ys → IsStrictlyAscending cmp ys
   unfolding ties
   sort_ascends xs ys apart same sorted =

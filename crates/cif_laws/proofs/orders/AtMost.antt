@@ -1,4 +1,4 @@
--- The relation "at most" in a total order.
+-- Lemmas on the relation "at most" in a total order.
 use Rattle.std.proofs.Common.{◌≡◌, refl, true, inl, inr, ◌⊎◌, ap, ◌∙◌, sym}
 use Rattle.std.specs.Cmp.{IsTotalOrder, tied_itself}
 use Rattle.std.specs.Ordering.{is_eq, ordering_reverse}
@@ -31,7 +31,7 @@ level {A} {cmp} total a b up down = by (cmp a b) (cmp b a) (total.antisymm a b) 
 pub at_most_itself : {A : Type 0} {cmp : A → A → Ordering} → IsTotalOrder cmp → (a : A) → IsAtMost cmp a a
 at_most_itself total a greater = let tied = tied_itself total a in cc
 
--- a value below another is also at most the other
+-- a value that is below another value is also at most that value
 pub at_most_below : {A : Type 0} (cmp : A → A → Ordering) (a b : A) → IsBelow cmp a b → IsAtMost cmp a b
 at_most_below cmp a b below greater = cc
 

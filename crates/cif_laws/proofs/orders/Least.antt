@@ -1,5 +1,5 @@
--- The least member of a list that passes a test. There is a least member if any member passes the
--- test.
+-- The least of the members of a list that pass a test. There is such a member if any member passes
+-- the test.
 use Rattle.std.proofs.Common.{◌≡◌, List, [], ◌∷◌, refl, ap, sym, ◌∙◌, subst, inl, inr, ◌⊎◌, Some, None, Bool, true, false, Contains}
 use Rattle.std.specs.Prelude.{find, ◌&&◌, not}
 use Rattle.std.specs.List.{list_all}
@@ -14,7 +14,7 @@ use Rattle.cif_laws.proofs.orders.AtMost.{at_most_trans, at_most_itself, at_most
 use Rattle.cif_laws.proofs.lists.FilteredMembers.{find_some, find_none, all_of, all_by}
 
 module _ {A : Type 0} {cmp : A → A → Ordering} (total : IsTotalOrder cmp) (test : A → Bool) where
-  -- whether a value passes the test, and no member that passes is below it
+  -- whether a value passes the test, and no member that passes the test is below this value
   abbrev pub is_least : List A → A → Bool
   is_least xs x = test x && list_all (λ other. not (test other && is_gt (cmp x other))) xs
 

@@ -1,4 +1,5 @@
--- The columns of a record and its good fields, before and after its transaction is set to N.
+-- Lemmas on the columns and the good fields of a record, before and after the record's transaction
+-- is set to N.
 use Rattle.std.proofs.Common.{◌≡◌, ℕ, zero, suc, ◌+◌, ◌-◌, ◌<◌, ◌≤◌, List, [], ◌∷◌, take, drop, set, get_or, subst, refl}
 use Rattle.std.proofs.Common.{ap, sym, ◌∙◌, Bool, true, false, cond, Some, None, arith, length-drop, length-set}
 use Rattle.std.specs.Prelude.{not, option_map, find, slice_index}
@@ -43,7 +44,8 @@ good_fields kind line is good = subst (λ k. AllByRecursion (IsGoodIn line) (fie
 pub fields_good : (kind : Kind) (line : List ℕ) → HasKind kind line → AllByRecursion (IsGoodIn line) (checked_fields kind line) → HasGoodFields line
 fields_good kind line is all = all_found line (fields_of (kind_of line) line) (subst (λ k. AllByRecursion (IsGoodIn line) (fields_of k line)) (sym is) all)
 
--- a range of columns of a record is a text of its width
+-- the bytes in a range of columns of a record are printable, and their number is the width of the
+-- range
 pub text_in : (line : List ℕ) (first last : ℕ) → IsRecord line → first - 1 ≤ last → last ≤ 80 → IsTextOfLength (last - (first - 1)) (columns first last line)
 text_in line first last is order within =
     let size = is.0 in

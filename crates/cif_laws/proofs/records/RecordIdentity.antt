@@ -1,4 +1,4 @@
--- The kind of a record, and its record identity in the first two columns.
+-- Lemmas on the kind of a record, and on the record identity in its first two columns.
 use Rattle.std.proofs.Common.{◌≡◌, ℕ, List, [], ◌∷◌, refl, ap, sym, ◌∙◌, Some, Bool, true, false, cond}
 use Rattle.std.specs.Prelude.{option_map, find, codes}
 use Rattle.std.specs.List.{AllByRecursion}

@@ -124,7 +124,8 @@ pub no_fall_last : (times : List ℕ) → AllByRecursion (λ t. t ≤ last_time)
 no_fall_last [] all = refl
 no_fall_last (time ∷ times) all = no_fall_behind time times all
 
--- the times of a concatenation of records are the concatenation of the times of both lists
+-- the times of two concatenated lists of records are the times of the first list, followed by the
+-- times of the second list
 pub times_append : (lines more : List (List ℕ)) → times_along (lines ++ more) ≡ times_along lines ++ times_along more
 times_append lines more =
     ap (map (λ (time : Occasion × ℕ). time.1)) (flat_map-append times_of lines more) ∙ map-append (λ (time : Occasion × ℕ). time.1) (flat_map times_of lines)
@@ -135,8 +136,8 @@ pub fewer_midnights : (lines more : List (List ℕ)) → midnights lines ≤ mid
 fewer_midnights lines more =
     subst (λ times. midnights lines ≤ fall_count times) (sym (times_append lines more)) (fewer_falls (times_along lines) (times_along more))
 
--- appending a record adds the number of falls in the record's times, counted from the last time
--- before the record
+-- when a record is appended, the new number of falls is the old number plus the falls in the
+-- record's times, counted from the last time before the record
 pub midnights_step : (lines : List (List ℕ)) (line : List ℕ) → midnights (lines ++ line ∷ []) ≡ midnights lines + falls_after (last_of (times_along lines))
     (times_along (line ∷ []))
 midnights_step lines line = ap fall_count (times_append lines (line ∷ [])) ∙ fall_count-append (times_along lines) (times_along (line ∷ []))

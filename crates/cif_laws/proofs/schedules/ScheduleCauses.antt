@@ -220,7 +220,7 @@ schedule_fault (basic ∷ rest) stage line at is nowhere = by (kind_of line) ref
     }
     by (Some kind) h = placed kind h (stage_after stage (Some kind)) refl
 
--- a record continues the schedule, or is at fault
+-- after records that begin a schedule, one more record continues the schedule or is at fault
 pub goes_on_or_fault : (earlier : Lines) (line : List ℕ) → BeginsSchedule earlier → IsRecord line → BeginsSchedule (earlier ++ line ∷ [])
     ⊎ ((cause : FileCause) × IsScheduleFault earlier line cause)
 goes_on_or_fault [] line begins is = by (is_first_line line) refl

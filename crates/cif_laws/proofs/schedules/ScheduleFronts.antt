@@ -134,8 +134,7 @@ extra_and_journey_decided : (basic : List ℕ) (lines : Lines) → Decided (Extr
 extra_and_journey_decided basic [] = inr (λ h. h)
 extra_and_journey_decided basic (extra ∷ lines) = both_decided (has_kind_decided extra_details extra) (journey_part_decided basic lines)
 
--- the record is a basic schedule with good fields. Each part of a schedule has such a definition by
--- recursion in this file
+-- the record is a basic schedule with good fields
 abbrev BasicHere : List ℕ → Type 0
 BasicHere basic = HasKind basic_schedule basic × HasGoodFields basic
 

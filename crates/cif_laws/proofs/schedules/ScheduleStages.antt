@@ -23,7 +23,7 @@ use Rattle.cif_laws.proofs.lists.BoolsAndOptions.{both, none_by_test, test_by_no
 use Rattle.cif_laws.proofs.records.RecordTests.{record_iff_test, no_times, no_times_before, midnights_step, last_time}
 use Rattle.cif_laws.proofs.records.RecordTests.{no_fall_last, times_append, along_within, fewer_midnights}
 
--- ---- the structure of the records read, for each stage
+-- ---- the structure of the records that have been read at each stage
 
 -- the records are an origin, then any number of intermediate locations and changes en route
 abbrev pub IsOpenJourney : Lines → Type 0
@@ -84,7 +84,7 @@ first_line_iff_test line = (
       record { is = (record_iff_test line).1 first.0; kind = basic_by_test (kind_of line) first.1; fields = none_by_test (leftmost_bad_field line) parts.1 },
 )
 
--- the first record by itself is at the stage after the basic schedule
+-- a record that can be the first record of a schedule is, by itself, at the stage `after_basic`
 pub front_of_basic : (line : List ℕ) → IsFirstLine line → IsFront after_basic (line ∷ [])
 front_of_basic line told = record {
   basic = line;
@@ -156,7 +156,7 @@ pub sound_next_by_count : (lines : Lines) (line : List ℕ)
     (times_along (line ∷ []))) 2))
 sound_next_by_count lines line = λ i. is_deletion (first_record lines) || (has_good_fields line && nat_le (midnights_step lines line i) 2)
 
--- a sound journey is still sound after a record that passes the test is appended
+-- a sound journey is still sound after a record that passes the test `is_sound_next` is appended
 sound_more : (stage : Stage) (lines : Lines) (line : List ℕ) (front : IsFront stage lines) → is_sound_next lines line ≡ true
     → IsSound front.basic (front.journey ++ line ∷ [])
 sound_more stage lines line front test = by (sound_next_by_test lines line test) front.sound
@@ -186,7 +186,7 @@ pub record IsNextLine (stage : Stage) (lines : Lines) (line : List ℕ) (next : 
   pub sound : is_sound_next lines line ≡ true
   pub stage_is : stage_after stage (kind_of line) ≡ Some next
 
--- a record that has a next stage passes each part of the test
+-- if a record has a next stage, the record is sound, and its kind leads to that stage
 pub next_line_by_test : (stage : Stage) (lines : Lines) (line : List ℕ) (next : Stage) → next_stage stage lines line ≡ Some next
     → IsNextLine stage lines line next
 next_line_by_test stage lines line next is = by (is_record line && is_sound_next lines line) refl is
@@ -196,7 +196,7 @@ next_line_by_test stage lines line next is = by (is_record line && is_sound_next
     by true h found = let parts = both (is_record line) _ h in record { is = (record_iff_test line).1 parts.0; sound = parts.1; stage_is = found }
     by false h found = cc
 
--- a record that passes each part of the test has this next stage
+-- if a record is sound, and its kind leads to a next stage, the record has that next stage
 pub test_by_next_line : (stage : Stage) (lines : Lines) (line : List ℕ) (next : Stage) → IsNextLine stage lines line next
     → next_stage stage lines line ≡ Some next
 test_by_next_line stage lines line next told =
@@ -213,8 +213,8 @@ journey_more journey line so_far is = (
   all_append IsWithinJourney so_far.1 (line ∷ []) so_far.4 (is, tt),
 )
 
--- one more record gives a schedule with the structure of the next stage, judged by the record's
--- kind
+-- appending a record whose kind leads to a next stage gives a schedule with the structure of that
+-- stage
 shape_more : (stage : Stage) (kind : Kind) (next : Stage) (extra journey : Lines) (line : List ℕ) → HasShape stage extra journey → HasKind kind line
     → stage_after stage (Some kind) ≡ Some next
     → (HasShape next extra (journey ++ line ∷ [])) ⊎ (HasShape next (line ∷ []) journey × (extra ≡ []) × (journey ≡ []))
@@ -521,8 +521,8 @@ stage_of_append (basic ∷ rest) stage more found = by (is_first_line basic) ref
 pub stage_of_more : (lines : Lines) (stage : Stage) (line : List ℕ) → stage_of lines ≡ Some stage → stage_of (lines ++ line ∷ []) ≡ next_stage stage lines line
 stage_of_more lines stage line found = stage_of_append lines stage (line ∷ []) found ∙ some_then (next_stage stage lines line)
 
--- the stage after a single record is the stage after the basic schedule if the record can be the
--- first record of a schedule, and otherwise `None`
+-- the stage after a single record is `after_basic` if the record can be the first record of a
+-- schedule, and otherwise `None`
 pub stage_of_first : (line : List ℕ) → stage_of (line ∷ []) ≡ cond (is_first_line line) (Some after_basic) None
 stage_of_first line = refl
 
@@ -548,7 +548,7 @@ stage_of_front basic front rest final found = by (is_first_line basic) refl foun
 
 -- ---- the records of a schedule lead to a stage
 
--- the stage after these records, judged only by their kinds
+-- the stage to which these records lead from this stage, judged only by their kinds
 abbrev pub stage_along : Stage → Lines → Option Stage
 stage_along stage [] = Some stage
 stage_along stage (line ∷ rest) = option_and_then (λ next. stage_along next rest) (stage_after stage (kind_of line))
@@ -604,8 +604,7 @@ pub record IsWholeBy (lines : Lines) (stage : Stage) : Type 0 where
   pub found : stage_of lines ≡ Some stage
   pub may : may_end stage lines ≡ true
 
--- judged by the kinds of the records after the first, the records lead to a stage at which the
--- schedule may end
+-- the kinds of the records after the first lead to a stage at which the schedule may end
 record LeadsToEnd (basic : List ℕ) (rest : Lines) : Type 0 where
   pub final : Stage
   pub along : stage_along after_basic rest ≡ Some final
@@ -658,7 +657,7 @@ stage_of_schedule lines is = subst (λ l. (stage : Stage) × IsWholeBy l stage) 
         (stage_from after_basic (is.basic ∷ []) (is.extra ++ is.journey)) None)
         ∙ stage_from_along (is.extra ++ is.journey) after_basic is.basic [] lead.final records.1 (sound is.sound) lead.along
 
--- ---- the laws
+-- ---- the laws of stages
 
 -- records are a schedule if and only if they lead to a stage at which the schedule may end
 pub schedule_iff_stage : (lines : Lines) → IsSchedule lines ↔ ((stage : Stage) × IsWholeBy lines stage)
@@ -749,7 +748,8 @@ IsNoNextLine stage lines line =
     ⊎ (((at : ℕ) × (leftmost_bad_field line ≡ Some at) × (is_deletion (first_record lines) ≡ false))
     ⊎ (HasGoodFields line × (2 < midnights (lines ++ line ∷ [])) × (is_deletion (first_record lines) ≡ false)))
 
--- a record that has no next stage satisfies `IsNoNextLine`
+-- if a record has no next stage, its kind is out of place, a field is bad, or the schedule passes
+-- midnight for the third time
 pub no_next_line : (stage : Stage) (lines : Lines) (line : List ℕ) → IsRecord line → next_stage stage lines line ≡ None → IsNoNextLine stage lines line
 no_next_line stage lines line is nowhere = by (stage_after stage (kind_of line)) refl
   where

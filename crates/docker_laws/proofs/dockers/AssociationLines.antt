@@ -1,5 +1,5 @@
--- The docker line of an association for one start day of the base train. The docker has each of
--- these lines, and no other lines of associations.
+-- Lemmas on the docker line of an association for one start day of the base train. The association
+-- lines of a docker are exactly these lines, for all associations and start days.
 use Rattle.std.proofs.Common.{◌≡◌, ℕ, List, [], ◌∷◌, refl, ap, sym, ◌∙◌, subst, inl, inr, Some, None, Bool, true, false, cond, Contains, eqb-true, arith}
 use Rattle.std.specs.Prelude.{Option, not, ◌&&◌, ◌==◌}
 use Rattle.std.specs.Ordering.{is_eq}
@@ -107,7 +107,7 @@ module _ (live : Table) (trains : List ℕ → ℕ → Option Train) (links : Gr
       counted : counts_as (links (group_of key) start) key ≡ true
       counted = by (links (group_of key) start) (tell_links (group_of key) start)
 
-  -- ---- the docker has each line of an association, and no other lines of associations
+  -- ---- the association lines of the docker are exactly the lines that `link_piece` computes
 
   made_at : (key : AssociationKey) (line : List ℕ) (start : ℕ) → key.location ≡ place → IsInForce live start key line → (occasion : Occasion)
       → category_occasion (columns 35 36 line) ≡ Some occasion
@@ -150,7 +150,7 @@ module _ (live : Table) (trains : List ℕ → ℕ → Option Train) (links : Gr
         of_start = refl;
       }
 
-  -- each line in `link_piece` for a start day is in the docker
+  -- each line that `link_piece` computes for a start day is in the docker
   pub link_piece_back : (key : AssociationKey) (line : List ℕ) (start : ℕ) → live (association_key key) ≡ Some (association_body line) → key.location ≡ place
       → (docker_line : DockerLine) → Contains (link_piece trains links day key line start) docker_line → IsOfAssociation live place day key start docker_line
   link_piece_back key line start is_live here docker_line among = by (is_in_force links start key line) refl among
@@ -173,7 +173,7 @@ module _ (live : Table) (trains : List ℕ → ℕ → Option Train) (links : Gr
       by false h inside = absurd (nil-Contains docker_line inside)
       by true h inside = with_category (in_force_back key line start is_live h) (category_occasion (columns 35 36 line)) refl inside
 
-  -- each docker line of an association is in `link_piece` for its start day
+  -- `link_piece` computes each docker line of an association, for the start day of the line
   pub link_piece_forth : (docker_line : DockerLine) (made : IsAssociationLine live place day docker_line)
       → Contains (link_piece trains links day made.key made.association made.start) docker_line
   link_piece_forth docker_line made =

@@ -17,7 +17,7 @@ module _ {A : Type 0} {cmp : A → A → Ordering} (total : IsTotalOrder cmp) (t
   pub best_of_none : IsBest cmp test [] None
   best_of_none = λ z among. absurd (nil-Contains z among)
 
-  -- appending an element that fails the test leaves the best unchanged
+  -- appending an element that fails the test leaves the best element unchanged
   fails : (xs : List A) (x : A) (found : Option A) → test x ≡ false → IsBest cmp test xs found → IsBest cmp test (xs ++ x ∷ []) found
   fails xs x None h none = λ z among. by z (Contains-append_cases xs (x ∷ []) z among)
     where
@@ -34,7 +34,7 @@ module _ {A : Type 0} {cmp : A → A → Ordering} (total : IsTotalOrder cmp) (t
       by z passes (inl here) = best.2 z here passes
       by z passes (inr last) = absurd (let bad : true ≡ false = sym passes ∙ ap test (sym (Contains-single x z last)) ∙ h in cc)
 
-  -- if a list has no best element, an appended element that passes is the best
+  -- if a list has no best element, an appended element that passes the test is the best element
   first_one : (xs : List A) (x : A) → test x ≡ true → IsBest cmp test xs None → IsBest cmp test (xs ++ x ∷ []) (Some x)
   first_one xs x h none =
       (Contains-append_right xs (x ∷ []) x (single-Contains x x refl), h, λ z among passes. by z passes (Contains-append_cases xs (x ∷ []) z among))
@@ -43,7 +43,8 @@ module _ {A : Type 0} {cmp : A → A → Ordering} (total : IsTotalOrder cmp) (t
       by z passes (inl here) = absurd (let bad : true ≡ false = sym passes ∙ none z here in cc)
       by z passes (inr last) = subst (IsAtMost cmp x) (Contains-single x z last) (at_most_itself total x)
 
-  -- an appended element that passes and comes before the best is the new best
+  -- an appended element that passes the test and comes before the best element is the new best
+  -- element
   comes_before : (xs : List A) (x b : A) → test x ≡ true → cmp x b ≡ Less → IsBest cmp test xs (Some b) → IsBest cmp test (xs ++ x ∷ []) (Some x)
   comes_before xs x b h below best =
       (Contains-append_right xs (x ∷ []) x (single-Contains x x refl), h, λ z among passes. by z passes (Contains-append_cases xs (x ∷ []) z among))
@@ -52,7 +53,8 @@ module _ {A : Type 0} {cmp : A → A → Ordering} (total : IsTotalOrder cmp) (t
       by z passes (inl here) = at_most_trans total x b z (at_most_below cmp x b below) (best.2 z here passes)
       by z passes (inr last) = subst (IsAtMost cmp x) (Contains-single x z last) (at_most_itself total x)
 
-  -- appending an element that doesn't come before the best leaves the best unchanged
+  -- appending an element that doesn't come before the best element leaves the best element
+  -- unchanged
   stays : (xs : List A) (x b : A) → ¬ (cmp x b ≡ Less) → IsBest cmp test xs (Some b) → IsBest cmp test (xs ++ x ∷ []) (Some b)
   stays xs x b not_below best = (Contains-append_left xs (x ∷ []) b best.0, best.1, λ z among passes. by z passes (Contains-append_cases xs (x ∷ []) z among))
     where
@@ -63,7 +65,7 @@ module _ {A : Type 0} {cmp : A → A → Ordering} (total : IsTotalOrder cmp) (t
       by z passes (inl here) = best.2 z here passes
       by z passes (inr last) = subst (IsAtMost cmp b) (Contains-single x z last) at_most
 
-  -- `with_one_more` is the best element after an element is appended
+  -- `with_one_more` computes the best element of the list after an element is appended
   pub best_more : (xs : List A) (x : A) (found : Option A) → IsBest cmp test xs found → IsBest cmp test (xs ++ x ∷ []) (with_one_more cmp test found x)
   best_more xs x found best = by (test x) refl found best
     where

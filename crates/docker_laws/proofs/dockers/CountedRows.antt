@@ -1,4 +1,5 @@
--- The rows whose keys pass a test are the rows of the table cut to these keys.
+-- Filtering the rows of a table by a test of their keys gives the rows of the restricted table,
+-- which has only the keys that pass the test.
 use Rattle.std.proofs.Common.{◌≡◌, ℕ, List, refl, ap, sym, ◌∙◌, Bool, true, false, cond, Some, None, Contains}
 use Rattle.std.specs.Prelude.{◌↔◌}
 use Rattle.std.specs.Ordering.{on}
@@ -24,7 +25,8 @@ module _ (counts : Key → Bool) where
       ascending_of (on (λ (row : Row). row.0) key_cmp) (counted_rows counts rows)
       (later_filter (IsBelow (on (λ (row : Row). row.0) key_cmp)) row_counts rows (later_of (on (λ (row : Row). row.0) key_cmp) rows up))
 
-  -- a body in the cut table is in the whole table at the same key, and the key passes the test
+  -- a body in the restricted table is in the whole table at the same key, and the key passes the
+  -- test
   pub was_counted : (live : Table) (key : Key) (body : Body) → counted_table counts live key ≡ Some body → (counts key ≡ true) × (live key ≡ Some body)
   was_counted live key body is = by (counts key) refl is
     where
@@ -32,7 +34,7 @@ module _ (counts : Key → Bool) where
       by true h told = (h, told)
       by false h none = absurd (let bad : None ≡ Some body = none in cc)
 
-  -- a body of the whole table is in the cut table if its key passes the test
+  -- a body of the whole table is in the restricted table if its key passes the test
   stays_counted : (live : Table) (key : Key) (body : Body) → counts key ≡ true → live key ≡ Some body → counted_table counts live key ≡ Some body
   stays_counted live key body passes is = (λ i. cond (passes i) (live key) None) ∙ is
 
@@ -108,11 +110,11 @@ module _ (counts : Key → Bool) where
     );
   }
 
-  -- if the bodies of the whole table are well formed, so are the bodies of the cut table
+  -- if the bodies of the whole table are well formed, so are the bodies of the restricted table
   pub counted_bodies : (live : Table) → HasGoodBodies live → HasGoodBodies (counted_table counts live)
   counted_bodies live good key body is = good key body (was_counted live key body is).1
 
-  -- if the whole table has a list of good rows, the cut table has one too
+  -- if the whole table satisfies `IsOfGoodRows`, so does the restricted table
   pub counted_good : (live : Table) → IsOfGoodRows live → IsOfGoodRows (counted_table counts live)
   counted_good live good = record {
     rows = counted_rows counts good.rows;

@@ -95,13 +95,13 @@ pub identity_here : (front rest : List (List ℕ)) (event : Event) → event.pla
 identity_here front rest event is =
     ap (λ before. changed_identity (last_change before) (first_record (front ++ rest))) (ap (λ n. take n (front ++ rest)) is ∙ take-append_seam front rest)
 
--- the last element of a list after an element is appended is that element
+-- an element that is appended to a list is the last element of the longer list
 last_behind : {A : Type 0} (o : Option A) (xs : List A) (x : A) → last_or o (xs ++ x ∷ []) ≡ Some x
 last_behind o [] x = refl
 last_behind o (y ∷ xs) x = last_behind (Some y) xs x
 
--- after one more record, the last change en route is that record if it is a CR record, and
--- otherwise is unchanged
+-- after one more record is appended, the last change en route is this record if it is a CR record,
+-- and otherwise is unchanged
 pub change_more : (front : List (List ℕ)) (line : List ℕ) → last_change (front ++ line ∷ []) ≡ cond (has_identity (codes "CR") line) (Some line)
     (last_change front)
 change_more front line =

@@ -1,4 +1,5 @@
--- The events of a schedule. Each has a different number, and each is at a location record.
+-- The events of a schedule have different numbers, and the record of each event is a location
+-- record.
 use Rattle.std.proofs.Common.{◌≡◌, ℕ, zero, suc, ◌+◌, ◌<◌, ◌≤◌, List, [], ◌∷◌, ◌++◌, length, get_or, refl}
 use Rattle.std.proofs.Common.{ap, sym, ◌∙◌, subst, inl, inr, ◌⊎◌, Some, None, Contains, map, arith}
 use Rattle.std.specs.Prelude.{Option, slice_index_or}

@@ -69,7 +69,7 @@ association_over one other group day key line same is = record {
       (associated_over other one group day another others (λ link of. sym (same link of)) runs);
 }
 
--- ---- if one table covers another, it has all docker lines of the other table
+-- ---- a table that covers another table has all docker lines of that table
 
 -- the table `other` has all schedules and associations on which the docker of the place in `one`
 -- depends. These are all schedules of each UID on which the docker depends, and all associations of

@@ -51,8 +51,8 @@ still_here state part key stamp is same here = (
   subst (λ ledger. IsStampIn ledger stamp) (sym same) here.1,
 )
 
--- if an entry may follow the entries of a state, a state may also have these entries with that
--- entry appended
+-- if an entry may follow the entries of a state, a state with the same ledger may have these
+-- entries with that entry appended
 pub entries_more : (state : State) (key : Key) (entry : Entry) → AreEntries state.ledger state.entries → IsStampHere state key entry.stamp
     → IsOpOf key entry.op
     → AreEntries state.ledger (state.entries ++ (key, entry) ∷ [])
@@ -200,7 +200,7 @@ module _ (test : Key → Bool) where
 
 -- ---- the keys that the docker of a place needs can be found from the entries
 
--- whether the entry is a live schedule of the UID that calls at the place
+-- whether the entry is a live schedule that belongs to the UID and calls at the place
 abbrev pub calls_as : List ℕ → List ℕ → Keyed → Bool
 calls_as place uid entry = has_uid uid entry.0 && is_call place entry.1.op
 
@@ -213,11 +213,12 @@ is_name uid (Some name) = bytes_eq name uid
 abbrev pub names_as : List ℕ → List ℕ → Keyed → Bool
 names_as place uid entry = is_here place entry.0 && is_name uid (name_in entry.0 entry.1.op)
 
--- whether the docker of the place may depend on the schedules of this UID, by a test of the entries
+-- whether, according to the entries, the docker of the place may depend on the schedules of this
+-- UID
 abbrev pub is_concerned : List ℕ → List Keyed → List ℕ → Bool
 is_concerned place entries uid = list_any (names_as place uid) entries || list_any (calls_as place uid) entries
 
--- whether the docker of the place may depend on this key, by a test of the entries
+-- whether, according to the entries, the docker of the place may depend on this key
 abbrev pub is_needed : List ℕ → List Keyed → Key → Bool
 is_needed place entries (tiploc_key code) = bytes_eq code place
 is_needed place entries (association_key key) = bytes_eq key.location place
@@ -256,7 +257,7 @@ needed_passes place state (schedule_key key) concerned = by concerned
         or_left (list_any (names_as place key.uid) state.entries) (list_any (calls_as place key.uid) state.entries)
         (any_forth (names_as place key.uid) state.entries (association_key named.key, found.0) found.1 passes)
 
--- the entries whose keys pass the test `is_needed` are an excerpt
+-- the state with only the entries whose keys pass the test `is_needed` is an excerpt
 pub passing_is_excerpt : (place : List ℕ) (state : State) → IsExcerptState place state (with_passing (is_needed place state.entries) state)
 passing_is_excerpt place state = record {
   horizon = refl;

@@ -1,4 +1,5 @@
--- The walk that computes an excerpt: the kept entries after each entry and at the end.
+-- Lemmas on the walk that computes an excerpt. They say which entries are kept after each step and
+-- at the end.
 use Rattle.std.proofs.Common.{All, ◌≡◌, ℕ, List, [], ◌∷◌, ◌++◌, subst, inl, inr, ◌⊎◌, refl, ap, sym}
 use Rattle.std.proofs.Common.{◌∙◌, Bool, true, false, cond, Some, Contains, append-nil, append_assoc}
 use Rattle.std.specs.Prelude.{Option, ◌||◌, ◌↔◌, filter, fold, option_and_then}
@@ -35,7 +36,7 @@ fold_more : {A B : Type 0} (f : B → A → B) (first : B) (xs ys : List A) → 
 fold_more f first [] ys = refl
 fold_more f first (x ∷ xs) ys = fold_more f (f first x) xs ys
 
--- the state of the walk after one more entry is `next_kept` of the state before it
+-- `next_kept` computes the state of the walk after one more entry from the earlier state
 pub so_far_more : (place : List ℕ) (entries : List Keyed) (entry : Keyed)
     → kept_so_far place (entries ++ entry ∷ []) ≡ next_kept place (kept_so_far place entries) entry
 so_far_more place entries entry = fold_more (next_kept place) nothing_kept entries (entry ∷ [])
@@ -171,7 +172,7 @@ module _ (place : List ℕ) where
   run_of_one_uid : (entries : List Keyed) → OfOneUid entries (kept_so_far place entries)
   run_of_one_uid = all_along place OfOneUid (λ done so_far x here. one_uid_more done so_far x.0 x.1 here) ([], λ r among. absurd (nil-Contains r among))
 
-  -- if `goes_on` holds for the run and a UID, all entries of the run have this UID
+  -- if a schedule with a UID continues the run, all entries of the run have this UID
   pub run_uid : (entries : List Keyed) (uid : List ℕ) (r : Keyed) → goes_on (kept_so_far place entries).run uid ≡ true
       → Contains (kept_so_far place entries).run r → has_uid uid r.0 ≡ true
   run_uid entries uid r goes among =
@@ -255,8 +256,8 @@ module _ (place : List ℕ) where
   named_more done so_far (tiploc_key code) entry here = named_other done so_far (tiploc_key code, entry) (is_here place (tiploc_key code)) refl here
   named_more done so_far (association_key key) entry here = named_other done so_far (association_key key, entry) (is_here place (association_key key)) refl here
 
-  -- in the kept entries, the UIDs of associated trains are those in all live associations at the
-  -- place that the walk has passed
+  -- the UIDs of associated trains in the kept entries are the UIDs of associated trains in all
+  -- passed entries at the place
   pub names_so_far : (entries : List Keyed)
       → names_in (kept_so_far place entries).kept ≡ names_in (filter (λ (entry : Keyed). is_here place entry.0) entries)
   names_so_far entries = (all_along place AreNamed (λ done so_far x here. named_more done so_far x.0 x.1 here) (refl, refl) entries).0
@@ -381,9 +382,9 @@ calls_more place run entry =
 pub names_with : (xs : List Keyed) (entry : Keyed) → names_in (xs ++ entry ∷ []) ≡ names_in xs ++ names_in (entry ∷ [])
 names_with xs entry = filter_map-append (λ (e : Keyed). name_in e.0 e.1.op) xs (entry ∷ [])
 
--- ---- at the end, an entry is kept if and only if the docker of the place needs its key
+-- ---- at the end, an entry is kept if and only if the docker of the place needs the entry's key
 
--- at the key of an entry, the live table has the body of that entry
+-- at the key of an entry, the live table has the body that the entry puts, if any
 live_of : (state : State) → AreAscending state.entries → (key : Key) (entry : Entry) → Contains state.entries (key, entry)
     → live_table state key ≡ body_of entry.op
 live_of state up key entry among =
@@ -463,7 +464,7 @@ module _ (place : List ℕ) (state : State) (up : AreAscending state.entries) wh
       concerned_back key.uid (either (list_any (names_as place key.uid) state.entries) (list_any (calls_as place key.uid) state.entries) h)
 
   -- an entry is in the excerpt if and only if it is in the state and the docker of the place needs
-  -- its key
+  -- the entry's key
   pub excerpt_members : (key : Key) (entry : Entry)
       → Contains (excerpt_for place state).entries (key, entry) ↔ (Contains state.entries (key, entry) × IsNeeded (live_table state) place key)
   excerpt_members key entry =

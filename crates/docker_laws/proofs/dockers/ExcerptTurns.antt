@@ -27,7 +27,7 @@ pub kept_first : (place : List ℕ) → HasKept place [] [] [] false
 kept_first place = record { so_far = refl; is_needed = refl }
 
 module _ (place : List ℕ) (entries kept run : List Keyed) (needed : Bool) (has : HasKept place entries kept run needed) where
-  -- the state of the walk after one more entry is `next_kept` of the state before it
+  -- `next_kept` computes the state of the walk after one more entry from the earlier state
   next_is : (x : Keyed) → kept_so_far place (entries ++ x ∷ []) ≡ next_kept place (at kept run) x
   next_is x = so_far_more place entries x ∙ ap (λ (so_far : ExcerptSoFar). next_kept place so_far x) has.so_far
 

@@ -1,5 +1,5 @@
--- A walk over entries in key order keeps an entry if and only if the docker of the place needs its
--- key. The test `is_needed` decides this from the entries.
+-- A walk over entries in key order keeps an entry if and only if the docker of the place needs the
+-- entry's key. The test `is_needed` decides this from the entries.
 use Rattle.std.proofs.Common.{◌≡◌, ℕ, List, [], ◌∷◌, ◌++◌, subst, inl, inr, ◌⊎◌, refl, ap, sym, ◌∙◌}
 use Rattle.std.proofs.Common.{Bool, true, false, cond, Some, None, Contains, append-nil, append_assoc}
 use Rattle.std.specs.Prelude.{◌↔◌, Option, ◌||◌, filter}
@@ -138,7 +138,7 @@ record IsAt (place : List ℕ) (all done : List Keyed) (so_far : ExcerptSoFar) (
 abbrev IsEnded : List Keyed → List Keyed → Type 0
 IsEnded run rest = (r y : Keyed) (other : List ℕ) → Contains run r → Contains rest y → has_uid other r.0 ≡ true → has_uid other y.0 ≡ true → ⊥
 
--- if an optional UID passes the test `is_name`, it is this UID
+-- if an optional UID passes the test `is_name` for a UID, it is present and equals that UID
 pub name_of : (uid : List ℕ) (found : Option (List ℕ)) → is_name uid found ≡ true → (name : List ℕ) × (found ≡ Some name) × (name ≡ uid)
 name_of uid None h = false_true h
 name_of uid (Some name) h = (name, refl, (bytes_eq-Decides name uid).0 h)
@@ -272,7 +272,7 @@ module _ (place : List ℕ) (all : List Keyed) (order : AllLater Below all) wher
         ∙ ap (λ (ys : List Keyed). filter (λ (entry : Keyed). is_needed place all entry.0) done ++ ys) (sym of_run)
         ∙ sym (filter-append test done (first ∷ others))
 
-  -- at the end of the run, the kept entries are the needed entries of all entries passed
+  -- at the end of the run, the kept entries are the passed entries whose keys are needed
   run_end : (done kept run rest : List Keyed) → IsAt place all done (record { kept = kept; run = run }) rest → IsEnded run rest
       → kept_after_run place (record { kept = kept; run = run }) ≡ filter (λ (entry : Keyed). is_needed place all entry.0) (done ++ run)
   run_end done kept [] rest at ended = at.kept ∙ ap (filter (λ (entry : Keyed). is_needed place all entry.0)) (sym (append-nil done))

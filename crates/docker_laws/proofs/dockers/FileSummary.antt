@@ -33,7 +33,7 @@ use Rattle.state_laws.proofs.states.SummaryValid.{summary_is_valid}
 use Rattle.state_laws.proofs.states.Lapse.{entry_stays}
 use Rattle.docker_laws.proofs.dockers.ThinState.{no_lapse}
 
--- ---- the order of keys is strict
+-- ---- two keys can't each be below the other
 
 not_both : (a b : Key) → key_cmp a b ≡ Less → ¬ (key_cmp b a ≡ Less)
 not_both a b less back =
@@ -45,8 +45,8 @@ not_itself a less = let tied = tied_itself key_total a in cc
 
 -- ---- inserting an older entry preserves the key order and all entries
 
--- after an older entry is inserted, each entry of the list was in the list before, or is the
--- inserted entry. In the second case no entry had its key before
+-- after an older entry is inserted, each entry of the list either was in the list before or is the
+-- inserted entry. In the second case, the list had no entry with this key before
 member_forth : (entry : Keyed) (entries : List Keyed) → AreAscending entries → (z : Keyed) → Contains (with_earlier entry entries) z
     → Contains entries z ⊎ ((entry ≡ z) × NoEntry entries entry.0)
 member_forth entry [] up z among = inr (Contains-single entry z among, λ other inside. nil-Contains (entry.0, other) inside)
@@ -120,7 +120,7 @@ still_ascends : (entry : Keyed) (entries : List Keyed) → AreAscending entries 
 still_ascends entry [] up = (tt, tt)
 still_ascends entry (first ∷ entries) up = by (key_cmp entry.0 first.0) refl (still_ascends entry entries up.1)
   where
-    -- an inserted entry with a key below the first is below all entries of the list
+    -- an inserted entry whose key is below the first key is below all entries of the list
     below_all : key_cmp entry.0 first.0 ≡ Less → (z : Keyed) → (first ≡ z) ⊎ Contains entries z → key_cmp entry.0 z.0 ≡ Less
     below_all less z (inl same) = subst (λ (later : Keyed). key_cmp entry.0 later.0 ≡ Less) same less
     below_all less z (inr inside) =
@@ -232,7 +232,7 @@ latest_is (first ∷ entries) up key entry = (forth (latest_is entries up.1 key)
 -- ---- the computed state is the summary of the file
 
 module _ (file : List (List ℕ)) where
-  -- the stamp of a file isn't below the floor of the ledger with only this file
+  -- the stamp of a file isn't below the floor of a ledger that has only this file
   floor_of : (b : Bool) → ((ledger_item_of file).indicator == 70) ≡ b
       → (floor : Option FileStamp) × IsFloor (ledger_item_of file ∷ []) floor × IsKept floor (file_stamp_of file)
   floor_of true h = (

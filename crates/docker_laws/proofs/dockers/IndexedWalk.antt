@@ -33,7 +33,8 @@ module _ (live : Table) (place : List ℕ) (linked calling : List Row) (are_link
   live_row key body (inl here) = let one = (are_linked.members key body).0 here in ap live one.2 ∙ one.4.is_live ∙ ap Some (sym one.3)
   live_row key body (inr here) = let one = (are_calling.members key body).0 here in ap live one.2 ∙ one.4.is_live ∙ ap Some (sym one.3)
 
-  -- the rows in both indexes for a place satisfy `IsWalk`
+  -- the rows in both indexes for a place are enough for a walk over the place: they satisfy
+  -- `IsWalk`
   pub indexed_walk : IsWalk live place (linked ++ calling)
   indexed_walk = record {
     ascending = ascending_of (on (λ (row : Row). row.0) key_cmp) (linked ++ calling)

@@ -1,4 +1,4 @@
--- The well-formed schedule of a key, and the fields of its first record.
+-- Lemmas on the well-formed schedule of a key, and on the fields of its first record.
 use Rattle.std.proofs.Common.{◌≡◌, ℕ, ◌<◌, List, true, false, Bool, cond, [], ◌∷◌, ◌++◌, length, subst, ap, sym, arith}
 use Rattle.std.specs.Prelude.{◌==◌}
 use Rattle.std.specs.List.{AllByRecursion}

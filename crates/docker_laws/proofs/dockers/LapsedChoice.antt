@@ -1,5 +1,5 @@
--- On each day from a horizon on, a table and the table lapsed under the horizon choose the same
--- schedules and associations. A schedule or association that runs on one of these days hasn't
+-- On each day that isn't before a horizon, a table and the table lapsed under the horizon choose
+-- the same schedules and associations. A schedule or association that runs on such a day hasn't
 -- lapsed.
 use Rattle.std.proofs.Common.{ℕ, ◌≤◌, List, Bool, true, false, cond, arith}
 use Rattle.std.specs.Prelude.{◌↔◌, ◌&&◌, IsTrue, nat_le}
@@ -21,7 +21,8 @@ within_end first last days day runs =
     let dates = (both (nat_le (date_number first) day && nat_le day (end_number last)) (runs_on_weekday days (weekday_of day)) runs).0 in
     leb-true day (end_number last) (both (nat_le (date_number first) day) (nat_le day (end_number last)) dates).1
 
--- an end date that isn't before some day from the horizon on isn't before the horizon
+-- if a day isn't before the horizon, an end date that isn't before the day isn't before the horizon
+-- either
 end_reached : (horizon day : ℕ) (last : List ℕ) → horizon ≤ no_end_number → horizon ≤ day → day ≤ end_number last → horizon ≤ readable_end last
 end_reached horizon day last bound from to = by (is_end_date last)
   where
@@ -47,7 +48,7 @@ module _ (horizon : ℕ) (bound : horizon ≤ no_end_number) (live : Table) wher
     running_back uid key lines is =
         record { uid_is = is.uid_is; is_live = was_live horizon live (schedule_key key) (schedule_body lines) is.is_live; runs_then = is.runs_then }
 
-    -- on a day from the horizon on, both tables choose the same schedule
+    -- on a day that isn't before the horizon, both tables choose the same schedule
     pub chosen_iff : (uid : List ℕ) (key : ScheduleKey) (lines : List (List ℕ)) → IsChosen live uid day key lines ↔ IsChosen
         (lapse_table horizon live) uid day key lines
     chosen_iff uid key lines = (
@@ -63,7 +64,7 @@ module _ (horizon : ℕ) (bound : horizon ≤ no_end_number) (live : Table) wher
       },
     )
 
-    -- on a day from the horizon on, both tables have the same train
+    -- on a day that isn't before the horizon, both tables have the same train
     pub train_iff : (uid : List ℕ) (key : ScheduleKey) (lines : List (List ℕ)) → TrainRuns live uid day key lines ↔ TrainRuns
         (lapse_table horizon live) uid day key lines
     train_iff uid key lines = (
@@ -87,7 +88,7 @@ module _ (horizon : ℕ) (bound : horizon ≤ no_end_number) (live : Table) wher
     associated_back group key line is =
         record { group_is = is.group_is; is_live = was_live horizon live (association_key key) (association_body line) is.is_live; runs_then = is.runs_then }
 
-    -- on a day from the horizon on, both tables choose the same association
+    -- on a day that isn't before the horizon, both tables choose the same association
     pub association_iff : (group : Group) (key : AssociationKey) (line : List ℕ) → IsChosenAssociation live group day key line ↔ IsChosenAssociation
         (lapse_table horizon live) group day key line
     association_iff group key line = (

@@ -1,5 +1,5 @@
--- From three days after the horizon on, a table and the table lapsed under the horizon have the
--- same dockers.
+-- On each day from the third day after the horizon, a table and the table lapsed under the horizon
+-- have the same dockers.
 use Rattle.std.proofs.Common.{◌≡◌, ℕ, ◌+◌, ◌-◌, ◌≤◌, List, ◌++◌, inl, inr, ◌⊎◌, refl, ap, sym, ◌∙◌, Bool, true, false, cond, Some, None, arith}
 use Rattle.std.specs.Prelude.{Option, ◌↔◌, ◌==◌, nat_lt, option_and_then, codes}
 use Rattle.std.specs.List.{flat_map}
@@ -44,7 +44,8 @@ partner_after indicator start day is = by (indicator == 78) (indicator == 80) is
     by false true told = earlier (nat_lt 0 start) refl told
     by false false some = let same : start ≡ day = cc in omega arith
 
--- ---- if `CarriesOver` holds, the other table has all docker lines of the first
+-- ---- if `other` has the trains, associations and identities of `one`, `other` has all docker
+-- lines of `one`
 
 -- the table `other` has each train of `one` with an event on the day. For each of these trains,
 -- `other` also has the associations with this base train, and the identities of the associated
@@ -203,7 +204,8 @@ module _ (horizon : ℕ) (bound : horizon ≤ no_end_number) (live : Table) wher
         back (inl event) = inl ((event_line_iff line).1 event)
         back (inr association) = inr ((association_line_iff line).1 association)
 
-    -- from three days after the horizon on, a table and the lapsed table have the same docker list
+    -- on each day from the third day after the horizon, a table and the lapsed table have the same
+    -- docker list
     pub docker_list_iff : (lines : List DockerLine) → IsDockerList live place day lines ↔ IsDockerList (lapse_table horizon live) place day lines
     docker_list_iff lines = (
       lists_along (λ line. IsEventLine live place day line ⊎ IsAssociationLine live place day line)
@@ -230,7 +232,8 @@ module _ (horizon : ℕ) (bound : horizon ≤ no_end_number) (live : Table) wher
     text_stays : (lines : List DockerLine) → docker_text (lapse_table horizon live) place day lines ≡ docker_text live place day lines
     text_stays lines = ap (text_with place day lines) description_stays
 
-    -- from three days after the horizon on, a table and the lapsed table have the same docker text
+    -- on each day from the third day after the horizon, a table and the lapsed table have the same
+    -- docker text
     pub docker_text_iff : (text : List ℕ) → IsDockerText live place day text ↔ IsDockerText (lapse_table horizon live) place day text
     docker_text_iff text = (
       λ is. (is.0, (docker_list_iff is.0).0 is.1, is.2 ∙ sym (text_stays is.0)),

@@ -92,7 +92,8 @@ module _ (live : Table) (rows : List Row) (group : Group) (has : HasAssociations
     best_is_link found best =
         first_is_link found (best_is_first by_key (is_linked group day) (associations_in rows) Runs associated among_linked passes_linked found best)
 
-    -- the rows of all associations of a group determine the chosen association of the group
+    -- `link_in` computes the chosen association of a group from rows that are in the live table and
+    -- include every association of the group
     pub link_tells : IsLinkOn live group day (link_in rows group day)
     link_tells =
         first_is_link (link_in rows group day)
@@ -105,7 +106,7 @@ rows_have live rows are group = record {
   all = λ key line same is. (are.members (association_key key) (association_body line)).1 is;
 }
 
--- the rows of a whole table determine all its chosen associations
+-- from the rows of a whole table, `link_in` computes each chosen association
 pub links_tell : (live : Table) (rows : List Row) → AreRowsOf live rows → TellsLinks live (link_in rows)
 links_tell live rows are group day = link_tells live rows group (rows_have live rows are group) day
 

@@ -1,5 +1,5 @@
--- Removing schedules that run on no start day near a day from a table leaves the dockers of the day
--- unchanged.
+-- The dockers of a day are unchanged if schedules that run on no start day near the day are removed
+-- from the table.
 use Rattle.std.proofs.Common.{◌≡◌, ℕ, zero, suc, ◌+◌, ◌-◌, ◌≤◌, List, [], ◌∷◌, subst, inl, inr, ◌⊎◌, refl}
 use Rattle.std.proofs.Common.{ap, sym, ◌∙◌, Bool, true, false, cond, Some, None, Contains, arith}
 use Rattle.std.specs.Prelude.{Option, ◌↔◌, ◌==◌, nat_lt, IsTrue}
@@ -87,7 +87,8 @@ partner_near day start within indicator partner is =
     let after = partner_after indicator start partner is in
     (omega arith, omega arith)
 
--- ---- tables with the same associations, and schedules near a day, have the same dockers
+-- ---- two tables with the same associations, and with the same schedules near a day, have the same
+-- dockers
 
 -- each schedule of `one` that runs on a start day near the day also runs in `other`
 abbrev RunsOver : Table → Table → ℕ → Type 0
@@ -177,13 +178,13 @@ list_over one other place day forth back lines is = record {
 abbrev pub IsLeftOut : ℕ → Table → Key → Type 0
 IsLeftOut day live key = (lines : List (List ℕ)) × (live key ≡ Some (schedule_body lines)) × (runs_near day (first_record lines) ≡ false)
 
--- `part` is the table without some schedules that don't run near the day. At each key `part` equals
--- `live`, or `part` has no body and the key may be left out
+-- `part` results from `live` by leaving out schedules that don't run near the day. At each key
+-- `part` equals `live`, or `part` has no body and the key may be left out
 abbrev pub IsNearPart : ℕ → Table → Table → Type 0
 IsNearPart day live part = (key : Key) → (part key ≡ live key) ⊎ ((part key ≡ None) × IsLeftOut day live key)
 
 module _ (day : ℕ) (live part : Table) (is : IsNearPart day live part) where
-  -- a body in the part is in the table, at the same key
+  -- a body in `part` is in the table, at the same key
   was_there : (key : Key) (body : Body) → part key ≡ Some body → live key ≡ Some body
   was_there key body there = by (is key)
     where
@@ -237,11 +238,11 @@ module _ (day : ℕ) (live part : Table) (is : IsNearPart day live part) where
         carries_over part live day (turned live part day alike)
         (λ key lines there. few key lines (was_there (schedule_key key) (schedule_body lines) there))
 
-    -- the table and the part have the same docker list on the day
+    -- the table and `part` have the same docker list on the day
     pub near_list_iff : (place : List ℕ) (lines : List DockerLine) → IsDockerList live place day lines ↔ IsDockerList part place day lines
     near_list_iff place lines = (list_over live part place day forth back lines, list_over part live place day back forth lines)
 
-  -- the table and the part have the same description of a place, since no TIPLOC is left out
+  -- the table and `part` have the same description of a place, since no TIPLOC is left out
   pub near_description : (place : List ℕ) → description_in (part (tiploc_key place)) ≡ description_in (live (tiploc_key place))
   near_description place = by (is (tiploc_key place))
     where
@@ -253,7 +254,7 @@ module _ (day : ℕ) (live part : Table) (is : IsNearPart day live part) where
   text_same : (place : List ℕ) (lines : List DockerLine) → docker_text part place day lines ≡ docker_text live place day lines
   text_same place lines = ap (text_with place day lines) (near_description place)
 
-  -- the table and the part have the same docker text on the day
+  -- the table and `part` have the same docker text on the day
   pub near_text_iff : HasFewMidnights live → (place text : List ℕ) → IsDockerText live place day text ↔ IsDockerText part place day text
   near_text_iff few place text = (
     λ told. (told.0, (near_list_iff few place told.0).0 told.1, told.2 ∙ sym (text_same place told.0)),

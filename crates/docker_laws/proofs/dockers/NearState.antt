@@ -80,7 +80,7 @@ near_state_text place day state text valid =
     near_text_iff day (live_table state) (live_table (near_state day state)) (near_part day state valid.entries.1)
     (bodies_few (live_table state) (good_bodies state valid)) place text
 
--- ---- the excerpt for a place and a day has the same docker
+-- ---- the excerpt for a place and a day has the same docker as the state
 
 -- the excerpt of a valid state for a place and a day is valid
 pub excerpt_on_valid : (place : List ℕ) (day : ℕ) (state : State) → IsValid state → IsValid (excerpt_on place day state)

@@ -1,4 +1,4 @@
--- Permanent dockers, which are dockers of tables without the short-term plan.
+-- Lemmas on permanent dockers, which are the dockers of tables without the short-term plan.
 use Rattle.std.proofs.Common.{◌≡◌, ℕ, ◌+◌, List, [], ◌∷◌, refl, ap, sym, ◌∙◌, subst, inl, inr, ◌⊎◌, Bool, true, false, cond, Some, None, arith}
 use Rattle.std.specs.Prelude.{◌↔◌, ◌==◌, Option, filter, fold, max, nat_lt, option_and_then}
 use Rattle.std.specs.Ordering.{is_eq}
@@ -31,8 +31,8 @@ use Rattle.docker_laws.proofs.runs.RunEnd.{greater_prints, one_text}
 
 -- ---- leaving out the short-term plan commutes with applying changes
 
--- if a change is of a permanent key, making the change commutes with leaving out the short-term
--- plan. A change of any other key leaves the permanent table unchanged
+-- applying a change to a permanent key commutes with leaving out the short-term plan. A change to
+-- any other key leaves the permanent table unchanged
 after_one : (table : Table) (change : Change)
     → permanent_table (after_change table change)
     ≡ cond (is_permanent change.key) (after_change (permanent_table table) change) (permanent_table table)
@@ -69,8 +69,8 @@ after_one table change = by (is_permanent change.key) refl
     by false h = λ i key.
         (outside key (is_permanent key) refl ∙ passed h key (is_eq (key_cmp change.key key)) refl) i
 
--- leaving out the short-term plan after some changes equals leaving out the plan first and then
--- applying only the changes of permanent keys
+-- leaving out the short-term plan after applying changes equals leaving out the plan first and then
+-- applying only the changes to permanent keys
 pub permanent_along : (table : Table) (changes : List Change)
     → permanent_table (fold after_change table changes)
     ≡ fold after_change (permanent_table table) (filter (λ (it : Change). is_permanent it.key) changes)
@@ -126,7 +126,7 @@ lapsed_iff horizon live place day text is_day good printed =
         ap (λ h. lapse_table h (permanent_table live)) zero_is ∙ (λ i key. lapse_table_none (permanent_table live) key i) in
         subst (λ (t : Table). IsDockerText (permanent_table live) place day text ↔ IsDockerText t place day text) (sym all) (λ x. x, λ x. x)
 
--- ---- the laws
+-- ---- the laws of permanent dockers
 
 -- a permanent docker printed from a summary is the permanent docker of the plain table
 pub permanent_is_plain : (files : List (List (List ℕ))) (horizon : ℕ) (state : State) (table : Table) (place : List ℕ) (day : ℕ) (text : List ℕ)

@@ -1,5 +1,5 @@
 -- If the files of a set have distinct moments, every docker printed from their summary is the
--- docker of their plain table, whatever the horizon.
+-- docker of their plain table. This holds under any horizon that doesn't refuse the day.
 use Rattle.std.proofs.Common.{◌≡◌, ℕ, ◌+◌, ◌≤◌, List, length, map, All, subst, inl, inr, ◌⊎◌, refl, ap, sym, ◌∙◌, Bool, true, false, Some, None, arith}
 use Rattle.std.specs.Prelude.{Option, ◌↔◌, nat_lt, fold}
 use Rattle.std.proofs.lemmas.Bool.{ltb-true, ltb-false}
@@ -31,14 +31,16 @@ day_bound horizon day = omega arith
 
 -- ---- a valid state has the same dockers before and after the lapse
 
--- from three days after the horizon on, a state has the same docker list before and after the lapse
+-- on each day from the third day after the horizon, a state has the same docker list before and
+-- after the lapse
 pub state_list_iff : (horizon : ℕ) (state : State) (place : List ℕ) (day : ℕ) (lines : List DockerLine) → IsDay horizon → IsValid state → horizon + 3 ≤ day
     → IsDockerList (live_table state) place day lines ↔ IsDockerList (live_table (lapse_state horizon state)) place day lines
 state_list_iff horizon state place day lines is_day valid from =
     subst (λ table. IsDockerList (live_table state) place day lines ↔ IsDockerList table place day lines) (sym (live_lapsed horizon state))
     (docker_list_iff horizon (day_bound horizon is_day) (live_table state) (bodies_few (live_table state) (good_bodies state valid)) place day from lines)
 
--- from three days after the horizon on, a state has the same docker text before and after the lapse
+-- on each day from the third day after the horizon, a state has the same docker text before and
+-- after the lapse
 pub state_text_iff : (horizon : ℕ) (state : State) (place : List ℕ) (day : ℕ) (text : List ℕ) → IsDay horizon → IsValid state → horizon + 3 ≤ day
     → IsDockerText (live_table state) place day text ↔ IsDockerText (live_table (lapse_state horizon state)) place day text
 state_text_iff horizon state place day text is_day valid from =

@@ -1,5 +1,5 @@
--- The docker lines of a schedule for one start day. The docker has each of these lines, and no
--- other lines of events.
+-- Lemmas on the docker lines of a schedule for one start day. The event lines of a docker are
+-- exactly these lines, for all schedules and start days.
 use Rattle.std.proofs.Common.{◌≡◌, ℕ, true, rules, List, Contains, ◌<◌, ap, sym, ◌∙◌, subst, Bool, eqb-true, arith, [], cond, refl, Some, None, false}
 use Rattle.std.specs.Prelude.{◌==◌, filter, ◌&&◌, Option}
 use Rattle.std.specs.Str.{bytes_eq}
@@ -31,7 +31,7 @@ use Rattle.docker_laws.proofs.dockers.Events.{numbers_ascend}
 use Rattle.docker_laws.proofs.dockers.OneDockerLine.{tied_lines_agree}
 use Rattle.cif_laws.proofs.orders.AtMost.{eq_is}
 
--- each number equals itself in the test `==`
+-- `n == n` is true for each number
 pub number_itself : (n : ℕ) → (n == n) ≡ true
 number_itself n = search rules
 
@@ -47,7 +47,7 @@ module _ (place : List ℕ) (day start : ℕ) (key : ScheduleKey) (lines : List 
   test : Event → Bool
   test event = bytes_eq (columns 3 9 (event_line lines event)) place && (event_day start lines event == day)
 
-  -- each line in `event_lines` is the docker line of an event at the place on the day
+  -- each line that `event_lines` computes is the docker line of an event at the place on the day
   pub event_lines_back : (line : DockerLine) → Contains (event_lines place day start key lines) line → IsLineOfEvent place day start key lines line
   unfolding test
   event_lines_back line among =
@@ -62,7 +62,7 @@ module _ (place : List ℕ) (day start : ℕ) (key : ScheduleKey) (lines : List 
         is = sym found.2;
       }
 
-  -- the docker line of each event at the place on the day is in `event_lines`
+  -- `event_lines` computes the docker line of each event at the place on the day
   pub event_lines_forth : (line : DockerLine) → IsLineOfEvent place day start key lines line → Contains (event_lines place day start key lines) line
   unfolding test
   event_lines_forth line is =
@@ -72,7 +72,7 @@ module _ (place : List ℕ) (day start : ℕ) (key : ScheduleKey) (lines : List 
       subst (Contains (event_lines place day start key lines)) (sym is.is)
       (map-Contains (line_of_event key start lines) (filter test (events_of lines)) is.event (filter_forth test (events_of lines) is.event is.among passes))
 
-  -- no two lines in `event_lines` tie, since their events have different numbers
+  -- no two lines that `event_lines` computes tie, since their events have different numbers
   pub event_lines_apart : AreApart docker_line_cmp (event_lines place day start key lines)
   unfolding test
   event_lines_apart =
@@ -95,7 +95,7 @@ pub record IsOfSchedule (live : Table) (place : List ℕ) (day : ℕ) (key : Sch
   pub of_start : made.start ≡ start
 
 module _ (live : Table) (trains : List ℕ → ℕ → Option Train) (tell : TellsTrains live trains) (place : List ℕ) (day : ℕ) where
-  -- each line in `schedule_piece` for a start day is in the docker
+  -- each line that `schedule_piece` computes for a start day is in the docker
   pub schedule_piece_back : (key : ScheduleKey) (lines : List (List ℕ)) (start : ℕ) → live (schedule_key key) ≡ Some (schedule_body lines)
       → (line : DockerLine) → Contains (schedule_piece trains place day key lines start) line → IsOfSchedule live place day key start line
   schedule_piece_back key lines start is_live line among = by (trains key.uid start) (tell key.uid start) among
@@ -135,7 +135,7 @@ module _ (live : Table) (trains : List ℕ → ℕ → Option Train) (tell : Tel
           inner true h here = made (runs_as train (exact_schedule_key train.key key (eq_is (schedule_key_cmp train.key key) h)) runs) here
           inner false h here = absurd (nil-Contains line here)
 
-  -- the docker line of an event is in `schedule_piece` for its schedule and its start day
+  -- `schedule_piece` computes the docker line of each event, for the event's schedule and start day
   pub schedule_piece_forth : (line : DockerLine) (made : IsEventLine live place day line)
       → Contains (schedule_piece trains place day made.key made.schedule made.start) line
   schedule_piece_forth line made = by (trains made.key.uid made.start) (tell made.key.uid made.start)

@@ -1,4 +1,5 @@
--- Sublists: a sublist has some elements of a list, in the same order.
+-- Lemmas on sublists. A sublist has some elements of a list, possibly none or all, in the same
+-- order.
 use Rattle.std.proofs.Common.{List, [], ◌∷◌, ◌++◌, ◌≡◌, ◌∙◌, refl, sym, subst, inl, inr, ◌⊎◌, Contains, Bool, true, false, cond, All}
 use Rattle.std.specs.Prelude.{filter}
 use Rattle.docker_laws.specs.Excerpt.{IsSublist}
@@ -16,7 +17,7 @@ pub sublist_itself : {A : Type 0} (xs : List A) → IsSublist xs xs
 sublist_itself [] = tt
 sublist_itself (x ∷ xs) = inl (refl, sublist_itself xs)
 
--- the elements that pass a test are a sublist
+-- the elements of a list that pass a test are a sublist of the list
 pub sublist_filter : {A : Type 0} (test : A → Bool) (xs : List A) → IsSublist (filter test xs) xs
 sublist_filter test [] = tt
 sublist_filter test (x ∷ xs) = by (test x) (sublist_filter test xs)

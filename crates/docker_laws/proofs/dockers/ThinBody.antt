@@ -26,7 +26,7 @@ ends_in lines = filter (λ line. is_end (kind_of line)) lines
 
 -- ---- the thin records are records of the schedule
 
--- the thin records have the same first record
+-- the first thin record is the first record of the schedule
 pub first_of_thin : (lines : List (List ℕ)) → first_record (thin_lines lines) ≡ first_record lines
 first_of_thin [] = refl
 first_of_thin (basic ∷ others) = refl

@@ -46,7 +46,8 @@ thin_left place day (put body) = by (may_count day (put_with body))
     by true = refl
     by false = refl
 
--- after a change the table has the change's body at its key, and the old body at every other key
+-- after a change, the table has at the change's key the body that the change leaves, and at any
+-- other key the same body as before
 after_here : (table : Table) (change : Change) (key : Key) → is_of key change ≡ true → after_change table change key ≡ left_by change.act
 after_here table change key h = λ i. cond (h i) (left_by change.act) (table key)
 
@@ -62,7 +63,7 @@ none_or true = refl
 none_or false = refl
 
 module _ (place : List ℕ) (day : ℕ) where
-  -- a change of a key that can't matter leaves the thinned table unchanged
+  -- a change to a key that can't matter leaves the thinned table unchanged
   step_elsewhere : (table : Table) (change : Change) (key : Key) → may_matter place change.key ≡ false
       → thinned place day (after_change table change) key ≡ thinned place day table key
   step_elsewhere table change key no_matter = by (is_of key change) refl
@@ -95,7 +96,7 @@ module _ (place : List ℕ) (day : ℕ) where
 
   -- ---- thinning commutes with all changes of a list
 
-  -- the changes of keys that may matter
+  -- the changes to keys that may matter
   abbrev matter : List Change → List Change
   matter changes = filter (λ (change : Change). may_matter place change.key) changes
 
@@ -116,14 +117,14 @@ module _ (place : List ℕ) (day : ℕ) where
           (λ i. fold after_change left (map (thin_change place day) (cond (h i) (change ∷ matter changes) (matter changes))) key)
           ∙ rest (after_change table change) left (λ k. same k ∙ sym (step_elsewhere table change k h)) key
 
-  -- from a thinned table, the table after the kept changes equals the thinning of the table after
-  -- all changes
+  -- applying the thin changes to a thinned table equals applying all changes to the table and then
+  -- thinning the result
   pub thin_over : (table : Table) (changes : List Change) (key : Key)
       → fold after_change (thinned place day table) (thin_changes place day changes) key ≡ thinned place day (fold after_change table changes) key
   thin_over table changes key = kept_from changes table (thinned place day table) (λ k. refl) key
 
-  -- from the empty table, the table after the kept changes equals the thinning of the table after
-  -- all changes
+  -- the table after the thin changes of a list equals the thinned table after all changes of the
+  -- list
   thin_enough : (changes : List Change) → AreEnough place day changes (thin_changes place day changes)
   thin_enough changes = kept_from changes empty_table empty_table (λ key. sym (none_or (may_matter place key)))
 
@@ -136,7 +137,7 @@ table_more : (table : Table) (changes : List Change) (change : Change)
 table_more table [] change = refl
 table_more table (first ∷ changes) change = table_more (after_change table first) changes change
 
--- changes of other keys leave the body at a key unchanged
+-- changes to other keys leave the body at a key unchanged
 untouched : (changes : List Change) (table : Table) (key : Key) → HasNoChangeOf key changes → fold after_change table changes key ≡ table key
 untouched [] table key none = refl
 untouched (change ∷ changes) table key none =
@@ -148,7 +149,7 @@ untouched (change ∷ changes) table key none =
     by true h rest = absurd (none change (cons-Contains-first change changes) (same_key change.key key h))
     by false h rest = rest ∙ after_there table change key h
 
--- if all changes of a key are left out, the body at this key is unchanged
+-- if all changes to a key are left out, the body at this key is unchanged
 without_here : (key : Key) (changes : List Change) (table : Table) → fold after_change table (without key changes) key ≡ table key
 without_here key [] table = refl
 without_here key (change ∷ changes) table = by (is_of key change) refl (without_here key changes)
@@ -161,7 +162,7 @@ without_here key (change ∷ changes) table = by (is_of key change) refl (withou
         ∙ rest (after_change table change)
         ∙ after_there table change key h
 
--- leaving out the changes of one key leaves the bodies at all other keys unchanged
+-- leaving out the changes to one key leaves the bodies at all other keys unchanged
 without_there : (key other : Key) → is_eq (key_cmp key other) ≡ false → (changes : List Change) (one two : Table) → one other ≡ two other
     → fold after_change one (without key changes) other ≡ fold after_change two changes other
 without_there key other apart [] one two same = same
@@ -187,7 +188,7 @@ module _ (place : List ℕ) (day : ℕ) where
     all_more : (key : Key) → thinned place day (table_of (changes ++ change ∷ [])) key ≡ thinned place day (after_change (table_of changes) change) key
     all_more key = ap (λ (table : Table). thinned place day table key) (table_more empty_table changes change)
 
-    -- a change of a key that can't matter may be dropped
+    -- a change to a key that can't matter may be dropped
     enough_elsewhere : may_matter place change.key ≡ false → AreEnough place day (changes ++ change ∷ []) kept
     enough_elsewhere no_matter key =
         so_far key ∙ sym (step_elsewhere place day (table_of changes) change key no_matter) ∙ sym (all_more key)
@@ -214,7 +215,7 @@ module _ (place : List ℕ) (day : ℕ) where
         → thinned place day (after_change (table_of changes) change) key ≡ thinned place day (table_of changes) key
     same_elsewhere key h = left_at place day (after_change (table_of changes) change) (table_of changes) key (after_there (table_of changes) change key h)
 
-    -- a change whose thin form is a deletion may be dropped if no change of the same key is kept
+    -- a change whose thin form is a deletion may be dropped if no change to the same key is kept
     enough_dropped : thin_act place day change.act ≡ delete → HasNoChangeOf change.key kept → AreEnough place day (changes ++ change ∷ []) kept
     enough_dropped deletes none key = by (is_of key change) refl
       where
@@ -224,7 +225,7 @@ module _ (place : List ℕ) (day : ℕ) where
             untouched kept empty_table key of_key ∙ sym (none_left deletes key h) ∙ sym (all_more key)
         by false h = so_far key ∙ sym (same_elsewhere key h) ∙ sym (all_more key)
 
-    -- after a change whose thin form is a deletion, the kept changes of the same key may be removed
+    -- after a change whose thin form is a deletion, the kept changes to the same key may be removed
     enough_removed : thin_act place day change.act ≡ delete → AreEnough place day (changes ++ change ∷ []) (without change.key kept)
     enough_removed deletes key = by (is_of key change) refl
       where
@@ -237,7 +238,7 @@ module _ (place : List ℕ) (day : ℕ) where
         by false h =
             without_there change.key key h kept empty_table empty_table refl ∙ so_far key ∙ sym (same_elsewhere key h) ∙ sym (all_more key)
 
-    -- if the thin form of a change is kept, the earlier kept changes of the same key may be removed
+    -- if the thin form of a change is kept, the earlier kept changes to the same key may be removed
     enough_replaced : may_matter place change.key ≡ true
         → AreEnough place day (changes ++ change ∷ []) (without change.key kept ++ thin_change place day change ∷ [])
     enough_replaced matters key =
@@ -275,7 +276,7 @@ sublist_map {A} f (x ∷ xs) (y ∷ ys) is = by (sublist_map f xs ys) (sublist_m
     by both_step skip (inr later) = inr (skip later)
 
 module _ (place : List ℕ) (day : ℕ) where
-  -- each change whose key may matter may be kept in its thin form
+  -- the thin forms of all changes whose keys may matter are a thinning
   pub thinning_of_all : (changes : List Change) → IsThinning place day changes (thin_changes place day changes)
   thinning_of_all changes = record {
     some = sublist_map (thin_change place day) (filter (λ (change : Change). may_matter place change.key) changes) changes
@@ -308,7 +309,7 @@ module _ (place : List ℕ) (day : ℕ) where
         (sublist_append others before (thin_change place day change ∷ []) (thin_change place day change ∷ [])
         (sublist_onward others kept before inside is.some) (sublist_itself (thin_change place day change ∷ [])))
 
-    -- a change of a key that can't matter may be dropped
+    -- a change to a key that can't matter may be dropped
     pub thinning_elsewhere : may_matter place change.key ≡ false → IsThinning place day (changes ++ change ∷ []) kept
     thinning_elsewhere no_matter = record {
       some = still_some kept (sublist_itself kept);
@@ -322,21 +323,21 @@ module _ (place : List ℕ) (day : ℕ) where
       enough = enough_kept place day changes kept change is.enough matters;
     }
 
-    -- a change whose thin form is a deletion may be dropped if no change of the same key is kept
+    -- a change whose thin form is a deletion may be dropped if no change to the same key is kept
     pub thinning_dropped : thin_act place day change.act ≡ delete → HasNoChangeOf change.key kept → IsThinning place day (changes ++ change ∷ []) kept
     thinning_dropped deletes none = record {
       some = still_some kept (sublist_itself kept);
       enough = enough_dropped place day changes kept change is.enough deletes none;
     }
 
-    -- after a change whose thin form is a deletion, the kept changes of the same key may be removed
+    -- after a change whose thin form is a deletion, the kept changes to the same key may be removed
     pub thinning_removed : thin_act place day change.act ≡ delete → IsThinning place day (changes ++ change ∷ []) (without change.key kept)
     thinning_removed deletes = record {
       some = still_some (without change.key kept) (sublist_filter (λ (other : Change). not (is_of change.key other)) kept);
       enough = enough_removed place day changes kept change is.enough deletes;
     }
 
-    -- if the thin form of a change is kept, the earlier kept changes of the same key may be removed
+    -- if the thin form of a change is kept, the earlier kept changes to the same key may be removed
     pub thinning_replaced : may_matter place change.key ≡ true
         → IsThinning place day (changes ++ change ∷ []) (without change.key kept ++ thin_change place day change ∷ [])
     thinning_replaced matters = record {
@@ -375,20 +376,20 @@ thinning_more place day all kept (change ∷ more) is =
 -- ---- the thin form of an act in each case
 
 module _ (place : List ℕ) (day : ℕ) (lines : List (List ℕ)) where
-  -- the thin form of a put of a schedule that can't count is a deletion
+  -- if a schedule can't count, the thin form of its put is a deletion
   pub act_far : runs_near day (first_record lines) ≡ false → thin_act place day (put (schedule_body lines)) ≡ delete
   act_far far = λ i. cond (far i) (put (schedule_body (lines_for place lines))) delete
 
   act_near : runs_near day (first_record lines) ≡ true → thin_act place day (put (schedule_body lines)) ≡ put (schedule_body (lines_for place lines))
   act_near near = λ i. cond (near i) (put (schedule_body (lines_for place lines))) delete
 
-  -- the thin form of a put of a schedule that calls at the place is the same put
+  -- if a schedule may count and calls at the place, the thin form of its put is the same put
   pub act_calls : runs_near day (first_record lines) ≡ true → calls_at place lines ≡ true
       → thin_act place day (put (schedule_body lines)) ≡ put (schedule_body lines)
   act_calls near calls = act_near near ∙ (λ i. put (schedule_body (cond (calls i) lines (thin_lines lines))))
 
-  -- the thin form of a put of a schedule that doesn't call at the place is a put of the thin
-  -- records
+  -- if a schedule may count and doesn't call at the place, the thin form of its put is a put of the
+  -- thin records
   pub act_thin : runs_near day (first_record lines) ≡ true → calls_at place lines ≡ false
       → thin_act place day (put (schedule_body lines)) ≡ put (schedule_body (thin_lines lines))
   act_thin near none = act_near near ∙ (λ i. put (schedule_body (cond (none i) lines (thin_lines lines))))
@@ -399,9 +400,9 @@ near_of_new day line = λ i. list_any
     (λ start. runs_within (new_columns line 10 15 (omega arith) i) (new_columns line 16 21 (omega arith) i) (new_columns line 22 28 (omega arith) i) start)
     (near_starts day)
 
--- ---- no change of a key above the greatest kept key is kept
+-- ---- no kept change has a key above an upper bound of the kept keys
 
--- no kept change has a key above the highest kept key
+-- if a key is above an upper bound of the kept keys, no kept change has this key
 pub none_above : (highest key : Key) (kept : List Change) → AreAtMost highest kept → IsBelow key_cmp highest key → HasNoChangeOf key kept
 none_above highest key kept low below change among same =
     low change among (subst (λ (k : Key). key_cmp k highest ≡ Greater) (sym same) (key_total.antisymm key highest ∙ ap ordering_reverse below))
@@ -410,7 +411,7 @@ none_above highest key kept low below change among same =
 pub none_at_first : (highest : Key) → AreAtMost highest []
 none_at_first highest change among = absurd (nil-Contains change among)
 
--- after a change with a key that isn't above the highest key is kept, the highest key is still an
+-- if a change is kept whose key is at most an upper bound of the kept keys, the bound is still an
 -- upper bound
 pub still_at_most : (highest : Key) (kept : List Change) (change : Change) → AreAtMost highest kept → IsAtMost key_cmp change.key highest
     → AreAtMost highest (kept ++ change ∷ [])
@@ -420,7 +421,8 @@ still_at_most highest kept change low more other among = by (Contains-append_cas
     by (inl before) = low other before
     by (inr last) = subst (λ (c : Change). IsAtMost key_cmp c.key highest) (Contains-single change other last) more
 
--- after a change with a key above the highest key is kept, its key is an upper bound
+-- if a change is kept whose key is above an upper bound of the kept keys, the key of this change is
+-- an upper bound
 pub raised_at_most : (highest : Key) (kept : List Change) (change : Change) → AreAtMost highest kept → IsBelow key_cmp highest change.key
     → AreAtMost change.key (kept ++ change ∷ [])
 raised_at_most highest kept change low below =

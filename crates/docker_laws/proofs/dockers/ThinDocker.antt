@@ -32,7 +32,7 @@ use Rattle.docker_laws.proofs.dockers.ThinBody.{first_of_thin, thin_elsewhere, n
 
 -- ---- which records may replace a schedule
 
--- the relation `IsStandIn` is symmetric
+-- the relation "may replace in the docker" between schedules is symmetric
 turned : (place : List ℕ) (day : ℕ) (one other : List (List ℕ)) → IsStandIn place day one other → IsStandIn place day other one
 turned place day one other is = record {
   runs = λ start near. sym (is.runs start near);
@@ -44,7 +44,8 @@ turned place day one other is = record {
     swap (inl calls) = inr calls
     swap (inr calls) = inl calls
 
--- records with the same first record may replace a schedule, if neither calls at the place
+-- records with the same first record may replace a schedule, if neither these records nor the
+-- schedule call at the place
 pub stand_in_by_first : (place : List ℕ) (day : ℕ) (whole lines : List (List ℕ)) → first_record lines ≡ first_record whole → calls_at place whole ≡ false
     → calls_at place lines ≡ false → IsStandIn place day whole lines
 stand_in_by_first place day whole lines same none no_other = record {
@@ -70,8 +71,9 @@ needed_stand_in place day lines = by (calls_at place lines) refl
 
 -- ---- two tables have the same docker if each has all parts that the docker needs
 
--- the table `other` has all parts of `one` that the docker needs: each schedule that runs near the
--- day, and each association at the place
+-- the table `other` has all parts of `one` that the docker needs. For each schedule of `one` that
+-- runs near the day, `other` has a schedule that may replace it. The table `other` also has each
+-- association at the place
 record Covers (one other : Table) (place : List ℕ) (day : ℕ) : Type 0 where
   runs : (start : ℕ) → IsStartNear day start → (uid : List ℕ) (key : ScheduleKey) (lines : List (List ℕ)) → IsRunning one uid start key lines
       → (others : List (List ℕ)) × IsRunning other uid start key others × IsStandIn place day lines others
@@ -256,14 +258,15 @@ module _ (place : List ℕ) (day : ℕ) (live part : Table) (stands : StandsFor 
 -- ---- the thinned table may replace the table
 
 module _ (place : List ℕ) (day : ℕ) (live : Table) where
-  -- if a schedule in the table runs near the day, the thinned table has, at the same key, those
-  -- records of the schedule that the docker of the place needs
+  -- if a schedule in the table runs near the day, the thinned table has at the same key the
+  -- schedule's records that the docker needs (`lines_for`)
   schedule_left : (key : ScheduleKey) (lines : List (List ℕ)) → live (schedule_key key) ≡ Some (schedule_body lines)
       → runs_near day (first_record lines) ≡ true → thinned place day live (schedule_key key) ≡ Some (schedule_body (lines_for place lines))
   schedule_left key lines is_live runs =
       ap (option_and_then (thin_body place day)) is_live ∙ (λ i. cond (runs i) (Some (schedule_body (lines_for place lines))) None)
 
-  -- each schedule in the thinned table is `lines_for` of a schedule at the same key of the table
+  -- for each schedule in the thinned table, the table has a schedule at the same key. The thinned
+  -- table has the records of that schedule that the docker needs (`lines_for`)
   schedule_was : (key : ScheduleKey) (lines : List (List ℕ)) → thinned place day live (schedule_key key) ≡ Some (schedule_body lines)
       → (whole : List (List ℕ)) × (live (schedule_key key) ≡ Some (schedule_body whole)) × (lines_for place whole ≡ lines)
   schedule_was key lines is = by (then_some (thin_body place day) (live (schedule_key key)) (schedule_body lines) is)

@@ -49,7 +49,7 @@ module _ (file : List (List ℕ)) (kept : List Change) (state : State) (of : IsS
   at_least entry other (inr below) greater =
       let less : entry_cmp other entry ≡ Less = (λ i. ordering_then (below i) (op_cmp other.op entry.op)) in cc
 
-  -- the live table of the state equals the table after the changes, if later changes of the same
+  -- the live table of the state equals the table after the changes, if later changes to the same
   -- key have higher record numbers
   live_is_made : AllLater Apart kept → (key : Key) → live_table state key ≡ table_of kept key
   live_is_made apart key =
@@ -86,7 +86,7 @@ live_of_summary file whole summary key =
 -- ---- each kept change is the thin form of a change of the file
 
 module _ (place : List ℕ) (day : ℕ) (file : List (List ℕ)) (kept : List Change) (is : IsThinning place day (changes file) kept) where
-  -- of two kept changes of one key, the later change has the higher record number
+  -- of two kept changes to one key, the later change has the higher record number
   kept_apart : AllLater Apart kept
   kept_apart =
       sublist_later Apart kept (map (thin_change place day) (changes file)) is.some

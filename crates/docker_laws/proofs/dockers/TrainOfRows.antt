@@ -70,13 +70,15 @@ module _ (live : Table) (rows : List Row) (uid : List ℕ) (has : HasSchedulesOf
     best_is_chosen found best =
         first_is_chosen found (best_is_first by_key (is_running uid day) (schedules_in rows) Runs running among_running passes_running found best)
 
-    -- the rows of all schedules of a UID determine the chosen schedule of the UID
+    -- `chosen_in` computes the chosen schedule of a UID from rows that are in the live table and
+    -- include every schedule of the UID
     pub chosen_tells : IsChosenOn live uid day (chosen_in rows uid day)
     chosen_tells =
         first_is_chosen (chosen_in rows uid day)
         (found_is_first by_key (is_running uid day) (schedules_in rows) Runs running among_running passes_running)
 
-    -- the rows of all schedules of a UID determine the train of the UID
+    -- `train_in` computes the train of a UID from rows that are in the live table and include every
+    -- schedule of the UID
     pub train_tells : IsTrainOn live uid day (train_in rows uid day)
     train_tells = by (chosen_in rows uid day) chosen_tells
       where
@@ -104,7 +106,7 @@ rows_have live rows are uid = record {
   all = λ key lines same is. (are.members (schedule_key key) (schedule_body lines)).1 is;
 }
 
--- the rows of a whole table determine all its trains
+-- from the rows of a whole table, `train_in` computes each train
 pub trains_tell : (live : Table) (rows : List Row) → AreRowsOf live rows → TellsTrains live (train_in rows)
 trains_tell live rows are uid day = train_tells live rows uid (rows_have live rows are uid) day
 

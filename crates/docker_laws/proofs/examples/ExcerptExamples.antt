@@ -104,7 +104,7 @@ would_stop = record {
   no_cancellation = λ cancelled. omega arith;
 }
 
--- so the docker of COLWELL needs the overlay
+-- the docker of COLWELL needs the overlay
 overlay_is_needed : IsNeeded (live_table overlaid) place (schedule_key short_key)
 overlay_is_needed = inl (record {
   key = stops_key;
@@ -231,7 +231,7 @@ identity_lost : ¬ IsPartnerIdentity (live_table parted) (codes "C40002") (Some 
 identity_lost (inl runs) = no_partner runs.0 runs.1 runs.2.chosen.running.uid_is runs.2.chosen.running.is_live
 identity_lost (inr none) = let first : ◌≡◌ {A = ℕ} 52 63 = ap (λ bytes. slice_index bytes 0) none.1 in omega arith
 
--- so the docker of COLWELL needs the associated train
+-- the docker of COLWELL needs the associated train
 partner_is_needed : IsNeeded (live_table joined) place (schedule_key partner_key)
 partner_is_needed = inr (record { key = link_key; line = link; associated_is = refl; linked = record { is_live = refl; here = refl } })
 

@@ -1,5 +1,5 @@
--- Worked examples of schedules that may, or can't, count near a day. The schedule of the other
--- examples runs from 10 to 16 June 2024, day 23537 to day 23543.
+-- Worked examples of days for which a schedule may count, and of days for which it can't. The
+-- schedule runs from 10 to 16 June 2024, day 23537 to day 23543.
 use Rattle.std.proofs.Common.{◌≡◌, [], refl}
 use Rattle.jiff_core.specs.Calendar.{days_from_civil, day_count, days_of_years, days_of_months}
 use Rattle.docker_laws.specs.NearDay.{near_entries, excerpt_on}

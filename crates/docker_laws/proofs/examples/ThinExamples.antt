@@ -53,7 +53,7 @@ night_here = refl
 abbrev change_of : ℕ → Key → Act → Change
 change_of number key act = record { number = number; key = key; act = act }
 
--- on 11 June an overlay takes another way and doesn't call at COLWELL
+-- on 11 June an overlay takes another route and doesn't call at COLWELL
 abbrev way_round : List (List ℕ)
 way_round =
     bs (codes "N") (codes "C40001") (codes "240611") (codes "240611") (codes "0100000") (codes "4D40") (codes "O")
@@ -61,7 +61,7 @@ way_round =
     ∷ li (codes "DUNMERE") no_text no_text no_text (codes "2320") no_text no_text no_text no_text no_text
     ∷ lt (codes "BRAYTON") no_text (codes "2350") no_text (codes "1") no_text ∷ []
 
--- a schedule from 1 to 3 June
+-- a schedule that runs from 1 to 3 June
 abbrev long_ago : List (List ℕ)
 long_ago =
     bs (codes "N") (codes "C40003") (codes "240601") (codes "240603") (codes "1111111") (codes "4D43") (codes "P")
@@ -120,7 +120,7 @@ same_schedule : (key other : ScheduleKey) → is_eq (schedule_key_cmp key other)
 unfolding schedule_in
 same_schedule key other h = ap schedule_in (same_key (schedule_key key) (schedule_key other) h)
 
--- the live table has no other schedule
+-- the table after `stops_alone` has no other schedule
 only_stops : (other : ScheduleKey) (others : List (List ℕ)) → table_of stops_alone (schedule_key other) ≡ Some (schedule_body others) → stops_key ≡ other
 only_stops other others h = by (is_eq (schedule_key_cmp stops_key other)) refl h
   where
@@ -235,7 +235,7 @@ not_there lines same calls =
     let bad : false ≡ true = test in
     cc
 
--- so on 11 June the train doesn't run by the schedule that calls at COLWELL
+-- on 11 June the train doesn't run by the schedule that calls at COLWELL
 not_by_stops : (uid : List ℕ) (start : ℕ) (key : ScheduleKey) (lines : List (List ℕ)) → stops_key ≡ key → start ≡ 23538
     → ¬ TrainRuns (table_of overlaid) uid start key lines
 not_by_stops uid start key lines same day runs =
@@ -247,7 +247,7 @@ not_by_stops uid start key lines same day runs =
 no_falls_of_stops : midnights stops ≡ 0
 no_falls_of_stops = refl
 
--- so on 11 June no train arrives
+-- on 11 June no train arrives
 no_arrival_then : (line : DockerLine) → ¬ IsEventLine (table_of overlaid) place 23538 line
 no_arrival_then line is = by (is_eq (schedule_key_cmp short_key is.key)) (is_eq (schedule_key_cmp stops_key is.key)) refl is.train_runs.chosen.running.is_live
   where

@@ -14,8 +14,8 @@ zip_more [] (b ∷ ys) x y same = absurd (omega arith)
 zip_more (a ∷ xs) [] x y same = absurd (omega arith)
 zip_more (a ∷ xs) (b ∷ ys) x y same = ap (λ rest. (a, b) ∷ rest) (zip_more xs ys x y (omega arith))
 
--- the knowledge after one more event is `after_reply` of the knowledge before it, with the event
--- and its reply
+-- `after_reply` computes the knowledge after one more event from the earlier knowledge and from
+-- this event with its reply
 pub sets_more : (offices : ℕ) (events : List RunEvent) (replies : List Reply) (event : RunEvent) (reply : Reply) → length events ≡ length replies
     → known_sets offices (events ++ event ∷ []) (replies ++ reply ∷ []) ≡ after_reply (known_sets offices events replies) (event, reply)
 sets_more offices events replies event reply same =
@@ -31,8 +31,8 @@ replies_long known [] (reply ∷ replies) are = absurd are
 replies_long known (event ∷ events) [] are = absurd are
 replies_long known (event ∷ events) (reply ∷ replies) are = ap suc (replies_long (after_reply known (event, reply)) events replies are.1)
 
--- if all replies are allowed, they are still allowed after an event with an allowed reply is
--- appended, for a run that begins with any knowledge
+-- if all replies of a run are allowed, and an event with an allowed reply is appended, all replies
+-- of the longer run are allowed. The run may begin with any knowledge
 pub replies_after : (known : KnownSets) (events : List RunEvent) (replies : List Reply) (event : RunEvent) (reply : Reply)
     → AreReplies known events replies → IsReply (fold after_reply known (zip events replies)) event reply → AreReplies known (events ++ event ∷ [])
     (replies ++ reply ∷ [])
@@ -42,14 +42,14 @@ replies_after known (other ∷ events) [] event reply are is = absurd are
 replies_after known (other ∷ events) (answer ∷ replies) event reply are is =
     (are.0, replies_after (after_reply known (other, answer)) events replies event reply are.1 is)
 
--- if all replies are allowed, they are still allowed after an event with an allowed reply is
--- appended, for a run from its start
+-- like `replies_after`, for a run that begins without any knowledge
 pub replies_more : (offices : ℕ) (events : List RunEvent) (replies : List Reply) (event : RunEvent) (reply : Reply)
     → AreReplies (none_known offices) events replies → IsReply (known_sets offices events replies) event reply → AreReplies (none_known offices)
     (events ++ event ∷ []) (replies ++ reply ∷ [])
 replies_more offices events replies event reply are is = replies_after (none_known offices) events replies event reply are is
 
--- ---- a run preserves the number of offices, and each state that is sent is one more message
+-- ---- the number of offices stays the same, and the number of messages equals the number of states
+-- sent
 
 offices_stay : (known : KnownSets) (event : RunEvent) (reply : Reply) → length (after_reply known (event, reply)).offices ≡ length known.offices
 offices_stay known event (refused why) = refl

@@ -51,9 +51,9 @@ counts_fit format state short =
         (flat_map entry_bytes s.entries) in
         omega arith
 
--- ---- each format can hold the ops of a summary without a horizon
+-- ---- each format can hold the ops of a summary under a horizon that the format allows
 
--- the op of an act is never `lapsed`, so each format can hold the op
+-- the format DKS1 can hold the op of any act, because the op of an act is never `lapsed`
 act_told : (act : Act) → TellsOp dks_1 (op_of act)
 act_told delete = tt
 act_told (put body) = tt

@@ -25,13 +25,13 @@ use Rattle.state_laws.proofs.states.SummaryLaws.{summary_unique, lapsed_summary}
 use Rattle.state_laws.proofs.states.OneJoin.{docker_unique}
 use Rattle.cif_laws.proofs.lists.ZipSteps.{zip_at}
 
--- if the replies of an exchange are allowed, and its states and messages match what is known, the
--- exchange is a possible result of the run
+-- if the replies of an exchange are allowed, and its states and messages match the knowledge
+-- (`Holds`), the exchange is a possible result of the run
 pub holds_at_end : (format : Format) (offices : ℕ) (events : List RunEvent) (exchange : Exchange) → AreReplies (none_known offices) events exchange.replies
     → Holds format (sets_of offices events exchange) exchange.states exchange.messages → IsRun format offices events exchange
 holds_at_end format offices events exchange replies holds = record { replies = replies; states = holds.states_are; messages = holds.messages_are }
 
--- after a run of good events the states and messages match what is known
+-- after a run of good events, the states and messages match the knowledge (`Holds`)
 pub run_holds : (format : Format) (offices : ℕ) (events : List RunEvent) (exchange : Exchange) → All (IsGoodEvent format) events
     → IsRun format offices events exchange
     → Holds format (sets_of offices events exchange) exchange.states exchange.messages
@@ -141,7 +141,8 @@ module _ (format : Format) (offices others : ℕ) (events more : List RunEvent) 
       (message_known (sets_of others more two) j).horizon this.0 that.0
       (subst (λ h. IsSummary (message_known (sets_of offices events one) i).files h this.0) same.1 this.1) that.1) ∙ sym that.2
 
--- a docker that an office prints is the docker of the plain table of its files
+-- a docker that an office prints is the docker of the plain table of the files that the office
+-- knows
 pub plain_docker : (format : Format) (offices : ℕ) (events : List RunEvent) (exchange : Exchange) → IsRun format offices events exchange
     → All (IsGoodEvent format) events
     → (office : ℕ) → IsOffice (sets_of offices events exchange) office → (plain : Table)

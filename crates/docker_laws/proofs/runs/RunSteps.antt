@@ -1,4 +1,6 @@
--- The states and messages of a run match what is known, at the start and after each event.
+-- `Holds` is true at the start of a run and after each event. `Holds` says that the states and
+-- messages match the knowledge. Each state is the summary of the files that its office knows, and
+-- each message is the text of the summary of the files that the message knows.
 use Rattle.std.proofs.Common.{◌≡◌, ℕ, ◌^◌, ◌<◌, ◌≤◌, List, [], ◌∷◌, ◌++◌, length, refl, sym, ◌∙◌, subst, arith, All, set}
 use Rattle.std.proofs.Math.Nat.{max_comm}
 use Rattle.std.proofs.lemmas.List.Elements.{All-set, All-push, All-nil, All-replicate, All-get_or}
@@ -20,9 +22,9 @@ use Rattle.state_laws.proofs.states.SummaryLaws.{join_is_summary, raised_summary
 use Rattle.cif_laws.proofs.lists.ZipSteps.{zip_set, zip_end, zip_at, zip_long, zip_replicate}
 
 module _ (format : Format) (known : KnownSets) (states : List State) (messages : List (List ℕ)) (holds : Holds format known states messages) where
-  -- ---- each state matches what its office knows, and each text what its message knows
+  -- ---- each state and each message matches the knowledge
 
-  -- the state of an office is the summary of the files that it knows
+  -- the state of an office is the summary of the files that the office knows
   pub office_is : (office : ℕ) → IsOffice known office → IsStateOf (office_known known office) (office_state states office)
   office_is office there = zip_at IsStateOf known.offices states office nothing (record { horizon = 0; ledger = []; entries = [] }) holds.states_are there
 
@@ -30,11 +32,11 @@ module _ (format : Format) (known : KnownSets) (states : List State) (messages :
   pub message_is : (message : ℕ) → IsMessage known message → IsMessageOf format (message_known known message) (message_text messages message)
   message_is message there = zip_at (IsMessageOf format) known.messages messages message nothing [] holds.messages_are there
 
-  -- the knowledge of an office is good
+  -- the knowledge of an office is good: its files are CIF files, and the format allows its horizon
   pub office_good : (office : ℕ) → IsOffice known office → IsGoodKnown format (office_known known office)
   office_good office there = All-get_or (IsGoodKnown format) known.offices office nothing there holds.offices
 
-  -- the knowledge of a message is good
+  -- the knowledge of a message is good: its files are CIF files, and the format allows its horizon
   pub message_good : (message : ℕ) → IsMessage known message → IsGoodKnown format (message_known known message)
   message_good message there = All-get_or (IsGoodKnown format) known.messages message nothing there holds.sent
 
@@ -48,7 +50,7 @@ module _ (format : Format) (known : KnownSets) (states : List State) (messages :
   office_told office there = summary_told format (office_known known office) (office_state states office) (office_good office there) (office_is office there)
 
   -- a message can be read with a limit equal to its length: the message is the text of the summary
-  -- of the files that it knows
+  -- of the files that the message knows
   pub message_reads : (message : ℕ) → IsMessage known message → length (message_text messages message) < 2 ^ 64
       → (state : State) × IsStateOf (message_known known message) state × IsStateText format (length (message_text messages message))
       (message_text messages message) state
@@ -71,14 +73,14 @@ module _ (format : Format) (known : KnownSets) (states : List State) (messages :
       let made = message_reads message there short in
       subst (IsStateOf (message_known known message)) (one_text format made.0 state made.2.valid is.valid (sym made.2.is ∙ is.is)) made.1
 
-  -- ---- after each event, states and messages still match what is known
+  -- ---- after each event, states and messages still match the knowledge
 
-  -- after a refused event states and messages still match what is known
+  -- after a refused event, states and messages still match the knowledge (`Holds`)
   pub after_refusal : (event : RunEvent) (why : Refusal) → Holds format (after_reply known (event, refused why)) states messages
   after_refusal event why = holds
 
-  -- states and messages still match what is known if an office's knowledge is replaced, and its
-  -- state is replaced by the state of the new knowledge
+  -- states and messages still match the knowledge (`Holds`) if an office's knowledge is replaced,
+  -- and the office's state is replaced by the state of the new knowledge
   with_office_holds : (office : ℕ) (now : Known) (state : State) → IsGoodKnown format now → IsStateOf now state
       → Holds format (record { offices = set known.offices office now; messages = known.messages }) (set states office state) messages
   with_office_holds office now state good is = record {
@@ -88,8 +90,8 @@ module _ (format : Format) (known : KnownSets) (states : List State) (messages :
     messages_are = holds.messages_are;
   }
 
-  -- states and messages still match what is known if an office's state is joined with the state of
-  -- more knowledge
+  -- states and messages still match the knowledge (`Holds`) if more knowledge is added to an
+  -- office's knowledge, and the office's state is joined with the state of the added knowledge
   joined_in : (office : ℕ) (more : Known) (one joined : State) → IsOffice known office → IsGoodKnown format more → IsStateOf more one
       → IsJoin (office_state states office) one joined
       → Holds format (record { offices = set known.offices office (united more (office_known known office)); messages = known.messages })
@@ -101,7 +103,7 @@ module _ (format : Format) (known : KnownSets) (states : List State) (messages :
       (office_state states office) joined summary (office_is office there)
       (join_commutes (office_state states office) one joined join))
 
-  -- states and messages still match what is known after a file is taken
+  -- after a file is taken, states and messages still match the knowledge (`Holds`)
   pub after_take : (office : ℕ) (text : List ℕ) (limit : ℕ) (one joined : State) → IsOffice known office → limit ≤ most_records
       → IsFileText limit text (lines_of text)
       → IsSummary (lines_of text ∷ []) 0 one → IsJoin (office_state states office) one joined
@@ -109,7 +111,7 @@ module _ (format : Format) (known : KnownSets) (states : List State) (messages :
   after_take office text limit one joined there low file summary join =
       joined_in office (record { files = lines_of text ∷ []; horizon = 0 }) one joined there (file_good format text limit low file) summary join
 
-  -- states and messages still match what is known after a state is sent
+  -- after a state is sent, states and messages still match the knowledge (`Holds`)
   pub after_send : (office : ℕ) → IsOffice known office → Holds format (after_reply known (send_state office, done)) states
       (messages ++ state_text format (office_state states office) ∷ [])
   after_send office there = record {
@@ -121,7 +123,7 @@ module _ (format : Format) (known : KnownSets) (states : List State) (messages :
         (office_state states office, office_is office there, refl);
   }
 
-  -- states and messages still match what is known after a message is delivered
+  -- after a message is delivered, states and messages still match the knowledge (`Holds`)
   pub after_delivery : (office message : ℕ) (limit : ℕ) (received joined : State) → IsOffice known office → IsMessage known message
       → length (message_text messages message) < 2 ^ 64
       → IsStateText format limit (message_text messages message) received → IsJoin (office_state states office) received joined
@@ -129,7 +131,7 @@ module _ (format : Format) (known : KnownSets) (states : List State) (messages :
   after_delivery office message limit received joined there sent short is join =
       joined_in office (message_known known message) received joined there (message_good message sent) (what_is_read message sent short limit received is) join
 
-  -- states and messages still match what is known after a message is reloaded
+  -- after a message is reloaded, states and messages still match the knowledge (`Holds`)
   pub after_reload : (office message : ℕ) (limit : ℕ) (received : State) → IsOffice known office → IsMessage known message
       → length (message_text messages message) < 2 ^ 64
       → IsStateText format limit (message_text messages message) received
@@ -137,7 +139,7 @@ module _ (format : Format) (known : KnownSets) (states : List State) (messages :
   after_reload office message limit received there sent short is =
       with_office_holds office (message_known known message) received (message_good message sent) (what_is_read message sent short limit received is)
 
-  -- states and messages still match what is known after a horizon is set
+  -- after a horizon is set, states and messages still match the knowledge (`Holds`)
   pub after_horizon : (office day : ℕ) → IsOffice known office → IsHorizonOf format day
       → Holds format (after_reply known (horizon_event office day, done)) (set states office (raise_horizon day (office_state states office))) messages
   after_horizon office day there good =
@@ -147,7 +149,8 @@ module _ (format : Format) (known : KnownSets) (states : List State) (messages :
       (max_comm (office_known known office).horizon day)
       (raised_summary (office_known known office).files (office_known known office).horizon day (office_state states office) (office_is office there)))
 
--- at the start each office has the summary of no files, without a horizon
+-- at the start of a run, states and messages match the knowledge (`Holds`), if each office's state
+-- is the summary of no files without a horizon
 pub holds_at_first : (format : Format) (offices : ℕ) (states : List State) → length states ≡ offices → All (IsSummary [] 0) states
     → Holds format (none_known offices) states []
 holds_at_first format offices states long all = record {

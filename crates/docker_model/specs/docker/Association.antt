@@ -1,6 +1,6 @@
--- Association lines, which are the lines of a docker that say that two trains join or divide at a
--- place, or that one train becomes the other's next working. Here a day is any number, without a
--- bound; dockers are made only for days 0 to 36524.
+-- The association lines of a docker. Each says that two trains join or divide at a place, or that
+-- one train becomes the other's next working. These definitions accept any number as a day, but
+-- dockers are made only for days 0 to 36524.
 use Rattle.std.specs.Prelude.{◌≡◌, ℕ, ◌+◌, ◌-◌, Bool, ◌||◌, ◌⊎◌, ◌==◌, nat_lt, if◌then◌else◌, IsTrue, List, Option, Some, None, codes}
 use Rattle.std.specs.Str.{bytes_eq}
 use Rattle.docker_model.specs.records.Record.{columns, column}
@@ -13,9 +13,9 @@ use Rattle.docker_model.specs.docker.Event.{Event, event_day, first_event_at}
 use Rattle.docker_model.specs.docker.Choice.{TrainRuns, IsChosenAssociation, IsCancellation, group_of}
 use Rattle.docker_model.specs.docker.DockerLine.{DockerLine, line_of_association}
 
--- converts the category of an association, which has two bytes, to its occasion. `JJ` is a join,
--- `VV` a division and `NP` a next working. Any other category has no occasion, and an association
--- with such a category has no docker line
+-- converts an association's category, a field of two bytes, to its occasion. `JJ` is a join, `VV` a
+-- division and `NP` a next working. Any other category has no occasion, and an association with
+-- such a category has no docker line
 abbrev pub category_occasion : List ℕ → Option Occasion
 category_occasion category =
     if bytes_eq category (codes "JJ") then Some joining
@@ -36,8 +36,8 @@ partner_start indicator day =
     if indicator == 78 then (if nat_lt day last_day then Some (day + 1) else None)
     else (if indicator == 80 then (if nat_lt 0 day then Some (day - 1) else None) else Some day)
 
--- no train of this UID starts on the day: no schedule of the UID runs on that day, or the chosen
--- schedule is a cancellation
+-- no train of this UID starts on the day: either no schedule of the UID runs on that day, or the
+-- chosen schedule is a cancellation
 abbrev pub RunsNot : Table → List ℕ → ℕ → Type 0
 RunsNot live uid day = (key : ScheduleKey) (lines : List (List ℕ)) → ¬ TrainRuns live uid day key lines
 

@@ -1,5 +1,5 @@
--- The choice among the schedules of a UID, and among the associations of a group, on a day. Here a
--- day is any number, without a bound; dockers are made only for days 0 to 36524.
+-- The choice among the schedules of a UID, and among the associations of a group, on a day. These
+-- definitions accept any number as a day, but dockers are made only for days 0 to 36524.
 use Rattle.std.specs.Prelude.{◌≡◌, ℕ, Bool, false, ◌&&◌, nat_le, IsTrue, List, Option, Some, None}
 use Rattle.std.specs.declared.cmp.Ordering.{Ordering}
 use Rattle.std.specs.Ordering.{ordering_then, nat_cmp}
@@ -10,9 +10,9 @@ use Rattle.docker_model.specs.file.Change.{association_key, schedule_key, Associ
 use Rattle.docker_model.specs.state.Order.{IsAtMost}
 use Rattle.docker_model.specs.state.Table.{Table}
 
--- whether a day is in a range of dates, and the day's weekday is marked in the days run. The first
--- date, the last date and the days run are fields of a schedule or an association, and have six,
--- six and seven bytes
+-- whether a day is from the first date to the last date, both included, and the day's weekday is
+-- marked in the days run. The first date, the last date and the days run are fields of a schedule
+-- or an association, of six, six and seven bytes
 abbrev pub runs_within : List ℕ → List ℕ → List ℕ → ℕ → Bool
 runs_within first last days day =
     nat_le (date_number first) day && nat_le day (end_number last) && runs_on_weekday days (weekday_of day)
@@ -106,7 +106,7 @@ pub record Train : Type 0 where
   pub key : ScheduleKey
   pub lines : List (List ℕ)
 
--- this is the chosen schedule of the UID on the day, or `None` if no schedule of the UID runs on
+-- this is the UID's chosen schedule on the day, or it is `None` and no schedule of the UID runs on
 -- the day. The chosen schedule may be a cancellation
 abbrev pub IsChosenOn : Table → List ℕ → ℕ → Option Train → Type 0
 IsChosenOn live uid day None = (key : ScheduleKey) (lines : List (List ℕ)) → ¬ IsRunning live uid day key lines

@@ -16,7 +16,7 @@ pub data Detail : Type 0 where
   partner : (uid identity : List ℕ) → Detail
 
 -- one line of a docker. Most fields are printed, and the time is in half minutes. Two fields aren't
--- printed and only decide the order of lines: the train's start day and the number of its event
+-- printed and only decide the order of lines: the train's start day and the event's number
 pub record DockerLine : Type 0 where
   pub time : ℕ
   pub occasion : Occasion
@@ -119,7 +119,8 @@ occasion_rank dividing = 3
 occasion_rank next_working = 4
 occasion_rank departure = 5
 
--- the associated train's UID in an association's line, and no bytes in the line of an event
+-- the associated train's UID, which only the line of an association has. For the line of an event
+-- the result is empty
 abbrev pub associated_uid : Detail → List ℕ
 associated_uid (ends origin destination) = []
 associated_uid (partner uid identity) = uid

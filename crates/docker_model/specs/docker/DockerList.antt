@@ -1,5 +1,5 @@
--- The list of a docker: the lines of all events and associations at a place on a day. The day is
--- any number here, without a bound; dockers are made only for days 0 to 36524.
+-- The list of a docker: the lines of all events and associations at a place on a day. These
+-- definitions accept any number as a day, but dockers are made only for days 0 to 36524.
 use Rattle.std.specs.Prelude.{◌≡◌, ℕ, ◌↔◌, ◌⊎◌, List, Contains}
 use Rattle.docker_model.specs.records.Record.{columns}
 use Rattle.docker_model.specs.file.Change.{ScheduleKey}
@@ -30,6 +30,6 @@ pub record Lists (IsLine : DockerLine → Type 0) (lines : List DockerLine) : Ty
   pub members : (line : DockerLine) → Contains lines line ↔ IsLine line
 
 -- these lines are the docker of a live table for a place and a day: all event lines and association
--- lines, in order
+-- lines, in the order of docker lines
 abbrev pub IsDockerList : Table → List ℕ → ℕ → List DockerLine → Type 0
 IsDockerList live place day lines = Lists (λ line. IsEventLine live place day line ⊎ IsAssociationLine live place day line) lines

@@ -15,8 +15,8 @@ pub record Event : Type 0 where
   pub occasion : Occasion
   pub time : ℕ
 
--- every time in the schedule, each with the index of its record, counted from 0. A record has at
--- most three times
+-- all times in the schedule, each paired with the index of its record, counted from 0. A record has
+-- at most three times
 abbrev pub placed_times : List (List ℕ) → List (ℕ × (Occasion × ℕ))
 placed_times lines = flat_map (λ placed. map (λ time. (placed.0, time)) (times_of placed.1)) (enumerate_from 0 lines)
 
@@ -26,9 +26,9 @@ events_of lines =
     map (λ counted. record { number = counted.0; place = counted.1.0; occasion = counted.1.1.0; time = counted.1.1.1 })
     (enumerate_from 1 (placed_times lines))
 
--- the number of times that a schedule passes midnight up to and including the event with this
--- number. For the numbers 0 and 1 the result is 0. For a number above the last event's, every
--- midnight counts
+-- how often a schedule passes midnight up to and including the event with this number. For the
+-- numbers 0 and 1 the result is 0. For a number above the last event's number, every midnight
+-- counts
 abbrev pub falls_to : List (List ℕ) → ℕ → ℕ
 falls_to lines number = fall_count (take number (times_along lines))
 
@@ -37,7 +37,7 @@ falls_to lines number = fall_count (take number (times_along lines))
 abbrev pub event_day : ℕ → List (List ℕ) → Event → ℕ
 event_day start lines event = start + falls_to lines event.number
 
--- the record of the schedule to which this event belongs
+-- the record of this event, in the schedule with these records
 abbrev pub event_line : List (List ℕ) → Event → List ℕ
 event_line lines event = slice_index_or lines event.place []
 

@@ -43,7 +43,7 @@ pub data Act : Type 0 where
   delete : Act
   put : (body : Body) → Act
 
--- a change of a key by a record: the number of the record, the key, and the act
+-- a change that a record makes to one key: the number of the record, the key, and the act
 pub record Change : Type 0 where
   pub number : ℕ
   pub key : Key
@@ -76,7 +76,7 @@ schedule_named line = schedule_key (record {
   indicator = column 80 line;
 })
 
--- the body of a TIPLOC, from its record
+-- converts the record of a TIPLOC to the TIPLOC's body, which is columns 10 to 72
 abbrev pub tiploc_details : List ℕ → Body
 tiploc_details line = tiploc_body (columns 10 72 line)
 

@@ -1,4 +1,4 @@
--- The fault that the first bytes of a file determine, whatever bytes follow.
+-- The fault that the first bytes of a text determine. The bytes after these don't matter.
 use Rattle.std.specs.Prelude.{ℕ, ◌+◌, ◌≤◌, ◌==◌, nat_le, if◌then◌else◌, List, [], ◌∷◌, length, count_by}
 use Rattle.std.specs.List.{slice_split}
 use Rattle.docker_model.specs.file.Text.{lines_of}
@@ -18,8 +18,8 @@ abbrev pub sure_lines : List ℕ → ℕ
 sure_lines text =
     count_by (λ b. b == 10) text + (if nat_le 82 (length (last_of (slice_split (λ b. b == 10) text))) then 1 else 0)
 
--- these bytes determine this fault, which is the fault of every text that begins with these bytes:
--- the record at fault is one of the certain lines
+-- these bytes determine this fault: the record at fault is one of the certain lines. Every text
+-- that begins with these bytes has the same fault
 pub record IsFaultSoFar (limit : ℕ) (text : List ℕ) (fault : FileFault) : Type 0 where
   pub is : IsRecordFault limit (lines_of text) fault
   pub told : fault.number ≤ sure_lines text

@@ -16,7 +16,7 @@ pub data Occasion : Type 0 where
   next_working : Occasion
   departure : Occasion
 
--- a list of only one pair, this occasion with its time, or the empty list if there is no time
+-- a list with one pair, the occasion and its time, or the empty list if there is no time
 abbrev pub timed : Occasion → Option ℕ → List (Occasion × ℕ)
 timed occasion None = []
 timed occasion (Some time) = (occasion, time) ∷ []
@@ -37,12 +37,13 @@ times_by_kind _ line = []
 abbrev pub times_of : List ℕ → List (Occasion × ℕ)
 times_of line = times_by_kind (kind_of line) line
 
--- the times in a schedule's records, in order, in half minutes
+-- the times in a schedule's records, in the order of the records. Each time is in half minutes
 abbrev pub times_along : List (List ℕ) → List ℕ
 times_along lines = map (λ time. time.1) (flat_map times_of lines)
 
 -- the number of falls in a list of times. A fall is a time that is earlier than the time before it.
--- For example, 5 3 3 1 has two falls, since equal times are no fall
+-- For example, 5 3 3 1 has two falls. The second 3 isn't a fall, because it equals the time before
+-- it
 abbrev pub fall_count : List ℕ → ℕ
 fall_count [] = 0
 fall_count (time ∷ []) = 0

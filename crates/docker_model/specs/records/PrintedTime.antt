@@ -3,7 +3,7 @@ use Rattle.std.specs.Prelude.{ℕ, List, replicate, ◌+◌, ◌/◌, ◌%◌, [
 use Rattle.std.specs.Str.{bytes_eq}
 use Rattle.docker_model.specs.records.Date.{year_of, month_of, day_of_month}
 
--- this many spaces
+-- a text of `n` spaces
 abbrev pub spaces : ℕ → List ℕ
 spaces n = replicate n 32
 

@@ -1,5 +1,6 @@
--- The invariant of a run: at each point, the states and messages match what offices and messages
--- know.
+-- The invariant of a run, which holds after each event. Every state is the summary of the files
+-- that its office knows. Every message is the text of the summary of the files that its sender
+-- knew.
 use Rattle.std.specs.Prelude.{◌≡◌, ℕ, ◌≤◌, ◌↔◌, List, All, Contains, slice_index_or, [], length, filter, Bool, true, false, ⊤}
 use Rattle.std.specs.List.{AllZip, zip}
 use Rattle.docker_model.specs.file.File.{IsFile, most_records}
@@ -8,7 +9,8 @@ use Rattle.docker_model.specs.state.StateText.{Format, IsHorizonOf}
 use Rattle.docker_model.specs.run.Run.{Files, Known, KnownSets, Exchange, IsStateOf, IsMessageOf, known_sets, RunEvent}
 use Rattle.docker_model.specs.run.Run.{take_file, send_state, deliver, reload, horizon_event, Reply, done, refused}
 
--- both lists have the same files, in any order and any number of times
+-- both lists contain the same files. The order of the files doesn't matter, nor how often a file
+-- occurs
 abbrev pub HaveSameFiles : Files → Files → Type 0
 HaveSameFiles first second = (file : List (List ℕ)) → Contains first file ↔ Contains second file
 

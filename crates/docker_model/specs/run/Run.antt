@@ -1,4 +1,5 @@
--- Runs of events at several offices. The knowledge of an office is a set of files and a horizon.
+-- Runs, which are lists of events at several offices. What an office knows is a set of files and a
+-- horizon.
 use Rattle.std.specs.Prelude.{◌≡◌, ℕ, ◌<◌, max, List, [], ◌∷◌, ◌++◌, length, replicate, slice_set, slice_index_or, fold, ⊤}
 use Rattle.std.specs.List.{AllZip, zip}
 use Rattle.docker_model.specs.file.Text.{lines_of}
@@ -26,7 +27,7 @@ pub data Refusal : Type 0 where
   no_memory : Refusal
   bad_file : (fault : FileFault) → Refusal
 
--- the reply to an event: the event was done, or it was refused and has no effect
+-- the reply to an event: either the event was carried out, or it was refused and has no effect
 pub data Reply : Type 0 where
   done : Reply
   refused : (why : Refusal) → Reply
@@ -69,8 +70,8 @@ message_known known message = slice_index_or known.messages message nothing
 abbrev pub with_office : KnownSets → ℕ → Known → KnownSets
 with_office known office now = record { offices = slice_set known.offices office now; messages = known.messages }
 
--- the knowledge of all offices and messages after an event that was done. Taking a file adds the
--- file to the office's knowledge. Sending a state makes a message with the office's knowledge.
+-- the knowledge of all offices and messages after an event that was carried out. Taking a file adds
+-- the file to the office's knowledge. Sending a state makes a message with the office's knowledge.
 -- Delivering a message adds the message's knowledge to the office's knowledge, and reloading a
 -- message replaces the office's knowledge by the message's. Setting a horizon raises the office's
 -- horizon, unless that horizon is already greater
@@ -104,28 +105,29 @@ abbrev pub IsMessage : KnownSets → ℕ → Type 0
 IsMessage known message = message < length known.messages
 
 -- this reply is allowed when an office takes a file. The reply is `done` if the text is a file, and
--- the text's fault if the text isn't a file. In either case the reply may also be out of memory
+-- the text's fault if the text isn't a file. In either case the reply may instead be `refused
+-- no_memory`
 abbrev pub IsFileReply : ℕ → List ℕ → Reply → Type 0
 IsFileReply limit text done = IsFileText limit text (lines_of text)
 IsFileReply limit text (refused (bad_file fault)) = IsFileFault limit text fault
 IsFileReply limit text (refused no_memory) = ⊤
 IsFileReply limit text (refused _) = ⊥
 
--- the reply is `done`, or out of memory
+-- the reply is `done` or `refused no_memory`
 abbrev pub IsDoneOrNoMemory : Reply → Type 0
 IsDoneOrNoMemory done = ⊤
 IsDoneOrNoMemory (refused no_memory) = ⊤
 IsDoneOrNoMemory (refused _) = ⊥
 
 -- this reply is allowed for an event at the office with this number. If there is no such office,
--- the reply is `no_office`. If the office exists, `There` holds, which is the condition on its
--- reply
+-- the reply is `refused no_office`. If the office exists, the condition `There` holds
 pub record IsOfficeReply (known : KnownSets) (office : ℕ) (reply : Reply) (There : Type 0) : Type 0 where
   pub absent : ¬ IsOffice known office → reply ≡ refused no_office
   pub there : IsOffice known office → There
 
 -- this reply is allowed for an event with the message of this number. If there is no such message,
--- the reply is `no_message`. If the message exists, the reply is `done` or out of memory
+-- the reply is `refused no_message`. If the message exists, the reply is `done` or `refused
+-- no_memory`
 pub record IsMessageReply (known : KnownSets) (message : ℕ) (reply : Reply) : Type 0 where
   pub absent : ¬ IsMessage known message → reply ≡ refused no_message
   pub there : IsMessage known message → IsDoneOrNoMemory reply

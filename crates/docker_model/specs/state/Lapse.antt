@@ -41,7 +41,7 @@ abbrev pub lapse_table : ℕ → Table → Table
 lapse_table horizon table key = option_and_then (unlapsed horizon) (table key)
 
 -- this horizon refuses the day, which means that no docker is made for the day: there is a horizon,
--- and the day is earlier than three days after the horizon. For example, under horizon 100 the
--- first day allowed is 103
+-- and the day is before the third day after the horizon. For example, under horizon 100 the first
+-- day allowed is 103
 abbrev pub IsDayRefused : ℕ → ℕ → Type 0
 IsDayRefused horizon day = (0 < horizon) × (day < horizon + 3)

@@ -13,7 +13,8 @@ use Rattle.docker_model.specs.file.Change.{Body, tiploc_body, association_body, 
 use Rattle.docker_model.specs.state.Order.{bytes_cmp}
 use Rattle.docker_model.specs.state.Stamp.{Stamp, stamp_cmp}
 
--- the tag of a key, its first byte in a state's text: 1 TIPLOC, 2 association, 3 schedule
+-- the tag of a key, which is the first byte of the key in a state's text: 1 TIPLOC, 2 association,
+-- 3 schedule
 abbrev pub key_tag : Key → ℕ
 key_tag (tiploc_key code) = 1
 key_tag (association_key key) = 2
@@ -52,14 +53,14 @@ key_cmp (schedule_key a) (tiploc_key b) = Greater
 key_cmp (schedule_key a) (association_key b) = Greater
 key_cmp (schedule_key a) (schedule_key b) = schedule_key_cmp a b
 
--- the bytes of a body. For a schedule they are the concatenation of its records
+-- the bytes of a body. The bytes of a schedule are the concatenation of its records
 abbrev pub body_bytes : Body → List ℕ
 body_bytes (tiploc_body bytes) = bytes
 body_bytes (association_body line) = line
 body_bytes (schedule_body lines) = concat lines
 
--- the end number of an end date of six bytes, or the number 65535 for no end if the bytes aren't an
--- end date
+-- converts six bytes to an end number. If the bytes aren't an end date, the result is 65535, which
+-- means no end
 abbrev pub readable_end : List ℕ → ℕ
 readable_end field = if is_end_date field then end_number field else no_end_number
 
@@ -71,7 +72,7 @@ body_end (association_body line) = readable_end (columns 22 27 line)
 body_end (schedule_body lines) = readable_end (columns 16 21 (first_record lines))
 
 -- the order of bodies: by end number, then bytes, then tag. Two bodies whose lines are records
--- compare as equal only if they are the same
+-- compare as equal only if the bodies are the same
 abbrev pub body_cmp : Body → Body → Ordering
 body_cmp a b =
     ordering_then (nat_cmp (body_end a) (body_end b))
@@ -96,7 +97,7 @@ body_of lapsed = None
 body_of (put_with body) = Some body
 
 -- the order of ops: `deleted`, then `lapsed`, then puts in the order of their bodies. Two ops whose
--- lines are records compare as equal only if they are the same
+-- lines are records compare as equal only if the ops are the same
 abbrev pub op_cmp : Op → Op → Ordering
 op_cmp deleted deleted = Equal
 op_cmp deleted lapsed = Less
@@ -115,6 +116,6 @@ pub record Entry : Type 0 where
   pub op : Op
 
 -- the order of entries: by stamp, then by op. Two entries whose lines are records compare as equal
--- only if they are the same
+-- only if the entries are the same
 abbrev pub entry_cmp : Entry → Entry → Ordering
 entry_cmp a b = ordering_then (stamp_cmp a.stamp b.stamp) (op_cmp a.op b.op)

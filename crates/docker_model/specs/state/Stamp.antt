@@ -49,18 +49,19 @@ ledger_item_cmp a b =
     ordering_then (file_stamp_cmp a.stamp b.stamp)
     (ordering_then (nat_cmp a.indicator b.indicator) (bytes_cmp a.last_reference b.last_reference))
 
--- the moment of a file, from its header
+-- the moment of a file: the date and the time in its header
 abbrev pub moment_of : List (List ℕ) → Moment
 moment_of file = record {
   day = date_number_day_first (columns 23 28 (first_record file));
   minute = minute_of (columns 29 32 (first_record file));
 }
 
--- the file stamp of a file, from its header
+-- the file stamp of a file: its moment, and the current reference in its header
 abbrev pub file_stamp_of : List (List ℕ) → FileStamp
 file_stamp_of file = record { moment = moment_of file; reference = columns 33 39 (first_record file) }
 
--- the ledger item of a file, from its header
+-- the ledger item of a file: its file stamp, and the update indicator and the last reference in its
+-- header
 abbrev pub ledger_item_of : List (List ℕ) → LedgerItem
 ledger_item_of file = record {
   stamp = file_stamp_of file;

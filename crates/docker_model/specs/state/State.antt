@@ -20,7 +20,7 @@ pub record State : Type 0 where
   pub ledger : List LedgerItem
   pub entries : List (Key × Entry)
 
--- this can be the ledger item of a header: its day and minute exist, and its references and
+-- this can be the ledger item of a header: its day and minute are in range, and its references and
 -- indicator are well formed
 pub record IsGoodItem (item : LedgerItem) : Type 0 where
   pub day : IsDay item.stamp.moment.day
@@ -81,7 +81,7 @@ IsOpOf key lapsed = ⊤
 IsOpOf key (put_with body) = IsBodyOf key body
 
 -- the ledger is well formed: its items are strictly ascending, each can be the item of a header,
--- and no item is below their floor
+-- and none is below the ledger's floor
 pub record IsLedger (ledger : List LedgerItem) : Type 0 where
   pub each : All IsGoodItem ledger
   pub ascending : IsStrictlyAscending ledger_item_cmp ledger
@@ -89,8 +89,8 @@ pub record IsLedger (ledger : List LedgerItem) : Type 0 where
   pub is_floor : IsFloor ledger floor
   pub kept : All (λ item. IsKept floor item.stamp) ledger
 
--- the stamp's file is in the ledger, and its record number can be the number of a change: from 2 to
--- 4,294,967,294
+-- the stamp's file is in the ledger, and the stamp's record number can be the number of a change:
+-- from 2 to 4,294,967,294
 pub record IsStampIn (ledger : List LedgerItem) (stamp : Stamp) : Type 0 where
   pub in_ledger : Contains (map (λ (item : LedgerItem). item.stamp) ledger) stamp.file
   pub low : 2 ≤ stamp.number
@@ -127,8 +127,8 @@ pub record IsValid (state : State) : Type 0 where
 abbrev pub entry_at : State → Key → Option Entry
 entry_at state key = option_and_then (λ (entry : Key × Entry). Some entry.1) (find (λ entry. is_eq (key_cmp entry.0 key)) state.entries)
 
--- the live table of a state: the body of each key that is put. A key that is deleted or lapsed, or
--- has no entry, has no body
+-- the live table of a state: the body at each key whose entry is a put. A key has no body if its
+-- entry is a deletion or a lapse, or if it has no entry
 abbrev pub live_table : State → Key → Option Body
 live_table state key = option_and_then (λ (entry : Entry). body_of entry.op) (entry_at state key)
 
@@ -137,13 +137,13 @@ live_table state key = option_and_then (λ (entry : Entry). body_of entry.op) (e
 abbrev pub HasGoodBodies : Table → Type 0
 HasGoodBodies live = (key : Key) (body : Body) → live key ≡ Some body → IsBodyOf key body
 
--- the state with its horizon replaced by this horizon, and with its entries lapsed under this
--- horizon
+-- the state with its horizon replaced by this horizon. Each entry whose body ended before this
+-- horizon has lapsed
 abbrev pub lapse_state : ℕ → State → State
 lapse_state horizon state = record { horizon = horizon; ledger = state.ledger; entries = lapse_entries horizon state.entries }
 
--- the state after this horizon was set. Its horizon is the greater of the old and the new horizon,
--- and its entries have lapsed under that horizon
+-- the state after this horizon is set. Its horizon is the greater of the old and the new horizon,
+-- and each entry whose body ended before that horizon has lapsed
 abbrev pub raise_horizon : ℕ → State → State
 raise_horizon horizon state = lapse_state (max state.horizon horizon) state
 
@@ -160,7 +160,7 @@ pub record IsGreatestAmong (entries : List (Key × Entry)) (key : Key) (entry : 
 -- this is the join of two states: the result of merging one into the other. The join's ledger is
 -- the union of both ledgers, and for each key the join has the greater of the two entries. Ledger
 -- items and entries below the floor of the union are left out. The join's horizon is the greater of
--- the two horizons, and its entries have lapsed under that horizon
+-- the two horizons, and each entry whose body ended before that horizon has lapsed
 pub record IsJoin (first second joined : State) : Type 0 where
   pub horizon : joined.horizon ≡ max first.horizon second.horizon
   pub floor : Option FileStamp

@@ -1,5 +1,5 @@
--- The fault of bytes that aren't the text of a state in a format: the first bad part, and the
--- cause.
+-- The fault of bytes that aren't the text of a state in the given format: the first bad part, and
+-- the cause.
 use Rattle.std.specs.Prelude.{ℕ, List, ◌≤◌, ◌≡◌, ◌+◌, [], ◌∷◌, ◌++◌, slice_index, ◌≢◌, length, ◌<◌, ◌⊎◌}
 use Rattle.std.specs.Int.{w32, from_be_bytes, w16}
 use Rattle.docker_model.specs.records.Record.{IsTextOfLength}
@@ -78,8 +78,8 @@ IsBadPart format (before_entry_count horizon ledger) bytes cause = ⊥
 IsBadPart format (in_entry count state part) bytes cause = IsBadEntryPart format state part bytes cause
 IsBadPart format (at_end state) bytes cause = ⊥
 
--- this is the fault of a bad part that doesn't go past the limit. The fault's offset is the
--- beginning of the item to which the bad part belongs
+-- this is the fault of a bad part that ends within the limit. The fault's offset is the beginning
+-- of the item to which the bad part belongs
 pub record HasBadPart (format : Format) (limit : ℕ) (text : List ℕ) (fault : StateFault) : Type 0 where
   pub before : Before
   pub good : AreGood format before
@@ -128,7 +128,8 @@ pub record HasTail (format : Format) (limit : ℕ) (text : List ℕ) (fault : St
   pub cause : fault.cause ≡ has_tail
   pub end_at : fault.at ≡ length (state_text format state)
 
--- this is the fault of a text, read as a state in this format under a limit on its bytes
+-- this is the fault of a text that is read as a state in this format, if the text may have at most
+-- `limit` bytes
 abbrev pub IsStateFault : Format → ℕ → List ℕ → StateFault → Type 0
 IsStateFault format limit text fault =
     HasBadPart format limit text fault ⊎ IsLong format limit text fault ⊎ IsShort format limit text fault ⊎ HasTail format limit text fault

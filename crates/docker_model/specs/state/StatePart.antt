@@ -74,8 +74,8 @@ text_before format before = items_before format before ++ parts_before before
 abbrev pub key_width : ℕ → ℕ
 key_width tag = if tag == 1 then 7 else (if tag == 2 then 23 else 9)
 
--- the number of bytes of a body with this key. For a schedule it is 4, the bytes of its number of
--- lines
+-- the number of bytes of a body with this key. For a schedule the result is 4, the width of the
+-- number of lines
 abbrev pub body_width : Key → ℕ
 body_width (tiploc_key code) = 63
 body_width (association_key key) = 80
@@ -90,7 +90,7 @@ part_width (before_op key stamp) = 1
 part_width (before_body key stamp) = body_width key
 part_width (before_line key stamp count lines) = 80
 
--- the number of bytes of the next part; 0 at the end of the text
+-- the number of bytes of the next part. At the end of the text the result is 0
 abbrev pub width : Before → ℕ
 width before_mark = 4
 width before_horizon = 2

@@ -48,7 +48,7 @@ key_bytes (schedule_key key) = key.uid ++ to_be_bytes w16 key.runs_from ++ key.i
 abbrev pub stamp_bytes : Stamp → List ℕ
 stamp_bytes stamp = file_stamp_bytes stamp.file ++ to_be_bytes w32 stamp.number
 
--- converts a body to its bytes. The bytes of a schedule begin with its number of lines
+-- converts a body to its bytes. The bytes of a schedule begin with the number of its lines
 abbrev pub put_bytes : Body → List ℕ
 put_bytes (tiploc_body bytes) = bytes
 put_bytes (association_body line) = line
@@ -69,8 +69,8 @@ entry_bytes entry = key_tag entry.0 ∷ key_bytes entry.0 ++ stamp_bytes entry.1
 abbrev pub ledger_text : Format → ℕ → ℕ → List LedgerItem → List ℕ
 ledger_text format horizon count ledger = head_text format horizon ++ to_be_bytes w64 count ++ flat_map item_bytes ledger
 
--- the beginning of a state's text, up to the entries of this state. It has the head, the whole
--- ledger with its number of items, the number `count` of all entries, and these entries
+-- the beginning of a state's text, up to the entries of this state. This text has the head, the
+-- whole ledger with its number of items, the number `count` of all entries, and these entries
 abbrev pub entries_text : Format → ℕ → State → List ℕ
 entries_text format count state =
     ledger_text format state.horizon (length state.ledger) state.ledger ++ to_be_bytes w64 count ++ flat_map entry_bytes state.entries

@@ -8,8 +8,8 @@ use Rattle.docker_model.specs.state.Op.{Entry, entry_cmp, op_of}
 use Rattle.docker_model.specs.state.Lapse.{lapse_entry}
 use Rattle.docker_model.specs.state.State.{State, AreAscending}
 
--- this is the floor of a set of files: the file stamp of the newest full extract among them, or
--- `None` if they have no full extract
+-- this is the floor of a set of files: the file stamp of the newest full extract in the set, or
+-- `None` if the set has no full extract
 abbrev pub IsFloorOf : List (List (List ℕ)) → Option FileStamp → Type 0
 IsFloorOf files floor = IsFloor (map ledger_item_of files) floor
 
@@ -18,13 +18,13 @@ pub record IsKeptFile (files : List (List (List ℕ))) (floor : Option FileStamp
   pub among : Contains files file
   pub kept : IsKept floor (file_stamp_of file)
 
--- converts a change in a file to the entry that the change leaves at its key: the file's stamp, the
--- number of the record, and the op
+-- converts a change in a file to the entry that the change leaves at the change's key: the file's
+-- stamp, the number of the record, and the op
 abbrev pub entry_of : List (List ℕ) → Change → Entry
 entry_of file change = record { stamp = record { file = file_stamp_of file; number = change.number }; op = op_of change.act }
 
--- a change of this key leaves this entry. The change is in a file of the set that isn't older than
--- the floor
+-- a change to this key leaves this entry. The change is in a file that belongs to the set and isn't
+-- older than the floor
 pub record IsEntryOf (files : List (List (List ℕ))) (floor : Option FileStamp) (key : Key) (entry : Entry) : Type 0 where
   pub file : List (List ℕ)
   pub kept : IsKeptFile files floor file
@@ -33,8 +33,8 @@ pub record IsEntryOf (files : List (List (List ℕ))) (floor : Option FileStamp)
   pub key_is : change.key ≡ key
   pub entry_is : entry_of file change ≡ entry
 
--- this is the greatest entry that a change of this key leaves, in any file of the set that isn't
--- older than the floor
+-- this is the greatest entry that a change to this key leaves, in any file that belongs to the set
+-- and isn't older than the floor
 pub record IsGreatestEntryOf (files : List (List (List ℕ))) (floor : Option FileStamp) (key : Key) (entry : Entry) : Type 0 where
   pub is : IsEntryOf files floor key entry
   pub greatest : (other : Entry) → IsEntryOf files floor key other → IsAtMost entry_cmp other entry

@@ -186,7 +186,7 @@ op_two = inr (inr (inr (record {
       ops = All-from_recursion (λ (entry : Key × Entry). TellsOp dks_2 entry.1.op) (lapsed_entry ∷ []) (tt, tt);
     }
 
--- the end number of a schedule can be computed from its first record
+-- the end number of a schedule depends only on the schedule's first record
 end_of_line : body_end (schedule_body (f2_basic ∷ [])) ≡ 23541
 unfolding days_from_civil day_count days_of_years days_of_months
 end_of_line = refl

@@ -1,4 +1,4 @@
--- Two subjects: the test of whether a schedule calls at a place, and the indexes made from the rows
+-- Lemmas on the test of whether a schedule calls at a place, and on the indexes made from the rows
 -- of a table.
 use Rattle.std.proofs.Common.{◌≡◌, ℕ, List, [], ◌∷◌, refl, ap, sym, ◌∙◌, subst, inl, inr, ◌⊎◌, Some, None, Bool, true, false, Contains}
 use Rattle.std.specs.Prelude.{Option, ◌↔◌, filter, ◌&&◌, ◌||◌}

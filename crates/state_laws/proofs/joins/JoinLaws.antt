@@ -20,7 +20,7 @@ use Rattle.state_laws.proofs.states.ReducedMembers.{reduced_along, reduced_uniqu
 
 -- ---- a join is the reduction of both states' items and entries
 
--- a join is the reduction of both states' items and entries under its horizon
+-- a join of two states is the reduction of both states' items and entries under the join's horizon
 pub join_reduced : (a b c : State) → IsJoin a b c → IsReduced (a.ledger ++ b.ledger) (a.entries ++ b.entries) c
 join_reduced a b c is = record {
   floor = is.floor;
@@ -31,7 +31,8 @@ join_reduced a b c is = record {
   of_keys = is.entries;
 }
 
--- the reduction of both states' items and entries under the greater horizon is their join
+-- the reduction of two states' items and entries under the greater horizon is the join of the
+-- states
 pub reduced_join : (a b c : State) → c.horizon ≡ max a.horizon b.horizon → IsReduced (a.ledger ++ b.ledger) (a.entries ++ b.entries) c → IsJoin a b c
 reduced_join a b c horizon is = record {
   horizon = horizon;

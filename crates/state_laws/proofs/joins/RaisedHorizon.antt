@@ -1,5 +1,5 @@
--- Setting a horizon that isn't greater than the state's leaves the state unchanged. A horizon may
--- be set after a join instead of before the join. Without a horizon no entry lapses.
+-- Setting a horizon that isn't greater than the state's horizon leaves a valid state unchanged. A
+-- horizon may be set after a join instead of before the join. Without a horizon no entry lapses.
 use Rattle.std.proofs.Common.{◌≡◌, ℕ, ◌≤◌, List, [], ◌∷◌, Contains, subst, ap, sym, ◌∙◌, arith}
 use Rattle.std.specs.Prelude.{Option, ◌↔◌, max}
 use Rattle.std.proofs.Math.Nat.{le-max_left, max-eq_left, max-zero, zero-max}
@@ -17,7 +17,7 @@ use Rattle.state_laws.proofs.states.Lapse.{entry_twice, entry_stays, lapse_none}
 use Rattle.state_laws.proofs.states.LapsedGreatest.{lapsed_from, lapsed_to}
 use Rattle.state_laws.proofs.states.KeptEntries.{lapse_ascends, entries_stay}
 
--- ---- setting a horizon that isn't greater leaves a valid state unchanged
+-- ---- setting a horizon that isn't greater than the state's horizon leaves a valid state unchanged
 
 -- if no body ended before a horizon, the lapse under this horizon changes only the state's horizon
 pub lapsed_already : (horizon : ℕ) (state : State) → HaveLapsed horizon state.entries
@@ -34,7 +34,7 @@ pub entry_of_valid_stays : (state : State) (key : Key) (entry : Entry) → IsVal
 entry_of_valid_stays state key entry valid among =
     entry_stays state.horizon entry (All-contains (λ (e : Keyed). HasNotToLapse state.horizon e.1.op) state.entries (key, entry) valid.have_lapsed among)
 
--- setting a horizon that isn't greater than the state's horizon leaves the state unchanged
+-- setting a horizon that isn't greater than the state's horizon leaves a valid state unchanged
 pub not_greater : (horizon : ℕ) (state : State) → IsValid state → horizon ≤ state.horizon → raise_horizon horizon state ≡ state
 not_greater horizon state valid low = ap (λ h. lapse_state h state) (max-eq_left low) ∙ lapsed_already state.horizon state valid.have_lapsed
 
@@ -45,8 +45,8 @@ set_last state valid =
 
 -- ---- a horizon may be set after a join instead of before
 
--- joining with a state without its horizon, and then setting this horizon, equals joining with the
--- state
+-- joining with a state whose horizon has been removed, and then setting this horizon, equals
+-- joining with the state
 pub join_then_set : (a b c : State) → IsJoin a (without_horizon b) c → IsJoin a b (raise_horizon b.horizon c)
 join_then_set a b c is = record {
   horizon = horizons;
@@ -88,7 +88,7 @@ none_to_lapse entries = All-from_recursion (λ (entry : Keyed). HasNotToLapse 0 
     each (x ∷ xs) = (none_has_to x.1.op, each xs)
 
 -- this state is the summary of the files without a horizon: each key has its greatest entry, which
--- hasn't lapsed under a horizon
+-- no lapse has changed
 pub record IsPlainSummary (files : List (List (List ℕ))) (state : State) : Type 0 where
   pub no_horizon : state.horizon ≡ 0
   pub floor : Option FileStamp

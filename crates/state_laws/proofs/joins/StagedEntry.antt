@@ -75,7 +75,8 @@ nothing_staged own floor = record {
 
 module _ (own : State) (floor : Option FileStamp) (offered staged : List (Key × Entry)) (key : Key) (entry : Entry)
     (stages : IsStaged own floor offered staged) where
-  -- an offered entry that is to be staged is appended to the staged entries
+  -- if an offered entry is to be staged, the staged entries after the offer are the earlier ones
+  -- with this entry appended
   pub one_staged_more : ((other : Key × Entry) → Contains staged other → key_cmp other.0 key ≡ Less) → IsToStage own floor key entry
       → IsStaged own floor (offered ++ (key, entry) ∷ []) (staged ++ (key, entry) ∷ [])
   one_staged_more above to = record {
@@ -102,7 +103,7 @@ module _ (own : State) (floor : Option FileStamp) (offered staged : List (Key ×
       back k e to_stage (inl here) = Contains-append_left staged ((key, entry) ∷ []) (k, e) ((stages.members k e).1 (here, to_stage))
       back k e to_stage (inr here) = Contains-append_right staged ((key, entry) ∷ []) (k, e) here
 
-  -- an offered entry that isn't to be staged leaves the staged entries unchanged
+  -- if an offered entry isn't to be staged, the offer leaves the staged entries unchanged
   pub one_left_out : ¬ IsToStage own floor key entry → IsStaged own floor (offered ++ (key, entry) ∷ []) staged
   one_left_out out = record {
     ascending = stages.ascending;

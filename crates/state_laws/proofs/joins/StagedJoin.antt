@@ -25,7 +25,7 @@ use Rattle.state_laws.proofs.states.ExactEntries.{exact_entry}
 stamp_up : (low high : Entry) → IsAtMost entry_cmp low high → IsAtMost file_stamp_cmp low.stamp.file high.stamp.file
 stamp_up low high up greater = up (λ i. ordering_then (ordering_then (greater i) (nat_cmp low.stamp.number high.stamp.number)) (op_cmp low.op high.op))
 
--- if the lower of two entries isn't below the floor, the greater entry isn't below it either
+-- if the lower of two entries isn't below the floor, the greater entry isn't below the floor either
 pub kept_up : (floor : Option FileStamp) (low high : Entry) → IsAtMost entry_cmp low high → IsKept floor low.stamp.file → IsKept floor high.stamp.file
 kept_up None low high up kept = tt
 kept_up (Some floor) low high up kept = at_most_trans file_stamp_total floor low.stamp.file high.stamp.file kept (stamp_up low high up)

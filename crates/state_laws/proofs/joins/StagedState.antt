@@ -1,5 +1,5 @@
--- The received ledger items and the staged entries are a valid state. The join with this state
--- equals the state after the commit.
+-- The state with the received ledger items and the staged entries is valid. The join with this
+-- state equals the state after the commit.
 use Rattle.std.proofs.Common.{◌≡◌, List, ◌++◌, ◌∙◌, ap, subst, arith, inl, inr, ◌⊎◌, Contains}
 use Rattle.std.specs.Prelude.{Option}
 use Rattle.std.specs.Ordering.{ordering_reverse}
@@ -18,7 +18,8 @@ use Rattle.cif_laws.proofs.orders.AtMost.{at_most_itself, at_most_below}
 use Rattle.state_laws.proofs.joins.RaisedHorizon.{none_to_lapse}
 use Rattle.state_laws.proofs.states.OneJoin.{floor_unique}
 
--- the ledger items of a valid state and the staged entries are a valid state
+-- the state with the ledger items of a valid received state, and with the entries staged from that
+-- state, is valid
 pub staged_is_valid : (own received : State) (floor : Option FileStamp) (staged : List (Key × Entry)) → IsValid received
     → IsStaged own floor received.entries staged
     → IsValid (staged_state received.ledger staged)

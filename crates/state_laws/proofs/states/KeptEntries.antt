@@ -1,5 +1,5 @@
--- Entries under a floor and a horizon. If an entry isn't below the floor, no greater entry is below
--- the floor. The lapse preserves the key order of entries.
+-- Lemmas on entries under a floor and a horizon. If an entry isn't below the floor, no greater
+-- entry is below the floor. The lapse preserves the key order of entries.
 use Rattle.std.proofs.Common.{◌≡◌, ℕ, ◌<◌, ◌≤◌, List, [], ◌∷◌, subst, inl, inr, ◌⊎◌, refl, sym, ◌∙◌, Some, None}
 use Rattle.std.specs.Prelude.{Option}
 use Rattle.std.specs.List.{AllByRecursion}
@@ -16,7 +16,7 @@ use Rattle.cif_laws.proofs.orders.AtMost.{at_most_trans, level, at_most_itself}
 use Rattle.state_laws.proofs.states.PlainTable.{Keyed}
 use Rattle.state_laws.proofs.states.Lapse.{below_or, put_lapses, put_stays, entry_stays}
 
--- if the lower of two entries isn't below the floor, the greater entry isn't below it either
+-- if the lower of two entries isn't below the floor, the greater entry isn't below the floor either
 pub kept_up : (floor : Option FileStamp) (low high : Entry) → IsAtMost entry_cmp low high → IsKept floor low.stamp.file → IsKept floor high.stamp.file
 kept_up None low high most kept = tt
 kept_up (Some floor) low high most kept =

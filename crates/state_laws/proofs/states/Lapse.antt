@@ -24,11 +24,11 @@ below_or horizon body = by (nat_lt (body_end body) horizon) refl
     by true h = inl (ltb-true (body_end body) horizon h)
     by false h = inr (ltb-false (body_end body) horizon h)
 
--- a put of a body that ended before the horizon lapses
+-- if a body ended before the horizon, a put of this body lapses
 pub put_lapses : (horizon : ℕ) (body : Body) → body_end body < horizon → lapse horizon (put_with body) ≡ lapsed
 put_lapses horizon body below = λ i. cond (lt-ltb (body_end body) horizon below i) lapsed (put_with body)
 
--- the lapse leaves a put of a body that didn't end before the horizon unchanged
+-- if a body didn't end before the horizon, the lapse leaves a put of this body unchanged
 pub put_stays : (horizon : ℕ) (body : Body) → horizon ≤ body_end body → lapse horizon (put_with body) ≡ put_with body
 put_stays horizon body above = λ i. cond (le-ltb (body_end body) horizon above i) lapsed (put_with body)
 

@@ -1,4 +1,6 @@
--- If the files of a set have distinct moments, the live table of its summary is its plain table.
+-- Lemmas on the plain table of a set of files with distinct moments. At each key, the table has the
+-- body of the last entry that the files' changes leave. Only the last full extract and the files
+-- after it count.
 use Rattle.std.proofs.Common.{cond, ◌≡◌, List, Contains, ◌⊎◌, ◌∷◌, subst, inl, inr, ap, sym, ◌∙◌, Bool, true, false, [], refl, ℕ, map, ◌++◌, ◌<◌, Some, None}
 use Rattle.std.specs.Prelude.{fold, ◌==◌, ◌||◌, Option, ◌↔◌, find, option_and_then}
 use Rattle.std.specs.List.{AllByRecursion, flat_map, list_any}
@@ -30,7 +32,8 @@ use Rattle.cif_laws.proofs.orders.AtMost.{less_not_greater, at_most_trans}
 abbrev pub Keyed : Type 0
 Keyed = Key × Entry
 
--- the table after one more entry: the key of the entry has the entry's body
+-- the table after one more entry: at the entry's key it has the body that the entry's op puts, if
+-- any
 abbrev pub step : Table → Keyed → Table
 step table entry key = cond (is_eq (key_cmp entry.0 key)) (body_of entry.1.op) (table key)
 
@@ -132,7 +135,7 @@ within_file file first second (inl below) same =
     (λ i. ordering_then (tied_itself file_stamp_total (file_stamp_of file) i) (number_below first.number second.number below i))
 within_file file first second (inr apart) same = absurd (apart same)
 
--- the entry is from a file with a later moment
+-- the moment of the entry's file is after the moment of this file
 abbrev IsLaterThan : List (List ℕ) → Keyed → Type 0
 IsLaterThan file entry = IsBelow moment_cmp (moment_of file) entry.1.stamp.file.moment
 
@@ -152,7 +155,8 @@ across_files file change second below same =
     λ i. ordering_then (ordering_then (below i) (bytes_cmp (file_stamp_of file).reference second.1.stamp.file.reference))
     (nat_cmp change.number second.1.stamp.number)
 
--- if files are in moment order, the entries of their changes are in the order of their stamps
+-- if files are in moment order, then of two entries of one key, the later entry has the greater
+-- stamp
 pub entries_ascend : (files : List (List (List ℕ))) → IsStrictlyAscending (on moment_of moment_cmp) files → AllLater Ascends (entries_along files)
 entries_ascend [] up = tt
 entries_ascend (file ∷ files) up =
@@ -413,7 +417,7 @@ one_per_key (entry ∷ entries) up key first second in_first in_second =
     by rest (inr inside) (inl f) = absurd (not_both_here first second f inside)
     by rest (inr inside) (inr within) = rest inside within
 
--- at a key with an entry, the live table has the body of that entry
+-- at a key with an entry, the live table has the body that the entry puts, if any
 pub live_at : (state : State) (key : Key) (pair : Keyed) → find (λ entry. is_eq (key_cmp entry.0 key)) state.entries ≡ Some pair
     → live_table state key ≡ body_of pair.1.op
 live_at state key pair h = λ i. option_and_then (λ (entry : Entry). body_of entry.op) (option_and_then (λ (entry : Keyed). Some entry.1) (h i))

@@ -1,7 +1,7 @@
 -- The reduction of ledger items and entries under a horizon. It has the items that aren't below the
--- floor of all items, and the greatest entry of each key if that entry isn't below the floor. All
--- its entries have lapsed under the horizon. A reduction in two steps equals the reduction in one
--- step, if the horizon of the first step is at most the horizon of the second.
+-- floor of all items, and the greatest entry of each key if that entry isn't below the floor. Each
+-- entry whose body ended before the horizon has lapsed. A reduction in two steps equals the
+-- reduction in one step, if the horizon of the first step is at most the horizon of the second.
 use Rattle.std.proofs.Common.{◌≡◌, ℕ, ◌≤◌, List, ◌++◌, Contains, subst, inl, inr, ◌⊎◌, ap, sym, ◌∙◌, Some, None}
 use Rattle.std.specs.Prelude.{Option, ◌↔◌}
 use Rattle.std.proofs.Math.Nat.{max-eq_left}
@@ -19,15 +19,15 @@ use Rattle.state_laws.proofs.states.GreatestEntry.{NoEntry, GreatestEntry, great
 use Rattle.state_laws.proofs.states.Lapse.{lapse_entry_keeps_order, entry_twice, entry_stays}
 use Rattle.state_laws.proofs.states.KeptEntries.{kept_up, lapse_below, level_lapsed, lapses_or_not}
 
--- this is the entry of the key in the reduction: the greatest of the key's entries, if that entry
--- isn't below the floor, lapsed under the horizon
+-- this is the entry of the key in the reduction: the greatest of the key's entries after its lapse
+-- under the horizon, if that entry isn't below the floor
 abbrev pub KeptOf : List Keyed → Option FileStamp → ℕ → Key → Entry → Type 0
 KeptOf entries floor horizon key entry =
     (greatest : Entry) × IsGreatestAmong entries key greatest × IsKept floor greatest.stamp.file × (lapse_entry horizon greatest ≡ entry)
 
 -- the state is the reduction of these items and entries under its horizon. The state has the items
--- that aren't below their floor, and the greatest entry of each key after its lapse, unless that
--- entry is below the floor
+-- that aren't below the floor of all items, and the greatest entry of each key after its lapse,
+-- unless that entry is below the floor
 pub record IsReduced (items : List LedgerItem) (entries : List Keyed) (state : State) : Type 0 where
   pub floor : Option FileStamp
   pub is_floor : IsFloor items floor
@@ -118,8 +118,8 @@ module _ (items more : List LedgerItem) (entries others : List Keyed) (once twic
             (subst (λ e. IsAtMost entry_cmp e told.0) told.3 (lapse_below once.horizon told.0))
             (is.greatest told.0 (Contains-append_left entries others (key, told.0) told.1.among))
 
-    -- if the greatest of all entries isn't below the floor, it is among the other entries, or the
-    -- result of the first step contains its lapse
+    -- if the greatest of all entries isn't below the floor, either it is among the other entries,
+    -- or its lapse is in the result of the first step
     stands : (best : Entry) → IsGreatestAmong (entries ++ others) key best → IsKept second.floor best.stamp.file
         → Contains once.entries (key, lapse_entry once.horizon best) ⊎ Contains others (key, best)
     stands best is kept = by (Contains-append_cases entries others (key, best) is.among)
@@ -140,8 +140,8 @@ module _ (items more : List LedgerItem) (entries others : List Keyed) (once twic
         → IsKept second.floor best.stamp.file → IsKept second.floor top.stamp.file → lapse_entry twice.horizon best ≡ lapse_entry twice.horizon top
     same_lapse best top is_best is_top kept_best kept_top = by (stands best is_best kept_best)
       where
-        -- if the second step contains the greatest of all entries itself, both are equal after the
-        -- lapse
+        -- if the second step contains the greatest of all entries itself, the greatest entry of the
+        -- second step has the same lapse
         itself : Contains (once.entries ++ others) (key, best) → lapse_entry twice.horizon best ≡ lapse_entry twice.horizon top
         itself there =
             one_per_key twice.entries second.entries_ascend key (lapse_entry twice.horizon best) (lapse_entry twice.horizon top)
@@ -154,8 +154,8 @@ module _ (items more : List LedgerItem) (entries others : List Keyed) (once twic
             ))
             ((second.of_keys key (lapse_entry twice.horizon top)).1 (top, is_top, kept_top, λ i. lapse_entry twice.horizon top))
 
-        -- if the second step contains the lapse of the greatest of all entries, both are equal
-        -- after the lapse
+        -- if the second step contains the lapse of the greatest of all entries, the greatest entry
+        -- of the second step has the same lapse
         between : lapse once.horizon best.op ≡ lapsed → Contains once.entries (key, lapse_entry once.horizon best)
             → lapse_entry twice.horizon best ≡ lapse_entry twice.horizon top
         between has there =

@@ -85,7 +85,7 @@ entries_of_union files others entry = (
     by file inside (inr here) =
         Contains-append_left (entries_along others) (entries_along files) entry (flat_map-Contains entries_of others file entry here inside)
 
--- ---- the laws
+-- ---- the laws of summaries
 
 -- a set of files has at most one summary under a horizon, whatever the order of the list
 pub summary_unique : (files others : List File) → SameMembers files others → (horizon : ℕ) (s t : State) → IsSummary files horizon s
@@ -97,7 +97,8 @@ summary_unique files others same horizon s t is_s is_t =
     (summary_reduced files horizon s is_s))
     (summary_reduced others horizon t is_t)
 
--- the join of two summaries is the summary of the union under the greater horizon
+-- the join of two summaries is the summary of both sets of files together, under the greater of the
+-- two horizons
 pub join_is_summary : (files others : List File) (g h : ℕ) (one two joined : State) → IsSummary files g one → IsSummary others h two → IsJoin one two joined
     → IsSummary (files ++ others) (max g h) joined
 join_is_summary files others g h one two joined of_files of_others is =
@@ -113,8 +114,8 @@ join_is_summary files others g h one two joined of_files of_others is =
     (entries_along (files ++ others))
     (items_of_union files others) (entries_of_union files others) joined second)
 
--- the lapse of a summary under a horizon that is at least its own horizon is the summary under that
--- horizon
+-- the lapse of a summary under a horizon that is at least the summary's horizon is the summary
+-- under that horizon
 pub lapsed_summary : (files : List File) (low high : ℕ) (state : State) → low ≤ high → IsSummary files low state → IsSummary files high (lapse_state high state)
 lapsed_summary files low high state rises is = record {
   horizon_is = λ i. high;

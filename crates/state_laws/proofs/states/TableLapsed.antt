@@ -22,7 +22,7 @@ body_gone horizon body below = λ i. cond (lt-ltb (body_end body) horizon below 
 pub body_stays : (horizon : ℕ) (body : Body) → horizon ≤ body_end body → unlapsed horizon body ≡ Some body
 body_stays horizon body above = λ i. cond (le-ltb (body_end body) horizon above i) None (Some body)
 
--- a body in a table that didn't end before the horizon is still in the table after the lapse
+-- if a body in a table didn't end before the horizon, it is still in the table after the lapse
 pub live_stays : (horizon : ℕ) (table : Table) (key : Key) (body : Body) → table key ≡ Some body → horizon ≤ body_end body
     → lapse_table horizon table key ≡ Some body
 live_stays horizon table key body is above = ap (option_and_then (unlapsed horizon)) is ∙ body_stays horizon body above
@@ -39,7 +39,7 @@ was_live horizon table key body is = by (table key) is
         which (inl below) = let gone = body_gone horizon here below in cc
         which (inr above) = sym (body_stays horizon here above) ∙ some
 
--- ---- the live table of a state after the lapse is the lapse of its live table
+-- ---- the live table of a state after the lapse is the lapse of the state's live table
 
 -- the body of an op after the lapse is the op's body, unless that body ended before the horizon
 pub body_lapses : (horizon : ℕ) (op : Op) → body_of (lapse horizon op) ≡ option_and_then (unlapsed horizon) (body_of op)

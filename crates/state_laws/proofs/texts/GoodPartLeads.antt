@@ -21,7 +21,7 @@ use Rattle.state_laws.proofs.texts.StateReadBack.{read_16, item_read, item_width
 use Rattle.state_laws.proofs.texts.TextStages.{Leads, one_step, then_leads}
 use Rattle.state_laws.proofs.texts.TextsBefore.{after_items_text, read_64, after_entries_text, entry_done_text, after_lines_text, read_32}
 
--- after the mark, a reader reaches the number of items, or the horizon in the format with a horizon
+-- after the mark, a reader reaches the number of items in the format DKS1, and the horizon in DKS2
 step_mark_1 : Leads dks_1 before_mark (before_ledger_count 0)
 step_mark_1 = one_step dks_1 before_mark (before_ledger_count 0) (mark dks_1) refl (omega arith) (λ cause bad. bad.1 refl) refl refl
 
@@ -41,25 +41,26 @@ pub horizon_leads : (format : Format) → AreGood format before_horizon → Lead
 horizon_leads dks_1 good = absurd good
 horizon_leads dks_2 good = step_mark_2
 
--- after the mark and the horizon, a reader reaches the number of items
+-- after the head of the text, a reader reaches the number of items
 pub head_leads : (format : Format) (horizon : ℕ) → IsHorizonOf format horizon → Leads format before_mark (before_ledger_count horizon)
 head_leads dks_1 horizon none = subst (λ h. Leads dks_1 before_mark (before_ledger_count h)) (sym none) step_mark_1
 head_leads dks_2 horizon day = then_leads dks_2 before_mark before_horizon (before_ledger_count horizon) step_mark_2 (step_horizon horizon day)
 
--- the text before the first item ends with the number of items
+-- the text up to the point after the number of items ends with this number
 pub count_of_ledger : (format : Format) (horizon count : ℕ) → text_before format (after_items horizon count []) ≡ text_before format
     (before_ledger_count horizon) ++ to_be_bytes w64 count
 count_of_ledger format horizon count =
     after_items_text format horizon count [] (omega arith) ∙ append-nil (head_text format horizon ++ to_be_bytes w64 count)
     ∙ ap (λ xs. xs ++ to_be_bytes w64 count) (sym (append-nil (head_text format horizon)))
 
--- after the number of items, a reader reaches the first item
+-- after the number of items, a reader reaches the first item, or the number of entries if there are
+-- no items
 pub step_ledger_count : (format : Format) (horizon : ℕ) (count : ℕ) → count < 2 ^ 64 → Leads format (before_ledger_count horizon) (after_items horizon count [])
 step_ledger_count format horizon count fits =
     one_step format (before_ledger_count horizon) (after_items horizon count []) (to_be_bytes w64 count) refl (omega arith) (λ cause bad. bad)
     (ap (λ n. after_items horizon n []) (read_64 count fits)) (count_of_ledger format horizon count)
 
--- the text before the next item ends with the bytes of the item before it
+-- the text up to the point after an item ends with the bytes of the item
 pub item_text : (format : Format) (horizon : ℕ) → (count : ℕ) (ledger : List LedgerItem) (item : LedgerItem) → length ledger < count
     → text_before format (after_items horizon count (ledger ++ item ∷ [])) ≡ text_before format (before_item horizon count ledger) ++ item_bytes item
 item_text format horizon count ledger item below =
@@ -88,7 +89,8 @@ step_item format horizon count ledger item below good above floor =
     (ap (λ it. after_items horizon count (ledger ++ it ∷ [])) (item_read item good))
     (item_text format horizon count ledger item below)
 
--- after the number of entries, a reader reaches the first entry
+-- after the number of entries, a reader reaches the first entry, or the end of the text if there
+-- are no entries
 pub step_entry_count : (format : Format) (horizon : ℕ) → (count : ℕ) (ledger : List LedgerItem) → count < 2 ^ 64
     → Leads format (before_entry_count horizon ledger) (after_entries count (record { horizon = horizon; ledger = ledger; entries = [] }))
 step_entry_count format horizon count ledger fits =
@@ -101,7 +103,8 @@ step_entry_count format horizon count ledger fits =
     ∙ ap (λ xs. xs ++ to_be_bytes w64 count) (sym (append-nil (ledger_text format horizon (length ledger) ledger)))
     )
 
--- the text read after one more part of an entry is the text read before, followed by this part
+-- the text up to the point after one more part of an entry is the earlier text, followed by this
+-- part
 pub part_more : (format : Format) → (count : ℕ) (state : State) (old part : List ℕ) → entries_text format count state ++ (old ++ part) ≡
     (entries_text format count state ++ old) ++ part
 part_more format count state old part = sym (append_assoc (entries_text format count state) old part)
@@ -158,7 +161,7 @@ two_told : (format : Format) → TellsOp format lapsed → IsOpByte format 2
 two_told dks_1 told = absurd told
 two_told dks_2 told = inr (inr refl)
 
--- after a deletion, a reader reaches the part after its entry
+-- after a deletion, a reader reaches the part after the deletion's entry
 pub step_deleted : (format : Format) → (count : ℕ) (state : State) (key : Key) (stamp : Stamp) → length state.entries < count
     → Leads format (in_entry count state (before_op key stamp)) (after_entries count (with_entry state key stamp deleted))
 step_deleted format count state key stamp below =
@@ -166,7 +169,7 @@ step_deleted format count state key stamp below =
     (λ cause bad. bad.1 (zero_told format)) refl
     (entry_done_text format count state key stamp deleted below ∙ part_more format count state (key_text key ++ stamp_bytes stamp) (0 ∷ []))
 
--- in the format that has lapsed ops, a reader reaches the part after the entry of a lapsed op
+-- after a lapsed op, in a format that has such ops, a reader reaches the part after the op's entry
 pub step_lapsed : (format : Format) → (count : ℕ) (state : State) (key : Key) (stamp : Stamp) → TellsOp format lapsed → length state.entries < count
     → Leads format (in_entry count state (before_op key stamp)) (after_entries count (with_entry state key stamp lapsed))
 step_lapsed format count state key stamp told below =
@@ -182,7 +185,7 @@ step_put format count state key stamp =
     (λ cause bad. bad.1 (one_told format)) refl
     (part_more format count state (key_text key ++ stamp_bytes stamp) (1 ∷ []))
 
--- the text after an entry that puts a body ends with that body
+-- the text up to the point after an entry that puts a body ends with the bytes of this body
 pub body_text : (format : Format) → (count : ℕ) (state : State) (key : Key) (stamp : Stamp) (body : Body) → length state.entries < count
     → text_before format (after_entries count (with_entry state key stamp (put_with body))) ≡
     (entries_text format count state ++ (key_text key ++ stamp_bytes stamp ++ 1 ∷ [])) ++ put_bytes body
@@ -191,7 +194,7 @@ body_text format count state key stamp body below =
     ∙ ap (λ xs. entries_text format count state ++ xs) (sym (append_assoc (key_text key ++ stamp_bytes stamp) (1 ∷ []) (put_bytes body)))
     ∙ part_more format count state (key_text key ++ stamp_bytes stamp ++ 1 ∷ []) (put_bytes body)
 
--- after the body of a TIPLOC, a reader reaches the part after its entry
+-- after the body of a TIPLOC, a reader reaches the part after the TIPLOC's entry
 pub step_tiploc : (format : Format) → (count : ℕ) (state : State) (code : List ℕ) (stamp : Stamp) (bytes : List ℕ) → length state.entries < count
     → IsTextOfLength 63 bytes
     → Leads format (in_entry count state (before_body (tiploc_key code) stamp))
@@ -201,7 +204,8 @@ step_tiploc format count state code stamp bytes below is =
     (after_entries count (with_entry state (tiploc_key code) stamp (put_with (tiploc_body bytes)))) bytes is.0 (omega arith)
     (λ cause bad. bad.1 is) refl (body_text format count state (tiploc_key code) stamp (tiploc_body bytes) below)
 
--- after the body of an association that hasn't lapsed, a reader reaches the part after its entry
+-- after the body of an association that doesn't have to lapse, a reader reaches the part after the
+-- association's entry
 pub step_association : (format : Format) → (count : ℕ) (state : State) (key : _) (stamp : Stamp) (line : List ℕ) → length state.entries < count
     → IsAssociationOf key line → state.horizon ≤ body_end (association_body line)
     → Leads format (in_entry count state (before_body (association_key key) stamp))
@@ -211,7 +215,7 @@ step_association format count state key stamp line below is stays =
     (after_entries count (with_entry state (association_key key) stamp (put_with (association_body line)))) line is.is_record.0 (omega arith)
     (λ cause bad. bad.1 (is, stays)) refl (body_text format count state (association_key key) stamp (association_body line) below)
 
--- the text before the first line of a schedule ends with the number of lines
+-- the text up to the point after a schedule's number of lines ends with this number
 pub count_text : (format : Format) → (count : ℕ) (state : State) (key : ScheduleKey) (stamp : Stamp) (n : ℕ) → length state.entries < count
     → text_before format (after_lines count state key stamp n []) ≡ text_before format
     (in_entry count state (before_body (schedule_key key) stamp)) ++ to_be_bytes w32 n
@@ -236,7 +240,7 @@ concat-append : (xs ys : List (List ℕ)) → concat (xs ++ ys) ≡ concat xs ++
 concat-append [] ys = refl
 concat-append (x ∷ xs) ys = ap (λ zs. x ++ zs) (concat-append xs ys) ∙ sym (append_assoc x (concat xs) (concat ys))
 
--- the text after one more line of a schedule ends with that line
+-- the text up to the point after a line of a schedule ends with this line
 pub line_text : (format : Format) → (count : ℕ) (state : State) (key : ScheduleKey) (stamp : Stamp) (n : ℕ) (lines : List (List ℕ)) (line : List ℕ)
     → length state.entries < count → length lines < n
     → text_before format (after_lines count state key stamp n (lines ++ line ∷ [])) ≡ text_before format

@@ -1,4 +1,5 @@
--- A part of a state's text is bad, or a reader reaches the next part after it.
+-- A part of a state's text that has the right number of bytes either is bad for some cause or is
+-- good.
 use Rattle.std.proofs.Common.{◌≡◌, ℕ, ◌-◌, ◌<◌, ◌≤◌, ◌^◌, List, [], ◌∷◌, ◌++◌, length, refl, ap, sym, ◌∙◌, subst}
 use Rattle.std.proofs.Common.{inl, inr, ◌⊎◌, arith, true, false, cond, nat_le, append-nil, length-append}
 use Rattle.std.specs.Prelude.{slice_index}
@@ -111,7 +112,8 @@ judge_entry_count format horizon ledger bytes good size small =
 abbrev pub StateHere : (format : Format) → ℕ → State → Type 0
 StateHere format count state = IsToldState format state × (length state.ledger < 2 ^ 64) × (length state.entries < count) × (count < 2 ^ 64)
 
--- after a good entry all parts read are good
+-- if all parts before an entry are good, and the entry is good, all parts up to the end of the
+-- entry are good
 pub entry_done : (format : Format) → (count : ℕ) (state : State) (key : Key) (stamp : Stamp) (op : Op) → StateHere format count state
     → IsStampHere state key stamp → IsOpOf key op → HasNotToLapse state.horizon op → TellsOp format op
     → AreGood format (after_entries count (with_entry state key stamp op))
@@ -121,7 +123,8 @@ entry_done format count state key stamp op told here of stays tells =
     good_after_entries format count (with_entry state key stamp op) (one_entry_more format state key stamp op told.0 here of stays tells) told.1
     (omega arith) told.3
 
--- after good lines of a schedule all parts read are good
+-- if all parts before the lines of a schedule are good, and these lines are good, all parts up to
+-- the end of these lines are good
 pub good_after_lines : (format : Format) → (count : ℕ) (state : State) (key : ScheduleKey) (stamp : Stamp) (n : ℕ) (lines : List (List ℕ))
     → StateHere format count state → IsStampHere state (schedule_key key) stamp
     → IsLineCount n → length lines ≤ n → (lines ≡ []) ⊎ (AreLinesUpTo key n lines × HaveNotToLapse state lines)

@@ -101,7 +101,8 @@ lines_front key n front rest some are within =
     by [] low whole done = subst IsSchedule (append-nil front) (done (ap length (append-nil front) ∙ whole))
     by (line ∷ more) low whole done = let size = length-append front (line ∷ more) in absurd (omega arith)
 
--- if the lines of a schedule haven't lapsed, a prefix that isn't empty hasn't lapsed
+-- if the lines of a schedule don't have to lapse, a prefix of these lines that isn't empty doesn't
+-- have to lapse either
 front_stays : (state : State) (front rest : List (List ℕ)) → 0 < length front → HaveNotToLapse state (front ++ rest) → HaveNotToLapse state front
 front_stays state front rest some stays = subst (λ line. state.horizon ≤ readable_end (columns 16 21 line)) (first_of_front front rest some) stays
 
@@ -224,7 +225,7 @@ entries_lead format horizon count ledger before (entry ∷ later) is good up wit
     then_leads format _ _ _ (entry_leads format count (state_of horizon ledger before) entry.0 entry.1.stamp entry.1.op (omega arith) is good.0 above)
     (then_leads format _ _ _ rest (no_step format _ _ (ap (λ entries. after_entries count (state_of horizon ledger entries)) grouped)))
 
--- from the beginning of a text, a reader reaches the point after any items of a ledger
+-- from the beginning of a text, a reader reaches the point after the first items of the ledger
 ledger_leads : (format : Format) (horizon : ℕ) → (count : ℕ) (ledger : List LedgerItem) → IsHorizonOf format horizon → IsLedger ledger → count < 2 ^ 64
     → length ledger ≤ count → Leads format before_mark (after_items horizon count ledger)
 ledger_leads format horizon count ledger is_horizon is fits within =
@@ -237,7 +238,8 @@ entry_count_leads format horizon ledger is_horizon is fits =
     then_leads format _ _ _ (ledger_leads format horizon (length ledger) ledger is_horizon is fits (omega arith))
     (no_step format _ _ (all_items horizon ledger))
 
--- the format can hold entries that are good, haven't lapsed, and have only ops of the format
+-- the format can hold entries that are good, don't have to lapse, and have only ops that the format
+-- can hold
 told_entries : (format : Format) (horizon : ℕ) (ledger : List LedgerItem) (entries : List (Key × Entry)) → AllByRecursion (IsGoodEntry ledger) entries
     → AllByRecursion (λ (entry : Key × Entry). HasNotToLapse horizon entry.1.op) entries
     → AllByRecursion (λ (entry : Key × Entry). TellsOp format entry.1.op) entries

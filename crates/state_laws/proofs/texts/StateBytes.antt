@@ -1,4 +1,4 @@
--- Encoding is inverse to decoding, for bytes of the right number.
+-- Encoding is inverse to decoding, if the number of bytes is right.
 use Rattle.std.proofs.Common.{◌≡◌, ℕ, zero, suc, ◌<◌, ◌^◌, List, [], ◌∷◌, ◌++◌, length, take, drop, get_or, refl, ap, sym, subst, inl, inr, arith}
 use Rattle.std.specs.Prelude.{slice_index, slice_range}
 use Rattle.std.specs.List.{AllByRecursion}
@@ -40,11 +40,11 @@ cells_are (suc n) (x ∷ xs) size = ap (λ rest. x ∷ rest) (cells_are n xs (om
 two_bytes : (a b : ℕ) → a < 256 → b < 256 → to_be_bytes w16 (from_be_bytes w16 (a ∷ b ∷ [])) ≡ a ∷ b ∷ []
 two_bytes a b low high = be_bytes_2 (a ∷ b ∷ []) _ refl (small_at (a ∷ b ∷ []) (low, (high, tt))) refl
 
--- four bytes, decoded as a number and encoded again, are the same
+-- decoding four bytes as a number, and encoding the number again, gives the same bytes
 pub four_bytes : (bytes : List ℕ) → length bytes ≡ 4 → AreBytes bytes → to_be_bytes w32 (from_be_bytes w32 bytes) ≡ bytes
 four_bytes bytes size small = be_bytes_4 bytes _ size (small_at bytes small) refl
 
--- eight bytes, decoded as a number and encoded again, are the same
+-- decoding eight bytes as a number, and encoding the number again, gives the same bytes
 pub eight_bytes : (bytes : List ℕ) → length bytes ≡ 8 → AreBytes bytes → to_be_bytes w64 (from_be_bytes w64 bytes) ≡ bytes
 eight_bytes bytes size small = be_bytes_8 bytes _ size (small_at bytes small) refl
 
@@ -61,7 +61,7 @@ eight_fit bytes small =
     let b7 = small_at bytes small 7 in
     omega arith
 
--- 19 bytes, decoded as a ledger item and encoded again, are the same
+-- decoding 19 bytes as a ledger item, and encoding the item again, gives the same bytes
 pub item_written : (bytes : List ℕ) → length bytes ≡ 19 → AreBytes bytes → item_bytes (item_in bytes) ≡ bytes
 item_written bytes size all = subst (λ xs. AreBytes xs → item_bytes (item_in xs) ≡ xs) (cells_are 19 bytes size) written all
   where
@@ -71,7 +71,7 @@ item_written bytes size all = subst (λ xs. AreBytes xs → item_bytes (item_in 
         let minute = two_bytes _ _ small.1.1.0 small.1.1.1.0 in
         λ i. day i ++ minute i ++ drop 4 (cells 19 bytes)
 
--- 15 bytes, decoded as a stamp and encoded again, are the same
+-- decoding 15 bytes as a stamp, and encoding the stamp again, gives the same bytes
 pub stamp_written : (bytes : List ℕ) → length bytes ≡ 15 → AreBytes bytes → stamp_bytes (stamp_in bytes) ≡ bytes
 stamp_written bytes size all = subst (λ xs. AreBytes xs → stamp_bytes (stamp_in xs) ≡ xs) (cells_are 15 bytes size) written all
   where
@@ -98,7 +98,7 @@ schedule_written bytes size all = subst (λ xs. AreBytes xs → key_bytes (sched
         let day = two_bytes _ _ small.1.1.1.1.1.1.0 small.1.1.1.1.1.1.1.0 in
         λ i. take 6 (cells 9 bytes) ++ day i ++ drop 8 (cells 9 bytes)
 
--- the bytes of a key, decoded and encoded again, are the same bytes
+-- decoding bytes as the key for a tag, and encoding the key again, gives the same bytes
 pub key_written : (tag : ℕ) (bytes : List ℕ) → IsTag tag → length bytes ≡ key_width tag → AreBytes bytes → key_bytes (key_in tag bytes) ≡ bytes
 key_written tag bytes (inl e) size all = subst (λ t. key_bytes (key_in t bytes) ≡ bytes) (sym e) refl
 key_written tag bytes (inr (inl e)) size all =
@@ -112,6 +112,6 @@ tag_of_key tag bytes (inl e) = subst (λ t. key_tag (key_in t bytes) ≡ t) (sym
 tag_of_key tag bytes (inr (inl e)) = subst (λ t. key_tag (key_in t bytes) ≡ t) (sym e) refl
 tag_of_key tag bytes (inr (inr e)) = subst (λ t. key_tag (key_in t bytes) ≡ t) (sym e) refl
 
--- a list of one byte is the list of its first byte
+-- a list of one byte contains only its first byte
 pub single : (bytes : List ℕ) → length bytes ≡ 1 → slice_index bytes 0 ∷ [] ≡ bytes
 single bytes size = subst (λ xs. slice_index xs 0 ∷ [] ≡ xs) (cells_are 1 bytes size) refl

@@ -31,7 +31,7 @@ pub tells_put : (format : Format) (body : Body) → TellsOp format (put_with bod
 tells_put dks_1 body = tt
 tells_put dks_2 body = tt
 
--- a state without entries is valid
+-- a state without entries is valid, if its horizon is a day number and its ledger is well formed
 pub valid_without : (horizon : ℕ) (ledger : List LedgerItem) → IsDay horizon → IsLedger ledger
     → IsValid (record { horizon = horizon; ledger = ledger; entries = [] })
 valid_without horizon ledger day is = record {
@@ -41,7 +41,8 @@ valid_without horizon ledger day is = record {
   have_lapsed = All-from_recursion (λ (entry : Key × Entry). HasNotToLapse horizon entry.1.op) [] tt;
 }
 
--- the format can hold a state with a ledger and no entries
+-- the format can hold a state without entries, if the format allows the state's horizon and the
+-- state's ledger is well formed
 pub no_entries : (format : Format) (horizon : ℕ) (ledger : List LedgerItem) → IsHorizonOf format horizon → IsLedger ledger
     → IsToldState format (record { horizon = horizon; ledger = ledger; entries = [] })
 no_entries format horizon ledger is_horizon is = record {
@@ -83,7 +84,8 @@ one_entry_more format state key stamp op told here of stays tells = record {
   ops = one_more (λ (e : Key × Entry). TellsOp format e.1.op) state.entries (key, record { stamp = stamp; op = op }) told.ops tells;
 }
 
--- after these items all parts read are good
+-- if the horizon and the ledger are good, all parts up to the point after the ledger's items are
+-- good
 pub good_after_items : (format : Format) (horizon : ℕ) → (count : ℕ) (ledger : List LedgerItem) → IsHorizonOf format horizon → IsLedger ledger
     → length ledger ≤ count → count < 2 ^ 64 → AreGood format (after_items horizon count ledger)
 good_after_items format horizon count ledger is_horizon is within fits = by (leb_tells count (length ledger))
@@ -95,7 +97,7 @@ good_after_items format horizon count ledger is_horizon is within fits = by (leb
     by (inr told) =
         subst (λ b. AreGood format (cond b (before_entry_count horizon ledger) (before_item horizon count ledger))) (sym told.0) (is_horizon, is, told.1, fits)
 
--- after these entries all parts read are good
+-- if the format can hold a state, all parts up to the point after the state's entries are good
 pub good_after_entries : (format : Format) → (count : ℕ) (state : State) → IsToldState format state → length state.ledger < 2 ^ 64
     → length state.entries ≤ count → count < 2 ^ 64 → AreGood format (after_entries count state)
 good_after_entries format count state valid items within fits = by (leb_tells count (length state.entries))

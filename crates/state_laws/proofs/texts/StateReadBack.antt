@@ -1,5 +1,5 @@
--- Decoding is inverse to encoding, for ledger items, keys and stamps. Each has the number of bytes
--- that the format states.
+-- Decoding is inverse to encoding, for ledger items, keys and stamps. The lemmas also say how many
+-- bytes each of these has.
 use Rattle.std.proofs.Common.{◌≡◌, ℕ, suc, ◌+◌, ◌-◌, ◌<◌, ◌^◌, List, [], ◌∷◌, ◌++◌, length, take, drop}
 use Rattle.std.proofs.Common.{refl, ap, ◌∙◌, subst, arith, append_assoc, length-append, Contains}
 use Rattle.std.specs.Prelude.{slice_index, slice_range}
@@ -15,8 +15,8 @@ use Rattle.docker_model.specs.state.StateText.{item_in, key_in, stamp_in, associ
 use Rattle.docker_model.specs.state.StatePart.{key_width}
 use Rattle.cif_laws.proofs.lists.Membership.{Contains-map}
 
--- if a list has `n` elements, dropping `n + k` elements of its concatenation with another list is
--- dropping `k` elements of the other list
+-- if a list has `n` elements, dropping `n + k` elements of its concatenation with another list
+-- equals dropping `k` elements of the other list
 pub drop_past : (xs ys : List ℕ) (n k : ℕ) → length xs ≡ n → drop (n + k) (xs ++ ys) ≡ drop k ys
 drop_past [] ys n k size = ap (λ j. drop j ys) (omega arith)
 drop_past (x ∷ xs) ys n k size =

@@ -37,7 +37,7 @@ pub record Leads (format : Format) (before after : Before) : Type 0 where
 pub no_step : (format : Format) → (before after : Before) → before ≡ after → Leads format before after
 no_step format before after same = record { parts = []; follow = tt; to = same }
 
--- a reader reaches the point after a part from the point before it, if the part isn't bad
+-- if a part isn't bad, a reader reaches the point after the part from the point before the part
 pub one_step : (format : Format) → (before after : Before) (part : List ℕ) → length part ≡ width before → 0 < width before
     → ((cause : StateCause) → ¬ IsBadPart format before part cause) → advance format before part ≡ after
     → text_before format after ≡ text_before format before ++ part → Leads format before after
@@ -57,8 +57,8 @@ then_leads format before between after first second = by before first.parts firs
         let rest = by (advance format from part) parts follow.1 to in
         record { parts = part ∷ rest.parts; follow = (follow.0, rest.follow); to = rest.to }
 
--- the text before the point after some parts is the text before these parts, followed by their
--- concatenation
+-- the text up to the point after these parts is the text up to the point before them, followed by
+-- the concatenation of the parts
 pub after_text : (format : Format) → (before : Before) (parts : List (List ℕ)) → Follow format before parts
     → text_before format (after_parts format before parts) ≡ text_before format before ++ concat parts
 after_text format before [] follow = sym (append-nil (text_before format before))
@@ -67,7 +67,7 @@ after_text format before (part ∷ parts) follow =
     ∙ append_assoc (text_before format before) part (concat parts)
 
 -- the point `after` is later than the point `before`: the text before `after` is the text before
--- `before`, followed by its next part and any further bytes
+-- `before`, followed by the part that begins at `before` and any further bytes
 pub record IsLater (format : Format) (before after : Before) : Type 0 where
   pub part : List ℕ
   pub more : List ℕ

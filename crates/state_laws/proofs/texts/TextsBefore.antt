@@ -1,4 +1,4 @@
--- The point after some items, entries or lines, and the text up to that point.
+-- Lemmas on the point after the first items, entries or lines, and on the text up to that point.
 use Rattle.std.proofs.Common.{◌≡◌, ℕ, ◌<◌, ◌≤◌, ◌^◌, List, [], ◌∷◌, ◌++◌, length, ap, sym, ◌∙◌, inl, inr, ◌⊎◌}
 use Rattle.std.proofs.Common.{arith, append_assoc, append-nil, length-append, true, false, nat_le, cond}
 use Rattle.std.specs.List.{concat, flat_map}
@@ -23,7 +23,7 @@ read_32 = from_be_bytes-to_be_bytes_4
 pub read_64 : (n : ℕ) → n < 2 ^ 64 → from_be_bytes w64 (to_be_bytes w64 n) ≡ n
 read_64 = from_be_bytes-to_be_bytes_8
 
--- after some of the items the next part is another item
+-- if fewer than `count` items have been read, the next part is another item
 pub more_items : (horizon : ℕ) → (count : ℕ) (ledger : List LedgerItem) → length ledger < count
     → after_items horizon count ledger ≡ before_item horizon count ledger
 more_items horizon count ledger below = λ i. cond (lt-leb count (length ledger) below i) (before_entry_count horizon ledger) (before_item horizon count ledger)
@@ -33,7 +33,7 @@ pub all_items : (horizon : ℕ) → (ledger : List LedgerItem) → after_items h
 all_items horizon ledger =
     λ i. cond (le-leb (length ledger) (length ledger) (omega arith) i) (before_entry_count horizon ledger) (before_item horizon (length ledger) ledger)
 
--- after some of the entries the next part belongs to another entry
+-- if fewer than `count` entries have been read, the next part belongs to another entry
 pub more_entries : (count : ℕ) (state : State) → length state.entries < count → after_entries count state ≡ in_entry count state before_tag
 more_entries count state below = λ i. cond (lt-leb count (length state.entries) below i) (at_end state) (in_entry count state before_tag)
 
@@ -42,7 +42,8 @@ pub all_entries : (state : State) → after_entries (length state.entries) state
 all_entries state =
     λ i. cond (le-leb (length state.entries) (length state.entries) (omega arith) i) (at_end state) (in_entry (length state.entries) state before_tag)
 
--- after some of a schedule's lines the next part is another line
+-- if fewer than `n` lines of a schedule with `n` lines have been read, the next part is another
+-- line
 pub more_lines : (count : ℕ) (state : State) (key : ScheduleKey) (stamp : Stamp) (n : ℕ) (lines : List (List ℕ)) → length lines < n
     → after_lines count state key stamp n lines ≡ in_entry count state (before_line key stamp n lines)
 more_lines count state key stamp n lines below =
@@ -57,7 +58,7 @@ all_lines count state key stamp lines =
     (after_entries count (with_entry state (schedule_key key) stamp (put_with (schedule_body lines))))
     (in_entry count state (before_line key stamp (length lines) lines))
 
--- the text before the point after some items is the text of the ledger up to these items
+-- the text up to the point after the first items of a ledger is `ledger_text` of these items
 pub after_items_text : (format : Format) (horizon : ℕ) → (count : ℕ) (ledger : List LedgerItem) → length ledger ≤ count
     → text_before format (after_items horizon count ledger) ≡ ledger_text format horizon count ledger
 after_items_text format horizon count ledger within = by (leb_tells count (length ledger))
@@ -73,7 +74,7 @@ after_items_text format horizon count ledger within = by (leb_tells count (lengt
         (λ i. text_before format (cond (told.0 i) (before_entry_count horizon ledger) (before_item horizon count ledger)))
         ∙ append-nil (ledger_text format horizon count ledger)
 
--- the text before the point after some entries is the text of the state up to these entries
+-- the text up to the point after the first entries of a state is `entries_text` of these entries
 pub after_entries_text : (format : Format) → (count : ℕ) (state : State) → length state.entries ≤ count
     → text_before format (after_entries count state) ≡ entries_text format count state
 after_entries_text format count state within = by (leb_tells count (length state.entries))
@@ -98,7 +99,7 @@ with_entry_text format count state key stamp op =
     ∙ ap (λ xs. flat_map entry_bytes state.entries ++ xs) (append-nil bytes))
     ∙ sym (append_assoc front (flat_map entry_bytes state.entries) bytes)
 
--- the text before the point after an entry ends with the bytes of the entry
+-- the text up to the point after an entry ends with the bytes of the entry
 pub entry_done_text : (format : Format) → (count : ℕ) (state : State) (key : Key) (stamp : Stamp) (op : Op) → length state.entries < count
     → text_before format (after_entries count (with_entry state key stamp op)) ≡ entries_text format count state ++
     (key_text key ++ stamp_bytes stamp ++ op_bytes op)
@@ -106,7 +107,7 @@ entry_done_text format count state key stamp op below =
     let size = length-append state.entries ((key, record { stamp = stamp; op = op }) ∷ []) in
     after_entries_text format count (with_entry state key stamp op) (omega arith) ∙ with_entry_text format count state key stamp op
 
--- the text before the point after some lines of a schedule ends with these lines
+-- the text up to the point after the first lines of a schedule ends with these lines
 pub after_lines_text : (format : Format) → (count : ℕ) (state : State) (key : ScheduleKey) (stamp : Stamp) (n : ℕ) (lines : List (List ℕ))
     → length state.entries < count → length lines ≤ n
     → text_before format (after_lines count state key stamp n lines) ≡ entries_text format count state ++ part_text (before_line key stamp n lines)
