@@ -56,8 +56,8 @@ memory_or_not cause.Long = inr (λ same. cc)
 memory_or_not cause.Memory = inl refl
 memory_or_not cause.Horizon = inr (λ same. cc)
 
--- if the read fault is a fault of the text, it equals the parser's fault, and its cause isn't out
--- of memory
+-- a read fault that is a fault of the text equals the parser's fault, and its cause isn't out of
+-- memory
 not_memory : {A : Type 0} (found told : StateFault) (result : ReadFault) → (found.cause ≡ cause.Memory → result ≡ fault.Memory)
     → (found.cause ≢ cause.Memory → result ≡ fault.State found)
     → ◌≡◌ {A = Result A ReadFault} (Err result) (Err (fault.State told)) → (found ≡ told) × (found.cause ≢ cause.Memory)
@@ -111,7 +111,7 @@ ended_for format limit text IsMade found result at_end memory state = by (memory
         subst (λ (told : ReadFault). EndsText format limit text IsMade (Err told)) (sym (state other))
         (told_at_end format limit text found.at found.cause other at_end)
 
--- if the read fault is out of memory, the parser's fault has that cause
+-- if the read fault is out of memory, the cause of the parser's fault is out of memory
 is_memory : {A : Type 0} (found : StateFault) (result : ReadFault) → (found.cause ≢ cause.Memory → result ≡ fault.State found)
     → ◌≡◌ {A = Result A ReadFault} (Err result) (Err fault.Memory)
     → found.cause ≡ cause.Memory

@@ -44,8 +44,9 @@ impl fmt::Display for ReadFault {
 impl Error for ReadFault {}
 
 /// Reads a source to its end, or to the first fault, and returns the state whose text the source
-/// held. Reads in pieces of at most 65,536 bytes, and nothing after the piece that determines the
-/// result. So a source that never ends is read at most up to the piece with the byte at the limit.
+/// held. The call reads pieces of at most 65,536 bytes, and nothing after the piece that determines
+/// the result. So a source that never ends is read at most up to the piece with the byte at the
+/// limit.
 pub fn read_state<S: Source>(alloc: Global, source: &mut S, limit: u64) -> Result<State, ReadFault>
     requires { S.failures source.old < 2 ^ 64 - 1 }
     ensures { EndsReading S.left S.failures dks_2 limit
@@ -71,7 +72,7 @@ pub fn read_state_noting<S: Source>(
 }
 
 /// Like `read_state`, for a text in this format. The parts are passed to `keeper`, which has no
-/// parts yet. Returns the value that the keeper makes from them.
+/// parts yet. Returns the value that the keeper makes from the parts.
 pub(crate) fn read_format<S: Source, K: Maker>(
     alloc: Global,
     format: Format,

@@ -224,7 +224,7 @@ impl<K: Keeper> StateReading<K> {
         }
     }
 
-    /// Takes the last bytes of a part.
+    /// Takes the bytes that complete a part.
     fn take(&mut self, front: &[u8]) -> Result<(), StateFault>
         requires reading { IsReading self.old }
         requires wide { length self.old.partial.items + length front.now

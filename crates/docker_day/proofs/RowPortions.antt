@@ -1,4 +1,4 @@
--- The docker lines are the same if the rows of a walk are read in portions.
+-- Reading the rows of a walk in portions leaves the docker lines unchanged.
 use Rattle.std.proofs.Common.{◌≡◌, ℕ, zero, suc, ◌<◌, Bool, true, false, List, [], ◌∷◌, ◌++◌, length}
 use Rattle.std.proofs.Common.{take, get_or, refl, ap, sym, ◌∙◌, subst, Some, None, arith, append_assoc}
 use Rattle.std.specs.Prelude.{Option, ◌||◌}

@@ -10,8 +10,8 @@ use Rattle.docker_laws.specs.Gathering.{IsWalk, gathered}
 use Rattle.docker_day.specs.Lines.{Adds}
 use Rattle.docker_day.specs.DockerValue.{Docker}
 
--- says that this is the docker of the place and the day: it has the place, the day, the description
--- of the place, and the docker list
+-- says that this is the docker of the place and the day: the docker has the place, the day, the
+-- description of the place, and the docker list
 pub record IsDockerOf (live : Table) (place : List ℕ) (day : ℕ) (docker : Docker) : Type 0 where
   pub place_is : docker.place ≡ place
   pub day_is : docker.day ≡ day

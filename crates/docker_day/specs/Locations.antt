@@ -35,7 +35,8 @@ location_by_kind kind line = record {
   departure = public_by_kind kind departure line;
 }
 
--- the public time for an occasion. Spaces unless the occasion is an arrival or a departure
+-- the printed public time for an occasion. For any occasion other than an arrival or a departure,
+-- the public time is spaces
 abbrev pub public_at : Occasion → Shown → List ℕ
 public_at arrival shown = shown.arrival
 public_at departure shown = shown.departure

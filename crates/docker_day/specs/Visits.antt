@@ -23,8 +23,8 @@ pub record IsOnePlace (timetable : Timetable) (place : List ℕ) (day start : �
   pub links_are : links ≡ record { timetable = timetable; place = place; day = start }
   pub bases_are : bases ≡ record { timetable = timetable; place = place; day = start }
 
--- the visit for the trains that start `back` days before the day. `None` if the start day would be
--- before day 0
+-- the visit for the trains that start `back` days before the day, or `None` if that start day would
+-- be before day 0
 abbrev pub visit_back : PlaceDay → ℕ → Option Visit
 visit_back there back =
     if nat_le back there.day

@@ -1,4 +1,4 @@
--- The parts of a state that were taken, with one more entry.
+-- Taking one more entry of a state, after the parts that were taken before.
 use Rattle.std.proofs.Common.{◌≡◌, ℕ, ◌-◌, List, [], ◌∷◌, ◌++◌, length, map, refl, ap, sym, ◌∙◌, subst, arith, length-append, Some}
 use Rattle.std.proofs.lemmas.List.{append_assoc}
 use Rattle.std.specs.Prelude.{Option, slice_get}

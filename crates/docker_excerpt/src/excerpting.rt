@@ -114,8 +114,8 @@ impl Excerpting {
         self.ledger.len()
     }
 
-    /// The key of the last entry that was taken, whether the entry was kept or not. `None` if no
-    /// entry was taken.
+    /// The key of the last entry that was taken, whether the entry was kept or not. Returns `None`
+    /// if no entry was taken.
     pub fn last(&self) -> Option<&Key>
         ensures { option_map key_meant (option_copied result) ≡ last_key self.now.told.entries }
     {
@@ -123,9 +123,9 @@ impl Excerpting {
     }
 
     /// Makes the excerpt of the state whose parts were taken. `horizon` is the state's horizon, if
-    /// it has one. `Memory` if memory runs out, or if more than 4,294,967,295 entries or places are
-    /// kept, because entries and places are numbered in 32 bits. After `Memory`, the kept entries
-    /// are dropped.
+    /// it has one. Returns `Memory` if memory runs out, or if more than 4,294,967,295 entries or
+    /// places are kept, because entries and places are numbered in 32 bits. After `Memory`, the
+    /// kept entries are dropped.
     pub fn finish(self, horizon: Option<Day>) -> Result<Excerpt, Memory>
         requires { IsValid (under (horizon_meant horizon) self.told) }
         ensures { IfOk result (λ excerpt. excerpt ≡ record {

@@ -72,9 +72,9 @@ abbrev pub reply_for : Result Unit OfficeFault → Reply
 reply_for (Ok unit) = Done
 reply_for (Err why) = Refused (Office why)
 
--- says that the fault is correct for an office and a message, among this many of each. `NoOffice`
--- is correct if the office doesn't exist, and `NoMessage` if the office exists and the message
--- doesn't
+-- says that the fault is correct for an office and a message, if there are `offices` offices and
+-- `messages` messages. `NoOffice` is correct if the office doesn't exist. `NoMessage` is correct if
+-- the office exists and the message doesn't
 abbrev pub IsMissing : (offices messages office message : ℕ) → RunFault → Type 0
 IsMissing offices messages office message NoOffice = offices ≤ office
 IsMissing offices messages office message NoMessage = (office < offices) × (messages ≤ message)

@@ -68,7 +68,7 @@ impl<'a> Desk<'a> {
         }
     }
 
-    /// Prints how the row's call ended. Allocates no memory.
+    /// Prints how the row's call ended. This function allocates no memory.
     pub(crate) fn end(&self, ending: Ending) {
         self.print(ending.line());
     }

@@ -10,7 +10,7 @@ use docker_office::OfficeFault;
 /// How a call ended.
 #[derive(Clone, Copy, PartialEq, Eq)]
 pub(crate) enum Ending {
-    /// The call was done.
+    /// The call succeeded.
     Done,
     /// Memory ran out, and the call's fault says so.
     Memory,

@@ -106,7 +106,8 @@ fn knows(desk: &Desk, office: &Office, known: Known) -> bool {
     has_text(desk, office.state(), text.as_slice()) && prints(desk, office, known.docker())
 }
 
-/// Whether the offices and the messages are as the book says.
+/// Whether the result of a run agrees with the book: each office has the state of the files that
+/// the book has for it, and so has each message.
 fn is_left(desk: &Desk, left: &Exchange, book: &Book) -> bool {
     let mut same = book.fits
         && left.replies().len() == STEPS.len()

@@ -30,7 +30,7 @@ use Rattle.state_lists.specs.Places.{calls_at, count_at}
 rows_total : IsTotalOrder (on (λ (row : Row). row.0) key_cmp)
 rows_total = on_total (λ (row : Row). row.0) key_total
 
--- a table has exactly one list of all its rows in order
+-- two lists that have exactly the rows of one table, in order, are equal
 pub one_rows : (live : Table) (rows others : List Row) → AreRowsOf live rows → AreRowsOf live others → rows ≡ others
 one_rows live rows others one two =
     same_list rows_total rows others one.ascending two.ascending

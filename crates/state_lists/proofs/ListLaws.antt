@@ -1,4 +1,4 @@
--- The list of timing points of a live table is unique, and so is the text of what a state knows.
+-- A live table has only one list of timing points, and a state has only one text of what it knows.
 use Rattle.std.proofs.Common.{◌≡◌, ℕ, ◌≤◌, List, refl, ap, sym, ◌∙◌, subst, Contains, Some, None, arith}
 use Rattle.std.specs.Prelude.{Option}
 use Rattle.docker_model.specs.state.State.{State, live_table}

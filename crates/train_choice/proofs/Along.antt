@@ -159,7 +159,8 @@ next_link_is_none group day found (schedule_key key) body none = refl
 abbrev row_of : Train → Row
 row_of train = (schedule_key train.key, schedule_body train.lines)
 
--- if rows include every live schedule of a UID, they still do after a live row is prepended
+-- if rows include every live schedule of a UID, they still do after the row of one of these
+-- schedules is prepended
 has_in_front : (live : Table) (train : Train) (rows : List Row) → IsLiveTrain live train → HasSchedulesOf live train.key.uid rows
     → HasSchedulesOf live train.key.uid (row_of train ∷ rows)
 has_in_front live train rows is_live has = record {

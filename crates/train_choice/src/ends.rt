@@ -7,7 +7,7 @@ ghost use Rattle.train_choice.specs.Occurrences.{occurrences};
 use crate::schedule_view::ScheduleView;
 use cif_line::Line;
 
-/// The lines at which a train starts and ends: its first LO and its first LT. `None` if its
+/// The lines at which a train starts and ends: its first LO and its first LT. Returns `None` if its
 /// schedule has no journey.
 pub fn ends_of<'a>(train: &ScheduleView<'a>) -> Option<(&'a Line, &'a Line)>
     ensures origin { IfSome result (λ ends.

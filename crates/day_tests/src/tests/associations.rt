@@ -98,8 +98,8 @@ fn works_on(rt: &impl Abort, alloc: Global, association: &[u8], lines: &[&[u8]])
     shows(rt, alloc, &[file], "COLWELL", "2024-06-10", lines);
 }
 
-/// Each date indicator, an unknown date indicator, and an unknown category. An association with an
-/// unknown date indicator or an unknown category has no line.
+/// Checks each date indicator, an unknown date indicator, and an unknown category. An association
+/// with an unknown date indicator or an unknown category has no line.
 #[test]
 fn date_indicators(rt: HostRuntime) {
     let only: &[&[u8]] = &[COMES_2350];

@@ -1,4 +1,4 @@
-//! Dockers while memory runs out. The state is unchanged, and a second call returns the docker. The
+//! Dockers when memory runs out. The state is unchanged, and a second call returns the docker. The
 //! test run decides which allocation is refused. Each call is made at most twice.
 
 use super::compare::same;

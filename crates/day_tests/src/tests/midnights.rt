@@ -47,8 +47,8 @@ fn midnights_are(rt: &impl Abort, state: &State, event: u64, wanted: Option<u8>)
     same(rt, falls(&view, event), wanted);
 }
 
-/// How often C20001 passes midnight before each event. The result is `None` for an event that
-/// doesn't exist.
+/// Checks how often C20001 passes midnight before each event. The result is `None` for an event
+/// that doesn't exist.
 #[test]
 fn midnights_up_to_events(rt: HostRuntime) {
     let state = state(&rt, rt.alloc(), TWO_NIGHTS);

@@ -18,14 +18,14 @@ fn prints(rt: &impl Abort, alloc: Global, files: &[&[&[u8]]], at: &str, wanted: 
     same(rt, kept.bytes(), wanted.as_slice());
 }
 
-/// The docker of a place that a train leaves.
+/// Checks the docker of a place that a train leaves.
 #[test]
 fn whole_text(rt: HostRuntime) {
     let files: &[&[&[u8]]] = &[&[HD, BS, LO, LT, ZZ]];
     prints(&rt, rt.alloc(), files, "ASHFELD", ASHFELD_0900);
 }
 
-/// The docker of a place that no file names.
+/// Checks the docker of a place that no file names.
 #[test]
 fn place_without_a_record(rt: HostRuntime) {
     let files: &[&[&[u8]]] = &[&[HD, BS, LO, LT, ZZ]];

@@ -71,7 +71,7 @@ fn trains(rt: &impl Abort, alloc: Global) -> State {
     joined(rt, alloc, &[TRAINS])
 }
 
-/// Days on which the permanent schedule is chosen, and a day on which its overlay is chosen.
+/// Checks days on which the permanent schedule is chosen, and a day on which its overlay is chosen.
 #[test]
 fn permanent_and_overlay(rt: HostRuntime) {
     let state = trains(&rt, rt.alloc());
@@ -102,7 +102,7 @@ fn new_and_later(rt: HostRuntime) {
     says(&rt, rt.alloc(), &state, "C10001", "2024-06-16", sunday);
 }
 
-/// Days on which no schedule runs, and a UID without schedules.
+/// Checks days on which no schedule runs, and a UID without schedules.
 #[test]
 fn none(rt: HostRuntime) {
     let state = trains(&rt, rt.alloc());
