@@ -87,7 +87,7 @@ module _ (known : KnownSets) (held : Holdings) (holds : AreOf known held) where
   horizon_without_office office day far =
       record { told = tt; may = no_office_there office (refused no_office ≡ model.done) far; holds = holds }
 
-  -- if the office or the message doesn't exist, the fault that says so is an allowed reply to a
+  -- if the office or the message doesn't exist, `NoOffice` or `NoMessage` is an allowed reply to a
   -- `Deliver`
   pub delivery_missing : (office message : ℕ) (fault : RunFault)
       → IsMissing (length held.offices.items) (length held.messages.items) office message fault
@@ -101,7 +101,7 @@ module _ (known : KnownSets) (held : Holdings) (holds : AreOf known held) where
   }
   delivery_missing office message (Office fault) never = absurd never
 
-  -- if the office or the message doesn't exist, the fault that says so is an allowed reply to a
+  -- if the office or the message doesn't exist, `NoOffice` or `NoMessage` is an allowed reply to a
   -- `Reload`
   pub reload_missing : (office message : ℕ) (fault : RunFault)
       → IsMissing (length held.offices.items) (length held.messages.items) office message fault
@@ -217,7 +217,7 @@ module _ (known : KnownSets) (held : Holdings) (holds : AreOf known held) where
         (after_send dks_2 known held.offices.items (texts_of held.messages.items) holds office (is_office office there)));
   }
 
-  -- if memory runs out for a `Send` and no message is appended, the reply that says so is allowed
+  -- if memory runs out for a `Send` and no message is appended, out of memory is an allowed reply
   pub send_without_memory : (office : ℕ) → office < length held.offices.items → MeetsEvent known (send_state office) (Refused (Office why.Memory)) held
   send_without_memory office there = record {
     told = tt;

@@ -140,7 +140,7 @@ pub(crate) struct Book {
     pub(crate) messages: Vec<Known>,
     /// Whether each reply is one that is allowed for its event.
     pub(crate) fits: bool,
-    /// How many replies said that memory ran out.
+    /// How many events were refused because memory ran out.
     pub(crate) wanting: u32,
 }
 
@@ -235,7 +235,7 @@ impl Book {
     }
 }
 
-/// Whether a reply says that memory ran out.
+/// Whether the event was refused because memory ran out.
 pub(crate) fn is_out_of_memory(reply: &Reply) -> bool {
     *reply == OUT_OF_MEMORY
 }

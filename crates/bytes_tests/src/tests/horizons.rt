@@ -1,4 +1,4 @@
-//! Texts with a horizon, and lapsed entries.
+//! Texts of states with a horizon and with lapsed entries.
 
 use super::compare::same;
 use super::pieces::{
@@ -90,7 +90,8 @@ fn puts_that_end_before_the_horizon(rt: HostRuntime) {
     );
 }
 
-/// Asserts that a lapsed entry is accepted in a text of `len` bytes with this horizon.
+/// Asserts that a text with this horizon and one lapsed entry is accepted. `entry` has the parts of
+/// the entry before its op, and the text has `len` bytes.
 fn accepted_lapsed(
     rt: &impl Abort,
     alloc: Global,
@@ -104,7 +105,7 @@ fn accepted_lapsed(
     accepted(rt, alloc, text.as_slice(), number);
 }
 
-/// Asserts that a lapsed entry of each kind of key is accepted in a text with this horizon.
+/// Asserts that a text with this horizon is accepted for a lapsed entry of each kind of key.
 fn each_accepted_lapsed(rt: &impl Abort, alloc: Global, horizon: &[u8], number: u16) {
     accepted_lapsed(rt, alloc, horizon, number, ASHFELD_HEAD, 65);
     accepted_lapsed(rt, alloc, horizon, number, JOINS_HEAD, 81);

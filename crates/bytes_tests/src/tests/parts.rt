@@ -7,7 +7,7 @@ use std::alloc::Global;
 use std::process::Abort;
 use test_records::{AA_JOIN, BS, BS_DELETED, LO, LT};
 
-/// The text with a ledger of one file and one entry. The entry has these parts.
+/// The text of a state with one file and one entry. The entry has these parts.
 fn with_entry(rt: &impl Abort, alloc: Global, parts: &[&[u8]]) -> Vec<u8> {
     let entry = joined_text(rt, alloc, parts);
     joined_text(rt, alloc, &[MARK, ONE, ITEM, ONE, entry.as_slice()])
