@@ -56,8 +56,8 @@ memory_or_not cause.Long = inr (λ same. cc)
 memory_or_not cause.Memory = inl refl
 memory_or_not cause.Horizon = inr (λ same. cc)
 
--- a read fault that is a fault of the text equals the parser's fault, and its cause isn't out of
--- memory
+-- a read fault that is a fault of the text equals the parser's fault, and the cause of both isn't
+-- out of memory
 not_memory : {A : Type 0} (found told : StateFault) (result : ReadFault) → (found.cause ≡ cause.Memory → result ≡ fault.Memory)
     → (found.cause ≢ cause.Memory → result ≡ fault.State found)
     → ◌≡◌ {A = Result A ReadFault} (Err result) (Err (fault.State told)) → (found ≡ told) × (found.cause ≢ cause.Memory)
@@ -85,8 +85,8 @@ told_at_end format limit text at c other = by (cause_meant c) refl
     by None is told = other (none_is_memory c is)
     by (Some k) is short = inr (inr (inl short))
 
--- if a fault of the text is returned for a piece, it is the fault of each text that begins with the
--- bytes up to the piece's end
+-- if a fault of the text is returned for a piece, this fault is the fault of each text that begins
+-- with the bytes up to the piece's end
 pub told_as_state : {A : Type 0} (format : Format) (limit : ℕ) (text piece rest : List ℕ) (found told : StateFault) (result : ReadFault)
     → IsFaultReported format limit text piece found → (found.cause ≡ cause.Memory → result ≡ fault.Memory)
     → (found.cause ≢ cause.Memory → result ≡ fault.State found) → ◌≡◌ {A = Result A ReadFault} (Err result) (Err (fault.State told))

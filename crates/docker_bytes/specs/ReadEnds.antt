@@ -27,7 +27,7 @@ IsWhyUnread wants format limit left left_now (Some (State fault)) = RefusesState
 IsWhyUnread wants format limit left left_now (Some Memory) = wants format most_at_once limit left left_now
 
 -- says how the number of the source's failures has changed. If a failure of the source is the
--- reason why no state was read, the number has grown by one. Otherwise it is unchanged
+-- reason why no state was read, the number has grown by one. Otherwise the number is unchanged
 abbrev pub CountsWhy : Option ReadFault → ℕ → ℕ → Type 0
 CountsWhy None failures failures_now = ⊥
 CountsWhy (Some Source) failures failures_now = failures_now ≡ failures + 1

@@ -66,8 +66,8 @@ pub record IsWanting (format : Format) (limit : ℕ) (text piece : List ℕ) (at
   pub ends_in_piece : length text < length (text_before format before) + width before
   pub item_at : at ≡ length (items_before format before)
 
--- says what a fault means if it is returned for a piece that follows a text: a part is bad, or the
--- state needs a byte at the limit. The cause `None` means that memory ran out
+-- says what it means that a parser returns this fault for a piece that follows a text: a part is
+-- bad, or the state needs a byte at the limit. The cause `None` means that memory ran out
 abbrev pub IsCauseSoFar : Format → ℕ → List ℕ → List ℕ → ℕ → Option model.StateCause → Type 0
 IsCauseSoFar format limit text piece at None = IsWanting format limit text piece at
 IsCauseSoFar format limit text piece at (Some cause) =
@@ -85,9 +85,9 @@ IsWhole format limit text = (state : State) × IsStateText format limit text sta
 abbrev pub IsOpen : Format → ℕ → List ℕ → Type 0
 IsOpen format limit text = (fault : model.StateFault) × IsShort format limit text fault
 
--- says what a fault means if it is returned at the end of a text: the text ends before the state
--- does. The cause `None` means that memory ran out at the end of a complete text, and the offset is
--- this end
+-- says what it means that a parser returns this fault at the end of a text: the text ends before
+-- the state does. The cause `None` means that memory ran out at the end of a complete text, and the
+-- offset is this end
 abbrev pub IsCauseAtEnd : Format → ℕ → List ℕ → ℕ → Option model.StateCause → Type 0
 IsCauseAtEnd format limit text at None = IsWhole format limit text × (at ≡ length text)
 IsCauseAtEnd format limit text at (Some cause) = IsShort format limit text (record { at = at; cause = cause })
@@ -121,8 +121,8 @@ pub record IsLineOf (key : ScheduleKey) (count : ℕ) (at : Stage) : Type 0 wher
   pub stamp : Stamp
   pub is : at ≡ Line entries key stamp count
 
--- says that the next part is one of these lines but not the last line, and that none of its bytes
--- has been read
+-- says that the next part is one of these lines but not the last line, and that no byte of this
+-- part has been read
 pub record IsInnerLine {K : Type 0} (key : ScheduleKey) (count : ℕ) (reading : StateReading K) : Type 0 where
   pub stage : IsLineOf key count reading.stage
   pub more : length reading.lines + 1 < count

@@ -26,7 +26,7 @@ module _ (place : List ℕ) (day start : ℕ) (key : ScheduleKey) (detail : Deta
   there_parts (event ∷ events) behind =
       ap (λ more. line_of event ++ more) (there_parts events behind) ∙ sym (append_assoc (line_of event) (there events) (there behind))
 
-  -- a line at another place has no event at the place
+  -- the events at a line that isn't at the place have no docker lines
   none_elsewhere : (p : Progress) (line : List ℕ) (times : List (Occasion × ℕ)) → names_place place line ≡ false
       → there (occurrences_at p line times) ≡ []
   none_elsewhere p line [] elsewhere = refl

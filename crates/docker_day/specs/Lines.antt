@@ -81,7 +81,7 @@ abbrev pub runs_recently : List (List ℕ) → ℕ → Bool
 runs_recently lines day = runs_back lines day 0 || runs_back lines day 1 || runs_back lines day 2
 
 -- whether the schedule's train may be at the place on this day, having started on an earlier day.
--- That is so if the schedule runs on one of the two days before, and passes midnight before or at
+-- That is so if the schedule runs on one of the two days before, and its train passes midnight by
 -- its last event at the place
 abbrev pub is_under_way : List ℕ → List (List ℕ) → ℕ → Bool
 is_under_way place lines day = (runs_back lines day 1 || runs_back lines day 2) && some_late (occurrences_to place lines)

@@ -54,7 +54,7 @@ pub(crate) fn runs_recently(train: &ScheduleView<'_>, day: Day) -> bool
 }
 
 /// Whether the train of a schedule may be at a place on this day, having started on an earlier day.
-/// That is so if the schedule runs on one of the two days before, and passes midnight before or at
+/// That is so if the schedule runs on one of the two days before, and its train passes midnight by
 /// its last event at the place.
 pub(crate) fn is_under_way(train: &ScheduleView<'_>, place: &Tiploc, day: Day) -> bool
     ensures { result ≡ is_under_way place.now train.now.lines day }

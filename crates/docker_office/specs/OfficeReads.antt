@@ -44,7 +44,7 @@ IsTakingOutcome limit IsMade left left_now (Err Lapsed) = ⊥
 IsTakingOutcome limit IsMade left left_now (Err Sink) = ⊥
 
 -- says how the number of the source's failures has changed. If the fault is that the source failed,
--- the number has grown by one. Otherwise it is unchanged
+-- the number has grown by one. Otherwise the number is unchanged
 abbrev pub CountsTaking : {A : Type 0} → ℕ → ℕ → Result A OfficeFault → Type 0
 CountsTaking failures failures_now (Ok made) = failures_now ≡ failures
 CountsTaking failures failures_now (Err (File fault)) = failures_now ≡ failures

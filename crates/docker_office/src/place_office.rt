@@ -18,9 +18,10 @@ use docker_day::write_docker;
 use std::alloc::Global;
 use std::marker::Model;
 
-/// An office for the docker of one timing point and one day. In contracts its value is the timing
-/// point, the day and the whole state, of which the office keeps an excerpt. The office can only
-/// print this docker: the state can't be written, joined or sent.
+/// An office for the docker of one timing point and one day. In contracts, the value of a
+/// `PlaceOffice` is the timing point, the day and the whole state, although the office keeps only
+/// an excerpt of this state. The office can only print its docker: it can't write, join or send the
+/// state.
 #[derive(Debug, Drop)]
 pub struct PlaceOffice {
     alloc: Global,

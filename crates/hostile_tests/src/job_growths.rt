@@ -1,4 +1,4 @@
-//! Calls about jobs that allocate memory.
+//! Calls that allocate memory while they read or carry out a job.
 
 use crate::desk::Desk;
 use crate::endings::ending_of;

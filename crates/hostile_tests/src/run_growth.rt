@@ -1,4 +1,4 @@
-//! Calls that allocate memory: a run of three offices.
+//! A call that allocates memory: a run of events at three offices.
 
 use crate::desk::Desk;
 use crate::endings::Ending;

@@ -151,7 +151,7 @@ fn limit_of(word: &str) -> u64 {
     word.parse::<u64>().unwrap_or(0)
 }
 
-/// `CALL STATE TEXT LIMIT`: the call reads the text under the limit, and has to refuse it.
+/// `CALL STATE TEXT LIMIT`: the call reads the text under the limit, and has to refuse the text.
 fn limit(desk: &Desk, words: &[&str]) {
     let [call, own, name, limit] = words else {
         return desk.trouble("CALL STATE TEXT LIMIT");

@@ -1,4 +1,4 @@
--- The lines of all entries in a state, concatenated, are the list of its timing points.
+-- The list of a state's timing points is the concatenation of the lines of all entries.
 use Rattle.std.proofs.Common.{◌≡◌, List, ℕ, [], ◌∷◌, ◌++◌, map, refl, ap, sym, ◌∙◌}
 use Rattle.std.specs.Prelude.{Option}
 use Rattle.std.specs.List.{flat_map}

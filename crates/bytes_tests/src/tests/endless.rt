@@ -27,13 +27,14 @@ const HEAD_OF_MOST: &[u8] =
 const HEAD_ABOVE_MOST: &[u8] =
     b"\x03C10001\x5b\xf1P\x5b\xf0\x04\xecDFROC1A\x00\x00\x00\x02\x01\xff\xff\xff\xff";
 
-/// The mark, followed by the last day of C10001's schedule, 2024-06-14, as the horizon.
+/// The mark, followed by the horizon 2024-06-14, which is the last day of C10001's schedule.
 const UNDER_LAST: &[u8] = b"DKS2\x5b\xf5";
 
-/// The mark, followed by the day after the last day of C10001's schedule as the horizon.
+/// The mark, followed by the horizon 2024-06-15, which is the day after the last day of C10001's
+/// schedule.
 const UNDER_AFTER: &[u8] = b"DKS2\x5b\xf6";
 
-/// The mark, followed by a number above the last day of the calendar as the horizon.
+/// The mark, followed by a horizon that isn't a day: the number after the last day of the calendar.
 const UNDER_TOO_LATE: &[u8] = b"DKS2\x8e\xad";
 
 /// Asserts that a text is refused, both when it is read `step` bytes at a time and when a state
