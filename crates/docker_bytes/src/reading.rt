@@ -162,9 +162,9 @@ impl<K: Keeper> StateReading<K> {
         Ok(rest)
     }
 
-    /// Takes the head of an entry at once: all parts before the body of an entry with a body. Takes
-    /// nothing unless the head lies whole at the front of the piece, is good and ends within the
-    /// limit. Returns the bytes after the head, or the whole piece if nothing was taken.
+    /// Takes the head of an entry at once. If an entry has a body, its head is all parts before the
+    /// body. Takes nothing unless the head lies whole at the front of the piece, is good and ends
+    /// within the limit. Returns the bytes after the head, or the whole piece if nothing was taken.
     fn take_head<'a>(&mut self, piece: &'a [u8]) -> &'a [u8]
         requires { IsReading self.old }
         ensures rest { take (length piece.now - length result.now) piece.now ++ result.now

@@ -1,4 +1,4 @@
--- The calls of base trains at a place, each with its first event. Also how the calls of the last
+-- The calls of base trains at a place, each with its first event, and how the calls of the last
 -- base train are kept.
 use Rattle.std.proofs.Common.{◌≡◌, ℕ, ◌==◌, Bool, true, false, cond, List, refl, ap, sym, ◌∙◌, subst, Some, None, eqb-true}
 use Rattle.std.specs.Prelude.{Option, ◌&&◌, IfSome, IfOk, option_map, Result, Ok, Err}

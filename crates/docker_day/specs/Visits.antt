@@ -31,8 +31,8 @@ visit_back there back =
     then Some (record { timetable = there.timetable; place = there.place; day = there.day; start = there.day - back })
     else None
 
--- says that these are the three visits: for the trains that start on the day, one day before and
--- two days before
+-- says that these are the visits for the trains that start on the day, one day before it and two
+-- days before it
 pub record AreVisits (there : PlaceDay) (today : Visit) (day_before two_before : Option Visit) : Type 0 where
   pub today_is : today ≡ record { timetable = there.timetable; place = there.place; day = there.day; start = there.day }
   pub day_before_is : day_before ≡ visit_back there 1

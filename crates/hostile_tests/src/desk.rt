@@ -45,7 +45,7 @@ impl<'a> Desk<'a> {
         }
     }
 
-    /// Like `text`, but `None` if there is no such text.
+    /// Like `text`, but returns `None` if there is no text with this name.
     fn found(&self, name: &str) -> Option<Vec<u8>> {
         match lines_of(name) {
             Some(lines) => lines.text(self.alloc()).ok(),

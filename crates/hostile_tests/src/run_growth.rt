@@ -150,8 +150,8 @@ fn report_left(desk: &Desk, left: &Exchange) {
     report_same(desk, left, &book, 0);
 }
 
-/// Prints whether `wanting` replies say that memory ran out, and whether everything else follows
-/// from the replies.
+/// Prints whether `wanting` events were refused because memory ran out, and whether everything else
+/// follows from the replies.
 fn report_same(desk: &Desk, left: &Exchange, book: &Book, wanting: u32) {
     let same = book.wanting == wanting && is_left(desk, left, book);
     desk.report(
@@ -204,7 +204,7 @@ fn report_ended(desk: &Desk, left: &Exchange) {
     report_same(desk, left, &book, 1);
 }
 
-/// Whether some reply says that memory ran out.
+/// Whether some event was refused because memory ran out.
 fn ran_out_of_memory(left: &Exchange) -> bool {
     left.replies().iter().any(is_out_of_memory)
 }

@@ -69,7 +69,7 @@ module _ (live : Table) (rows : List Row) (are : AreRowsOf live rows) (place : L
       (later_filter (IsBelow (on (λ (row : Row). row.0) key_cmp)) (calls_at place) rows
       (later_of (on (λ (row : Row). row.0) key_cmp) rows are.ascending))
 
-  -- the schedules that call at the place are the rows that pass the test
+  -- the schedules that call at the place are exactly the live rows that pass the test
   calling_are : (calling : List Row) → AreCalling live place calling → calling ≡ filter (calls_at place) rows
   calling_are calling is = same_list rows_total calling (filter (calls_at place) rows) is.ascending passing_ascend (λ row. (forth row, back row))
     where

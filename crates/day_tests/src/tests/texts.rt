@@ -25,7 +25,7 @@ fn whole_text(rt: HostRuntime) {
     prints(&rt, rt.alloc(), files, "ASHFELD", ASHFELD_0900);
 }
 
-/// Checks the docker of a place that no file names.
+/// Checks the docker of a place that isn't in any file.
 #[test]
 fn place_without_a_record(rt: HostRuntime) {
     let files: &[&[&[u8]]] = &[&[HD, BS, LO, LT, ZZ]];
