@@ -95,8 +95,8 @@ told_as_state format limit text piece rest found told result so_far memory state
     let same = not_memory found told result memory state is in
     subst (IsFaultOf format limit ((text ++ piece) ++ rest)) same.0 (told_so_far format limit text piece rest found.at found.cause same.1 so_far)
 
--- a fault of the parser at the end of a text is returned as a fault of the text, or as out of
--- memory after a complete text
+-- a parser's fault at the end of a text is returned as a fault of the text, or as out of memory
+-- after a complete text
 pub ended_for : {A : Type 0} (format : Format) (limit : ℕ) (text : List ℕ) (IsMade : A → Type 0) (found : StateFault) (result : ReadFault)
     → IsUnended format limit text found → (found.cause ≡ cause.Memory → result ≡ fault.Memory)
     → (found.cause ≢ cause.Memory → result ≡ fault.State found)
@@ -329,14 +329,13 @@ ends_with wants why left failures format limit IsMade IsRead source source_now (
     record { few = ends.few; outcome = of made ends.outcome; failures = ends.failures }
 ends_with wants why left failures format limit IsMade IsRead source source_now (Err fault) of ends = ends
 
--- if a keeper makes the state itself, the value that the keeper makes is the state with the text
--- that was read
+-- a keeper makes a value from the parts of a state. If the value is the state itself, it is the
+-- state with the text that was read
 pub made_itself : (format : Format) (limit : ℕ) (text : List ℕ) (made : State) → IsMadeOf (λ made state. made ≡ state) format limit text made
     → IsStateText format limit text made
 made_itself format limit text made of = subst (IsStateText format limit text) (sym of.made_of) of.is
 
--- if a keeper makes the state itself, the value that the keeper makes is the state whose text the
--- source held
+-- if the value that a keeper makes is the state itself, it is the state whose text the source held
 pub read_itself : (format : Format) (limit : ℕ) (initial : Option (List ℕ)) (made : State) → ReadsMade (λ made state. made ≡ state) format limit initial made
     → ReadsState format limit initial made
 read_itself format limit initial made read =

@@ -22,8 +22,8 @@ pub record ReadsState (format : Format) (limit : ℕ) (left : Option (List ℕ))
   pub held : Held left text
   pub is : IsStateText format limit text state
 
--- says that `made` is the value that a keeper makes from the state whose text the source held, in
--- this format and within the limit
+-- says that `made` is the value that a keeper makes from the parts of the state whose text the
+-- source held, in this format and within the limit
 pub record ReadsMade {Made : Type 0} (makes : Made → State → Type 0) (format : Format) (limit : ℕ) (left : Option (List ℕ)) (made : Made) : Type 0 where
   pub text : List ℕ
   pub held : Held left text

@@ -103,7 +103,7 @@ abbrev pub IsStep : Format → ℕ → List ℕ → List ℕ → ℕ × Step →
 IsStep format limit text piece (n, Done) = IsWhole format limit (text ++ take n piece)
 IsStep format limit text piece (n, More) = (n ≡ length piece) × IsOpen format limit (text ++ piece)
 
--- says that `made` is the value that a keeper makes from the state with this text
+-- says that `made` is the value that a keeper makes from the parts of the state with this text
 pub record IsMadeOf {Made : Type 0} (makes : Made → State → Type 0) (format : Format) (limit : ℕ) (text : List ℕ) (made : Made) : Type 0 where
   pub state : State
   pub is : IsStateText format limit text state

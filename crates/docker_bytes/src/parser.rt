@@ -1,5 +1,5 @@
 //! A parser that is fed the text of a state piece by piece, and passes the parts of the text to a
-//! keeper.
+//! keeper. The keeper makes a value from these parts, for example the state itself or an excerpt.
 ghost use Rattle.std.specs.Prelude.{◌≡◌, ℕ, ◌+◌, ◌≤◌, List, [], ◌++◌, length, take, IsOk, IsErr, IfOk, IfErr, Ok, Err, None};
 ghost use Rattle.docker_model.specs.state.StateText as formats;
 ghost use Rattle.state_text.specs.FormatMeaning.{format_meant};

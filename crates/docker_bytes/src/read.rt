@@ -156,7 +156,8 @@ fn feed<K: Keeper>(parser: &mut Parser<K>, piece: &[u8]) -> Result<(), ReadFault
     }
 }
 
-/// Returns the value that a keeper makes from the state whose text a parser was fed.
+/// Returns the value that a parser's keeper makes from the parts of the text that the parser was
+/// fed.
 fn finish<K: Maker>(parser: Parser<K>) -> Result<K::Made, ReadFault>
     ensures { (format : formats.Format) (limit : ℕ) (text : List ℕ) →
         HasRead parser format limit text →

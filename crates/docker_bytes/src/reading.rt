@@ -112,8 +112,8 @@ impl<K: Keeper> StateReading<K> {
         }
     }
 
-    /// The number of lines at the front of a piece of `len` bytes that are complete, end within the
-    /// limit, and aren't the last of the schedule's `count` lines.
+    /// How many lines at the front of a piece of `len` bytes can be taken at once. These lines are
+    /// complete, end within the limit, and don't include the last of the schedule's `count` lines.
     fn inner_lines(&self, count: u32, len: usize) -> u64
         requires { self.now.reached ≤ self.now.limit }
         ensures { result ≡ min (min (len / LINE) ((self.now.limit - self.now.reached) / LINE))

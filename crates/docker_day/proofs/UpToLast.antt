@@ -19,8 +19,8 @@ module _ (place : List ℕ) (day start : ℕ) (key : ScheduleKey) (detail : Deta
   abbrev line_of : Occurrence → List DockerLine
   line_of event = cond (is_here place event && is_today day start event) (line_at_event key start detail event ∷ []) []
 
-  -- the docker lines of two concatenated lists of events are the lines of the first list, followed
-  -- by the lines of the second
+  -- the docker lines of two concatenated lists of events are the concatenation of both lists'
+  -- docker lines
   there_parts : (events behind : List Occurrence) → there (events ++ behind) ≡ there events ++ there behind
   there_parts [] behind = refl
   there_parts (event ∷ events) behind =

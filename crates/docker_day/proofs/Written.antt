@@ -18,16 +18,14 @@ both_taken None second third front back one two = two ∙ ap (option_map (λ tak
 both_taken (Some taken) second third front back one two =
     two ∙ ap (option_map (λ out. out ++ back)) one ∙ ap Some (append_assoc taken front back)
 
--- a proper prefix of the first of two parts is a proper prefix of the concatenation of the two
--- parts
+-- a proper prefix of `front` is a proper prefix of `front ++ back`
 pub part_of_front : (first second : Option (List ℕ)) (front back : List ℕ) → TakesPart first front second → TakesPart first (front ++ back) second
 part_of_front first second front back (n, short, taken) =
     let long = length-append front back in
     let same : take n (front ++ back) ≡ take n front = take-append-le n front back (omega arith) in
     (n, omega arith, subst (λ bytes. Takes first bytes second) (sym same) taken)
 
--- the first of two parts, followed by a proper prefix of the second part, is a proper prefix of the
--- concatenation of the two parts
+-- `front`, followed by a proper prefix of `back`, is a proper prefix of `front ++ back`
 pub part_of_back : (first second third : Option (List ℕ)) (front back : List ℕ) → Takes first front second → TakesPart second back third
     → TakesPart first (front ++ back) third
 part_of_back first second third front back one (n, short, taken) =

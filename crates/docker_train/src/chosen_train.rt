@@ -78,7 +78,7 @@ impl<'a> ChosenTrain<'a> {
         }
     }
 
-    /// The chosen schedule with its stamp, if one runs.
+    /// The chosen schedule with its stamp, or `None` if no schedule runs.
     pub(crate) fn found(&self) -> Option<&Stamped<'a>>
         ensures { option_copied result ≡ self.now.found }
     {

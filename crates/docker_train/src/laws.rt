@@ -28,8 +28,8 @@ pub fn train_came_from_a_file()
         → CameFrom files found }
 {}
 
-/// If some files have distinct moments, the schedule chosen for a UID is the same in their summary
-/// and in their plain table, on each day from the horizon on.
+/// If no two files have the same moment, the schedule chosen for a UID is the same in the files'
+/// summary and in their plain table, on each day from the horizon on.
 pub fn found_train_is_plain()
     ensures { (files : List (List (List ℕ))) (horizon : ℕ) (state : State) (table : Table)
         (uid : List ℕ) (day : ℕ) (found : Option Stamped) → IsSummary files horizon state

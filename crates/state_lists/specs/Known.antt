@@ -66,8 +66,8 @@ last_line (Some day) = named_line (codes "LAST        ") (day_text day)
 unfoldable pub count_line : List ℕ → ℕ → List ℕ
 count_line name count = named_line name (decimal count)
 
--- the text of what a state knows, from its horizon, its newest full extract, the greatest last day,
--- and all live rows
+-- the text of what a state knows, made from the state's horizon, its newest full extract, the
+-- greatest last day, and all live rows
 abbrev pub known_text : ℕ → Option FileStamp → Option ℕ → List Row → List ℕ
 known_text horizon full last rows =
     horizon_line horizon ++ full_line full ++ last_line last ++ count_line (codes "SCHEDULES   ") (count_of 3 rows)

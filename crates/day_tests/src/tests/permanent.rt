@@ -68,8 +68,8 @@ fn keeps(rt: &impl Abort, alloc: Global, files: &[&[&[u8]]], at: &str, on: &str,
     lines_are(rt, alloc, &joined_back(rt, alloc, files), at, on, wanted);
 }
 
-/// A permanent schedule is on the docker of each of its days, even of a day on which it is overlaid
-/// or cancelled.
+/// A permanent schedule is on the docker of each day on which it runs, even if it is overlaid or
+/// cancelled on that day.
 #[test]
 fn overlaid_and_cancelled(rt: HostRuntime) {
     let alloc = rt.alloc();
