@@ -19,7 +19,7 @@ abbrev pub first_call : Option Train → List ℕ → ℕ → Option events.Occu
 first_call None place suffix = None
 first_call (Some train) place suffix = find (is_call place suffix) (occurrences train.lines)
 
--- converts an event of the code, if there is one, to the `Occurrence` of the definitions
+-- converts the code's `Occurrence`, if there is one, to the `Occurrence` of the definitions
 abbrev pub meant_if : Option Occurrence → Option events.Occurrence
 meant_if event = option_map occurrence_meant event
 

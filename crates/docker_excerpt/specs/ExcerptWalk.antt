@@ -1,4 +1,4 @@
--- The walk of the code that makes an excerpt from a state's entries.
+-- The code's walk over a state's entries, which makes an excerpt from them.
 use Rattle.std.specs.Prelude.{List, map}
 use Rattle.docker_model.specs.file.Change.{Key}
 use Rattle.docker_model.specs.state.Op.{Entry}

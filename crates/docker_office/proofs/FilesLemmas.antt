@@ -12,7 +12,7 @@ use Rattle.docker_model.specs.state.State.{IsGoodItem}
 use Rattle.docker_day.specs.LedgerItem.{LedgerItem}
 use Rattle.docker_day.specs.Meaning.{item_meant}
 
--- the text of these ledger items of the code
+-- the list of files that the code's ledger items make
 abbrev pub text_of : List LedgerItem → List ℕ
 text_of items = files_text (map item_meant items)
 

@@ -52,9 +52,9 @@ pub record HoldsState (format : Format) (limit : ℕ) (left : Option (List ℕ))
   pub told : left ≡ Some text
   pub is : IsStateText format limit text sent
 
--- says that joining preserves summaries. Suppose that `old` is the summary of some files, and that
--- the source held the text of the summary of other files. Then `new` is the summary of all these
--- files, under the greater horizon
+-- says that joining preserves summaries. Suppose that `old` is the summary of a set of files, and
+-- that the source held the text of the summary of another set. Then `new` is the summary of both
+-- sets, under the greater horizon
 abbrev pub JoinsSummaries : ℕ → Option (List ℕ) → State → State → Type 0
 JoinsSummaries limit left old new =
     (files others : List (List (List ℕ))) (g h : ℕ) (sent : State) → IsSummary files g old → IsSummary others h sent → HoldsState dks_2 limit left sent
