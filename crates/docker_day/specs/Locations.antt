@@ -15,7 +15,7 @@ pub record Shown : Type 0 where
   pub arrival : List ℕ
   pub departure : List ℕ
 
--- converts the printed columns from the code's `Location` to `Shown`
+-- converts the code's `Location` to the `Shown` of the definitions
 abbrev pub location_meant : Location → Shown
 location_meant location = record {
   platform = location.platform.now;

@@ -39,7 +39,7 @@ pub(crate) fn read(desk: &Desk, call: &str, words: &[&str]) {
     compare_state(desk, office.state(), wanted);
 }
 
-/// Prints whether the state of an office still has the text that it had before.
+/// Prints whether the state of an office still has the text `before`.
 fn report_same(desk: &Desk, office: &Office, before: &[u8]) {
     let same = has_text(desk, office.state(), before);
     desk.report(same, "the office is as it was");

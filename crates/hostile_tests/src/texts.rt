@@ -55,7 +55,7 @@ pub(crate) fn office_of(desk: &Desk, text: &[u8]) -> Office {
     office
 }
 
-/// A sink with room for any text written here. Prints a line if memory runs out.
+/// A sink with room for any text that a row writes. Prints a line if memory runs out.
 pub(crate) fn sink(desk: &Desk) -> Option<Kept>
     ensures { IfSome result (λ kept. kept.failures ≡ 0) }
 {

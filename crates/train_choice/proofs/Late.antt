@@ -90,8 +90,8 @@ first_good lines rest line good is = (recursion_from_All HasGoodFields (line ∷
 pub rest_good : (lines rest : List (List ℕ)) (line : List ℕ) → All HasGoodFields lines → lines ≡ line ∷ rest → All HasGoodFields rest
 rest_good lines rest line good is = All-from_recursion HasGoodFields rest (recursion_from_All HasGoodFields (line ∷ rest) (subst (All HasGoodFields) is good)).1
 
--- if the times of the first line ascend, midnight is passed if and only if it is passed in the
--- other lines
+-- if the times of the first line ascend, the train passes midnight in the lines if and only if it
+-- passes midnight in the lines after the first
 pub goes_on : (last time : ℕ) (line : List ℕ) (rest lines : List (List ℕ)) → lines ≡ line ∷ rest → ascends last (times_of line) ≡ Some time
     → falls_along time rest ≡ falls_along last lines
 goes_on last time line rest lines is up =
