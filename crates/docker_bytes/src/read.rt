@@ -25,7 +25,8 @@ pub enum ReadFault {
     Source,
     /// The bytes that the source holds aren't the text of a state. The cause is never `Memory`.
     State(StateFault),
-    /// Out of memory: the allocator refused a request. No part that was judged before is bad.
+    /// Out of memory: the allocator refused a request. No part that was judged before memory ran
+    /// out is bad.
     Memory,
 }
 

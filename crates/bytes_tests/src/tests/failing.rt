@@ -52,8 +52,8 @@ fn a_sink_that_fails_has_the_bytes_before(rt: HostRuntime) {
     writes(&rt, alloc, &state, 312, Ok(()), known.as_slice());
 }
 
-/// Asserts that no reader can read a text from a source that fails at this call. Each reader
-/// returns this fault.
+/// Asserts that neither a state, nor an excerpt, nor a ledger can be read from a source that fails
+/// at this call. Each reader returns this fault.
 fn reads_not(rt: &impl Abort, alloc: Global, text: &[u8], call: u64, fault: ReadFault)
     requires { 0 < call }
 {
