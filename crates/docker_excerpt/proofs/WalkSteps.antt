@@ -12,7 +12,7 @@ use Rattle.state_text.specs.Entry.{Entry}
 use Rattle.docker_join.specs.Meaning.{entry_meant, row_meant}
 use Rattle.docker_excerpt.specs.Walked.{IsWalk}
 
--- converting rows commutes with appending a row
+-- converting rows to the types of the definitions commutes with appending a row
 pub rows_more : (rows before after : List (Key × Entry)) (key : Key) (entry : Entry) → before ≡ rows → after ≡ before ++ (key, entry) ∷ []
     → map row_meant after ≡ map row_meant rows ++ (key_meant key, entry_meant entry) ∷ []
 rows_more rows before after key entry same pushed =

@@ -193,7 +193,7 @@ fn report_first(desk: &Desk, left: Result<Exchange, Memory>) {
     }
 }
 
-/// Like `report_first`, for a run that replied to all events.
+/// Like `report_first`, for a run with a reply to each event.
 fn report_ended(desk: &Desk, left: &Exchange) {
     if !ran_out_of_memory(left) {
         return desk.end(Ending::Done);

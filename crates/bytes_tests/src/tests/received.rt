@@ -69,7 +69,7 @@ fn what_is_refused_changes_nothing(rt: HostRuntime) {
     refused(&rt, alloc, twice, 1000, at(311, StateCause::Order));
 }
 
-/// A source from which these bytes can be read, and which then fails.
+/// A source that returns the bytes of `front`, and then fails.
 #[derive(Drop)]
 struct Broken<'a> {
     front: &'a [u8],
