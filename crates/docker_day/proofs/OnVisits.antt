@@ -70,7 +70,7 @@ module _ (there again : PlaceDay) (view : RowView) (today : Visit) (day_before t
       first_back_alone again.place again.day view (live_in again.timetable) first second is_live idle
       (subst (λ (p : PlaceDay). AddsBack p view 0 first second) same (adds_today there view today first second are.today_is one))
 
--- lines that were added for a place and day were also added for an equal place and day
+-- lines that were added for a `PlaceDay` were also added for an equal `PlaceDay`
 pub gathered_at : (there again : PlaceDay) (walk : List Row) (before after : List DockerLine) → again ≡ there
     → Adds (live_in again.timetable) (λ trains links. gathered trains links again.place again.day walk) before after
     → Adds (live_in there.timetable) (λ trains links. gathered trains links there.place there.day walk) before after

@@ -86,7 +86,8 @@ moved_over there again all rest fewer first second same live one passed = λ row
     (subst (λ (p : PlaceDay). AreLive (live_in p.timetable) rest) same live) rows are))
     ∙ one rows are
 
--- rows that are live for a place and day are live for an equal place and day
+-- rows that are live in the timetable of a `PlaceDay` are live in the timetable of an equal
+-- `PlaceDay`
 pub live_again : (there again : PlaceDay) (rows : List Row) → again ≡ there → AreLive (live_in there.timetable) rows → AreLive (live_in again.timetable) rows
 live_again there again rows same live = subst (λ (p : PlaceDay). AreLive (live_in p.timetable) rows) (sym same) live
 
@@ -112,7 +113,7 @@ live_item live (next ∷ portion) zero row are below is = subst (λ (r : ℕ × 
 live_item live (next ∷ portion) (suc i) row are below is = live_item live portion i row are.1 (omega arith) is
 live_item live [] i row are below is = let bad : i < 0 = below in absurd (omega arith)
 
--- each row of the portion is live for an equal place and day
+-- each row of the portion is live in the timetable of an equal `PlaceDay`
 pub live_at : (there again : PlaceDay) (portion : List (ℕ × RowView)) (i : ℕ) (row : ℕ × RowView) → again ≡ there
     → AreLiveViews (live_in there.timetable) (views_in portion) → i < length portion → row ≡ get_or portion i row
     → IsLiveView (live_in again.timetable) row.1

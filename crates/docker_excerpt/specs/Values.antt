@@ -31,7 +31,7 @@ abbrev pub with_entries : State → List (Key × Entry) → State
 with_entries state entries = record { horizon = state.horizon; ledger = state.ledger; entries = entries }
 
 -- the state made by a file's changes. It has the file's ledger item, and for each key the entry of
--- the last change of this key
+-- the last change to this key
 abbrev pub state_of_read : FileRead → State
 state_of_read file = record {
   horizon = 0;

@@ -38,7 +38,7 @@ fn divided(rt: &impl Abort, alloc: Global) -> State {
     }
 }
 
-/// Asserts how many ledger items, entries and live rows a state has.
+/// Asserts that a state has these numbers of ledger items, entries and live rows.
 fn counts_are(rt: &impl Abort, state: &State, items: usize, entries: usize, rows: usize) {
     let mut live = 0usize;
     for _ in state.live() {

@@ -40,7 +40,8 @@ fn two_midnights(rt: HostRuntime) {
     shows(&rt, alloc, files, "BRAYTON", "2024-06-12", come);
 }
 
-/// Asserts how often C20001 passes midnight before an event, if the train starts on 10 June.
+/// Asserts how often C20001 passes midnight before an event. `None` means that the event doesn't
+/// exist. The train starts on 10 June.
 fn midnights_are(rt: &impl Abort, state: &State, event: u64, wanted: Option<u8>) {
     let uid = Uid::from_field(b"C20001").expect(rt, "a UID");
     let view = chosen(state, &uid, day(rt, "2024-06-10")).expect(rt, "a schedule");

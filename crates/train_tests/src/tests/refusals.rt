@@ -88,7 +88,7 @@ fn full_sink(rt: HostRuntime) {
     takes(&rt, rt.alloc(), &state, 0, Some(TrainFault::Sink));
 }
 
-/// Asserts whether a word is a UID.
+/// Asserts that a word is a UID if and only if `wanted` is true.
 fn is_uid(rt: &impl Abort, word: &str, wanted: bool) {
     same(rt, uid_of_word(word).is_some(), wanted);
 }
