@@ -217,8 +217,8 @@ fn refused_by(
     same(rt, read, Some(ReadFault::State(fault)));
 }
 
-/// Asserts that every reader refuses the concatenation of these pieces with this fault, under this
-/// limit.
+/// Asserts that, under this limit, every reader refuses the concatenation of these pieces with this
+/// fault.
 fn refused(rt: &impl Abort, alloc: Global, pieces: &[&[u8]], limit: u64, fault: StateFault) {
     let text = joined_text(rt, alloc, pieces);
     refused_by(rt, alloc, text.as_slice(), limit, fault, 1);

@@ -39,8 +39,8 @@ pub record IsReading {K : Type 0} (reading : StateReading K) : Type 0 where
   pub item_is : reading.item_at ≡ length (items_before (format_of reading) (before_of reading))
   pub within : reading.reached + length reading.partial.items ≤ reading.limit
 
--- says that the reading `new` has read these bytes after the text of `old`, in the same format and
--- under the same limit
+-- says that the reading `new` has read these bytes after the text of `old`. Both readings have the
+-- same format and the same limit
 pub record ReadsOn {K : Type 0} (old new : StateReading K) (bytes : List ℕ) : Type 0 where
   pub reading : IsReading new
   pub text : text_of new ≡ text_of old ++ bytes

@@ -78,7 +78,8 @@ along p (line ∷ lines) zero =
     by (Some last) (falls, same, early) rec =
         (λ i. falls_along (sym same i) lines) ∙ rec falls ∙ sym (early (occurrences_from next lines))
 
--- the times in the lines determine whether midnight is passed before some event
+-- the train passes midnight before some event if and only if some time in the lines is below the
+-- preceding time
 pub late_by_times : (basic : List ℕ) (lines : List (List ℕ)) → falls_along 0 lines ≡ some_late (occurrences_from (before_all basic) lines)
 late_by_times basic lines = along (before_all basic) lines refl
 

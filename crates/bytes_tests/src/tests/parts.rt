@@ -22,8 +22,8 @@ fn accepted(rt: &impl Abort, alloc: Global, parts: &[&[u8]], len: usize) {
     goes_round(rt, alloc, &state, len, 1);
 }
 
-/// Asserts that a text with one entry, which has these parts, is refused for this cause, at the
-/// entry's offset.
+/// Asserts that a text with one entry, which has these parts, is refused. The fault has this cause,
+/// and the offset of the entry.
 fn refused_entry(rt: &impl Abort, alloc: Global, parts: &[&[u8]], cause: StateCause) {
     let text = with_entry(rt, alloc, parts);
     refused(rt, alloc, &[text.as_slice()], 1000, at(41, cause));
