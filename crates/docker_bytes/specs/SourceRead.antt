@@ -23,8 +23,8 @@ pub record ReadsState (format : Format) (limit : ℕ) (left : Option (List ℕ))
   pub held : Held left text
   pub is : IsStateText format limit text state
 
--- says that the source held a text in this format that isn't longer than the limit, and that `made`
--- is the value that a keeper makes from the state with this text
+-- says that `made` is the value that a keeper makes from the state whose text the source held. The
+-- text is in this format, and isn't longer than the limit
 pub record ReadsMade {Made : Type 0} (makes : Made → State → Type 0) (format : Format) (limit : ℕ) (left : Option (List ℕ)) (made : Made) : Type 0 where
   pub text : List ℕ
   pub held : Held left text
