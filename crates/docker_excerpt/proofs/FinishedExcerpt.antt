@@ -72,7 +72,7 @@ module _ (place : List ℕ) (day horizon : ℕ) (told : State) (valid : IsValid 
         excerpt = walk_is_excerpt place (near_state day (under horizon told)) (near_valid day (under horizon told) valid).entries.1;
       })))
 
-  -- the value of the excerpt has the state whose parts were taken, under the horizon
+  -- the state in the value of the excerpt is the state whose parts were taken, with its horizon
   pub stands_for : (part : State) (entries : List (Key × Entry)) → part.horizon ≡ horizon → part.ledger ≡ told.ledger → entries ≡ told.entries
       → ◌≡◌ {A = Excerpt} (record { place = place; day = day; state = with_entries part entries })
       (record { place = place; day = day; state = under horizon told })

@@ -23,9 +23,9 @@ use std::marker::Model;
 /// Makes the excerpt of a state for a place and a day. The calls take the state's parts in the same
 /// order as the calls of `Parts`. Only the entries from which the docker is made are kept: the
 /// place's TIPLOC, the associations at the place, and schedules. All schedules of a UID are kept if
-/// one of them calls at the place, or if the UID's train is the associated train of a live
-/// association at the place. If a schedule doesn't run on any start day from three days before the
-/// day to the day after, it is skipped: it is neither kept nor searched for calls.
+/// one of them calls at the place. They are also kept if the UID's train is the associated train of
+/// a live association at the place. If a schedule doesn't run on any start day from three days
+/// before the day to the day after, it is skipped: it is neither kept nor searched for calls.
 #[derive(Drop)]
 pub struct Excerpting {
     ledger: Ledger,
