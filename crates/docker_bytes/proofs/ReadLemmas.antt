@@ -56,8 +56,8 @@ memory_or_not cause.Long = inr (λ same. cc)
 memory_or_not cause.Memory = inl refl
 memory_or_not cause.Horizon = inr (λ same. cc)
 
--- a read fault that is a fault of the text equals the parser's fault, and the cause of both isn't
--- out of memory
+-- a read fault that is a fault of the text equals the parser's fault, whose cause isn't out of
+-- memory
 not_memory : {A : Type 0} (found told : StateFault) (result : ReadFault) → (found.cause ≡ cause.Memory → result ≡ fault.Memory)
     → (found.cause ≢ cause.Memory → result ≡ fault.State found)
     → ◌≡◌ {A = Result A ReadFault} (Err result) (Err (fault.State told)) → (found ≡ told) × (found.cause ≢ cause.Memory)

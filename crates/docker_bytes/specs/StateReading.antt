@@ -77,7 +77,7 @@ IsCauseSoFar format limit text piece at (Some cause) =
 abbrev pub IsFaultReported : Format → ℕ → List ℕ → List ℕ → StateFault → Type 0
 IsFaultReported format limit text piece fault = IsCauseSoFar format limit text piece fault.at (cause_meant fault.cause)
 
--- says that the text is a valid state's text, within the limit
+-- says that the text is the text of a valid state, and isn't longer than the limit
 abbrev pub IsWhole : Format → ℕ → List ℕ → Type 0
 IsWhole format limit text = (state : State) × IsStateText format limit text state
 
