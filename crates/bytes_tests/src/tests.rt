@@ -217,18 +217,19 @@ fn refused_by(
     same(rt, read, Some(ReadFault::State(fault)));
 }
 
-/// Asserts that every reader finds this fault in a text of these pieces under this limit.
+/// Asserts that, under this limit, every reader refuses the concatenation of these pieces with this
+/// fault.
 fn refused(rt: &impl Abort, alloc: Global, pieces: &[&[u8]], limit: u64, fault: StateFault) {
     let text = joined_text(rt, alloc, pieces);
     refused_by(rt, alloc, text.as_slice(), limit, fault, 1);
     refused_by(rt, alloc, text.as_slice(), limit, fault, 4096);
 }
 
-/// The pieces of a text that is refused, and the offset and cause of its fault.
+/// The pieces of a text that is refused, and the offset and cause of the text's fault.
 type Row = (&'static [&'static [u8]], u64, StateCause);
 
-/// The offsets at which the items of the text of a schedule's state begin. If the text is cut, its
-/// fault is at one of these offsets.
+/// The offsets at which the items of a state's text begin. The state has one file and one schedule.
+/// If the text is cut, its fault is at one of these offsets.
 const BEGINNINGS: [u64; 6] = [0, 4, 6, 14, 33, 41];
 
 /// The greatest of these offsets that isn't above `len`. The offsets ascend from 0.

@@ -27,7 +27,7 @@ fn place(rt: &impl Abort, text: &str) -> Tiploc {
     Tiploc::from_text(text).expect(rt, "a place")
 }
 
-/// The state of a file with these records. `None` if memory runs out.
+/// The state of a file with these records, or `None` if memory runs out.
 fn state_of(alloc: Global, records: &[&[u8]]) -> Option<State> {
     let text = text(alloc, records, b"\n").ok()?;
     let file = read_pieces(alloc, &[text.as_slice()], 1000).ok()?;
@@ -62,7 +62,7 @@ fn joined_back(rt: &impl Abort, alloc: Global, files: &[&[&[u8]]]) -> State {
     joined
 }
 
-/// The text of a docker in a sink. `None` if memory runs out.
+/// The text of a docker in a sink, or `None` if memory runs out.
 fn written(alloc: Global, docker: &Docker<'_>) -> Option<Kept> {
     let mut kept = Kept::new(alloc, 10_000).ok()?;
     write_docker(docker, &mut kept).ok()?;

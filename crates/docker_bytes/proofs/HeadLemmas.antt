@@ -1,4 +1,5 @@
--- The head of an entry, which is read at once: all parts before the body of an entry with a body.
+-- Reading the head of an entry at once. If an entry has a body, its head is all parts before the
+-- body.
 use Rattle.std.proofs.Common.{◌≡◌, ℕ, ◌+◌, ◌≤◌, List, [], ◌++◌, length, ap, sym, ◌∙◌, subst, arith, append-nil, length-append}
 use Rattle.std.proofs.lemmas.List.{nil_from_length}
 use Rattle.docker_model.specs.state.State.{IsValid}
@@ -21,7 +22,7 @@ module _ {K : Type 0} (old : StateReading K) (count : ℕ) (is : IsReading old) 
   none : old.partial.items ≡ []
   none = let short = is.short in let wide = ap width before in nil_from_length old.partial.items (omega arith)
 
-  -- if the next part is a tag, the complete parts are a valid state
+  -- if the next part is a tag, the complete parts form a valid state
   pub valid_so_far : IsValid old.parts
   valid_so_far = good.0.valid
 

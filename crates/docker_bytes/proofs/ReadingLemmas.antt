@@ -22,7 +22,7 @@ use Rattle.state_text.specs.FaultMeaning.{IsBadHere}
 use Rattle.state_text.specs.Stage.{begins_item, LeadsTo}
 use Rattle.docker_bytes.specs.StateReading.{format_of, before_of, text_of, IsReading, ReadsOn, IsCauseSoFar, IsOpen}
 
--- the bytes of a piece before its rest
+-- the bytes of a piece before `rest`. `rest` is the end of the piece that hasn't been read yet
 abbrev pub before_rest : List ℕ → List ℕ → List ℕ
 before_rest piece rest = take (length piece - length rest) piece
 
@@ -186,8 +186,8 @@ part_read old new bytes is none wide some small fits leads empty reached same ke
         ∙ ap length (sym (items_stay (format_of old) (before_of old) bytes (ap begins_item (sym leads.is) ∙ within.0))
         ∙ ap (items_before (format_of old)) (sym leads.is) ∙ ap (λ f. items_before f (before_of new)) (sym kept))
 
--- if a part that ends with these bytes is bad, or memory ran out for the part, the text has this
--- fault
+-- if a part that ends with these bytes is bad, or memory ran out for this part, a fault with this
+-- cause and offset is correct
 pub part_refused : {K : Type 0} (old : StateReading K) (front bytes : List ℕ) (at : ℕ) (cause : Option StateCause) → IsReading old
     → bytes ≡ old.partial.items ++ front → length bytes ≡ width (before_of old)
     → 0 < length front → old.reached + length bytes ≤ old.limit → at ≡ old.item_at → IsBadHere (format_of old) (before_of old) bytes cause

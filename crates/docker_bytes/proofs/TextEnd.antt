@@ -38,7 +38,7 @@ at_its_end reading is none = by (end_or_part (format_of reading) (before_of read
     by (inr some) = absurd (omega arith)
     by (inl told) = told.1 ∙ ap at_end (state_at_end reading.stage reading.parts told.0 reading.lines told.1)
 
--- if there is no next part, the text is the text of a whole state
+-- if there is no next part, the text that was read is the text of a whole state
 pub whole_text : {K : Type 0} (reading : StateReading K) → IsReading reading → width (before_of reading) ≡ 0
     → IsStateText (format_of reading) reading.limit (text_of reading) reading.parts
 whole_text reading is none = record {
@@ -56,7 +56,7 @@ whole_text reading is none = record {
     empty : length reading.partial.items ≡ 0
     empty = let short = is.short in omega arith
 
--- if there is no next part, a fault because memory ran out has the end of the text as its offset
+-- if there is no next part and memory runs out, the offset of the fault is the end of the text
 pub wanting_at_end : {K : Type 0} (reading : StateReading K) → IsReading reading → width (before_of reading) ≡ 0
     → IsCauseAtEnd (format_of reading) reading.limit (text_of reading) reading.item_at None
 wanting_at_end reading is none =

@@ -7,7 +7,8 @@ use Rattle.docker_bytes.specs.declared.read.ReadFault.TheVariants.{Source, State
 use Rattle.docker_bytes.specs.SourceRead.{IsFaultOf, ReadsOnePieceMore, RefusesState, WantsMemory}
 use Rattle.docker_bytes.specs.StateReading.{IsWhole}
 
--- the bytes that are left in a source. `None` if contracts don't know which bytes the source holds
+-- the bytes that are left in a source, or `None` if contracts don't know which bytes the source
+-- holds
 abbrev pub BytesLeft : Type 0
 BytesLeft = Option (List ℕ)
 
@@ -26,7 +27,7 @@ IsWhyUnread wants format limit left left_now (Some (State fault)) = RefusesState
 IsWhyUnread wants format limit left left_now (Some Memory) = wants format most_at_once limit left left_now
 
 -- says how the number of the source's failures has changed. If a failure of the source is the
--- reason why no state was read, the number has grown by one. Otherwise it is unchanged
+-- reason why no state was read, the number has grown by one. Otherwise the number is unchanged
 abbrev pub CountsWhy : Option ReadFault → ℕ → ℕ → Type 0
 CountsWhy None failures failures_now = ⊥
 CountsWhy (Some Source) failures failures_now = failures_now ≡ failures + 1
@@ -39,7 +40,7 @@ abbrev pub IsOutcome : {A E : Type 0} → Wanting → (E → Option ReadFault) �
 IsOutcome wants why format limit IsMade left left_now (Ok made) = IsMade made
 IsOutcome wants why format limit IsMade left left_now (Err fault) = IsWhyUnread wants format limit left left_now (why fault)
 
--- says how the number of the source's failures has changed, for this result
+-- says how the number of the source's failures has changed when reading returns this result
 abbrev pub CountsOutcome : {A E : Type 0} → (E → Option ReadFault) → ℕ → ℕ → Result A E → Type 0
 CountsOutcome why failures failures_now (Ok made) = failures_now ≡ failures
 CountsOutcome why failures failures_now (Err fault) = CountsWhy (why fault) failures failures_now

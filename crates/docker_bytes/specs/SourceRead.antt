@@ -10,26 +10,27 @@ use Rattle.state_text.specs.FaultMeaning.{cause_meant}
 use Rattle.docker_bytes.specs.StateReading.{IsMadeOf, IsWhole, IsOpen, IsWanting}
 use Rattle.docker_bytes.specs.ParserRead.{ParserState, HasRead}
 
--- says that a source held this text. True of every text if contracts don't know which bytes the
--- source holds
+-- says that a source held this text. If contracts don't know which bytes the source holds, this is
+-- true of every text
 abbrev pub Held : Option (List ℕ) → List ℕ → Type 0
 Held None text = ⊤
 Held (Some left) text = left ≡ text
 
--- says that the source held the text of this state, in this format and within the limit
+-- says that the source held the text of this state in this format, and that the text isn't longer
+-- than the limit
 pub record ReadsState (format : Format) (limit : ℕ) (left : Option (List ℕ)) (state : State) : Type 0 where
   pub text : List ℕ
   pub held : Held left text
   pub is : IsStateText format limit text state
 
--- says that `made` is the value that a keeper makes from the state whose text the source held, in
--- this format and within the limit
+-- says that `made` is the value that a keeper makes from the state whose text the source held. The
+-- text is in this format, and isn't longer than the limit
 pub record ReadsMade {Made : Type 0} (makes : Made → State → Type 0) (format : Format) (limit : ℕ) (left : Option (List ℕ)) (made : Made) : Type 0 where
   pub text : List ℕ
   pub held : Held left text
   pub of : IsMadeOf makes format limit text made
 
--- says that the text has a fault at this offset, for this cause. The cause `None` means out of
+-- says that the text has a fault with this offset and this cause. The cause `None` means out of
 -- memory, which is never a fault of a text
 abbrev pub IsCauseOf : Format → ℕ → List ℕ → ℕ → Option model.StateCause → Type 0
 IsCauseOf format limit text at None = ⊥

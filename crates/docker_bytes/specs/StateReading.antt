@@ -39,8 +39,8 @@ pub record IsReading {K : Type 0} (reading : StateReading K) : Type 0 where
   pub item_is : reading.item_at ≡ length (items_before (format_of reading) (before_of reading))
   pub within : reading.reached + length reading.partial.items ≤ reading.limit
 
--- says that the reading `new` has read these bytes after the text of `old`, in the same format and
--- under the same limit
+-- says that the reading `new` has read these bytes after the text of `old`. Both readings have the
+-- same format and the same limit
 pub record ReadsOn {K : Type 0} (old new : StateReading K) (bytes : List ℕ) : Type 0 where
   pub reading : IsReading new
   pub text : text_of new ≡ text_of old ++ bytes
@@ -66,8 +66,8 @@ pub record IsWanting (format : Format) (limit : ℕ) (text piece : List ℕ) (at
   pub ends_in_piece : length text < length (text_before format before) + width before
   pub item_at : at ≡ length (items_before format before)
 
--- says what a fault means if it is returned for a piece that follows a text: a part is bad, or the
--- state needs a byte at the limit. The cause `None` means that memory ran out
+-- says what it means that a parser returns this fault for a piece that follows a text: a part is
+-- bad, or the state needs a byte at the limit. The cause `None` means that memory ran out
 abbrev pub IsCauseSoFar : Format → ℕ → List ℕ → List ℕ → ℕ → Option model.StateCause → Type 0
 IsCauseSoFar format limit text piece at None = IsWanting format limit text piece at
 IsCauseSoFar format limit text piece at (Some cause) =
@@ -77,7 +77,7 @@ IsCauseSoFar format limit text piece at (Some cause) =
 abbrev pub IsFaultReported : Format → ℕ → List ℕ → List ℕ → StateFault → Type 0
 IsFaultReported format limit text piece fault = IsCauseSoFar format limit text piece fault.at (cause_meant fault.cause)
 
--- says that the text is a valid state's text, within the limit
+-- says that the text is the text of a valid state, and isn't longer than the limit
 abbrev pub IsWhole : Format → ℕ → List ℕ → Type 0
 IsWhole format limit text = (state : State) × IsStateText format limit text state
 
@@ -85,9 +85,9 @@ IsWhole format limit text = (state : State) × IsStateText format limit text sta
 abbrev pub IsOpen : Format → ℕ → List ℕ → Type 0
 IsOpen format limit text = (fault : model.StateFault) × IsShort format limit text fault
 
--- says what a fault means if it is returned at the end of a text: the text ends before the state
--- does. The cause `None` means that memory ran out at the end of a complete text, and the offset is
--- this end
+-- says what it means that a parser returns this fault at the end of a text: the text ends before
+-- the state does. The cause `None` means that memory ran out at the end of a complete text, and the
+-- offset is this end
 abbrev pub IsCauseAtEnd : Format → ℕ → List ℕ → ℕ → Option model.StateCause → Type 0
 IsCauseAtEnd format limit text at None = IsWhole format limit text × (at ≡ length text)
 IsCauseAtEnd format limit text at (Some cause) = IsShort format limit text (record { at = at; cause = cause })
@@ -103,7 +103,7 @@ abbrev pub IsStep : Format → ℕ → List ℕ → List ℕ → ℕ × Step →
 IsStep format limit text piece (n, Done) = IsWhole format limit (text ++ take n piece)
 IsStep format limit text piece (n, More) = (n ≡ length piece) × IsOpen format limit (text ++ piece)
 
--- says that `made` is the value that a keeper makes from the state with this text
+-- says that `made` is the value that a keeper makes from the parts of the state with this text
 pub record IsMadeOf {Made : Type 0} (makes : Made → State → Type 0) (format : Format) (limit : ℕ) (text : List ℕ) (made : Made) : Type 0 where
   pub state : State
   pub is : IsStateText format limit text state
@@ -121,8 +121,8 @@ pub record IsLineOf (key : ScheduleKey) (count : ℕ) (at : Stage) : Type 0 wher
   pub stamp : Stamp
   pub is : at ≡ Line entries key stamp count
 
--- says that the next part is one of these lines but not the last line, and that none of its bytes
--- has been read
+-- says that the next part is one of these lines but not the last line, and that no byte of this
+-- part has been read
 pub record IsInnerLine {K : Type 0} (key : ScheduleKey) (count : ℕ) (reading : StateReading K) : Type 0 where
   pub stage : IsLineOf key count reading.stage
   pub more : length reading.lines + 1 < count

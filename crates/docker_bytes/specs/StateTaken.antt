@@ -1,4 +1,4 @@
--- The text that a parser has read, and what its fault means for the piece that it refuses.
+-- The text that a parser has read, and the meaning of a fault that the parser returns for a piece.
 use Rattle.std.specs.Prelude.{◌≡◌, ◌≢◌, ℕ, ◌^◌, ◌<◌, List, ◌++◌, length}
 use Rattle.std.proofs.Common.{arith, ap, length-append}
 use Rattle.docker_model.specs.state.StateText.{Format}
@@ -16,7 +16,8 @@ pub record StateTerms : Type 0 where
   pub format : Format
   pub limit : ℕ
 
--- says that the parser has read this text and returned no fault, and that its limit fits in 64 bits
+-- says that the parser has read this text and returned no fault, and that the parser's limit fits
+-- in 64 bits
 pub record TakesState {K : Type 0} (parser : ParserState K) (terms : StateTerms) (text : List ℕ) : Type 0 where
   pub read : HasRead parser terms.format terms.limit text
   pub small : terms.limit < 2 ^ 64

@@ -1,5 +1,5 @@
-//! Reads a state for a command that doesn't write it. Only the part of the state for the docker of
-//! one place and day is kept, or only the ledger.
+//! Reads a state for a command that doesn't write it. The reader keeps only the part of the state
+//! from which the docker of one place and one day is made, or only the ledger.
 ghost use Rattle.std.specs.Prelude.{◌≡◌, ◌-◌, ◌^◌, ◌<◌};
 ghost use Rattle.docker_model.specs.state.StateText.{dks_2};
 ghost use Rattle.docker_bytes.specs.Excerpts.{IsExcerptAt};

@@ -10,8 +10,9 @@ use std::fmt;
 /// out.
 #[derive(Clone, Copy, PartialEq, Eq, Debug)]
 pub struct StateFault {
-    /// The offset in the text, from 0: the beginning of the item at fault, the first byte after the
-    /// state, or the limit.
+    /// The offset in the text, from 0. For `Long` it is the limit, and for `Tail` the offset of the
+    /// first byte after the state. For any other fault of a text it is the offset at which the item
+    /// at fault begins.
     pub at: u64,
     /// The cause of the fault at this offset.
     pub cause: StateCause,

@@ -1,5 +1,6 @@
-//! Readers of a state's text. Each state has one text, and a reader accepts no other. Re-exports
-//! the writing of a text, and the causes for which a text is refused, from the crates below.
+//! Readers of a state's text. Each state has exactly one text, and the readers accept no other text
+//! for it. Re-exports the writing of a text, and the causes for which a text is refused, from other
+//! crates.
 #![tactic(auto)]
 
 mod excerpt;

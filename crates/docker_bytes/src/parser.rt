@@ -1,5 +1,5 @@
 //! A parser that is fed the text of a state piece by piece, and passes the parts of the text to a
-//! keeper.
+//! keeper. The keeper makes a value from these parts, for example the state itself or an excerpt.
 ghost use Rattle.std.specs.Prelude.{◌≡◌, ℕ, ◌+◌, ◌≤◌, List, [], ◌++◌, length, take, IsOk, IsErr, IfOk, IfErr, Ok, Err, None};
 ghost use Rattle.docker_model.specs.state.StateText as formats;
 ghost use Rattle.state_text.specs.FormatMeaning.{format_meant};
@@ -95,9 +95,10 @@ impl<K: Keeper> Parser<K> {
 }
 
 impl<K: Maker> Parser<K> {
-    /// Returns the value that the keeper makes from the state whose text was read. `Short` if the
-    /// text ends before the state does, with the offset of the incomplete item. `Memory` only after
-    /// a complete text, with the offset of its end. If `feed` returned a fault, returns this fault.
+    /// Returns the value that the keeper makes from the state whose text was read. Returns the
+    /// fault `Short` if the text ends before the state does; its offset is the beginning of the
+    /// incomplete item. Returns the fault `Memory` only after a complete text; its offset is the
+    /// end of the text. If `feed` returned a fault, returns this fault.
     pub(crate) fn finish(self) -> Result<K::Made, StateFault>
         ensures ok { (format : formats.Format) (limit : ℕ) (text : List ℕ) →
             HasRead self format limit text →

@@ -25,7 +25,8 @@ pub enum ReadFault {
     Source,
     /// The bytes that the source holds aren't the text of a state. The cause is never `Memory`.
     State(StateFault),
-    /// Out of memory: the allocator refused a request. No part that was judged before is bad.
+    /// Out of memory: the allocator refused a request. No part that was judged before memory ran
+    /// out is bad.
     Memory,
 }
 
@@ -44,8 +45,9 @@ impl fmt::Display for ReadFault {
 impl Error for ReadFault {}
 
 /// Reads a source to its end, or to the first fault, and returns the state whose text the source
-/// held. Reads in pieces of at most 65,536 bytes, and nothing after the piece that determines the
-/// result. So a source that never ends is read at most up to the piece with the byte at the limit.
+/// held. The call reads pieces of at most 65,536 bytes, and nothing after the piece that determines
+/// the result. So a source that never ends is read at most up to the piece with the byte at the
+/// limit.
 pub fn read_state<S: Source>(alloc: Global, source: &mut S, limit: u64) -> Result<State, ReadFault>
     requires { S.failures source.old < 2 ^ 64 - 1 }
     ensures { EndsReading S.left S.failures dks_2 limit
@@ -71,7 +73,7 @@ pub fn read_state_noting<S: Source>(
 }
 
 /// Like `read_state`, for a text in this format. The parts are passed to `keeper`, which has no
-/// parts yet. Returns the value that the keeper makes from them.
+/// parts yet. Returns the value that the keeper makes from the parts.
 pub(crate) fn read_format<S: Source, K: Maker>(
     alloc: Global,
     format: Format,
@@ -155,7 +157,8 @@ fn feed<K: Keeper>(parser: &mut Parser<K>, piece: &[u8]) -> Result<(), ReadFault
     }
 }
 
-/// Returns the value that a keeper makes from the state whose text a parser was fed.
+/// Returns the value that a parser's keeper makes from the parts of the text that the parser was
+/// fed.
 fn finish<K: Maker>(parser: Parser<K>) -> Result<K::Made, ReadFault>
     ensures { (format : formats.Format) (limit : ℕ) (text : List ℕ) →
         HasRead parser format limit text →

@@ -112,8 +112,8 @@ impl<K: Keeper> StateReading<K> {
         }
     }
 
-    /// The number of lines at the front of a piece of `len` bytes that are complete, end within the
-    /// limit, and aren't the last of the schedule's `count` lines.
+    /// How many lines at the front of a piece of `len` bytes can be taken at once. These lines are
+    /// complete, end within the limit, and don't include the last of the schedule's `count` lines.
     fn inner_lines(&self, count: u32, len: usize) -> u64
         requires { self.now.reached ≤ self.now.limit }
         ensures { result ≡ min (min (len / LINE) ((self.now.limit - self.now.reached) / LINE))
@@ -162,9 +162,9 @@ impl<K: Keeper> StateReading<K> {
         Ok(rest)
     }
 
-    /// Takes the head of an entry at once: all parts before the body of an entry with a body. Takes
-    /// nothing unless the head lies whole at the front of the piece, is good and ends within the
-    /// limit. Returns the bytes after the head, or the whole piece if nothing was taken.
+    /// Takes the head of an entry at once. If an entry has a body, its head is all parts before the
+    /// body. Takes nothing unless the head lies whole at the front of the piece, is good and ends
+    /// within the limit. Returns the bytes after the head, or the whole piece if nothing was taken.
     fn take_head<'a>(&mut self, piece: &'a [u8]) -> &'a [u8]
         requires { IsReading self.old }
         ensures rest { take (length piece.now - length result.now) piece.now ++ result.now
@@ -224,7 +224,7 @@ impl<K: Keeper> StateReading<K> {
         }
     }
 
-    /// Takes the last bytes of a part.
+    /// Takes the bytes that complete a part.
     fn take(&mut self, front: &[u8]) -> Result<(), StateFault>
         requires reading { IsReading self.old }
         requires wide { length self.old.partial.items + length front.now

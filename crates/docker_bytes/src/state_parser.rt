@@ -66,9 +66,10 @@ impl StateParser {
         self.parser.feed(piece)
     }
 
-    /// Returns the state whose text was read. `Short` if the text ends before the state does, with
-    /// the offset of the incomplete item. `Memory` only after a complete text, with the offset of
-    /// its end. If `feed` returned a fault, returns this fault.
+    /// Returns the state whose text was read. Returns the fault `Short` if the text ends before the
+    /// state does; its offset is the beginning of the incomplete item. Returns the fault `Memory`
+    /// only after a complete text; its offset is the end of the text. If `feed` returned a fault,
+    /// returns this fault.
     pub fn finish(self) -> Result<State, StateFault>
         ensures ok { (format : formats.Format) (limit : ℕ) (text : List ℕ) →
             HasRead self format limit text →

@@ -1,4 +1,4 @@
--- The calls of base trains at a place, each with its first event. Also how the calls of the last
+-- The calls of base trains at a place, each with its first event, and how the calls of the last
 -- base train are kept.
 use Rattle.std.proofs.Common.{◌≡◌, ℕ, ◌==◌, Bool, true, false, cond, List, refl, ap, sym, ◌∙◌, subst, Some, None, eqb-true}
 use Rattle.std.specs.Prelude.{Option, ◌&&◌, IfSome, IfOk, option_map, Result, Ok, Err}
@@ -26,12 +26,13 @@ use Rattle.docker_day.specs.declared.base_calls.BaseCalls.{BaseCalls}
 use Rattle.docker_day.specs.Bases.{first_call, meant_if, AreKnownCalls, kept_or, HasCall, HasEvent}
 use Rattle.docker_day.specs.Lines.{is_here, listed, link_line_at, link_line_by, link_line_with}
 
--- says that this is the first event of the UID's call with this suffix at the place
+-- says that the event is the first event of the call with this suffix that the UID's train makes at
+-- the place
 abbrev pub IsFirstCall : Table → List ℕ → ℕ → List ℕ → ℕ → Option Occurrence → Type 0
 IsFirstCall live place day uid suffix event =
     (rows : List Row) → AreRowsOf live rows → meant_if event ≡ first_call (train_in rows uid day) place suffix
 
--- the kept first event of a UID's call is the first event of this call
+-- the first event that is kept for a call of the UID's train is the first event of this call
 pub known_calls : (live : Table) (place : List ℕ) (day : ℕ) (known : BaseCalls) (uid : List ℕ) (suffix : ℕ) (answer : Option (Option Occurrence))
     → AreKnownCalls live place day (Some known) → option_map meant_if answer ≡ cond (bytes_eq known.uid uid) (Some (get nat_cmp known.calls suffix)) None
     → IfSome answer (IsFirstCall live place day uid suffix)
@@ -48,7 +49,7 @@ known_calls live place day known uid suffix (Some event) are is = by (bytes_eq k
         ∙ ap (λ u. first_call (train_in rows u day) place suffix) ((bytes_eq-Decides known.uid uid).0 same)
     by false other told = cc
 
--- if no later event follows, the kept event is the first event
+-- if no event follows the kept event, the first event is the kept event
 pub kept_alone : (event : Option events.Occurrence) → kept_or event None ≡ event
 kept_alone None = refl
 kept_alone (Some event) = refl
@@ -99,7 +100,7 @@ module _ (place : List ℕ) (event : events.Occurrence) where
 
 -- ---- the docker line at a call
 
--- the UID of the train that is chosen for a UID is this UID
+-- the train chosen for a UID has this UID
 pub uid_of_train : (live : Table) (rows : List Row) (uid : List ℕ) (day : ℕ) (train : Train) → AreRowsOf live rows → train_in rows uid day ≡ Some train
     → train.key.uid ≡ uid
 uid_of_train live rows uid day train are is = (subst (IsTrainOn live uid day) is (trains_tell live rows are uid day)).chosen.running.uid_is
@@ -135,8 +136,8 @@ IsWithBase link occasion visit line =
     (rows : List Row) → AreRowsOf (live_in visit.timetable) rows
     → listed line ≡ link_line_with (train_in rows) visit.day visit.start link (Some occasion) (train_in rows link.key.base visit.start)
 
--- if the event is the first event of the base train's call, the line that is made from this event
--- is the association's line with the base train
+-- the line that is made from the first event of the base train's call is the association's line
+-- with the base train
 pub with_base : {Fault : Type 0} (link : Link) (occasion : Occasion) (event : events.Occurrence) (visit again : Visit)
     (result : Result (Option DockerLine) Fault) → again ≡ visit
     → ((rows : List Row) → AreRowsOf (live_in visit.timetable) rows

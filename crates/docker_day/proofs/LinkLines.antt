@@ -39,7 +39,8 @@ pub first_call_is : (lines : List (List ℕ)) (location : List ℕ) (suffix : �
     → find (is_call location suffix) (occurrences lines) ≡ option_map (occurrence_of lines) (first_event_at lines location suffix)
 first_call_is lines location suffix = find_mapped (occurrence_of lines) (is_call location suffix) (events_of lines)
 
--- the docker line that the code makes for an association equals its line in the definitions
+-- the docker line that the code makes for an association equals the association's line in the
+-- definitions
 link_line_is : (trains : List ℕ → ℕ → Option choices.Train) (day start : ℕ) (link : live_rows.Link) (occasion : Option Occasion) (base : Option choices.Train)
     → link_line_with trains day start link occasion base ≡ line_with trains day start link.key link.line occasion base
 link_line_is trains day start link None base = refl
@@ -57,7 +58,7 @@ none_of_all : (days : List ℕ) → flat_map (λ (day : ℕ). no_line) days ≡ 
 none_of_all [] = refl
 none_of_all (day ∷ days) = none_of_all days
 
--- the lines of a row are the concatenation of its lines for the three start days
+-- the lines of a row are the concatenation of the row's lines for the three start days
 row_pieces : (trains : List ℕ → ℕ → Option choices.Train) (links : Group → ℕ → Option live_rows.Link) (place : List ℕ) (day : ℕ) (view : RowView)
     → flat_map (row_piece trains links place day view) (start_days day) ≡ view_lines trains links place day view
 row_pieces trains links place day (Train train) = refl

@@ -1,4 +1,4 @@
--- The docker lines of a row are the concatenation of its lines for the three visits.
+-- The docker lines of a row are the concatenation of the row's lines for the three visits.
 use Rattle.std.proofs.Common.{◌≡◌, ℕ, ◌-◌, Bool, true, false, cond, List, [], ◌++◌, refl, ap, sym, ◌∙◌, subst, Some, None, append-nil, arith}
 use Rattle.std.specs.Prelude.{Option, nat_le}
 use Rattle.std.proofs.Math.Dec.{leb-zero}
@@ -19,7 +19,8 @@ module _ (there : PlaceDay) (view : RowView) where
   abbrev AddsBack : ℕ → List DockerLine → List DockerLine → Type 0
   AddsBack back before after = Adds (live_in there.timetable) (λ trains links. row_back trains links there.place there.day view back) before after
 
-  -- the lines that a visit adds are the row's lines for the start day `back` days before
+  -- the lines that the visit for the start day `back` days before the day adds are the row's lines
+  -- for this start day
   adds_back : (back : ℕ) (visit : Option Visit) (before after : List DockerLine) → visit ≡ visit_back there back → AddsIf visit view before after
       → AddsBack back before after
   adds_back back visit before after is adds = by (nat_le back there.day) refl (subst (λ (v : Option Visit). AddsIf v view before after) is adds)
@@ -69,7 +70,7 @@ module _ (there again : PlaceDay) (view : RowView) (today : Visit) (day_before t
       first_back_alone again.place again.day view (live_in again.timetable) first second is_live idle
       (subst (λ (p : PlaceDay). AddsBack p view 0 first second) same (adds_today there view today first second are.today_is one))
 
--- lines that were added for a place and day were also added for an equal place and day
+-- lines that were added for a `PlaceDay` were also added for an equal `PlaceDay`
 pub gathered_at : (there again : PlaceDay) (walk : List Row) (before after : List DockerLine) → again ≡ there
     → Adds (live_in again.timetable) (λ trains links. gathered trains links again.place again.day walk) before after
     → Adds (live_in there.timetable) (λ trains links. gathered trains links there.place there.day walk) before after

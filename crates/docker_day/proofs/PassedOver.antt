@@ -61,7 +61,7 @@ runs_not live rows train start are is_live idle = by (train_in rows train.key.ui
             let lines = one_schedule live other.key train.key other.lines train.lines same runs.chosen.running.is_live is_live in
             absurd (true_false (sym runs.chosen.running.runs_then ∙ ap (λ (ls : List (List ℕ)). schedule_runs (first_record ls) start) lines ∙ idle))
 
--- if a live association doesn't run on a start day, it isn't the association chosen in its group
+-- a live association that doesn't run on a start day isn't the association chosen in its group
 pub counts_not : (live : Table) (rows : List Row) (link : live_rows.Link) (start : ℕ) → AreRowsOf live rows → IsLiveLink live link
     → association_runs link.line start ≡ false → counts_as (link_in rows (group_of link.key) start) link.key ≡ false
 counts_not live rows link start are is_live idle = by (link_in rows (group_of link.key) start) (links_tell live rows are (group_of link.key) start)
@@ -108,7 +108,7 @@ none_late place day start key detail (event ∷ events) before none =
         let none_behind : some_late events ≡ false = (λ i. sym h i || some_late events) ∙ none in
         (λ i. cond (elsewhere h i) (line_at_event key start detail event ∷ []) [] ++ rest none_behind i)
 
--- if a train doesn't pass midnight up to its last line at a place, it has no docker line at this
+-- a train that doesn't pass midnight up to its last line at a place has no docker line at this
 -- place on a day later than the start day
 no_lines_then : (place : List ℕ) (day start : ℕ) (key : ScheduleKey) (lines : List (List ℕ)) → start < day
     → some_late (occurrences_to place lines) ≡ false → event_lines place day start key lines ≡ []
@@ -135,7 +135,7 @@ module _ (live : Table) (rows : List Row) (are : AreRowsOf live rows) (place : L
   abbrev lines_back : RowView → ℕ → List DockerLine
   lines_back view back = row_back (train_in rows) (link_in rows) place day view back
 
-  -- if a schedule doesn't run on a day, it has no docker lines with this day as the start day
+  -- a schedule that doesn't run on a day has no docker lines with this day as the start day
   idle_back : (train : choices.Train) (back : ℕ) → IsLiveTrain live train → runs_back train.lines day back ≡ false
       → lines_back (Train train) back ≡ []
   idle_back train back is_live idle = by (nat_le back day) refl
@@ -146,7 +146,7 @@ module _ (live : Table) (rows : List Row) (are : AreRowsOf live rows) (place : L
           (λ i. cond (runs_not live rows train (day - back) are is_live ((λ j. sym h j && schedule_runs (first_record train.lines) (day - back)) ∙ idle) i)
           (event_lines place day (day - back) train.key train.lines) [])
 
-  -- if a train doesn't pass midnight up to its last line at the place, it has no docker line for an
+  -- a train that doesn't pass midnight up to its last line at the place has no docker line for an
   -- earlier start day
   early_back : (train : choices.Train) (back : ℕ) → 0 < back → some_late (occurrences_to place train.lines) ≡ false
       → lines_back (Train train) back ≡ []

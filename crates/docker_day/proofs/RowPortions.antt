@@ -1,4 +1,4 @@
--- The docker lines are the same if the rows of a walk are read in portions.
+-- Reading the rows of a walk in portions leaves the docker lines unchanged.
 use Rattle.std.proofs.Common.{◌≡◌, ℕ, zero, suc, ◌<◌, Bool, true, false, List, [], ◌∷◌, ◌++◌, length}
 use Rattle.std.proofs.Common.{take, get_or, refl, ap, sym, ◌∙◌, subst, Some, None, arith, append_assoc}
 use Rattle.std.specs.Prelude.{Option, ◌||◌}
@@ -53,7 +53,8 @@ pub passed_again : (day : ℕ) (all rest fewer : List Row) → AreLeft all rest 
 passed_again day all rest fewer left first second = λ place live are_live rows are.
     first place live are_live rows are ∙ second place live (left.live live are_live) rows are
 
--- if neither the rows read before nor the next row may have lines, all these rows may be skipped
+-- if neither the rows that were read earlier nor the next row may have lines, all these rows may be
+-- skipped
 pub none_behind : (day : ℕ) (all rest fewer : List Row) (so_far may : Bool) → AreLeft all rest → (so_far ≡ false → ArePassedOver day all rest)
     → (¬ (◌≡◌ {A = Option Bool} (Some may) (Some true)) → ArePassedOver day rest fewer) → (so_far || may) ≡ false → ArePassedOver day all fewer
 none_behind day all rest fewer true may left before after none = let bad : true ≡ false = none in cc
@@ -61,8 +62,8 @@ none_behind day all rest fewer false true left before after none = let bad : tru
 none_behind day all rest fewer false false left before after none =
     passed_again day all rest fewer left (before refl) (after (λ bad. cc))
 
--- if none of the rows read before may have lines, and no more rows are read, all rows that were
--- read may be skipped
+-- if none of the rows that were read earlier may have lines, and no more rows are read, all rows
+-- that were read may be skipped
 pub none_after : (day : ℕ) (all rest fewer : List Row) (so_far : Bool) (found : Option Bool) → AreLeft all rest
     → (so_far ≡ false → ArePassedOver day all rest) → ((may : Bool) → ¬ (found ≡ Some may)) → (¬ (found ≡ Some true) → ArePassedOver day rest fewer)
     → so_far ≡ false → ArePassedOver day all fewer
@@ -85,7 +86,8 @@ moved_over there again all rest fewer first second same live one passed = λ row
     (subst (λ (p : PlaceDay). AreLive (live_in p.timetable) rest) same live) rows are))
     ∙ one rows are
 
--- rows that are live for a place and day are live for an equal place and day
+-- rows that are live in the timetable of a `PlaceDay` are live in the timetable of an equal
+-- `PlaceDay`
 pub live_again : (there again : PlaceDay) (rows : List Row) → again ≡ there → AreLive (live_in there.timetable) rows → AreLive (live_in again.timetable) rows
 live_again there again rows same live = subst (λ (p : PlaceDay). AreLive (live_in p.timetable) rows) (sym same) live
 
@@ -111,7 +113,7 @@ live_item live (next ∷ portion) zero row are below is = subst (λ (r : ℕ × 
 live_item live (next ∷ portion) (suc i) row are below is = live_item live portion i row are.1 (omega arith) is
 live_item live [] i row are below is = let bad : i < 0 = below in absurd (omega arith)
 
--- each row of the portion is live for an equal place and day
+-- each row of the portion is live in the timetable of an equal `PlaceDay`
 pub live_at : (there again : PlaceDay) (portion : List (ℕ × RowView)) (i : ℕ) (row : ℕ × RowView) → again ≡ there
     → AreLiveViews (live_in there.timetable) (views_in portion) → i < length portion → row ≡ get_or portion i row
     → IsLiveView (live_in again.timetable) row.1

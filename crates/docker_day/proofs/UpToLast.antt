@@ -19,13 +19,14 @@ module _ (place : List ℕ) (day start : ℕ) (key : ScheduleKey) (detail : Deta
   abbrev line_of : Occurrence → List DockerLine
   line_of event = cond (is_here place event && is_today day start event) (line_at_event key start detail event ∷ []) []
 
-  -- the docker lines of a concatenation of events are the concatenation of their docker lines
+  -- the docker lines of two concatenated lists of events are the concatenation of both lists'
+  -- docker lines
   there_parts : (events behind : List Occurrence) → there (events ++ behind) ≡ there events ++ there behind
   there_parts [] behind = refl
   there_parts (event ∷ events) behind =
       ap (λ more. line_of event ++ more) (there_parts events behind) ∙ sym (append_assoc (line_of event) (there events) (there behind))
 
-  -- a line at another place has no event at the place
+  -- the events at a line that isn't at the place have no docker lines
   none_elsewhere : (p : Progress) (line : List ℕ) (times : List (Occasion × ℕ)) → names_place place line ≡ false
       → there (occurrences_at p line times) ≡ []
   none_elsewhere p line [] elsewhere = refl
@@ -34,8 +35,8 @@ module _ (place : List ℕ) (day start : ℕ) (key : ScheduleKey) (detail : Deta
       [] ++ there (occurrences_at (past_time p time) line times))
       ∙ none_elsewhere (past_time p time) line times elsewhere
 
-  -- after the progress `p`, the lines up to the last line at the place have the same docker lines
-  -- as all lines
+  -- if a walk has the progress `p`, the lines up to the last line at the place have the same docker
+  -- lines as all lines
   lines_up_to : (p : Progress) (lines : List (List ℕ)) → there (occurrences_from p (up_to_last place lines)) ≡ there (occurrences_from p lines)
   lines_up_to p [] = refl
   lines_up_to p (line ∷ lines) = by (names_place place line) refl (up_to_last place lines) (lines_up_to next lines)

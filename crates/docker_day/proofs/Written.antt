@@ -18,14 +18,14 @@ both_taken None second third front back one two = two ∙ ap (option_map (λ tak
 both_taken (Some taken) second third front back one two =
     two ∙ ap (option_map (λ out. out ++ back)) one ∙ ap Some (append_assoc taken front back)
 
--- a proper prefix of the first part is a proper prefix of both parts
+-- a proper prefix of `front` is a proper prefix of `front ++ back`
 pub part_of_front : (first second : Option (List ℕ)) (front back : List ℕ) → TakesPart first front second → TakesPart first (front ++ back) second
 part_of_front first second front back (n, short, taken) =
     let long = length-append front back in
     let same : take n (front ++ back) ≡ take n front = take-append-le n front back (omega arith) in
     (n, omega arith, subst (λ bytes. Takes first bytes second) (sym same) taken)
 
--- the first part, followed by a proper prefix of the second part, is a proper prefix of both parts
+-- `front`, followed by a proper prefix of `back`, is a proper prefix of `front ++ back`
 pub part_of_back : (first second third : Option (List ℕ)) (front back : List ℕ) → Takes first front second → TakesPart second back third
     → TakesPart first (front ++ back) third
 part_of_back first second third front back one (n, short, taken) =
@@ -60,14 +60,15 @@ pub one_failed : {A E : Type 0} (Q : E → Type 0) (result : Result A E) (before
 one_failed {A} {E} Q (Ok value) before after is more = absurd is
 one_failed {A} {E} Q (Err fault) before after is more = counts_error {A = A} {E = E} (Err fault) before after tt more
 
--- if nothing failed before the last write, only the last write may have failed
+-- if only the last write may have failed, the number of failures has grown by one if the last write
+-- has failed, and is unchanged otherwise
 pub last_failed : {A E : Type 0} (result : Result A E) (before between after : ℕ) → between ≡ before → OnOk result (after ≡ between)
     → OnErr result (after ≡ between + 1) → CountsFailure (IsErr result) before after
 last_failed result before between after none same more =
     counts_error result before after (on_ok_weaker result (λ is. is ∙ none) same) (on_err_weaker result (λ is. is ∙ ap (λ n. n + 1) none) more)
 
--- a text in three parts. The parts `a`, `b` and `c` are written, and are equal to `front`, `middle`
--- and `back`
+-- a text consists of three parts: `front`, `middle` and `back`. The written bytes `a`, `b` and `c`
+-- equal these three parts
 module _ (first second third last : Option (List ℕ)) (a b c front middle back : List ℕ) (a_is : a ≡ front) (b_is : b ≡ middle) (c_is : c ≡ back) where
   -- if the sink gains each of the three parts, it gains the whole text
   pub all_taken : Takes first a second → Takes second b third → Takes third c last → Takes first (front ++ middle ++ back) last

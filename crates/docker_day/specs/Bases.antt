@@ -13,17 +13,18 @@ use Rattle.train_choice.specs.declared.walk.Occurrence.{Occurrence}
 use Rattle.docker_day.specs.declared.base_calls.BaseCalls.{BaseCalls}
 use Rattle.docker_day.specs.Lines.{is_call}
 
--- the first event of a train's call with this suffix at a place. `None` if there is no train, or if
--- the train has no call with this suffix at the place
+-- the first event of a train's call with this suffix at a place. The result is `None` if there is
+-- no train, or if the train has no call with this suffix at the place
 abbrev pub first_call : Option Train → List ℕ → ℕ → Option events.Occurrence
 first_call None place suffix = None
 first_call (Some train) place suffix = find (is_call place suffix) (occurrences train.lines)
 
--- converts an event of the code, if there is one, to the `Occurrence` of the definitions
+-- converts the code's `Occurrence`, if there is one, to the `Occurrence` of the definitions
 abbrev pub meant_if : Option Occurrence → Option events.Occurrence
 meant_if event = option_map occurrence_meant event
 
--- says that the kept calls, if there are any, are the calls of their UID's train on the start day
+-- says that the kept calls, if there are any, are correct. For each suffix, the kept event is the
+-- first event of the call with this suffix that the UID's train makes at the place
 abbrev pub AreKnownCalls : Table → List ℕ → ℕ → Option BaseCalls → Type 0
 AreKnownCalls live place day None = ⊤
 AreKnownCalls live place day (Some known) =

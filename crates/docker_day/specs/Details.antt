@@ -4,7 +4,7 @@ use Rattle.docker_model.specs.docker.DockerLine as model
 use Rattle.docker_day.specs.declared.detail.Detail.{Detail}
 use Rattle.docker_day.specs.declared.detail.Detail.TheVariants.{Ends, Partner}
 
--- converts the `Detail` of a docker line of the code to the `Detail` of the definitions
+-- converts the code's `Detail` of a docker line to the definitions' `Detail`
 abbrev pub detail_meant : Detail → model.Detail
 detail_meant (Ends origin destination) = ends origin destination
 detail_meant (Partner uid identity) = partner uid identity

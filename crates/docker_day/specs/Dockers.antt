@@ -10,16 +10,16 @@ use Rattle.docker_laws.specs.Gathering.{IsWalk, gathered}
 use Rattle.docker_day.specs.Lines.{Adds}
 use Rattle.docker_day.specs.DockerValue.{Docker}
 
--- says that this is the docker of the place and the day: it has the place, the day, the description
--- of the place, and the docker list
+-- says that this is the docker of the place and the day: the docker has the place, the day, the
+-- description of the place, and the docker list
 pub record IsDockerOf (live : Table) (place : List ℕ) (day : ℕ) (docker : Docker) : Type 0 where
   pub place_is : docker.place ≡ place
   pub day_is : docker.day ≡ day
   pub described : docker.description ≡ description_in (live (tiploc_key place))
   pub list : IsDockerList live place day docker.lines
 
--- says that the docker lines of a walk's rows were added, for some walk that includes every row of
--- the place
+-- says that the docker lines of the rows of a walk were added, and that this walk includes every
+-- row of the place
 abbrev pub HasGathered : Table → List ℕ → ℕ → List DockerLine → List DockerLine → Type 0
 HasGathered live place day before after =
     (rows : List Row) × IsWalk live place rows × Adds live (λ trains links. gathered trains links place day rows) before after

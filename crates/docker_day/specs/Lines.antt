@@ -81,7 +81,7 @@ abbrev pub runs_recently : List (List ℕ) → ℕ → Bool
 runs_recently lines day = runs_back lines day 0 || runs_back lines day 1 || runs_back lines day 2
 
 -- whether the schedule's train may be at the place on this day, having started on an earlier day.
--- That is so if the schedule runs on one of the two days before, and passes midnight before or at
+-- That is so if the schedule runs on one of the two days before, and its train passes midnight by
 -- its last event at the place
 abbrev pub is_under_way : List ℕ → List (List ℕ) → ℕ → Bool
 is_under_way place lines day = (runs_back lines day 1 || runs_back lines day 2) && some_late (occurrences_to place lines)
@@ -90,9 +90,9 @@ is_under_way place lines day = (runs_back lines day 1 || runs_back lines day 2) 
 abbrev pub is_call : List ℕ → ℕ → Occurrence → Bool
 is_call place suffix event = is_at place suffix event.line
 
--- says that `after` is `before` with more lines appended. `more` makes the lines from two
--- functions. The first returns the train of a UID that starts on a day. The second returns the
--- association chosen in a group for a start day
+-- says that `after` is `before` with the lines of `more` appended. `more` makes these lines from
+-- two functions. The first function returns the train of a UID that starts on a day. The second
+-- function returns the association chosen in a group for a start day
 abbrev pub Adds : Table → ((List ℕ → ℕ → Option Train) → (Group → ℕ → Option Link) → List DockerLine) → List DockerLine → List DockerLine → Type 0
 Adds live more before after = (rows : List Row) → AreRowsOf live rows → after ≡ before ++ more (train_in rows) (link_in rows)
 
@@ -101,41 +101,41 @@ abbrev pub listed : Option DockerLine → List DockerLine
 listed None = []
 listed (Some line) = line ∷ []
 
--- the docker lines of a schedule for a start day. Empty unless the train of the schedule's UID runs
--- by this schedule on that day
+-- the docker lines of a schedule for a start day. There are none unless the train of the schedule's
+-- UID runs by this schedule on the start day
 abbrev pub schedule_piece : (List ℕ → ℕ → Option Train) → List ℕ → ℕ → ScheduleKey → List (List ℕ) → ℕ → List DockerLine
 schedule_piece trains place day key lines start = if runs_by (trains key.uid start) key then event_lines place day start key lines else []
 
--- the docker line of an association at an event of the base train. Empty if the event is on another
--- day
+-- the docker line of an association at an event of the base train. The list is empty if the event
+-- is on another day
 abbrev pub link_line_at : (List ℕ → ℕ → Option Train) → ℕ → ℕ → Link → Occasion → ScheduleKey → Occurrence → List DockerLine
 link_line_at trains day start link occasion base event =
     if is_today day start event
     then line_of_link occasion link.key base start event (partner_identity trains link.key.associated (partner_start (column 37 link.line) start)) ∷ []
     else []
 
--- like `link_line_at`, or empty if there is no event
+-- like `link_line_at`, but empty if there is no event
 abbrev pub link_line_by : (List ℕ → ℕ → Option Train) → ℕ → ℕ → Link → Occasion → ScheduleKey → Option Occurrence → List DockerLine
 link_line_by trains day start link occasion base None = []
 link_line_by trains day start link occasion base (Some event) = link_line_at trains day start link occasion base event
 
--- the docker line of an association. Empty if the association has no occasion, because its category
--- isn't `JJ`, `VV` or `NP`. Also empty if there is no base train
+-- the docker line of an association. The list is empty if there is no base train, or if the
+-- association has no occasion because its category isn't `JJ`, `VV` or `NP`
 abbrev pub link_line_with : (List ℕ → ℕ → Option Train) → ℕ → ℕ → Link → Option Occasion → Option Train → List DockerLine
 link_line_with trains day start link None base = []
 link_line_with trains day start link (Some occasion) None = []
 link_line_with trains day start link (Some occasion) (Some base) =
     link_line_by trains day start link occasion base.key (find (is_call link.key.location link.key.suffix) (occurrences base.lines))
 
--- the docker line of an association for a start day of its base train. Empty if the association
--- isn't in force on that day
+-- the docker line of an association for a start day of its base train. The list is empty if the
+-- association isn't in force on that day
 abbrev pub link_piece : (List ℕ → ℕ → Option Train) → (Group → ℕ → Option Link) → ℕ → Link → ℕ → List DockerLine
 link_piece trains links day link start =
     if is_in_force links start link.key link.line
     then link_line_with trains day start link (category_occasion (columns 35 36 link.line)) (trains link.key.base start)
     else []
 
--- like `link_piece`, or empty if the association isn't at the place
+-- like `link_piece`, but empty if the association isn't at the place
 abbrev pub link_here : (List ℕ → ℕ → Option Train) → (Group → ℕ → Option Link) → List ℕ → ℕ → Link → ℕ → List DockerLine
 link_here trains links place day link start = if bytes_eq link.key.location place then link_piece trains links day link start else []
 

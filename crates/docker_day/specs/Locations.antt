@@ -15,7 +15,7 @@ pub record Shown : Type 0 where
   pub arrival : List ℕ
   pub departure : List ℕ
 
--- converts the printed columns from the code's `Location` to `Shown`
+-- converts the code's `Location` to the `Shown` of the definitions
 abbrev pub location_meant : Location → Shown
 location_meant location = record {
   platform = location.platform.now;
@@ -35,7 +35,8 @@ location_by_kind kind line = record {
   departure = public_by_kind kind departure line;
 }
 
--- the public time for an occasion. Spaces unless the occasion is an arrival or a departure
+-- the printed public time for an occasion. For any occasion other than an arrival or a departure,
+-- the public time is spaces
 abbrev pub public_at : Occasion → Shown → List ℕ
 public_at arrival shown = shown.arrival
 public_at departure shown = shown.departure

@@ -40,22 +40,23 @@ abbrev pub AreLiveViews : Table → List RowView → Type 0
 AreLiveViews live [] = ⊤
 AreLiveViews live (row ∷ rows) = IsLiveView live row × AreLiveViews live rows
 
--- whether the row may have lines on the day. False only for a schedule that runs neither on the day
--- nor on one of the two days before
+-- whether the row may have lines on the day. The result is false only for a schedule that runs
+-- neither on the day nor on one of the two days before
 abbrev pub row_runs_recently : RowView → ℕ → Bool
 row_runs_recently (Train train) day = runs_recently train.lines day
 row_runs_recently (Link link) day = true
 row_runs_recently Other day = true
 
--- whether the row may have lines at the place for a train that started before the day. False only
--- for a schedule whose train can't be under way
+-- whether the row may have lines at the place for a train that started before the day. The result
+-- is false only for a schedule whose train can't be under way on the day
 abbrev pub row_under_way : List ℕ → RowView → ℕ → Bool
 row_under_way place (Train train) day = is_under_way place train.lines day
 row_under_way place (Link link) day = true
 row_under_way place Other day = true
 
--- whether the row may have lines on the day. False only for a schedule that hasn't begun by the
--- day, or whose days run include neither the weekday of the day nor the two weekdays before
+-- whether the row may have lines on the day. The result is false only for a schedule that hasn't
+-- begun by the day, or whose days run include neither the weekday of the day nor the two weekdays
+-- before
 abbrev pub row_may_run : RowView → ℕ → Bool
 row_may_run (Train train) day = may_run_recently train.key train.lines day
 row_may_run (Link link) day = true
@@ -77,7 +78,7 @@ row_piece trains links place day (Train train) start = schedule_piece trains pla
 row_piece trains links place day (Link link) start = link_here trains links place day link start
 row_piece trains links place day Other start = []
 
--- the docker lines of a row for the start day `back` days before the day. Empty if the start day
--- would be before day 0
+-- the docker lines of a row for the start day `back` days before the day. There are none if the
+-- start day would be before day 0
 abbrev pub row_back : (List ℕ → ℕ → Option choices.Train) → (Group → ℕ → Option live_rows.Link) → List ℕ → ℕ → RowView → ℕ → List DockerLine
 row_back trains links place day row back = if nat_le back day then row_piece trains links place day row (day - back) else []

@@ -23,16 +23,16 @@ pub record IsOnePlace (timetable : Timetable) (place : List ℕ) (day start : �
   pub links_are : links ≡ record { timetable = timetable; place = place; day = start }
   pub bases_are : bases ≡ record { timetable = timetable; place = place; day = start }
 
--- the visit for the trains that start `back` days before the day. `None` if the start day would be
--- before day 0
+-- the visit for the trains that start `back` days before the day, or `None` if that start day would
+-- be before day 0
 abbrev pub visit_back : PlaceDay → ℕ → Option Visit
 visit_back there back =
     if nat_le back there.day
     then Some (record { timetable = there.timetable; place = there.place; day = there.day; start = there.day - back })
     else None
 
--- says that these are the three visits: for the trains that start on the day, one day before and
--- two days before
+-- says that these are the visits for the trains that start on the day, one day before it and two
+-- days before it
 pub record AreVisits (there : PlaceDay) (today : Visit) (day_before two_before : Option Visit) : Type 0 where
   pub today_is : today ≡ record { timetable = there.timetable; place = there.place; day = there.day; start = there.day }
   pub day_before_is : day_before ≡ visit_back there 1

@@ -1,5 +1,5 @@
-//! The calls of base trains at a place. The calls of the last base train that was looked up are
-//! kept.
+//! The calls that base trains make at a place. The calls of the base train that was looked up last
+//! are kept.
 ghost use Rattle.std.specs.Prelude.{◌≡◌, ℕ, List, IfOk, IfSome};
 ghost use Rattle.std.specs.BTreeMap.{get};
 ghost use Rattle.std.specs.Ordering.{nat_cmp};
@@ -17,7 +17,7 @@ use std::collections::BTreeMap;
 use std::marker::Model;
 use train_choice::{Occurrence, train_on};
 
-/// The calls at a place of the base trains that start on a day. The calls of the train that was
+/// The calls that the base trains of one start day make at a place. The calls of the train that was
 /// looked up last are kept. In a walk over a state's rows, all associations of a base train are
 /// consecutive, so each base train's lines are read only once.
 #[derive(Debug, Drop)]
@@ -47,7 +47,7 @@ impl<'a> Model for Bases<'a> {
 }
 
 impl<'a> Bases<'a> {
-    /// The calls at a place of the trains that start on a day. No calls are kept yet.
+    /// The calls that the trains of one start day make at a place. No calls are kept yet.
     pub(crate) fn at(
         alloc: Global,
         timetable: &Timetable<'a>,
@@ -69,9 +69,9 @@ impl<'a> Bases<'a> {
         }
     }
 
-    /// The first event of a train's call with this suffix at the place. `None` if the train has no
-    /// call with this suffix, or if the train doesn't run. `Memory` if there is no room for the
-    /// train's calls.
+    /// The first event of a train's call with this suffix at the place. Returns `None` if the train
+    /// has no call with this suffix, or if the train doesn't run. Returns `Memory` if there is no
+    /// room for the train's calls.
     pub(crate) fn first_call(
         &mut self,
         uid: &Uid,
@@ -89,8 +89,8 @@ impl<'a> Bases<'a> {
     }
 
     /// The first event of the call, if the train's calls are kept. The outer `None` means that no
-    /// calls are kept, or that the kept calls are another train's. The inner `None` means that the
-    /// train has no call with this suffix.
+    /// calls are kept, or that the kept calls are another train's calls. The inner `None` means
+    /// that the train has no call with this suffix.
     fn known(&self, uid: &Uid, suffix: u8) -> Option<Option<Occurrence<'a>>>
         ensures { IfSome result (λ event. (rows : List Row)
             → AreRowsOf (live_in self.now.timetable) rows → meant_if event
@@ -117,7 +117,8 @@ impl<'a> Bases<'a> {
     }
 }
 
-/// The calls at a place of the train of a UID that starts on a day, each with its first event.
+/// Looks up the train of a UID that starts on a day, and returns its calls at a place, each with
+/// its first event.
 fn calls_of<'a>(
     alloc: Global,
     timetable: &Timetable<'a>,

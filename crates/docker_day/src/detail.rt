@@ -26,7 +26,7 @@ pub enum Detail {
 }
 
 impl Detail {
-    /// The UID of the associated train. Empty for an event.
+    /// The UID of the associated train, or an empty slice for an event.
     pub(crate) fn associated_uid(&self) -> &[u8]
         ensures { result.now ≡ associated_uid (detail_meant self.now) }
     {

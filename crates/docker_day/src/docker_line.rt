@@ -150,14 +150,14 @@ impl<'a> DockerLine<'a> {
         self.identity
     }
 
-    /// The UID of the train. In the line of an association, the base train's UID.
+    /// The UID of the train. The line of an association has the base train's UID.
     pub fn uid(&self) -> Uid
         ensures { result ≡ self.now.uid }
     {
         self.uid
     }
 
-    /// The STP indicator of the schedule. In the line of an association, the association's STP
+    /// The STP indicator of the schedule. The line of an association has the association's STP
     /// indicator.
     pub fn stp(&self) -> Stp
         ensures { stp_letter result ≡ self.now.indicator }
@@ -179,23 +179,23 @@ impl<'a> DockerLine<'a> {
         self.platform
     }
 
-    /// The line on which the train leaves or passes. Spaces at a terminus and in the line of an
-    /// association.
+    /// The line on which the train leaves or passes. The field is spaces at a terminus and in the
+    /// line of an association.
     pub fn track(&self) -> &'a [u8; 3]
         ensures { result.now ≡ self.now.track }
     {
         self.track
     }
 
-    /// The path by which the train arrives or passes. Spaces at an origin and in the line of an
-    /// association.
+    /// The path by which the train arrives or passes. The field is spaces at an origin and in the
+    /// line of an association.
     pub fn path(&self) -> &'a [u8; 3]
         ensures { result.now ≡ self.now.path }
     {
         self.path
     }
 
-    /// The public time of the arrival or departure as HHMM. Spaces if there is no public time.
+    /// The public time of the arrival or departure as HHMM, or spaces if there is no public time.
     pub fn public_time(&self) -> &'a [u8; 4]
         ensures { result.now ≡ self.now.public_time }
     {
@@ -216,8 +216,8 @@ impl<'a> DockerLine<'a> {
         self.number
     }
 
-    /// The origin and destination of the train. In the line of an association, the associated
-    /// train.
+    /// The origin and destination of the train. The line of an association has the associated train
+    /// instead.
     pub fn detail(&self) -> Detail
         ensures { detail_meant result ≡ self.now.detail }
     {

@@ -63,8 +63,8 @@ fn is_row_under_way(view: &RowView<'_>, place: &Tiploc, day: Day) -> bool
     }
 }
 
-/// Adds the lines of a row for a visit. Adds nothing if there is no visit, because its start day
-/// would be before day 0.
+/// Adds the lines of a row for a visit. Adds nothing if there is no visit, because the visit's
+/// start day would be before day 0.
 fn add_back<'a>(
     lines: &mut Vec<DockerLine<'a>>,
     visit: &mut Option<Visit<'a>>,

@@ -18,9 +18,9 @@ use crate::visit::Visit;
 use cif_line::Memory;
 use train_choice::{LinkView, Occasion, Occurrence, is_cancellation};
 
-/// The docker line of an association for a visit. `None` if the association isn't in force on the
-/// start day, or if its category isn't `JJ`, `VV` or `NP`. Also `None` if its base train doesn't
-/// call at the place on the day.
+/// The docker line of an association for a visit. Returns `None` if the association isn't in force
+/// on the start day, or if its category isn't `JJ`, `VV` or `NP`. Also returns `None` if its base
+/// train doesn't call at the place on the day.
 pub(crate) fn link_line<'a>(
     visit: &mut Visit<'a>,
     link: &LinkView<'a>,
@@ -69,7 +69,8 @@ fn is_date_indicator(indicator: u8) -> bool
     (indicator == b'S') | (indicator == b' ') | (indicator == b'N') | (indicator == b'P')
 }
 
-/// The occasion for an association category, `JJ`, `VV` or `NP`. `None` for any other category.
+/// The occasion for an association category: `JJ`, `VV` or `NP`. Returns `None` for any other
+/// category.
 fn occasion_of(category: &[u8; 2]) -> Option<Occasion>
     ensures { option_map occasion_meant result ≡ category_occasion category.now }
 {
@@ -81,8 +82,8 @@ fn occasion_of(category: &[u8; 2]) -> Option<Occasion>
     }
 }
 
-/// The docker line of an association in force. `None` if its category isn't `JJ`, `VV` or `NP`, or
-/// if its base train doesn't run or doesn't call at the place on the day.
+/// The docker line of an association in force. Returns `None` if its category isn't `JJ`, `VV` or
+/// `NP`, or if its base train doesn't run or doesn't call at the place on the day.
 fn line_with<'a>(
     visit: &mut Visit<'a>,
     link: &LinkView<'a>,
@@ -101,8 +102,8 @@ fn line_with<'a>(
     }
 }
 
-/// The docker line of an association with this occasion. `None` if its base train doesn't run, or
-/// doesn't call at the place on the day.
+/// The docker line of an association with this occasion. Returns `None` if its base train doesn't
+/// run, or doesn't call at the place on the day.
 fn line_by<'a>(
     visit: &mut Visit<'a>,
     link: &LinkView<'a>,
@@ -123,8 +124,8 @@ fn line_by<'a>(
     }
 }
 
-/// The docker line of an association at an event of its base train. `None` if the event is on
-/// another day.
+/// The docker line of an association at an event of its base train. Returns `None` if the event is
+/// on another day.
 fn line_at<'a>(
     visit: &mut Visit<'a>,
     link: &LinkView<'a>,
@@ -145,8 +146,8 @@ fn line_at<'a>(
     Ok(Some(DockerLine::of_link(link, occasion, visit.start(), event, identity)))
 }
 
-/// The train identity of the associated train on its start day. Four question marks if that train
-/// doesn't run, or if its start day would be before day 0.
+/// The train identity of the associated train on its start day. Returns four question marks if that
+/// train doesn't run, or if its start day would be before day 0.
 fn partner_identity<'a>(visit: &mut Visit<'a>, link: &LinkView<'_>) -> Result<[u8; 4], Memory>
     ensures same { visit.new ≡ visit.old }
     ensures identity { IfOk result (λ identity. (rows : List Row)

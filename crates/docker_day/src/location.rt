@@ -63,7 +63,8 @@ impl<'a> Location<'a> {
         }
     }
 
-    /// The public time for an occasion. Spaces unless the occasion is an arrival or a departure.
+    /// The printed public time for an occasion. For any occasion other than an arrival or a
+    /// departure, the public time is spaces.
     pub(crate) fn public_time(&self, occasion: Occasion) -> &'a [u8; 4]
         ensures { result.now ≡ public_at (occasion_meant occasion) (location_meant self.now) }
     {
@@ -89,8 +90,8 @@ pub(crate) fn suffix_in(line: &Line) -> u8
     line.bytes()[9]
 }
 
-/// A public time as it is printed. `0000` means that there is no public time, and is printed as
-/// spaces.
+/// A public time as it is printed. The field `0000` means that there is no public time, and is
+/// printed as spaces.
 fn shown_public(field: &[u8; 4]) -> &[u8; 4]
     ensures { result.now ≡ shown_public field.entry.now }
 {

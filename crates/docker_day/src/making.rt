@@ -24,10 +24,10 @@ use std::alloc::Global;
 use train_choice::{associations_at, schedules_at};
 
 /// Makes the docker of a timing point and a day. The docker has the events of trains that run, and
-/// the associations, at this timing point on this day. `Lapsed` if and only if the state has a
-/// horizon and the day is earlier than three days after the horizon. On such a day the docker could
-/// lack the lines of lapsed entries. `Memory` if there is no room for the lines, or for the trains
-/// that are looked up for them.
+/// the associations, at this timing point on this day. Returns `Lapsed` if and only if the state
+/// has a horizon and the day is earlier than three days after the horizon. On such a day, the
+/// docker could lack the lines of lapsed entries. Returns `Memory` if there is no room for the
+/// lines, or for the trains that are looked up for them.
 pub fn docker<'a>(
     alloc: Global,
     state: &'a State,
@@ -43,7 +43,7 @@ pub fn docker<'a>(
 /// Like `docker`, without the short-term plan: only schedules and associations with the STP
 /// indicator `P` count. If a short-term entry cancels or changes a train, the docker has the train
 /// as permanently planned. If a short-term entry adds a train, the docker doesn't have the train.
-/// The same days are refused as by `docker`.
+/// The call refuses the same days as `docker`.
 pub fn permanent_docker<'a>(
     alloc: Global,
     state: &'a State,

@@ -50,8 +50,8 @@ pub(crate) fn add_rows<'a>(
 }
 
 /// Refills the portion with the next rows of the walk, and returns whether any of these rows may
-/// have lines on the day. Reads every row, so that the cache misses overlap. At the end of the walk
-/// the portion is empty.
+/// have lines on the day. The call reads every row, so that the cache misses overlap. At the end of
+/// the walk the portion is empty.
 fn open_portion<'a>(portion: &mut Portion<'a>, rows: &mut TimetableRows<'a>, day: Day) -> bool
     requires { AreGoodRows rows.old }
     ensures left { AreLeft rows.old rows.new }
@@ -68,7 +68,7 @@ fn open_portion<'a>(portion: &mut Portion<'a>, rows: &mut TimetableRows<'a>, day
 }
 
 /// Adds the next row of the walk to the portion, and returns whether the row may have lines on the
-/// day. `None` if the portion is full or the walk has ended.
+/// day. Returns `None` if the portion is full or the walk has ended.
 fn open_next<'a>(portion: &mut Portion<'a>, rows: &mut TimetableRows<'a>, day: Day) -> Option<bool>
     requires { AreGoodRows rows.old }
     ensures none { IsNone result → (array_vec_len portion.new ≡ PORTION) ⊎ (rows.new ≡ []) }
@@ -87,9 +87,8 @@ fn open_next<'a>(portion: &mut Portion<'a>, rows: &mut TimetableRows<'a>, day: D
     Some(may_run)
 }
 
-/// Whether a row may have lines on a day. A schedule has no lines unless its runs-from date isn't
-/// after that day, and its days run include the weekday of the day or one of the two weekdays
-/// before.
+/// Whether a row may have lines on a day. The result is false only for a schedule that begins after
+/// the day, or whose days run include neither the weekday of the day nor the two weekdays before.
 fn may_row_run(view: &RowView<'_>, day: Day) -> bool
     ensures { result ≡ row_may_run view.now day }
 {

@@ -1,4 +1,4 @@
-//! Start days: of associated trains, and of trains that may be at a place on a day.
+//! The start days of associated trains, and of trains that may be at a place on a day.
 ghost use Rattle.std.specs.Prelude.{◌≡◌, ◌+◌, ◌≤◌};
 ghost use Rattle.docker_model.specs.docker.Association.{partner_start};
 ghost use Rattle.train_choice.specs.EventWalk.{occurrence_meant};
@@ -9,8 +9,9 @@ use cif_line::{Day, Tiploc};
 use train_choice::{Occurrence, day_back};
 
 /// The start day of the associated train, computed from the base train's start day and the date
-/// indicator. The associated train starts on the next day for `N`, the day before for `P`, and
-/// otherwise the same day. `None` if this start day has no day number. Day numbers are 0 to 36524.
+/// indicator. The associated train starts on the next day for `N`, on the day before for `P`, and
+/// otherwise on the same day. Returns `None` if the start day has no day number: day numbers are 0
+/// to 36524.
 pub(crate) fn partner_start(indicator: u8, start: Day) -> Option<Day>
     ensures { result ≡ partner_start indicator start }
 {

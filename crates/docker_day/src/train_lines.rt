@@ -54,7 +54,7 @@ pub(crate) fn runs_recently(train: &ScheduleView<'_>, day: Day) -> bool
 }
 
 /// Whether the train of a schedule may be at a place on this day, having started on an earlier day.
-/// That is so if the schedule runs on one of the two days before, and passes midnight before or at
+/// That is so if the schedule runs on one of the two days before, and its train passes midnight by
 /// its last event at the place.
 pub(crate) fn is_under_way(train: &ScheduleView<'_>, place: &Tiploc, day: Day) -> bool
     ensures { result ≡ is_under_way place.now train.now.lines day }
@@ -85,7 +85,7 @@ fn add_events<'a>(
     }
 }
 
-/// Like `add_events`, with the train's origin and destination in `detail`.
+/// Like `add_events`. `detail` has the train's origin and destination.
 fn add_there<'a>(
     lines: &mut Vec<DockerLine<'a>>,
     train: &ScheduleView<'a>,
@@ -116,7 +116,7 @@ fn is_there(event: &Occurrence<'_>, place: &Tiploc, day: Day, start: Day) -> boo
     is_here(event, place) & is_today(event, day, start)
 }
 
-/// The origin and destination of a train. `None` if its schedule has no journey.
+/// The origin and destination of a train. Returns `None` if its schedule has no journey.
 fn detail_of(train: &ScheduleView<'_>) -> Option<Detail>
     ensures ends { IfSome result (λ detail. detail_meant detail
         ≡ ends (tiploc_of_first (codes "LO") train.now.lines)

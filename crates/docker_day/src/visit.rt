@@ -52,7 +52,7 @@ impl<'a> Model for Visit<'a> {
 }
 
 impl<'a> Visit<'a> {
-    /// The visit for the trains that start on `start`. `Memory` if there is no room for the
+    /// The visit for the trains that start on `start`. Returns `Memory` if there is no room for the
     /// associations chosen on that day.
     pub(crate) fn of(
         alloc: Global,
@@ -126,9 +126,9 @@ impl<'a> Visit<'a> {
         self.links.counts(key)
     }
 
-    /// The first event of a train's call with this suffix at the place. `None` if the train has no
-    /// call with this suffix, or if the train doesn't run on the start day. `Memory` if there is no
-    /// room for the train's calls.
+    /// The first event of a train's call with this suffix at the place. Returns `None` if the train
+    /// has no call with this suffix, or if the train doesn't run on the start day. Returns `Memory`
+    /// if there is no room for the train's calls.
     pub(crate) fn first_call(
         &mut self,
         uid: &Uid,
@@ -142,8 +142,8 @@ impl<'a> Visit<'a> {
         self.bases.first_call(uid, suffix)
     }
 
-    /// The identity of the train of a UID that starts on a day. Four question marks if that train
-    /// doesn't run. `Memory` if there is no room to keep the identity.
+    /// The identity of the train of a UID that starts on a day. Returns four question marks if that
+    /// train doesn't run, and `Memory` if there is no room to keep the identity.
     pub(crate) fn identity(&mut self, uid: &Uid, day: Day) -> Result<[u8; 4], Memory>
         ensures same { self.new ≡ self.old }
         ensures identity { IfOk result (λ identity. (rows : List Row)

@@ -42,8 +42,8 @@ impl<'a> Model for Visits<'a> {
 }
 
 impl<'a> Visits<'a> {
-    /// The visits for a place and a day. `Memory` if there is no room for the associations chosen
-    /// on the start days.
+    /// The visits for a place and a day. Returns `Memory` if there is no room for the associations
+    /// chosen on the start days.
     pub(crate) fn at(
         alloc: Global,
         timetable: &Timetable<'a>,
@@ -75,8 +75,9 @@ impl<'a> Visits<'a> {
     }
 }
 
-/// The visit for the trains that start `back` days before the day. `None` if the start day would be
-/// before day 0. `Memory` if there is no room for the associations chosen on that start day.
+/// The visit for the trains that start `back` days before the day. Returns `None` if the start day
+/// would be before day 0, and `Memory` if there is no room for the associations chosen on that
+/// start day.
 fn visit_back<'a>(
     alloc: Global,
     timetable: &Timetable<'a>,

@@ -28,7 +28,7 @@ horizon_set state raised horizon day plain read valid set =
     ∙ set_last (under day state) (subst (λ (h : Option ℕ). IsValid (under (horizon_meant h) state)) read valid)
     ∙ ap (λ (h : Option ℕ). under (horizon_meant h) state) (sym read)
 
--- a docker of an excerpt is a docker of the whole state
+-- a docker of an excerpt, for the excerpt's place and day, is a docker of the whole state
 pub docker_of_whole : (place : List ℕ) (day : ℕ) (state part : State) → IsExcerptOf place day state part → (docker : Docker)
     → IsDockerOf (live_table part) place day docker → IsDockerOf (live_table state) place day docker
 docker_of_whole place day state part is docker made = record {
@@ -58,7 +58,8 @@ module _ (place : List ℕ) (day horizon : ℕ) (told : State) (valid : IsValid 
       → part.entries ≡ rows → part ≡ excerpt_on place day (under horizon told)
   part_is part rows is same_horizon same entries = λ i. record { horizon = same_horizon i; ledger = same i; entries = (entries ∙ is) i }
 
-  -- the state made from the kept entries makes the same docker as the state whose parts were taken
+  -- each docker of the state made from the kept entries, for the place and the day, is a docker of
+  -- the state whose parts were taken
   pub is_excerpt_of : (part : State) (rows entries : List (Key × Entry)) → rows ≡ (excerpt_on place day told).entries → part.horizon ≡ horizon
       → part.ledger ≡ told.ledger → part.entries ≡ rows → entries ≡ told.entries → StandsAt place day (with_entries part entries) part
   is_excerpt_of part rows entries is same_horizon same kept given =
@@ -71,7 +72,7 @@ module _ (place : List ℕ) (day horizon : ℕ) (told : State) (valid : IsValid 
         excerpt = walk_is_excerpt place (near_state day (under horizon told)) (near_valid day (under horizon told) valid).entries.1;
       })))
 
-  -- the value of the excerpt has the state whose parts were taken, under the horizon
+  -- the state in the value of the excerpt is the state whose parts were taken, with its horizon
   pub stands_for : (part : State) (entries : List (Key × Entry)) → part.horizon ≡ horizon → part.ledger ≡ told.ledger → entries ≡ told.entries
       → ◌≡◌ {A = Excerpt} (record { place = place; day = day; state = with_entries part entries })
       (record { place = place; day = day; state = under horizon told })

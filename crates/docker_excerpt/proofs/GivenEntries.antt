@@ -1,4 +1,4 @@
--- The parts of a state that were taken, with one more entry.
+-- Taking one more entry of a state, after the parts that were taken before.
 use Rattle.std.proofs.Common.{◌≡◌, ℕ, ◌-◌, List, [], ◌∷◌, ◌++◌, length, map, refl, ap, sym, ◌∙◌, subst, arith, length-append, Some}
 use Rattle.std.proofs.lemmas.List.{append_assoc}
 use Rattle.std.specs.Prelude.{Option, slice_get}
@@ -46,7 +46,7 @@ pub last_with : (entries after : List (model.Key × Entry)) (key : model.Key) (e
 last_with entries after key entry pushed =
     ap last_key pushed ∙ ap (option_map (λ (one : model.Key × Entry). one.0)) (last_of entries (key, entry))
 
--- when rows are added to parts one by one, the next row fits the entries that were added before
+-- if rows are added to parts one by one, the next row fits after the entries that have been added
 pub row_behind : (parts : State) (ledger : List LedgerItem) (rows rest after : List (Key × Row)) (key : Key) (row : Row)
     → AreEntries ledger (map row_meant rows)
     → parts.ledger ≡ ledger → parts.entries ++ map row_meant rest ≡ map row_meant rows → rest ≡ (key, row) ∷ after

@@ -1,5 +1,5 @@
--- The state made from the kept changes of a file makes the same docker as the state of the whole
--- file.
+-- Each docker of the state made from the kept changes of a file is a docker of the state of the
+-- whole file.
 use Rattle.std.proofs.Common.{◌≡◌, ℕ, ◌≤◌, List, [], ◌∷◌, length, map, refl, ap, sym, ◌∙◌, subst, cond, None}
 use Rattle.std.specs.Prelude.{Option, option_and_then, slice_index_or}
 use Rattle.docker_model.specs.file.File.{IsFile, first_record, most_records}
@@ -22,7 +22,7 @@ first_is : (lines : List (List ℕ)) → slice_index_or lines 0 [] ≡ first_rec
 first_is [] = refl
 first_is (line ∷ lines) = refl
 
--- the state that some changes make, under the date, time and reference of the header line `head`
+-- the state made by these changes, with the date, time and reference of the header line `head`
 abbrev state_by : List ℕ → List Change → State
 state_by head all = record {
   horizon = 0;
@@ -30,7 +30,7 @@ state_by head all = record {
   entries = latest_entries (map (λ (change : Change). (change.key, entry_of (head ∷ []) change)) all);
 }
 
--- the state that all changes of a file make is the file's summary
+-- the state made by all changes of a file is the file's summary
 pub state_is_summary : (file : FileRead) (lines : List (List ℕ)) → IsOfRecords file lines → state_of_read file ≡ summary_of lines
 state_is_summary file lines of = λ i. state_by ((of.header_is ∙ first_is lines) i) (of.changes_are i)
 
@@ -45,7 +45,8 @@ module _ (place : List ℕ) (day : ℕ) (lines : List (List ℕ)) (is_file : IsF
       (live_of_summary lines (summary_of lines) (summary_is lines) key)
       ∙ sym (thin_live place day lines kept thinning part of key)
 
-  -- the state of the kept changes makes the same docker as the file's summary
+  -- each docker of the state of the kept changes, for the place and the day, is a docker of the
+  -- file's summary
   stands_for_summary : StandsAt place day (summary_of lines) part
   stands_for_summary docker made = record {
     place_is = made.place_is;
@@ -66,7 +67,8 @@ given_is_state file lines of_lines kept part of entries given = λ i. record {
   entries = given i;
 }
 
--- the state of the kept changes makes the same docker as the file's state
+-- each docker of the state of the kept changes, for the place and the day, is a docker of the
+-- file's state
 pub thin_stands : (place : List ℕ) (day : ℕ) (file : FileRead) (lines : List (List ℕ)) → IsOfRecords file lines → IsFile lines
     → length lines ≤ most_records → (kept : List Change) → IsThinning place day file.changes_made kept
     → (part : State) → IsStateOfChanges lines kept part → (entries : List (Key × Entry)) → entries ≡ (state_of_read file).entries

@@ -1,4 +1,5 @@
--- How each step of the code's walk changes the kept rows, the run and the names.
+-- How each step of the code's walk changes the kept rows, the run and the names. The run consists
+-- of the schedules of one UID, and the names are the UIDs of associated trains.
 use Rattle.std.proofs.Common.{◌≡◌, ℕ, List, [], ◌∷◌, ◌++◌, map, ap, sym, ◌∙◌, subst, Bool, true, false, cond}
 use Rattle.std.specs.Prelude.{Option, Some, None}
 use Rattle.std.specs.Option.{option_to_list}
@@ -11,18 +12,18 @@ use Rattle.state_text.specs.Entry.{Entry}
 use Rattle.docker_join.specs.Meaning.{entry_meant, row_meant}
 use Rattle.docker_excerpt.specs.Walked.{IsWalk}
 
--- converting rows commutes with appending a row
+-- converting rows to the types of the definitions commutes with appending a row
 pub rows_more : (rows before after : List (Key × Entry)) (key : Key) (entry : Entry) → before ≡ rows → after ≡ before ++ (key, entry) ∷ []
     → map row_meant after ≡ map row_meant rows ++ (key_meant key, entry_meant entry) ∷ []
 rows_more rows before after key entry same pushed =
     ap (map row_meant) (pushed ∙ ap (λ (front : List (Key × Entry)). front ++ (key, entry) ∷ []) same) ∙ map-append row_meant rows ((key, entry) ∷ [])
 
--- if an entry names an associated train, the UID of this train is appended to the names
+-- if an entry has an associated train, the UID of this train is appended to the names
 pub names_with_some : (names after : List (List ℕ)) (name : List ℕ) (found told : Option (List ℕ)) → after ≡ names ++ name ∷ [] → found ≡ Some name
     → found ≡ told → after ≡ names ++ option_to_list told
 names_with_some names after name found told pushed is same = pushed ∙ ap (λ (one : Option (List ℕ)). names ++ option_to_list one) (sym is ∙ same)
 
--- if an entry names no associated train, the names are unchanged
+-- if an entry has no associated train, the names are unchanged
 pub names_with_none : (names : List (List ℕ)) (found told : Option (List ℕ)) → found ≡ None → found ≡ told → names ≡ names ++ option_to_list told
 names_with_none names found told is same =
     sym (append-nil names) ∙ ap (λ (one : Option (List ℕ)). names ++ option_to_list one) (sym is ∙ same)

@@ -1,4 +1,5 @@
--- Properties of a walk that makes an excerpt, which each step of the walk preserves.
+-- Properties of a walk that makes an excerpt, which each step of the walk preserves. A run consists
+-- of the schedules of one UID, and the names are the UIDs of associated trains.
 use Rattle.std.proofs.Common.{◌≡◌, ℕ, List, [], ◌∷◌, ◌++◌, refl, ap, sym, ◌∙◌, subst, inl, inr, ◌⊎◌, Bool, true, false, cond, Contains}
 use Rattle.std.specs.Prelude.{◌||◌, ◌↔◌, Option, Some, None}
 use Rattle.std.specs.Option.{option_to_list}
@@ -32,7 +33,7 @@ unneeded : (place : List ℕ) (entries kept run : List Keyed) (needed : Bool) �
 unneeded place entries kept run needed has none =
     sym has.is_needed ∙ ap (λ (r : List Keyed). is_run_needed place (record { kept = kept; run = r })) none
 
--- a single entry names at most one associated train
+-- a single entry has at most one associated train
 names_of_one : (key : Key) (entry : Entry) → names_in ((key, entry) ∷ []) ≡ option_to_list (name_in key entry.op)
 names_of_one key entry = by (name_in key entry.op)
   where

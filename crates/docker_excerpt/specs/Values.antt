@@ -1,5 +1,5 @@
--- The values of excerpts. The kept part of a state makes the same docker as the whole state, for
--- the place and the day of the excerpt.
+-- The values of excerpts. For the place and the day of an excerpt, the docker made from the kept
+-- part of a state is the docker of the whole state.
 use Rattle.std.specs.Prelude.{ℕ, List, [], ◌∷◌, map}
 use Rattle.docker_model.specs.file.Change.{Key, Change}
 use Rattle.docker_model.specs.state.Stamp.{ledger_item_of}
@@ -13,14 +13,14 @@ use Rattle.cif_file.specs.FileRead.{FileRead}
 use Rattle.docker_day.specs.DockerValue.{Docker}
 use Rattle.docker_day.specs.Dockers.{IsDockerOf}
 
--- an excerpt that isn't finished: its place, its day, and the state's parts that were taken,
--- without a horizon
+-- the value of an excerpt that isn't finished: its place, its day, and the parts of the state that
+-- were taken. The state's horizon isn't known yet
 pub record Excerpting : Type 0 where
   pub place : List ℕ
   pub day : ℕ
   pub told : State
 
--- a finished excerpt: its place, its day, and the whole state
+-- the value of a finished excerpt: its place, its day, and the whole state
 pub record Excerpt : Type 0 where
   pub place : List ℕ
   pub day : ℕ
@@ -31,7 +31,7 @@ abbrev pub with_entries : State → List (Key × Entry) → State
 with_entries state entries = record { horizon = state.horizon; ledger = state.ledger; entries = entries }
 
 -- the state made by a file's changes. It has the file's ledger item, and for each key the entry of
--- the last change of this key
+-- the last change to this key
 abbrev pub state_of_read : FileRead → State
 state_of_read file = record {
   horizon = 0;
@@ -39,8 +39,8 @@ state_of_read file = record {
   entries = latest_entries (map (λ (change : Change). (change.key, entry_of (file.header_line ∷ []) change)) file.changes_made);
 }
 
--- says that `part` makes the same docker as a state: each docker of the part for this place and day
--- is a docker of the state
+-- says that a docker made from `part` is correct for a state: each docker of `part` for this place
+-- and day is a docker of the state
 abbrev pub StandsAt : List ℕ → ℕ → State → State → Type 0
 StandsAt place day state part = (docker : Docker) → IsDockerOf (live_table part) place day docker → IsDockerOf (live_table state) place day docker
 

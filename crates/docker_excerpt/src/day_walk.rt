@@ -74,8 +74,8 @@ impl DayWalk {
         Ok(())
     }
 
-    /// Ends the walk and returns the excerpt's entries, each with its key, in key order. `Memory`
-    /// if the last run of schedules can't be kept.
+    /// Ends the walk and returns the excerpt's entries with their keys, in the order of the keys.
+    /// Returns `Memory` if the last run of schedules can't be kept.
     pub(crate) fn finish(self) -> Result<Vec<(Key, Entry)>, Memory>
         ensures { IfOk result (λ rows. (state : states.State) → HasPassed self state.entries
             → map row_meant rows.items ≡ (excerpt_on self.walk.place self.day state).entries) }

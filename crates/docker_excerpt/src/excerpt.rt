@@ -17,8 +17,8 @@ use std::fmt;
 use std::marker::Model;
 
 /// The part of a state that is kept for the docker of one place and one day. This docker is the
-/// same as the docker of the whole state. An excerpt can't be written, joined or sent, and it makes
-/// no docker of another place or day.
+/// same as the docker of the whole state. An excerpt can't be written, joined or sent, and no
+/// docker of another place or day can be made from it.
 #[derive(Drop)]
 pub struct Excerpt {
     place: Tiploc,
@@ -51,7 +51,7 @@ impl fmt::Debug for Excerpt {
 
 impl Excerpt {
     /// The excerpt of a state for a place and a day. `part` is the kept part of the state. `given`
-    /// are all entries of the state, and exist only for proofs.
+    /// has all entries of the state, and exists only for proofs.
     pub(crate) fn of(place: Tiploc, day: Day, part: State, given: Given) -> Excerpt
         requires { StandsAt place day (with_entries part given.entries) part }
         ensures { result ≡ record {
@@ -90,9 +90,9 @@ impl Excerpt {
         Ok(Excerpt::of(place, day, part, given))
     }
 
-    /// Makes the docker of the place and the day. `Lapsed` if the state has a horizon and the day
-    /// is earlier than three days after the horizon, because lapsed entries may be missing.
-    /// `Memory` if there is no room for the docker.
+    /// Makes the docker of the place and the day. Returns `Lapsed` if the state has a horizon and
+    /// the day is earlier than three days after the horizon, because lapsed entries may be missing.
+    /// Returns `Memory` if there is no room for the docker.
     pub fn docker(&self, alloc: Global) -> Result<Docker<'_>, DockerFault>
         ensures ok { IfOk result
             (IsDockerOf (live_table self.now.state) self.now.place self.now.day) }

@@ -22,10 +22,10 @@ use std::marker::Model;
 
 /// Makes the excerpt of a state for a place and a day. The calls take the state's parts in the same
 /// order as the calls of `Parts`. Only the entries from which the docker is made are kept: the
-/// place's TIPLOC, the associations at the place, and all schedules of some UIDs. These are the
-/// UIDs of the trains that call at the place, and of the associated trains of live associations at
-/// the place. If a schedule doesn't run on any start day from three days before the day to the day
-/// after, it is skipped: it is neither kept nor searched for calls.
+/// place's TIPLOC, the associations at the place, and schedules. All schedules of a UID are kept if
+/// one of them calls at the place. They are also kept if the UID's train is the associated train of
+/// a live association at the place. If a schedule doesn't run on any start day from three days
+/// before the day to the day after, it is skipped: it is neither kept nor searched for calls.
 #[derive(Drop)]
 pub struct Excerpting {
     ledger: Ledger,
@@ -114,8 +114,8 @@ impl Excerpting {
         self.ledger.len()
     }
 
-    /// The key of the last entry that was taken, whether the entry was kept or not. `None` if no
-    /// entry was taken.
+    /// The key of the last entry that was taken, whether the entry was kept or not. Returns `None`
+    /// if no entry was taken.
     pub fn last(&self) -> Option<&Key>
         ensures { option_map key_meant (option_copied result) ≡ last_key self.now.told.entries }
     {
@@ -123,9 +123,9 @@ impl Excerpting {
     }
 
     /// Makes the excerpt of the state whose parts were taken. `horizon` is the state's horizon, if
-    /// it has one. `Memory` if memory runs out, or if more than 4,294,967,295 entries or places are
-    /// kept, because entries and places are numbered in 32 bits. After `Memory`, the kept entries
-    /// are dropped.
+    /// it has one. Returns `Memory` if memory runs out, or if more than 4,294,967,295 entries or
+    /// places are kept, because entries and places are numbered in 32 bits. After `Memory`, the
+    /// kept entries are dropped.
     pub fn finish(self, horizon: Option<Day>) -> Result<Excerpt, Memory>
         requires { IsValid (under (horizon_meant horizon) self.told) }
         ensures { IfOk result (λ excerpt. excerpt ≡ record {

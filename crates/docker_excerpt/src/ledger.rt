@@ -84,7 +84,7 @@ impl Ledger {
         self.count
     }
 
-    /// The key of the last entry that was taken. `None` if no entry was taken.
+    /// The key of the last entry that was taken, or `None` if no entry was taken.
     pub fn last(&self) -> Option<&Key>
         ensures { option_map key_meant (option_copied result) ≡ last_key self.now.entries }
     {
@@ -110,8 +110,8 @@ impl Ledger {
         Given::with(&self.given, key, entry)
     }
 
-    /// Counts one more entry and keeps its key. `given` are all entries that were taken, including
-    /// this one, and exist only for proofs.
+    /// Counts one more entry and keeps its key. `given` has all entries that were taken, including
+    /// this one, and exists only for proofs.
     pub(crate) fn pass(&mut self, key: Key, given: Given)
         requires few { length self.old.entries < 2 ^ 64 - 1 }
         requires valid { IsValid (with_entries self.old given.entries) }

@@ -1,5 +1,5 @@
-//! Excerpts: the part of a state that a reader keeps for the docker of one place and day. To list a
-//! state's files, a reader keeps only the ledger.
+//! An excerpt is the part of a state that a reader keeps for the docker of one place and one day.
+//! To list a state's files, a reader keeps only the ledger.
 #![tactic(auto)]
 
 mod day_walk;

@@ -10,8 +10,8 @@ use cif_file::runs_near;
 use cif_line::Day;
 use state_text::Op;
 
-/// Whether an entry may count in the dockers of a day. False only for a live schedule that doesn't
-/// run on any start day from three days before the day to the day after.
+/// Whether an entry may count in the dockers of a day. The result is false only for a live schedule
+/// that doesn't run on any start day from three days before the day to the day after.
 #[tactic(auto, using(crate::proofs::NearFields::kept_schedule))]
 pub(crate) fn may_count(day: Day, key: &Key, op: &Op) -> bool
     requires { IsOpOf (key_meant key.now) (op_meant op.now) }

@@ -22,7 +22,7 @@ pub(crate) fn is_here(place: &Tiploc, key: &Key) -> bool
     }
 }
 
-/// The UID of the associated train of a live association. `None` for any other entry.
+/// The UID of the associated train of a live association. Returns `None` for any other entry.
 pub(crate) fn name_in(key: &Key, op: &Op) -> Option<Uid>
     ensures { result ≡ name_in (key_meant key.now) (op_meant op.now) }
 {
@@ -32,8 +32,8 @@ pub(crate) fn name_in(key: &Key, op: &Op) -> Option<Uid>
     }
 }
 
-/// Whether a schedule of this UID belongs to the run, because the run's schedules have the same
-/// UID. False for an empty run.
+/// Whether a schedule of this UID belongs to the run: the run isn't empty, and its schedules have
+/// this UID.
 pub(crate) fn goes_on(run: &[(Key, Entry)], uid: &Uid) -> bool
     ensures { result ≡ goes_on (map row_meant run.now) uid.now }
 {

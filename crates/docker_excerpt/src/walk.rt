@@ -174,8 +174,8 @@ impl ExcerptWalk {
         Ok(())
     }
 
-    /// Ends the walk and returns the excerpt's entries, each with its key, in key order. `Memory`
-    /// if the last run can't be kept.
+    /// Ends the walk and returns the excerpt's entries with their keys, in the order of the keys.
+    /// Returns `Memory` if the last run can't be kept.
     pub(crate) fn finish(self) -> Result<Vec<(Key, Entry)>, Memory>
         ensures { IfOk result (λ rows. (state : states.State) → HasWalked self state.entries
             → map row_meant rows.items ≡ (excerpt_for self.place state).entries) }

@@ -11,15 +11,15 @@ use Rattle.docker_laws.proofs.runs.KnownSets.{offices_are}
 use Rattle.docker_laws.proofs.runs.RunEnd.{same_state, same_docker, plain_docker}
 use Rattle.docker_office.specs.RunEnds.{EndsWith, PrintsAs, known_at_end}
 
--- the office at the end of a run is one of the run's offices
+-- the office of `EndsWith` is one of the run's offices
 is_there : (known : Known) (state : State) → (end : EndsWith known state) → IsOffice (sets_of end.offices end.events end.exchange) end.office
 is_there known state end =
     let many = offices_are end.offices end.events end.exchange.replies in
     let low = end.there in
     omega arith
 
--- if a property holds for every office's knowledge and state in the result of a run, it holds for
--- the `known` and `state` of `EndsWith`
+-- a property of what an office knows at the end of a run, and of this office's state, holds for the
+-- `known` and the `state` of `EndsWith`
 at_end : (P : Known → State → Type 0) (known : Known) (state : State) → (end : EndsWith known state)
     → P (known_at_end end.offices end.events end.exchange end.office) (office_state end.exchange.states end.office) → P known state
 at_end P known state end is = subst (P known) end.has (subst (λ k. P k (office_state end.exchange.states end.office)) end.knows is)
@@ -51,7 +51,7 @@ one_docker first second one two left right same =
     (same_docker dks_2 left.offices right.offices left.events right.events left.exchange right.exchange left.leaves.run right.leaves.run left.office
     right.office (is_there first one left) (is_there second two right) left.leaves.good right.leaves.good)) same
 
--- an office prints the dockers of the plain table of the files that it knows
+-- if the files that an office knows have a plain table, the office prints the dockers of this table
 pub plain_prints : (known : Known) (state : State) → EndsWith known state → (plain : Table) → IsPlainTable known.files plain → PrintsAs state plain
 plain_prints known state end plain is =
     at_end (λ k s. IsPlainTable k.files plain → PrintsAs s plain) known state end

@@ -1,5 +1,5 @@
--- Whatever an office's call returns, the reply to its event in a run is a reply that the
--- definitions allow.
+-- Whatever an office's call returns, the reply made from this result is one that the definitions
+-- allow for the event.
 use Rattle.std.proofs.Common.{◌≡◌, ℕ, ◌^◌, ◌<◌, ◌≤◌, List, [], ◌∷◌, ◌++◌, length, set, get_or, refl, sym, ◌∙◌}
 use Rattle.std.proofs.Common.{ap, subst, arith, Option, Some, None, Result, Ok, Err, IsOk, IsErr, IfErr}
 use Rattle.std.proofs.lemmas.List.{length-map, set-get_or, map-append}
@@ -72,22 +72,23 @@ module _ (known : KnownSets) (held : Holdings) (holds : AreOf known held) where
 
   -- ---- the office or the message doesn't exist
 
-  -- a take at an office that doesn't exist is refused
+  -- if the office doesn't exist, `NoOffice` is an allowed reply to a `Take`
   pub take_without_office : (office : ℕ) (text : List ℕ) (limit : ℕ) → length held.offices.items ≤ office
       → MeetsEvent known (take_file office text limit) (Refused NoOffice) held
   take_without_office office text limit far =
       record { told = tt; may = no_office_there office (IsFileReply limit text (refused no_office)) far; holds = holds }
 
-  -- a send at an office that doesn't exist is refused
+  -- if the office doesn't exist, `NoOffice` is an allowed reply to a `Send`
   pub send_without_office : (office : ℕ) → length held.offices.items ≤ office → MeetsEvent known (send_state office) (Refused NoOffice) held
   send_without_office office far = record { told = tt; may = no_office_there office (IsDoneOrNoMemory (refused no_office)) far; holds = holds }
 
-  -- a horizon at an office that doesn't exist is refused
+  -- if the office doesn't exist, `NoOffice` is an allowed reply to a `Horizon`
   pub horizon_without_office : (office day : ℕ) → length held.offices.items ≤ office → MeetsEvent known (horizon_event office day) (Refused NoOffice) held
   horizon_without_office office day far =
       record { told = tt; may = no_office_there office (refused no_office ≡ model.done) far; holds = holds }
 
-  -- a delivery is refused if its office or its message doesn't exist
+  -- if the office or the message doesn't exist, `NoOffice` or `NoMessage` is an allowed reply to a
+  -- `Deliver`
   pub delivery_missing : (office message : ℕ) (fault : RunFault)
       → IsMissing (length held.offices.items) (length held.messages.items) office message fault
       → MeetsEvent known (deliver office message) (Refused fault) held
@@ -100,7 +101,8 @@ module _ (known : KnownSets) (held : Holdings) (holds : AreOf known held) where
   }
   delivery_missing office message (Office fault) never = absurd never
 
-  -- a reload is refused if its office or its message doesn't exist
+  -- if the office or the message doesn't exist, `NoOffice` or `NoMessage` is an allowed reply to a
+  -- `Reload`
   pub reload_missing : (office message : ℕ) (fault : RunFault)
       → IsMissing (length held.offices.items) (length held.messages.items) office message fault
       → MeetsEvent known (reload office message) (Refused fault) held
@@ -126,8 +128,8 @@ module _ (known : KnownSets) (held : Holdings) (holds : AreOf known held) where
       subst (λ states. Holds dks_2 sets states (texts_of after.messages.items)) (sym is.offices)
       (subst (λ kept. Holds dks_2 sets (set held.offices.items office now) (texts_of kept)) (sym is.messages) have)
 
-  -- if the office's new state equals its old state, the offices and messages still hold the states
-  -- of what was known before
+  -- if the office's new state equals its old state, each office still has the summary of what it
+  -- knew before, and each message the summary of what its sender knew
   unchanged : (office : ℕ) (now : State) (after : Holdings) → IsReplaced office now after → now ≡ get_or held.offices.items office no_state
       → AreOf known after
   unchanged office now after is same =
@@ -177,7 +179,7 @@ module _ (known : KnownSets) (held : Holdings) (holds : AreOf known held) where
       holds = unchanged office now after is same;
     }
 
-    -- whatever a take returns, its reply is allowed
+    -- whatever the call returns for a `Take`, the reply is allowed
     pub take_met : (answer : Result Unit OfficeFault) (reply : Reply) → reply ≡ reply_for answer → limit ≤ 4_294_967_294
         → (IsOk answer → TakesFile limit (Some text) (get_or held.offices.items office no_state) now)
         → (IsErr answer → now ≡ get_or held.offices.items office no_state)
@@ -200,7 +202,7 @@ module _ (known : KnownSets) (held : Holdings) (holds : AreOf known held) where
 
   -- ---- a state is sent
 
-  -- a message that is sent is appended to the messages, and has the state of its office
+  -- a `Send` is carried out correctly if the text of the office's state is appended to the messages
   pub send_met : (office : ℕ) (message : Store) (after : Holdings) → office < length held.offices.items → after.offices.items ≡ held.offices.items
       → after.messages.items ≡ held.messages.items ++ message ∷ [] → message.taken ≡ state_text dks_2 (get_or held.offices.items office no_state)
       → MeetsEvent known (send_state office) Done after
@@ -215,7 +217,7 @@ module _ (known : KnownSets) (held : Holdings) (holds : AreOf known held) where
         (after_send dks_2 known held.offices.items (texts_of held.messages.items) holds office (is_office office there)));
   }
 
-  -- if memory runs out for a send, no message is appended
+  -- if memory runs out for a `Send` and no message is appended, out of memory is an allowed reply
   pub send_without_memory : (office : ℕ) → office < length held.offices.items → MeetsEvent known (send_state office) (Refused (Office why.Memory)) held
   send_without_memory office there = record {
     told = tt;
@@ -294,7 +296,7 @@ module _ (known : KnownSets) (held : Holdings) (holds : AreOf known held) where
       reload_without_memory : now ≡ get_or held.offices.items office no_state → MeetsEvent known (reload office message) (Refused (Office why.Memory)) after
       reload_without_memory same = record { told = tt; may = no_memory_there; holds = unchanged office now after is same }
 
-      -- whatever a delivery returns, its reply is allowed
+      -- whatever the call returns for a `Deliver`, the reply is allowed
       pub delivery_met : (answer : Result Unit OfficeFault) (reply : Reply) → reply ≡ reply_for answer
           → (IsOk answer → JoinsState dks_2 (length text) (Some text) (get_or held.offices.items office no_state) now)
           → (IsErr answer → now ≡ get_or held.offices.items office no_state)
@@ -315,7 +317,7 @@ module _ (known : KnownSets) (held : Holdings) (holds : AreOf known held) where
           by (Err why.Lapsed) ok stays state source only = absurd only
           by (Err why.Sink) ok stays state source only = absurd only
 
-      -- whatever a reload returns, its reply is allowed
+      -- whatever the call returns for a `Reload`, the reply is allowed
       pub reload_met : (answer : Result Unit OfficeFault) (reply : Reply) → reply ≡ reply_for answer
           → (IsOk answer → ReadsState dks_2 (length text) (Some text) now) → (IsErr answer → now ≡ get_or held.offices.items office no_state)
           → ((fault : StateFault) → answer ≡ Err (why.State fault) → RefusesState dks_2 (length text) (Some text) fault) → ¬ (answer ≡ Err why.Source)

@@ -86,7 +86,8 @@ untaken limit IsMade left left_now failures failures_now (file_faults.File fault
 untaken limit IsMade left left_now failures failures_now file_faults.Memory few file memory counted =
     record { no_further = few; outcome = inl (memory refl); failures = counted.1 (λ is. cc) }
 
--- if a file was read whole, either the office takes the file or memory runs out for its state
+-- if a file was read whole, either the office takes the file or memory runs out for the file's
+-- state
 pub taken_whole : {A : Type 0} (limit : ℕ) (IsMade : A → Type 0) (left left_now : BytesLeft) (failures failures_now : ℕ) (read : FileRead)
     (result : Result A OfficeFault) → ReadsNoFurther most_at_once limit left left_now → ReadsText limit left read → IsEnd left_now → failures_now ≡ failures
     → ((made : A) → result ≡ Ok made → IsMade made) → IfErr result (λ fault. fault ≡ office.Memory)
@@ -154,7 +155,7 @@ one_read format limit left read sent reads holds =
     let same : holds.text ≡ reads.text = subst (λ bytes. Held bytes reads.text) holds.told reads.held in
     one_text format read sent reads.is.valid holds.is.valid (sym reads.is.is ∙ sym same ∙ holds.is.is)
 
--- if two states are summaries, their join is the summary of the files of both
+-- the join of two summaries is the summary of all their files
 pub joins_summaries : (limit : ℕ) (left : Option (List ℕ)) (old new : State) → JoinsState dks_2 limit left old new
     → (files others : List (List (List ℕ))) (g h : ℕ) (sent : State) → IsSummary files g old → IsSummary others h sent → HoldsState dks_2 limit left sent
     → IsSummary (files ++ others) (max g h) new
@@ -190,13 +191,13 @@ one_excerpt place day limit left excerpt reads sent holds =
 
 -- ---- reading from a text in memory
 
--- if reading a state has ended with a value, the property `IsMade` of its values holds
+-- if reading a state has ended with a value, `IsMade` holds
 pub read_ok : {A : Type 0} (wants : Wanting) (format : Format) (limit : ℕ) (IsMade : Type 0) (left left_now : BytesLeft) (result : Result A OfficeFault)
     → IsOutcome wants why_unread format limit (λ _. IsMade) left left_now result → IsOk result → IsMade
 read_ok wants format limit IsMade left left_now (Ok made) outcome is = outcome
 read_ok wants format limit IsMade left left_now (Err fault) outcome is = let never : ⊥ = cc in absurd never
 
--- if reading a state has ended with a fault of its text, the source held a text with this fault
+-- if reading a state has ended with a fault of the text, the source held a text with this fault
 pub read_refused : {A : Type 0} (wants : Wanting) (format : Format) (limit : ℕ) (IsMade : A → Type 0) (left left_now : BytesLeft)
     (result : Result A OfficeFault)
     → IsOutcome wants why_unread format limit IsMade left left_now result → (fault : StateFault) → result ≡ Err (office.State fault)
@@ -209,7 +210,8 @@ pub read_unfailed : {A : Type 0} (failures : ℕ) (result : Result A OfficeFault
 read_unfailed failures result counted is =
     let more : failures ≡ failures + 1 = subst (CountsOutcome why_unread failures failures) is counted in absurd (omega arith)
 
--- reading a state can end only with a fault of its text, a failure of the source, or out of memory
+-- reading a state can end only with a value, a fault of the text, a failure of the source, or out
+-- of memory
 pub read_only : {A : Type 0} (wants : Wanting) (format : Format) (limit : ℕ) (IsMade : A → Type 0) (left left_now : BytesLeft) (result : Result A OfficeFault)
     → IsOutcome wants why_unread format limit IsMade left left_now result → IfErr result IsOfState
 read_only wants format limit IsMade left left_now (Ok made) outcome = tt
@@ -220,13 +222,13 @@ read_only wants format limit IsMade left left_now (Err (office.File fault)) outc
 read_only wants format limit IsMade left left_now (Err office.Lapsed) outcome = outcome
 read_only wants format limit IsMade left left_now (Err office.Sink) outcome = outcome
 
--- if taking a file has ended with a value, the property `IsMade` of its values holds
+-- if taking a file has ended with a value, `IsMade` holds
 pub taken_ok : {A : Type 0} (limit : ℕ) (IsMade : Type 0) (left left_now : BytesLeft) (result : Result A OfficeFault)
     → IsTakingOutcome limit (λ _. IsMade) left left_now result → IsOk result → IsMade
 taken_ok limit IsMade left left_now (Ok made) outcome is = outcome.0
 taken_ok limit IsMade left left_now (Err fault) outcome is = let never : ⊥ = cc in absurd never
 
--- if taking a file has ended with a fault of its text, the source held a text with this fault
+-- if taking a file has ended with a fault of the text, the source held a text with this fault
 pub taken_refused : {A : Type 0} (limit : ℕ) (IsMade : A → Type 0) (left left_now : BytesLeft) (result : Result A OfficeFault)
     → IsTakingOutcome limit IsMade left left_now result → (fault : FileFault) → result ≡ Err (office.File fault) → RefusesText limit left fault
 taken_refused limit IsMade left left_now result outcome fault is = subst (IsTakingOutcome limit IsMade left left_now) is outcome
@@ -236,7 +238,8 @@ taken_refused limit IsMade left left_now result outcome fault is = subst (IsTaki
 pub taken_unfailed : {A : Type 0} (failures : ℕ) (result : Result A OfficeFault) → CountsTaking failures failures result → result ≢ Err office.Source
 taken_unfailed failures result counted is = let more : failures ≡ failures + 1 = subst (CountsTaking failures failures) is counted in absurd (omega arith)
 
--- taking a file can end only with a fault of its text, a failure of the source, or out of memory
+-- taking a file can end only with a value, a fault of the text, a failure of the source, or out of
+-- memory
 pub taken_only : {A : Type 0} (limit : ℕ) (IsMade : A → Type 0) (left left_now : BytesLeft) (result : Result A OfficeFault)
     → IsTakingOutcome limit IsMade left left_now result → IfErr result IsOfFile
 taken_only limit IsMade left left_now (Ok made) outcome = tt

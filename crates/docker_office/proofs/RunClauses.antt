@@ -35,7 +35,7 @@ module _ (offices : ℕ) (events : List RunEvent) (exchange : Exchange) (leaves 
   pub each_reply : (place : ℕ) → place < length events → IsReplyAt offices events exchange.replies place
   each_reply place low = reply_there (none_known offices) events exchange.replies leaves.run.replies place low
 
-  -- there is one message for each send that was done
+  -- there is one message for each `Send` that was carried out
   pub one_sent : length exchange.messages ≡ sent_count events exchange.replies
   one_sent = many.1 ∙ messages_are offices events exchange.replies
 

@@ -17,8 +17,8 @@ use Rattle.docker_office.specs.declared.event.Event.{Event}
 use Rattle.docker_office.specs.RunSteps.{AreOf, MeetsEvent}
 use Rattle.docker_office.specs.RunEnds.{LeavesRun}
 
--- says that these events had these replies, and that each office and each message has the summary
--- of what is known after these events
+-- says that these events had these replies. Each office has the summary of what it knows after
+-- these events, and each message has the summary of what its sender knew
 pub record HasRun (offices : ℕ) (events : List RunEvent) (replies : List Reply) (held : Holdings) : Type 0 where
   pub told : All IsRunReply replies
   pub are : AreReplies (none_known offices) events (map reply_meant replies)

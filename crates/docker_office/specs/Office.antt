@@ -36,8 +36,8 @@ pub record TakesFile (limit : ℕ) (left : Option (List ℕ)) (old new : State) 
 abbrev pub WantsForFile : ℕ → Option (List ℕ) → Option (List ℕ) → Type 0
 WantsForFile limit old new = WantsMemory most_at_once limit old new ⊎ HoldsFile limit old
 
--- says that `new` is the summary of these files and of the file whose text the source held, under
--- the horizon
+-- says that `new` is the summary, under this horizon, of these files and of the file whose text the
+-- source held
 pub record KnowsFileToo (limit : ℕ) (left : Option (List ℕ)) (files : List (List (List ℕ))) (horizon : ℕ) (new : State) : Type 0 where
   pub text : List ℕ
   pub held : Held left text
@@ -45,16 +45,16 @@ pub record KnowsFileToo (limit : ℕ) (left : Option (List ℕ)) (files : List (
   pub is_text : IsFileText limit text file
   pub summary : IsSummary (file ∷ files) horizon new
 
--- says that contracts know which bytes the source holds, and that these bytes are the text of this
--- state, in this format and within the limit
+-- says that contracts know which bytes the source holds. These bytes are the text of this state in
+-- this format, and aren't longer than the limit
 pub record HoldsState (format : Format) (limit : ℕ) (left : Option (List ℕ)) (sent : State) : Type 0 where
   pub text : List ℕ
   pub told : left ≡ Some text
   pub is : IsStateText format limit text sent
 
--- says that joining preserves summaries. Suppose that `old` is the summary of some files, and that
--- the source held the text of the summary of other files. Then `new` is the summary of all these
--- files, under the greater horizon
+-- says that joining preserves summaries. Suppose that `old` is the summary of a set of files, and
+-- that the source held the text of the summary of another set. Then `new` is the summary of both
+-- sets under the greater horizon
 abbrev pub JoinsSummaries : ℕ → Option (List ℕ) → State → State → Type 0
 JoinsSummaries limit left old new =
     (files others : List (List (List ℕ))) (g h : ℕ) (sent : State) → IsSummary files g old → IsSummary others h sent → HoldsState dks_2 limit left sent

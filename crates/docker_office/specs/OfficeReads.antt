@@ -14,8 +14,8 @@ use Rattle.docker_office.specs.declared.fault.OfficeFault.TheVariants.{File, Sta
 
 -- ---- how reading a state ends
 
--- converts an office's fault back to the fault of reading a state. `None` if the office's fault has
--- another origin
+-- converts an office's fault back to the fault of reading a state, or to `None` if the office's
+-- fault has another origin
 abbrev pub why_unread : OfficeFault → Option ReadFault
 why_unread (State fault) = Some (states.State fault)
 why_unread Source = Some states.Source
@@ -44,7 +44,7 @@ IsTakingOutcome limit IsMade left left_now (Err Lapsed) = ⊥
 IsTakingOutcome limit IsMade left left_now (Err Sink) = ⊥
 
 -- says how the number of the source's failures has changed. If the fault is that the source failed,
--- the number has grown by one. Otherwise it is unchanged
+-- the number has grown by one. Otherwise the number is unchanged
 abbrev pub CountsTaking : {A : Type 0} → ℕ → ℕ → Result A OfficeFault → Type 0
 CountsTaking failures failures_now (Ok made) = failures_now ≡ failures
 CountsTaking failures failures_now (Err (File fault)) = failures_now ≡ failures

@@ -9,8 +9,8 @@ use Rattle.docker_model.specs.run.Run.{RunEvent, take_file, send_state, deliver,
 use Rattle.docker_model.specs.run.Run.{Exchange, IsRun, IsReply, IsStateOf, IsMessageOf, office_known, message_known, known_sets}
 use Rattle.docker_model.specs.run.Knowledge.{IsGoodEvent, office_state, message_text, sets_of}
 
--- says that an event that takes a file has a limit of at most 4,294,967,294 records. True of every
--- other event
+-- says that an event that takes a file has a limit of at most 4,294,967,294 records. This is true
+-- of every other event
 abbrev pub HasGoodLimit : RunEvent → Type 0
 HasGoodLimit (take_file office text limit) = limit ≤ 4_294_967_294
 HasGoodLimit (send_state office) = ⊤

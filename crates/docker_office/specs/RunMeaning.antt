@@ -14,7 +14,7 @@ use Rattle.docker_office.specs.declared.reply.Reply.TheVariants.{Done, Refused}
 use Rattle.docker_office.specs.declared.reply.RunFault.{RunFault}
 use Rattle.docker_office.specs.declared.reply.RunFault.TheVariants.{NoOffice, NoMessage, Office}
 
--- converts an event of the code to the `RunEvent` of the definitions
+-- converts the code's `Event` to the `RunEvent` of the definitions
 abbrev pub event_meant : Event → model.RunEvent
 event_meant (event.Take office text limit) = take_file office text.now limit
 event_meant (event.Send office) = send_state office
@@ -22,7 +22,7 @@ event_meant (event.Deliver office message) = deliver office message
 event_meant (event.Reload office message) = reload office message
 event_meant (event.Horizon office day) = horizon_event office day
 
--- converts events of the code to events of the definitions
+-- converts a list of the code's `Event` to a list of the definitions' `RunEvent`
 abbrev pub events_meant : List Event → List model.RunEvent
 events_meant = map event_meant
 
@@ -38,7 +38,7 @@ abbrev pub refusal_meant : OfficeFault → model.Refusal
 refusal_meant (fault.File why) = refusal_of_file why.number (cause_meant why.cause)
 refusal_meant _ = no_memory
 
--- converts a reply of the code to the `Reply` of the definitions
+-- converts the code's `Reply` to the `Reply` of the definitions
 abbrev pub reply_meant : Reply → model.Reply
 reply_meant Done = done
 reply_meant (Refused NoOffice) = refused no_office
@@ -72,9 +72,9 @@ abbrev pub reply_for : Result Unit OfficeFault → Reply
 reply_for (Ok unit) = Done
 reply_for (Err why) = Refused (Office why)
 
--- says that the fault is correct for an office and a message, among this many of each. `NoOffice`
--- is correct if the office doesn't exist, and `NoMessage` if the office exists and the message
--- doesn't
+-- says that the fault is correct for an office and a message, if there are `offices` offices and
+-- `messages` messages. `NoOffice` is correct if the office doesn't exist. `NoMessage` is correct if
+-- the office exists and the message doesn't
 abbrev pub IsMissing : (offices messages office message : ℕ) → RunFault → Type 0
 IsMissing offices messages office message NoOffice = offices ≤ office
 IsMissing offices messages office message NoMessage = (office < offices) × (messages ≤ message)

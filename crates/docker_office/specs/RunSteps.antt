@@ -11,8 +11,8 @@ use Rattle.docker_office.specs.RunMeaning.{IsRunReply, reply_meant, texts_of}
 abbrev pub AreOf : KnownSets → Holdings → Type 0
 AreOf known held = Holds dks_2 known held.offices.items (texts_of held.messages.items)
 
--- says that the definitions allow this reply to the event, and that after the event each office and
--- each message has the summary of what is then known
+-- says that the definitions allow this reply to the event. After the event, each office has the
+-- summary of what it knows, and each message the text of the summary of what its sender knew
 pub record MeetsEvent (known : KnownSets) (event : RunEvent) (reply : Reply) (held : Holdings) : Type 0 where
   pub told : IsRunReply reply
   pub may : IsReply known event (reply_meant reply)

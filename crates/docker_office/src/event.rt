@@ -7,7 +7,7 @@ use cif_line::Day;
 pub enum Event<'a> {
     /// The office takes a file: it joins its state with the file's state.
     Take {
-        /// The office.
+        /// The number of the office.
         office: usize,
         /// The text of the file.
         text: &'a [u8],
@@ -16,26 +16,26 @@ pub enum Event<'a> {
     },
     /// The office sends its state, as a new message.
     Send {
-        /// The office.
+        /// The number of the office.
         office: usize,
     },
     /// The office receives a message: it joins its state with the state in the message.
     Deliver {
-        /// The office.
+        /// The number of the office.
         office: usize,
-        /// The message.
+        /// The number of the message.
         message: usize,
     },
     /// The office replaces its state with the state in a message.
     Reload {
-        /// The office.
+        /// The number of the office.
         office: usize,
-        /// The message.
+        /// The number of the message.
         message: usize,
     },
     /// The office sets its horizon.
     Horizon {
-        /// The office.
+        /// The number of the office.
         office: usize,
         /// The horizon. Schedules and associations that ended before this day lapse.
         day: Day,

@@ -35,8 +35,8 @@ pub fn known_files_fix_dockers()
 {}
 
 /// If no two files that an office knows have the same moment, the files have a plain table. The
-/// plain table is the newest full extract, with each later update applied in the order of their
-/// moments. Each docker that the office prints is the docker of this table.
+/// plain table results from applying the newest full extract, and then each later update in the
+/// order of the updates' moments. Each docker that the office prints is the docker of this table.
 pub fn dockers_are_of_the_plain_table()
     ensures { (known : Known) (state : State) → EndsWith known state
         → HaveDistinctMoments known.files

@@ -15,8 +15,8 @@ use docker_bytes::{KeptLedger, read_ledger};
 use std::alloc::Global;
 use std::marker::Model;
 
-/// An office that keeps only the ledger of a state, and lists its files. In contracts its value is
-/// the whole state. The state can't be written, joined or sent.
+/// An office that keeps only the ledger of a state, and lists its files. In contracts, the value of
+/// a `LedgerOffice` is the whole state. The office can't write, join or send the state.
 #[derive(Debug, Drop)]
 pub struct LedgerOffice {
     ledger: KeptLedger,

@@ -191,9 +191,9 @@ impl Office {
     }
 
     /// Prints the docker of a timing point and a day. The docker is made before its first byte is
-    /// written, so nothing is written on `Lapsed` or `Memory`. `Lapsed` if the state has a horizon
-    /// and the day is earlier than three days after the horizon. On `Sink` the sink has gained a
-    /// proper prefix of the text.
+    /// written, so nothing is written on `Lapsed` or `Memory`. Returns `Lapsed` if the state has a
+    /// horizon and the day is earlier than three days after the horizon. On `Sink` the sink has
+    /// gained a proper prefix of the text.
     pub fn print<K: Sink>(&self, place: &Tiploc, day: Day, sink: &mut K) -> Result<(), OfficeFault>
         requires { K.failures sink.old < 2 ^ 64 - 1 }
         ensures ok { IsOk result

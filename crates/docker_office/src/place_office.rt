@@ -18,9 +18,10 @@ use docker_day::write_docker;
 use std::alloc::Global;
 use std::marker::Model;
 
-/// An office for the docker of one timing point and one day. In contracts its value is the timing
-/// point, the day and the whole state, of which the office keeps an excerpt. The office can only
-/// print this docker: the state can't be written, joined or sent.
+/// An office for the docker of one timing point and one day. In contracts, the value of a
+/// `PlaceOffice` is the timing point, the day and the whole state, although the office keeps only
+/// an excerpt of this state. The office can only print its docker: it can't write, join or send the
+/// state.
 #[derive(Debug, Drop)]
 pub struct PlaceOffice {
     alloc: Global,
@@ -88,8 +89,9 @@ impl PlaceOffice {
 
     /// Prints the docker of the office's timing point and day, which is the same as the docker of
     /// the whole state. The docker is made before its first byte is written, so nothing is written
-    /// on `Lapsed` or `Memory`. `Lapsed` if the state has a horizon and the day is earlier than
-    /// three days after the horizon. On `Sink` the sink has gained a proper prefix of the text.
+    /// on `Lapsed` or `Memory`. Returns `Lapsed` if the state has a horizon and the day is earlier
+    /// than three days after the horizon. On `Sink` the sink has gained a proper prefix of the
+    /// text.
     pub fn print<K: Sink>(&self, sink: &mut K) -> Result<(), OfficeFault>
         requires { K.failures sink.old < 2 ^ 64 - 1 }
         ensures ok { IsOk result → PrintsDocker self.now.state self.now.place self.now.day

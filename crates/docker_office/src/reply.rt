@@ -5,7 +5,7 @@ use thiserror::Error;
 /// The reply to an event.
 #[derive(Clone, Copy, PartialEq, Eq, Debug)]
 pub enum Reply {
-    /// The event was done.
+    /// The event was carried out.
     Done,
     /// The event was refused, and had no effect.
     Refused(RunFault),

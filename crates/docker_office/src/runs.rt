@@ -16,10 +16,10 @@ use std::alloc::Global;
 ///
 /// Each reply is one that the definitions allow for its event after the earlier events. The reply
 /// is `NoOffice` if the office doesn't exist, and `NoMessage` if the office exists and the message
-/// doesn't. If both exist, a `Take` is done, or refused for its text's fault or because memory ran
-/// out. A `Send`, a `Deliver` or a `Reload` is done, or refused because memory ran out. A `Horizon`
-/// is done. Each office has the state of exactly the files and the horizon that it knows. Each
-/// message has the state that its office had when the message was sent.
+/// doesn't. If both exist, a `Take` is carried out, or refused for its text's fault or because
+/// memory ran out. A `Send`, a `Deliver` or a `Reload` is carried out, or refused because memory
+/// ran out. A `Horizon` is carried out. Each office has the state of exactly the files and the
+/// horizon that it knows. Each message has the state that its office had when the message was sent.
 ///
 /// So the files and the horizon that an office knows determine its bytes and its dockers, whatever
 /// was lost, repeated or reordered. The laws of `headline` state this.

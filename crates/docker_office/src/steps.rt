@@ -30,8 +30,8 @@ pub(crate) struct Holdings {
 impl Holdings {
     ghost use Rattle.docker_office.specs.RunSteps.{AreOf, MeetsEvent};
 
-    /// `offices` offices that know nothing, and room for `messages` messages. `Memory` if there is
-    /// no room for both.
+    /// Returns `offices` offices that know nothing, with room for `messages` messages. Returns
+    /// `Memory` if there isn't enough memory for the offices and the messages.
     pub(crate) fn new(alloc: Global, offices: usize, messages: usize) -> Result<Holdings, Memory>
         ensures offices { IfOk result (λ held. length held.offices.items ≡ offices) }
         ensures each { IfOk result (λ held. All (IsSummary [] 0) held.offices.items) }
@@ -49,7 +49,7 @@ impl Holdings {
         })
     }
 
-    /// Does or refuses an event, and returns the reply.
+    /// Carries out or refuses an event, and returns the reply.
     pub(crate) fn meet(&mut self, alloc: Global, event: &Event<'_>) -> Reply
         requires limit { HasGoodLimit (event_meant event.now) }
         requires room { vec_len self.old.messages < vec_capacity self.old.messages }
@@ -72,8 +72,8 @@ impl Holdings {
         }
     }
 
-    /// Returns why an event can't be done: the office doesn't exist, or the office exists and the
-    /// message doesn't. `None` if both exist.
+    /// Returns why an event can't be carried out: the office doesn't exist, or the office exists
+    /// and the message doesn't. Returns `None` if both exist.
     fn missing(&self, office: usize, message: usize) -> Option<RunFault>
         ensures some { IfSome result (IsMissing (length self.now.offices.items)
             (length self.now.messages.items) office message) }
@@ -208,8 +208,8 @@ fn reload_text(office: &mut Office, text: &[u8]) -> Result<(), OfficeFault>
 }
 
 /// The message that an office sends: the text of its state. Room for the whole text is reserved
-/// before the first byte is written. `Memory` if there isn't enough room, or if the length doesn't
-/// fit in a `usize`.
+/// before the first byte is written. Returns `Memory` if there isn't enough room, or if the length
+/// doesn't fit in a `usize`.
 fn message_of(alloc: Global, office: &Office) -> Result<Kept, Memory>
     ensures { IfOk result (λ kept. kept.taken ≡ state_text dks_2 office.now) }
 {

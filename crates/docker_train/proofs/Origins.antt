@@ -1,5 +1,5 @@
--- The schedule found for a UID and a day is unique. It came from one of the state's files, and it
--- is the schedule of the train on a docker's lines.
+-- The schedule found for a UID and a day is unique. The schedule came from one of the state's
+-- files, and the train on a docker's lines runs by this schedule.
 use Rattle.std.proofs.Common.{◌≡◌, ℕ, ◌+◌, ◌<◌, ◌≤◌, List, Bool, true, false, cond, refl, ap, sym, ◌∙◌, subst, inl, inr, ◌⊎◌, Some, None, Contains, arith}
 use Rattle.std.specs.Prelude.{Option, option_map, IsTrue, ◌&&◌, nat_le, nat_lt}
 use Rattle.std.proofs.lemmas.Bool.{cases_lt, leb-true}
@@ -75,7 +75,7 @@ act_of_put : (act : Act) (body : Body) → op_of act ≡ put_with body → act �
 act_of_put delete body is = cc
 act_of_put (put own) body is = cc
 
--- a schedule that is found in the summary of some files came from one of these files
+-- a schedule that is found in the summary of a set of files came from one of these files
 pub came_from : (files : List (List (List ℕ))) (horizon : ℕ) (state : State) (uid : List ℕ) (day : ℕ) (found : Stamped) → IsSummary files horizon state
     → IsFoundFor state uid day (Some found) → CameFrom files found
 came_from files horizon state uid day found is (chosen, at) =
@@ -141,8 +141,8 @@ schedules_are : (state : State) (uid : List ℕ) (day : ℕ) (found : Option Sta
 schedules_are state uid day None is = is
 schedules_are state uid day (Some found) (is, stamp) = is
 
--- on a day that isn't before the horizon, the schedule found in the summary of some files is the
--- schedule chosen in their plain table
+-- on a day that isn't before the horizon, the schedule found in the summary of a set of files is
+-- the schedule chosen in the files' plain table
 pub found_is_plain : (files : List (List (List ℕ))) (horizon : ℕ) (state : State) (table : Table) (uid : List ℕ) (day : ℕ) (found : Option Stamped)
     → IsSummary files horizon state → IsPlainTable files table → IsDay horizon → horizon ≤ day → IsFoundFor state uid day found
     → IsChosenOn table uid day (option_map (λ (it : Stamped). it.schedule) found)

@@ -22,8 +22,8 @@ abbrev pub IsStampOf : State → Train → Stamp → Type 0
 IsStampOf state schedule stamp =
     entry_at state (schedule_key schedule.key) ≡ Some (record { stamp = stamp; op = put_with (schedule_body schedule.lines) })
 
--- says that `found` is the schedule chosen for the UID on the day, with its stamp, or `None` if no
--- schedule runs
+-- says that `found` is the schedule chosen for the UID on the day, with its stamp, or that `found`
+-- is `None` and no schedule runs
 abbrev pub IsFoundFor : State → List ℕ → ℕ → Option Stamped → Type 0
 IsFoundFor state uid day None = IsChosenOn (live_table state) uid day None
 IsFoundFor state uid day (Some found) =
@@ -40,13 +40,12 @@ stamp_text stamp =
     day_text stamp.file.moment.day ++ spaces 1 ++ minute_text stamp.file.moment.minute ++ spaces 1 ++ stamp.file.reference ++ spaces 1
     ++ number_text stamp.number
 
--- whether a train runs by a schedule with this STP indicator, as a word of nine columns. The train
--- doesn't run if the indicator is `C`
+-- a word of nine columns: `RUNS`, or `CANCELLED` if the STP indicator is `C`
 abbrev pub running_text : ℕ → List ℕ
 running_text indicator = if is_cancellation indicator then codes "CANCELLED" else codes "RUNS     "
 
 -- columns 27 to 72 of the heading: the STP indicator, whether the train runs, and the stamp. If no
--- schedule runs, these columns have `NONE`
+-- schedule runs, these columns are `NONE` and spaces
 unfoldable pub found_text : Option Stamped → List ℕ
 found_text None = spaces 2 ++ codes "NONE" ++ spaces 40
 found_text (Some found) =
@@ -60,7 +59,7 @@ heading_with uid day found = codes "TRAIN  " ++ uid ++ spaces 2 ++ day_text day 
 abbrev pub heading : List ℕ → ℕ → Option Stamped → List ℕ
 heading uid day found = heading_with uid day (found_text found)
 
--- the lines of the schedule found, each with 80 columns. Empty if no schedule runs
+-- the lines of the schedule found, each with 80 columns. There are none if no schedule runs
 abbrev pub lines_of : Option Stamped → List (List ℕ)
 lines_of None = []
 lines_of (Some found) = found.schedule.lines

@@ -53,8 +53,8 @@ impl<'a> ChosenTrain<'a> {
         self.day
     }
 
-    /// The chosen schedule, with its key and its lines. It may be a cancellation. `None` if no
-    /// schedule runs.
+    /// The chosen schedule, with its key and its lines, or `None` if no schedule runs. The schedule
+    /// may be a cancellation.
     pub fn schedule(&self) -> Option<&ScheduleView<'a>>
         ensures { option_copied result
             ≡ option_map (λ (it : text.Stamped). it.schedule) self.now.found }
@@ -65,8 +65,9 @@ impl<'a> ChosenTrain<'a> {
         }
     }
 
-    /// The stamp of the chosen schedule: the date, time and reference of the schedule's extract,
-    /// and the number of its record in this extract. `None` if no schedule runs.
+    /// The stamp of the chosen schedule, or `None` if no schedule runs. The stamp has the date,
+    /// time and reference of the schedule's extract, and the number of the schedule's record in
+    /// this extract.
     pub fn stamp(&self) -> Option<&'a Stamp>
         ensures { option_map stamp_meant (option_copied result)
             ≡ option_map (λ (it : text.Stamped). it.stamp) self.now.found }
@@ -77,14 +78,14 @@ impl<'a> ChosenTrain<'a> {
         }
     }
 
-    /// The chosen schedule with its stamp, if one runs.
+    /// The chosen schedule with its stamp, or `None` if no schedule runs.
     pub(crate) fn found(&self) -> Option<&Stamped<'a>>
         ensures { option_copied result ≡ self.now.found }
     {
         self.found.as_ref()
     }
 
-    /// The lines of the chosen schedule. Empty if no schedule runs.
+    /// The lines of the chosen schedule. There are none if no schedule runs.
     pub(crate) fn lines(&self) -> &[Line]
         ensures { result.now ≡ lines_of self.now.found }
     {

@@ -12,9 +12,9 @@ use docker_day::{DockerFault, Key, State};
 use train_choice::{ScheduleView, chosen};
 
 /// Finds the schedule chosen for a UID on a day, with the stamp of the change that the schedule
-/// comes from. `Lapsed` if the day is before the horizon, because schedules that ran on the day may
-/// have lapsed. The call allocates nothing, so it never returns `Memory`. The call reads only the
-/// rows of the UID, and finds these rows by binary search.
+/// comes from. Returns `Lapsed` if the day is before the horizon, because schedules that ran on the
+/// day may have lapsed. The call allocates nothing, so it never returns `Memory`. The call reads
+/// only the rows of the UID, and finds these rows by binary search.
 pub fn find_train<'a>(state: &'a State, uid: &Uid, day: Day) -> Result<ChosenTrain<'a>, DockerFault>
     ensures ok { IfOk result (IsAnswerOf state.now uid.now day) }
     ensures lapsed { (result ≡ Err DockerFault.Lapsed) ↔ (day < state.now.horizon) }

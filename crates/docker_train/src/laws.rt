@@ -19,8 +19,8 @@ pub fn one_train_text()
         → IsTrainText state uid day text → IsTrainText state uid day other → text ≡ other }
 {}
 
-/// A schedule found in the summary of some files came from one of these files. This file has the
-/// stamp's date, time and reference. The file's record with the stamp's record number makes the
+/// A schedule found in the summary of a set of files came from one of these files. This file has
+/// the stamp's date, time and reference. The file's record with the stamp's record number makes the
 /// change that the schedule comes from.
 pub fn train_came_from_a_file()
     ensures { (files : List (List (List ℕ))) (horizon : ℕ) (state : State) (uid : List ℕ) (day : ℕ)
@@ -28,8 +28,8 @@ pub fn train_came_from_a_file()
         → CameFrom files found }
 {}
 
-/// If some files have distinct moments, the schedule chosen for a UID is the same in their summary
-/// and in their plain table, on each day from the horizon on.
+/// If no two files have the same moment, their summary and their plain table have the same chosen
+/// schedule for each UID, on each day from the horizon on.
 pub fn found_train_is_plain()
     ensures { (files : List (List (List ℕ))) (horizon : ℕ) (state : State) (table : Table)
         (uid : List ℕ) (day : ℕ) (found : Option Stamped) → IsSummary files horizon state

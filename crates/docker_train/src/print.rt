@@ -26,9 +26,9 @@ use itoa::Buffer;
 const WIDTH: usize = 81;
 
 /// Prints the schedule chosen for a UID on a day, or that no schedule runs. The schedule is found
-/// before the first byte is written. `Lapsed` if the day is before the horizon; nothing is written
-/// then. `Sink` if a write fails; the sink has then gained a proper prefix of the text. The call
-/// allocates nothing.
+/// before the first byte is written. If the day is before the horizon, returns `Lapsed` and writes
+/// nothing. If a write fails, returns `Sink`; the sink has then gained a proper prefix of the text.
+/// The call allocates nothing.
 pub fn print_train<K: Sink>(
     state: &State,
     uid: &Uid,
@@ -127,7 +127,7 @@ fn text_of_stamped(stamped: &Stamped<'_>) -> [u8; 46]
     whole(text)
 }
 
-/// Whether a train runs by a schedule with this STP indicator, as a word of nine columns.
+/// A word of nine columns: `RUNS`, or `CANCELLED` if the STP indicator is `C`.
 fn running(stp: Stp) -> &'static [u8; 9]
     ensures { result.now ≡ running_text (stp_letter stp) }
 {

@@ -4,7 +4,7 @@ ghost use Rattle.docker_model.specs.records.Record.{IsTextOfLength};
 
 use cif_line::Uid;
 
-/// The UID that is written as this word. `None` unless the word has six bytes, all printable.
+/// The UID that is written as this word. Returns `None` if the word isn't six printable bytes.
 pub fn uid_of_word(word: &str) -> Option<Uid>
     ensures some { IsSome result ↔ IsTextOfLength 6 word.now }
     ensures value { IfSome result (λ uid. uid ≡ word.now) }

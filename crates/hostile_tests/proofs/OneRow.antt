@@ -17,13 +17,14 @@ only_element [] x d one is = absurd (let bad : 0 ≡ 1 = one in omega arith)
 only_element (y ∷ []) x d one is = ap (λ v. v ∷ []) (sym is)
 only_element (y ∷ z ∷ xs) x d one is = absurd (omega arith)
 
--- a ledger that has only this item is valid
+-- if a valid state has only one ledger item, a ledger that has only this item is valid
 pub good_item : (items : List LedgerItem) (item other : LedgerItem) → length items ≡ 1 → item ≡ get_or items 0 other
     → (state : State) → map item_meant items ≡ state.ledger → IsValid state → IsLedger (item_meant item ∷ [])
 good_item items item other one is state items_are valid =
     subst IsLedger (sym items_are ∙ ap (map item_meant) (only_element items item other one is)) valid.ledger
 
--- the entry is good under a ledger that has only this item
+-- if a valid state has only one ledger item and only one entry, the entry is good under a ledger
+-- that has only this item
 good_row : (items : List LedgerItem) (item other : LedgerItem) → length items ≡ 1 → item ≡ get_or items 0 other
     → (rows : List (Key × Entry)) (row next : Key × Entry) → length rows ≡ 1 → row ≡ get_or rows 0 next
     → (state : State) → map item_meant items ≡ state.ledger → map row_meant rows ≡ state.entries → IsValid state
@@ -36,7 +37,8 @@ good_row items item other one is rows row next single is_row state items_are row
     let here : IsValid (record { horizon = state.horizon; ledger = item_meant item ∷ []; entries = row_meant row ∷ [] }) = subst IsValid whole valid in
     here.entries.0 0 (row_meant row) (omega arith)
 
--- a copy of the entry is good under a ledger that has only this item
+-- if a valid state has only one ledger item and only one entry, a copy of the entry is good under a
+-- ledger that has only this item
 pub good_copy : (items : List LedgerItem) (item other : LedgerItem) → length items ≡ 1 → item ≡ get_or items 0 other
     → (rows : List (Key × Entry)) (row next : Key × Entry) → length rows ≡ 1 → row ≡ get_or rows 0 next
     → (state : State) → map item_meant items ≡ state.ledger → map row_meant rows ≡ state.entries → IsValid state
@@ -50,7 +52,8 @@ pub pushed_item : (item : LedgerItem) (before after : List LedgerItem) → befor
     → map item_meant after ≡ item_meant item ∷ []
 pushed_item item before after none pushed = ap (map item_meant) (pushed ∙ ap (λ (xs : List LedgerItem). xs ++ item ∷ []) none)
 
--- the copy of the entry fits after the item
+-- if a valid state has only one ledger item and only one entry, a copy of the entry can follow the
+-- item
 pub here_copy : (items : List LedgerItem) (item other : LedgerItem) → length items ≡ 1 → item ≡ get_or items 0 other
     → (rows : List (Key × Entry)) (row next : Key × Entry) → length rows ≡ 1 → row ≡ get_or rows 0 next
     → (state : State) → map item_meant items ≡ state.ledger → map row_meant rows ≡ state.entries → IsValid state

@@ -6,7 +6,7 @@ use docker_cmd::{Fault, fault_text};
 /// The outcome of a call of an office.
 #[derive(Clone, Copy, PartialEq, Eq)]
 pub(crate) enum Answer {
-    /// The call was done, with the expected result.
+    /// The call succeeded, with the expected result.
     Done,
     /// The call was refused, and nothing changed.
     Refused(Fault),
@@ -14,7 +14,7 @@ pub(crate) enum Answer {
     Uneven,
     /// The call was refused, but the office's state changed.
     Changed,
-    /// The call was done, but its result isn't the expected result.
+    /// The call succeeded, but its result isn't the expected result.
     Unlike,
     /// After a device failed, a second try with a good device had the wrong result.
     Stuck,

@@ -14,7 +14,7 @@ pub(crate) enum Call {
     Receive,
     /// The office reloads a state.
     Reload,
-    /// The office reloads a state from a text in the older format.
+    /// The office reloads a state whose text is in the older format.
     Migrate,
 }
 
@@ -45,7 +45,7 @@ pub(crate) fn ask<S: Source>(
     }
 }
 
-/// A limit as a number of records. `MOST_RECORDS` if the limit is greater.
+/// A limit as a number of records, or `MOST_RECORDS` if the limit is greater.
 fn records_of(limit: u64) -> u32
     ensures { result < 2 ^ 32 - 1 }
 {

@@ -1,4 +1,4 @@
-//! Copies of the rows of states.
+//! Copies rows of states.
 ghost use Rattle.std.specs.Prelude.{◌≡◌, IfOk};
 ghost use Rattle.cif_change.specs.Meaning.{body_meant};
 ghost use Rattle.docker_join.specs.Meaning.{op_meant};

@@ -45,7 +45,7 @@ impl<'a> Desk<'a> {
         }
     }
 
-    /// Like `text`, but `None` if there is no such text.
+    /// Like `text`, but returns `None` if there is no text with this name.
     fn found(&self, name: &str) -> Option<Vec<u8>> {
         match lines_of(name) {
             Some(lines) => lines.text(self.alloc()).ok(),
@@ -68,7 +68,7 @@ impl<'a> Desk<'a> {
         }
     }
 
-    /// Prints how the row's call ended. Allocates no memory.
+    /// Prints how the row's call ended. This function allocates no memory.
     pub(crate) fn end(&self, ending: Ending) {
         self.print(ending.line());
     }

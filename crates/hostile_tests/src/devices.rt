@@ -75,7 +75,7 @@ enum Output {
     Files,
 }
 
-/// Lets an office write its docker, its state or its files.
+/// Lets an office write a docker, its state or the list of its files.
 fn write<K: Sink>(output: &Output, office: &Office, sink: &mut K) -> Result<(), OfficeFault>
     requires { K.failures sink.old < 2 ^ 64 - 1 }
 {

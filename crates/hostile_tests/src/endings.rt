@@ -10,9 +10,9 @@ use docker_office::OfficeFault;
 /// How a call ended.
 #[derive(Clone, Copy, PartialEq, Eq)]
 pub(crate) enum Ending {
-    /// The call was done.
+    /// The call succeeded.
     Done,
-    /// Memory ran out, and the call's fault says so.
+    /// The call failed because memory ran out.
     Memory,
     /// The call was refused for another reason.
     Other,
@@ -31,7 +31,7 @@ impl Ending {
 
 /// A fault that may say that memory ran out.
 pub(crate) trait MayWant {
-    /// Whether the fault says that memory ran out.
+    /// Whether the fault is out of memory.
     fn is_memory(&self) -> bool;
 }
 

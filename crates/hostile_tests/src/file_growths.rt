@@ -1,4 +1,4 @@
-//! Calls that allocate memory: they read files, or make the state of a file.
+//! Calls that allocate memory while they read a file or make the state of a file.
 
 use crate::desk::Desk;
 use crate::endings::{Ending, ending_of};

@@ -1,4 +1,4 @@
-//! Calls about jobs that allocate memory.
+//! Calls that allocate memory while they read or carry out a job.
 
 use crate::desk::Desk;
 use crate::endings::ending_of;
@@ -73,7 +73,7 @@ pub(crate) fn words_of_job(desk: &Desk, words: &[&str]) {
     }
 }
 
-/// The line that these words make. `None` if memory runs out.
+/// The line that consists of these words, or `None` if memory runs out.
 fn line_of(desk: &Desk, words: &[&str]) -> Option<Vec<u8>> {
     let mut line = Vec::new(desk.alloc());
     for word in words {

@@ -47,7 +47,7 @@ const NINTH: Known = Known {
 };
 
 impl Known {
-    /// The files that at least one of the two includes.
+    /// The files in at least one of two sets of files.
     fn with(self, other: Known) -> Known {
         Known {
             fifth: self.fifth | other.fifth,
@@ -56,8 +56,8 @@ impl Known {
         }
     }
 
-    /// The name of the text of these files' state. If the full extract is known, the update of 5
-    /// June is below the floor and doesn't count.
+    /// The name of the text that holds the state of these files. If the full extract is known, the
+    /// update of 5 June is below the floor and doesn't count.
     pub(crate) fn state<'a>(self) -> &'a str {
         if self.seventh {
             return if self.ninth {
@@ -102,7 +102,7 @@ pub(crate) enum Step {
     Send(usize),
     /// A message is delivered to an office.
     Deliver(usize, usize),
-    /// An office reloads a message.
+    /// An office reloads the state in a message.
     Reload(usize, usize),
 }
 
@@ -140,7 +140,7 @@ pub(crate) struct Book {
     pub(crate) messages: Vec<Known>,
     /// Whether each reply is one that is allowed for its event.
     pub(crate) fits: bool,
-    /// How many replies said that memory ran out.
+    /// How many events were refused because memory ran out.
     pub(crate) wanting: u32,
 }
 
@@ -190,7 +190,7 @@ impl Book {
         }
     }
 
-    /// Records the effect of an event that was done.
+    /// Records the effect of an event that was carried out.
     fn meet(&mut self, step: Step) -> Result<(), AllocError> {
         match step {
             Step::Take(office, file) => self.learn(office, file),
@@ -235,7 +235,7 @@ impl Book {
     }
 }
 
-/// Whether a reply says that memory ran out.
+/// Whether the event was refused because memory ran out.
 pub(crate) fn is_out_of_memory(reply: &Reply) -> bool {
     *reply == OUT_OF_MEMORY
 }

@@ -1,4 +1,4 @@
-//! Calls of offices that allocate memory.
+//! Calls that allocate memory while an office reads or prints.
 
 use crate::asking::{ask, call_of};
 use crate::desk::Desk;
@@ -39,7 +39,7 @@ pub(crate) fn read(desk: &Desk, call: &str, words: &[&str]) {
     compare_state(desk, office.state(), wanted);
 }
 
-/// Prints whether the state of an office still has the text that it had before.
+/// Prints whether the state of an office still has the text `before`.
 fn report_same(desk: &Desk, office: &Office, before: &[u8]) {
     let same = has_text(desk, office.state(), before);
     desk.report(same, "the office is as it was");
@@ -61,9 +61,9 @@ pub(crate) fn print(desk: &Desk, words: &[&str]) {
     }
 }
 
-/// Lets an office print and prints whether the docker is the expected docker. If this is the row's
-/// call, the call's ending is printed first. Returns false if the call is refused and nothing is
-/// written.
+/// Lets an office print a docker, and prints whether it is the expected docker. If this is the
+/// row's call, the call's ending is printed first. Returns false if the call is refused and nothing
+/// is written.
 fn has_printed(desk: &Desk, office: &Office, words: [&str; 3], is_first: bool) -> bool {
     let [place, day, wanted] = words;
     let Some((place, day)) = occasion_of(desk, place, day) else {
@@ -137,7 +137,8 @@ pub(crate) fn print_at_place(desk: &Desk, words: &[&str]) {
     }
 }
 
-/// Lets an office for one timing point print, and print a second time if nothing was written.
+/// Lets an office for one timing point print its docker. If nothing was written, the office prints
+/// a second time.
 fn print_there(desk: &Desk, office: &PlaceOffice, wanted: &str) {
     let Some(mut kept) = sink(desk) else {
         return;

@@ -1,4 +1,5 @@
-//! Calls that allocate memory: they build a state from its parts, or let a state receive parts.
+//! Calls that allocate memory while they build a state from its parts, or while a state receives
+//! parts.
 
 ghost use Rattle.std.specs.Prelude.{◌++◌};
 ghost use Rattle.docker_model.specs.state.Stamp.{IsFloor};

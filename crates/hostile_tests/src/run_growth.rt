@@ -1,4 +1,4 @@
-//! Calls that allocate memory: a run of three offices.
+//! A call that allocates memory: a run of events at three offices.
 
 use crate::desk::Desk;
 use crate::endings::Ending;
@@ -106,7 +106,8 @@ fn knows(desk: &Desk, office: &Office, known: Known) -> bool {
     has_text(desk, office.state(), text.as_slice()) && prints(desk, office, known.docker())
 }
 
-/// Whether the offices and the messages are as the book says.
+/// Whether the result of a run agrees with the book: each office has the state of the files that
+/// the book has for it, and so has each message.
 fn is_left(desk: &Desk, left: &Exchange, book: &Book) -> bool {
     let mut same = book.fits
         && left.replies().len() == STEPS.len()
@@ -149,8 +150,8 @@ fn report_left(desk: &Desk, left: &Exchange) {
     report_same(desk, left, &book, 0);
 }
 
-/// Prints whether `wanting` replies say that memory ran out, and whether everything else follows
-/// from the replies.
+/// Prints whether `wanting` events were refused because memory ran out, and whether everything else
+/// follows from the replies.
 fn report_same(desk: &Desk, left: &Exchange, book: &Book, wanting: u32) {
     let same = book.wanting == wanting && is_left(desk, left, book);
     desk.report(
@@ -192,7 +193,7 @@ fn report_first(desk: &Desk, left: Result<Exchange, Memory>) {
     }
 }
 
-/// Like `report_first`, for a run that replied to all events.
+/// Like `report_first`, for a run with a reply to each event.
 fn report_ended(desk: &Desk, left: &Exchange) {
     if !ran_out_of_memory(left) {
         return desk.end(Ending::Done);
@@ -203,7 +204,7 @@ fn report_ended(desk: &Desk, left: &Exchange) {
     report_same(desk, left, &book, 1);
 }
 
-/// Whether some reply says that memory ran out.
+/// Whether some event was refused because memory ran out.
 fn ran_out_of_memory(left: &Exchange) -> bool {
     left.replies().iter().any(is_out_of_memory)
 }

@@ -1,5 +1,5 @@
-//! Calls about states that allocate memory: they join states, read their texts, make dockers, or
-//! make a sink in memory.
+//! Calls that allocate memory while they join states, read their texts, make dockers, or make a
+//! sink in memory.
 
 use crate::desk::Desk;
 use crate::endings::{Ending, ending_of};

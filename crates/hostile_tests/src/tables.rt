@@ -22,7 +22,7 @@ pub(crate) struct Asked<'a> {
     pub(crate) call: Call,
     /// The text of the office's state before the call.
     pub(crate) before: &'a [u8],
-    /// The text of the office's state after the call, if the call is done.
+    /// The text of the office's state after the call, if the call succeeds.
     pub(crate) after: &'a [u8],
     /// The most records or bytes that the source may hold.
     pub(crate) limit: u64,
@@ -69,8 +69,8 @@ impl<'a> Asked<'a> {
         self.judge(desk, &office, done)
     }
 
-    /// The answer for a source that holds this text. `Uneven` if the answer depends on the number
-    /// of bytes per read.
+    /// The answer for a source that holds this text. Returns `Uneven` if the answer depends on the
+    /// number of bytes per read.
     pub(crate) fn answer_to(&self, desk: &Desk, text: &[u8]) -> Answer {
         let mut answer = self.answer(desk, text, 1);
         for step in STEPS {
@@ -146,12 +146,12 @@ fn cut_all(desk: &Desk, asked: Asked<'_>, text: &[u8]) {
     spans.report(desk);
 }
 
-/// The limit that is written as this word. 0 if the word isn't a number.
+/// The limit that is written as this word, or 0 if the word isn't a number.
 fn limit_of(word: &str) -> u64 {
     word.parse::<u64>().unwrap_or(0)
 }
 
-/// `CALL STATE TEXT LIMIT`: the call reads the text under the limit, and has to refuse it.
+/// `CALL STATE TEXT LIMIT`: the call reads the text under the limit, and has to refuse the text.
 fn limit(desk: &Desk, words: &[&str]) {
     let [call, own, name, limit] = words else {
         return desk.trouble("CALL STATE TEXT LIMIT");

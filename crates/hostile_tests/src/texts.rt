@@ -23,7 +23,7 @@ pub(crate) fn source_of<'a>(text: &'a [u8]) -> Bytes<'a> {
     Bytes::new(text, STEP)
 }
 
-/// The file with this text. Prints a line if the text isn't a file's.
+/// The file with this text. Prints a line if the text isn't the text of a file.
 pub(crate) fn file_of(desk: &Desk, text: &[u8]) -> Option<CifFile> {
     match read_pieces(desk.alloc(), &[text], MOST_RECORDS) {
         Ok(file) => Some(file),
@@ -34,7 +34,8 @@ pub(crate) fn file_of(desk: &Desk, text: &[u8]) -> Option<CifFile> {
     }
 }
 
-/// The state with this text. Prints a line and returns an empty state if the text isn't a state's.
+/// The state with this text. Prints a line and returns an empty state if the text isn't the text of
+/// a state.
 pub(crate) fn state_of(desk: &Desk, text: &[u8]) -> State {
     match read_state(desk.alloc(), &mut source_of(text), MOST_BYTES) {
         Ok(state) => state,
@@ -45,7 +46,7 @@ pub(crate) fn state_of(desk: &Desk, text: &[u8]) -> State {
     }
 }
 
-/// An office whose state has this text. Prints a line if the text isn't a state's.
+/// An office whose state has this text. Prints a line if the text isn't the text of a state.
 pub(crate) fn office_of(desk: &Desk, text: &[u8]) -> Office {
     let mut office = Office::new(desk.alloc());
     if office.reload(&mut source_of(text), MOST_BYTES).is_err() {
@@ -54,7 +55,7 @@ pub(crate) fn office_of(desk: &Desk, text: &[u8]) -> Office {
     office
 }
 
-/// A sink with room for any text written here. Prints a line if memory runs out.
+/// A sink with room for any text that a row writes. Prints a line if memory runs out.
 pub(crate) fn sink(desk: &Desk) -> Option<Kept>
     ensures { IfSome result (λ kept. kept.failures ≡ 0) }
 {
@@ -67,7 +68,7 @@ pub(crate) fn sink(desk: &Desk) -> Option<Kept>
     }
 }
 
-/// Whether a state has this text.
+/// Whether a state is written as this text.
 pub(crate) fn has_text(desk: &Desk, state: &State, text: &[u8]) -> bool {
     match sink(desk) {
         Some(mut kept) => write_state(state, &mut kept).is_ok() && kept.bytes() == text,

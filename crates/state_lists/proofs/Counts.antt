@@ -30,7 +30,7 @@ use Rattle.state_lists.specs.Places.{calls_at, count_at}
 rows_total : IsTotalOrder (on (λ (row : Row). row.0) key_cmp)
 rows_total = on_total (λ (row : Row). row.0) key_total
 
--- a table has exactly one list of all its rows in order
+-- two lists that have exactly the rows of one table, in order, are equal
 pub one_rows : (live : Table) (rows others : List Row) → AreRowsOf live rows → AreRowsOf live others → rows ≡ others
 one_rows live rows others one two =
     same_list rows_total rows others one.ascending two.ascending
@@ -69,7 +69,7 @@ module _ (live : Table) (rows : List Row) (are : AreRowsOf live rows) (place : L
       (later_filter (IsBelow (on (λ (row : Row). row.0) key_cmp)) (calls_at place) rows
       (later_of (on (λ (row : Row). row.0) key_cmp) rows are.ascending))
 
-  -- the schedules that call at the place are the rows that pass the test
+  -- the schedules that call at the place are exactly the live rows that pass the test
   calling_are : (calling : List Row) → AreCalling live place calling → calling ≡ filter (calls_at place) rows
   calling_are calling is = same_list rows_total calling (filter (calls_at place) rows) is.ascending passing_ascend (λ row. (forth row, back row))
     where

@@ -28,7 +28,7 @@ module _ (state : State) (valid : IsValid state) (entries : List (model.Key × o
   of_all : IsTallyOf (live_rows state.entries) tally
   of_all = subst (λ (all : List (model.Key × ops.Entry)). IsTallyOf (live_rows all) tally) are counted
 
-  -- the lines for a tally of all live rows are the text of what the state knows
+  -- the lines made from a tally of all live rows form the text of what the state knows
   pub is_known : IsKnownText state bytes
   is_known = record {
     full = full;

@@ -1,4 +1,4 @@
--- The lines of all entries in a state, concatenated, are the list of its timing points.
+-- The list of a state's timing points is the concatenation of the lines of all entries.
 use Rattle.std.proofs.Common.{◌≡◌, List, ℕ, [], ◌∷◌, ◌++◌, map, refl, ap, sym, ◌∙◌}
 use Rattle.std.specs.Prelude.{Option}
 use Rattle.std.specs.List.{flat_map}
@@ -19,7 +19,7 @@ use Rattle.state_lists.specs.Places.{IsPlacesText, place_line, place_text, place
 use Rattle.state_lists.specs.RowLines.{line_by, row_line}
 use Rattle.state_lists.proofs.Counts.{count_is, rows_are}
 
--- the line of a row of the code. `rows` are all live rows
+-- the line of one of the code's rows. `rows` are all live rows
 abbrev pub kept_line : List Row → Kept × Held → List ℕ
 kept_line rows row = row_line rows (row_meant row)
 

@@ -48,7 +48,7 @@ ends_more rows key body =
     by None = append-nil (ends_of rows)
     by (Some day) = refl
 
--- a tally of these rows, before one more row is counted
+-- a correct tally of the rows `rows`, before one more row is counted
 module _ (rows : List Row) (tally : Tally) (body : Body) (is : IsTallyOf rows tally) where
   same_count : (tag count : ℕ) (key : Key) → count ≡ count_of tag rows → ◌≡◌ {A = ℕ} (one_if tag key) 0 → count ≡ count_of tag (rows ++ (key, body) ∷ [])
   same_count tag count key told none = let more = count_more tag rows key body in omega arith
@@ -191,7 +191,7 @@ live_more rows i row below at =
     ∙ live_append (map row_meant (take i rows)) (map row_meant (get_or rows i row ∷ []))
     ∙ ap (λ (it : Kept × Held). live_up_to i rows ++ live_rows (row_meant it ∷ [])) (sym at)
 
--- if a tally counts the op of a row correctly, the tally counts the row correctly
+-- a tally that counts a row's op correctly counts the row correctly
 pub with_op : (before : List Row) (row : Kept × Held) (op : Op) (tally : Tally) → op_meant row.1.op ≡ op
     → IsTallyOf (before ++ put_before (row_meant row).0 op []) tally → IsTallyOf (before ++ live_rows (row_meant row ∷ [])) tally
 with_op before row op tally is told =

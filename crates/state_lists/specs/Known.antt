@@ -12,16 +12,18 @@ use Rattle.docker_model.specs.state.State.{State, live_table}
 use Rattle.docker_model.specs.docker.DockerText.{ended}
 use Rattle.state_laws.specs.Row.{Row, AreRowsOf}
 
--- the number of these rows with this tag: 1 for TIPLOCs, 2 for associations, 3 for schedules
+-- the number of rows with this tag among these rows. The tag is 1 for TIPLOCs, 2 for associations
+-- and 3 for schedules
 abbrev pub count_of : ℕ → List Row → ℕ
 count_of tag rows = length (filter (λ (row : Row). key_tag row.0 == tag) rows)
 
--- the day with this number. `None` for a number greater than every day number, such as 65535, which
--- means no end
+-- the day with this number, or `None` if the number is greater than every day number. For example,
+-- 65535, which means no end, isn't a day number
 abbrev pub day_in : ℕ → Option ℕ
 day_in end = if nat_le end last_day then Some end else None
 
--- the last day of a schedule. `None` for a schedule without an end, and for any other kind of row
+-- the last day of a schedule. The result is `None` for a schedule without an end, and for any other
+-- kind of row
 abbrev pub end_of : Key → Body → Option ℕ
 end_of (schedule_key key) body = day_in (body_end body)
 end_of _ _ = None
@@ -39,7 +41,7 @@ IsGreatest numbers (Some greatest) = Contains numbers greatest × ((number : ℕ
 abbrev pub named_line : List ℕ → List ℕ → List ℕ
 named_line name value = ended (name ++ spaces 1 ++ value)
 
--- a horizon as a date. `NONE` for 0, which means that no horizon was set
+-- a horizon as a date, or `NONE` for 0, which means that no horizon was set
 abbrev pub horizon_text : ℕ → List ℕ
 horizon_text horizon = if horizon == 0 then codes "NONE" else day_text horizon
 
@@ -47,14 +49,15 @@ horizon_text horizon = if horizon == 0 then codes "NONE" else day_text horizon
 unfoldable pub horizon_line : ℕ → List ℕ
 horizon_line horizon = named_line (codes "HORIZON     ") (horizon_text horizon)
 
--- the line of the newest full extract: date, time and reference. Empty if there is no full extract
+-- the line of the newest full extract: date, time and reference. There is no line if there is no
+-- full extract
 unfoldable pub full_line : Option FileStamp → List ℕ
 full_line None = []
 full_line (Some stamp) =
     named_line (codes "FULL        ")
     (day_text stamp.moment.day ++ spaces 1 ++ minute_text stamp.moment.minute ++ spaces 1 ++ stamp.reference)
 
--- the line of the greatest last day of a schedule. Empty if no schedule has a last day
+-- the line of the greatest last day of a schedule. There is no line if no schedule has a last day
 unfoldable pub last_line : Option ℕ → List ℕ
 last_line None = []
 last_line (Some day) = named_line (codes "LAST        ") (day_text day)
@@ -63,8 +66,8 @@ last_line (Some day) = named_line (codes "LAST        ") (day_text day)
 unfoldable pub count_line : List ℕ → ℕ → List ℕ
 count_line name count = named_line name (decimal count)
 
--- the text of what a state knows, from its horizon, its newest full extract, the greatest last day,
--- and all live rows
+-- the text of what a state knows, made from the state's horizon, its newest full extract, the
+-- greatest last day, and all live rows
 abbrev pub known_text : ℕ → Option FileStamp → Option ℕ → List Row → List ℕ
 known_text horizon full last rows =
     horizon_line horizon ++ full_line full ++ last_line last ++ count_line (codes "SCHEDULES   ") (count_of 3 rows)

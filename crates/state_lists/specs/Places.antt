@@ -32,7 +32,7 @@ place_text code bytes count =
     code ++ spaces 1 ++ columns 45 47 bytes ++ spaces 1 ++ columns 36 40 bytes ++ spaces 1 ++ columns 10 35 bytes ++ spaces 1
     ++ number_text count
 
--- the line of a live key. Empty unless the key is a timing point. `rows` are all live rows
+-- the line of a live key. Only a timing point has a line. `rows` are all live rows
 abbrev pub place_line : List Row → Key → Body → List ℕ
 place_line rows (tiploc_key code) (tiploc_body bytes) = ended (place_text code bytes (count_at code rows))
 place_line _ _ _ = []

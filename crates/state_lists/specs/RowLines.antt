@@ -5,13 +5,12 @@ use Rattle.docker_model.specs.state.Op.{Op, deleted, lapsed, put_with, Entry}
 use Rattle.state_laws.specs.Row.{Row}
 use Rattle.state_lists.specs.Places.{place_line}
 
--- the line of a key with this op. Empty unless the key is a live timing point. `rows` are all live
--- rows
+-- the line of a key with this op. Only a live timing point has a line. `rows` are all live rows
 abbrev pub line_by : List Row → Key → Op → List ℕ
 line_by rows key deleted = []
 line_by rows key lapsed = []
 line_by rows key (put_with body) = place_line rows key body
 
--- the line of an entry. Empty unless the entry is a live timing point. `rows` are all live rows
+-- the line of an entry. Only a live timing point has a line. `rows` are all live rows
 abbrev pub row_line : List Row → Key × Entry → List ℕ
 row_line rows entry = line_by rows entry.0 entry.1.op

@@ -18,10 +18,10 @@ use itoa::Buffer;
 /// The text of what a state knows. Its capacity is enough for all lines, whatever the counts.
 pub type KnownText = ArrayVec<u8, 187>;
 
-/// The text of what a state knows. There is a line for its horizon, and lines for how many
-/// schedules, associations and timing points are live. The newest full extract and the greatest
-/// last day of a live schedule have a line if there is one. The call counts all entries, and
-/// allocates nothing.
+/// The text of what a state knows. It has a line for the horizon, and one line each for the numbers
+/// of live schedules, associations and timing points. If there is a full extract, the newest one
+/// has a line. If a live schedule has a last day, the greatest last day has a line. The call counts
+/// all entries, and allocates nothing.
 pub fn known_text(state: &State) -> KnownText
     ensures { IsKnownText state.now result.items }
 {
@@ -67,7 +67,7 @@ fn horizon_line(horizon: u16) -> ArrayVec<u8, 24>
     text
 }
 
-/// A horizon as a date. `NONE` for 0, which means that no horizon was set.
+/// A horizon as a date, or `NONE` for 0, which means that no horizon was set.
 fn horizon_text(horizon: u16) -> ArrayVec<u8, 10>
     requires { IsDay horizon }
     ensures { result.items ≡ horizon_text horizon }
@@ -92,8 +92,8 @@ fn day_of(number: u16) -> Day
     }
 }
 
-/// The line of the newest full extract: date, time and reference, with a line feed. Empty if there
-/// is no full extract.
+/// The line of the newest full extract, with a line feed: date, time and reference. There is no
+/// line if there is no full extract.
 #[tactic(auto, unfolding(crate::specs::Known::full_line))]
 fn full_line(full: Option<FileStamp>) -> ArrayVec<u8, 37>
     requires { IfSome full (λ stamp. stamp.minute < 1440) }
@@ -112,8 +112,8 @@ fn full_line(full: Option<FileStamp>) -> ArrayVec<u8, 37>
     text
 }
 
-/// The line of the greatest last day of a schedule, with a line feed. Empty if no schedule has a
-/// last day.
+/// The line of the greatest last day of a schedule, with a line feed. There is no line if no
+/// schedule has a last day.
 #[tactic(auto, unfolding(crate::specs::Known::last_line))]
 fn last_line(last: Option<Day>) -> ArrayVec<u8, 24>
     ensures { result.items ≡ last_line last }

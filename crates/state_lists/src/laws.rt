@@ -6,13 +6,13 @@ ghost use Rattle.docker_model.specs.state.Table.{Table};
 ghost use Rattle.state_lists.specs.Known.{IsKnownText};
 ghost use Rattle.state_lists.specs.Places.{IsPlacesText};
 
-/// The list of timing points of a live table is unique.
+/// A live table has only one list of timing points.
 pub fn one_places_text()
     ensures { (live : Table) (text other : List ℕ) → IsPlacesText live text
         → IsPlacesText live other → text ≡ other }
 {}
 
-/// The text of what a state knows is unique.
+/// A state has only one text of what it knows.
 pub fn one_known_text()
     ensures { (state : State) (text other : List ℕ) → IsKnownText state text
         → IsKnownText state other → text ≡ other }

@@ -1,5 +1,5 @@
-//! Lists of what a state knows: its timing points, with how many schedules call at each, and a
-//! summary in a few lines.
+//! Lists the timing points that a state knows, with the number of schedules that call at each, and
+//! prints a summary of the state in a few lines.
 #![tactic(auto)]
 
 mod known;

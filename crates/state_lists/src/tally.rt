@@ -38,7 +38,8 @@ pub(crate) fn tally_of(rows: &[(Key, Entry)]) -> Tally
     tally
 }
 
-/// The tally with one more row. Only a live row is counted: neither a deletion nor a lapsed entry.
+/// The tally with one more row. A row counts only if it is live. Deletions and lapsed entries don't
+/// count.
 fn with_row(tally: Tally, row: &(Key, Entry)) -> Tally
     requires { AreFew tally }
     ensures { (rows : List Row) → IsTallyOf rows tally
@@ -74,14 +75,15 @@ fn counted(tally: Tally, key: &Key, body: &Body) -> Tally
     }
 }
 
-/// The last day of a body. `None` if the body has no end date, or an end date that means no end.
+/// The last day of a body. Returns `None` if the body has no end date, or an end date that means no
+/// end.
 fn last_day(body: &Body) -> Option<Day>
     ensures { result ≡ day_in (body_end (body_meant body.now)) }
 {
     Day::from_number(body.end_number())
 }
 
-/// The later of two days. `None` if both are `None`.
+/// The later of two days. Returns `None` if both are `None`.
 fn later_of(first: Option<Day>, second: Option<Day>) -> Option<Day>
     ensures { (days : List ℕ) → IsGreatest days first → IsGreatest (with_day days second) result }
 {

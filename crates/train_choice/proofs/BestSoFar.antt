@@ -1,4 +1,4 @@
--- How the best of some schedules or associations changes when one more value is compared with it.
+-- How the best schedule or association changes when one more value is compared with it.
 use Rattle.std.proofs.Common.{◌≡◌, Bool, true, false, cond, refl, sym, ◌∙◌, Some, None}
 use Rattle.std.specs.Prelude.{Option}
 use Rattle.std.specs.declared.cmp.Ordering.{Ordering}

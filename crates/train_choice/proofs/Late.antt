@@ -78,7 +78,8 @@ along p (line ∷ lines) zero =
     by (Some last) (falls, same, early) rec =
         (λ i. falls_along (sym same i) lines) ∙ rec falls ∙ sym (early (occurrences_from next lines))
 
--- the times in the lines determine whether midnight is passed before some event
+-- the train passes midnight before some event if and only if some time in the lines is below the
+-- preceding time
 pub late_by_times : (basic : List ℕ) (lines : List (List ℕ)) → falls_along 0 lines ≡ some_late (occurrences_from (before_all basic) lines)
 late_by_times basic lines = along (before_all basic) lines refl
 
@@ -86,12 +87,12 @@ late_by_times basic lines = along (before_all basic) lines refl
 pub first_good : (lines rest : List (List ℕ)) (line : List ℕ) → All HasGoodFields lines → lines ≡ line ∷ rest → HasGoodFields line
 first_good lines rest line good is = (recursion_from_All HasGoodFields (line ∷ rest) (subst (All HasGoodFields) is good)).0
 
--- if all lines have good fields, the other lines have good fields
+-- if all lines have good fields, the lines after the first have good fields
 pub rest_good : (lines rest : List (List ℕ)) (line : List ℕ) → All HasGoodFields lines → lines ≡ line ∷ rest → All HasGoodFields rest
 rest_good lines rest line good is = All-from_recursion HasGoodFields rest (recursion_from_All HasGoodFields (line ∷ rest) (subst (All HasGoodFields) is good)).1
 
--- if the times of the first line ascend, midnight is passed if and only if it is passed in the
--- other lines
+-- if the times of the first line ascend, the train passes midnight in the lines if and only if it
+-- passes midnight in the lines after the first
 pub goes_on : (last time : ℕ) (line : List ℕ) (rest lines : List (List ℕ)) → lines ≡ line ∷ rest → ascends last (times_of line) ≡ Some time
     → falls_along time rest ≡ falls_along last lines
 goes_on last time line rest lines is up =

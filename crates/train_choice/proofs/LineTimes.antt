@@ -1,4 +1,4 @@
--- The columns that hold the times of a line. They depend on the line's kind.
+-- The columns that hold the times of a line depend on the line's kind.
 use Rattle.std.proofs.Common.{◌≡◌, ℕ, List, ap, sym, ◌∙◌, Some, true}
 use Rattle.docker_model.specs.records.Record.{origin_location, intermediate_location, terminating_location, HasKind, columns}
 use Rattle.docker_model.specs.records.Clock.{half_minutes, is_present_time, is_scheduled_time}
@@ -7,23 +7,23 @@ use Rattle.docker_model.specs.file.Journey.{arrival, departure, timed, times_by_
 use Rattle.cif_laws.proofs.records.Columns.{good_fields}
 use Rattle.cif_laws.proofs.records.ScheduledTimes.{time_there}
 
--- the departure of an origin is a time
+-- the departure field of an origin (LO) is a time
 pub origin_departure : (line : List ℕ) → HasKind origin_location line → HasGoodFields line → is_present_time (columns 11 15 line) ≡ true
 origin_departure line is good = (good_fields origin_location line is good).1.0
 
--- the arrival at an intermediate location is a time or blank
+-- the arrival field of an intermediate location (LI) is a time or blank
 pub call_arrival : (line : List ℕ) → HasKind intermediate_location line → HasGoodFields line → is_scheduled_time (columns 11 15 line) ≡ true
 call_arrival line is good = (good_fields intermediate_location line is good).1.0
 
--- the departure from an intermediate location is a time or blank
+-- the departure field of an intermediate location (LI) is a time or blank
 pub call_departure : (line : List ℕ) → HasKind intermediate_location line → HasGoodFields line → is_scheduled_time (columns 16 20 line) ≡ true
 call_departure line is good = (good_fields intermediate_location line is good).1.1.0
 
--- the pass at an intermediate location is a time or blank
+-- the pass field of an intermediate location (LI) is a time or blank
 pub call_pass : (line : List ℕ) → HasKind intermediate_location line → HasGoodFields line → is_scheduled_time (columns 21 25 line) ≡ true
 call_pass line is good = (good_fields intermediate_location line is good).1.1.1.0
 
--- the arrival at a terminus is a time
+-- the arrival field of a terminus (LT) is a time
 pub terminus_arrival : (line : List ℕ) → HasKind terminating_location line → HasGoodFields line → is_present_time (columns 11 15 line) ≡ true
 terminus_arrival line is good = (good_fields terminating_location line is good).1.0
 

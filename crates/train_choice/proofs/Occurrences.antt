@@ -68,8 +68,8 @@ module _ (whole : List (List ℕ)) (place : ℕ) (line : List ℕ) (identity : L
         identity = (same ∙ sym (identity_is event refl)) i;
       }
 
--- if a walk has passed some times, and then passes the times of a line, it has passed the
--- concatenation of both
+-- if a walk that has passed the times `before` then passes the times of a line, it has passed the
+-- concatenation of both lists
 times_passed : (before : List ℕ) (times : Times) (p : Progress) → HasMet before p → HasMet (before ++ clock_times times) (past_times p times)
 times_passed before [] p has = subst (λ (ts : List ℕ). HasMet ts p) (sym (append-nil before)) has
 times_passed before (time ∷ times) p has =

@@ -7,7 +7,7 @@ use Rattle.train_choice.specs.Occurrences.{Progress, occurrences_at, occurrences
 use Rattle.train_choice.specs.declared.walk.Occurrence.{Occurrence}
 use Rattle.train_choice.specs.declared.walk.EventWalk.{EventWalk}
 
--- converts an event of the code to the `Occurrence` of the definitions
+-- converts the code's `Occurrence` to the `Occurrence` of the definitions
 abbrev pub occurrence_meant : Occurrence → model.Occurrence
 occurrence_meant event = record {
   number = event.number;

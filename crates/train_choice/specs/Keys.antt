@@ -4,11 +4,11 @@ use Rattle.cif_line.specs.Letter.{stp_letter}
 use Rattle.cif_change.specs.declared.key.ScheduleKey.{ScheduleKey}
 use Rattle.cif_change.specs.declared.key.AssocKey.{AssocKey}
 
--- converts a schedule's key of the code to the `ScheduleKey` of the definitions
+-- converts the code's `ScheduleKey` to the `ScheduleKey` of the definitions
 abbrev pub schedule_key_meant : ScheduleKey → model.ScheduleKey
 schedule_key_meant key = record { uid = key.uid; runs_from = key.runs_from; indicator = stp_letter key.stp }
 
--- converts an association's key of the code to the `AssociationKey` of the definitions
+-- converts the code's `AssocKey` to the `AssociationKey` of the definitions
 abbrev pub association_key_meant : AssocKey → model.AssociationKey
 association_key_meant key = record {
   base = key.base;

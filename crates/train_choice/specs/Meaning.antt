@@ -6,7 +6,7 @@ use Rattle.train_choice.specs.declared.occasion.Occasion.{Occasion}
 use Rattle.train_choice.specs.declared.occasion.Occasion.TheVariants.{Arrival, Pass, Joining, Dividing, NextWorking, Departure}
 use Rattle.train_choice.specs.declared.times.EventTimes.{EventTimes}
 
--- converts an occasion of the code to the `Occasion` of the definitions
+-- converts the code's `Occasion` to the `Occasion` of the definitions
 abbrev pub occasion_meant : Occasion → journey.Occasion
 occasion_meant Arrival = journey.arrival
 occasion_meant Pass = journey.pass

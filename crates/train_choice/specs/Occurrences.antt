@@ -65,12 +65,12 @@ past_time p time = record {
   identity = p.identity;
 }
 
--- the events at some times of a line. `p` is the progress before these times
+-- the events at these times of a line. `p` is the progress before these times
 abbrev pub occurrences_at : Progress → List ℕ → List (Occasion × ℕ) → List Occurrence
 occurrences_at p line [] = []
 occurrences_at p line (time ∷ times) = occurrence_at p line time ∷ occurrences_at (past_time p time) line times
 
--- the progress after some times of a line
+-- the progress after these times of a line
 abbrev pub past_times : Progress → List (Occasion × ℕ) → Progress
 past_times p [] = p
 past_times p (time ∷ times) = past_times (past_time p time) times
@@ -90,7 +90,7 @@ turned p line = record {
   identity = identity_after line p.identity;
 }
 
--- the events of some lines. `p` is the progress before these lines
+-- the events of these lines. `p` is the progress before these lines
 abbrev pub occurrences_from : Progress → List (List ℕ) → List Occurrence
 occurrences_from p [] = []
 occurrences_from p (line ∷ lines) =

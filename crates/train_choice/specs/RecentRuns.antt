@@ -14,7 +14,7 @@ pub record AreRecentRuns (test : ℕ → Bool) (recent : RecentRuns) : Type 0 wh
   pub day_before_is : recent.day_before ≡ test 1
   pub two_before_is : recent.two_before ≡ test 2
 
--- whether the schedule runs on the day `back` days before
+-- whether the schedule runs on the day `back` days before `day`
 abbrev pub runs_back : List (List ℕ) → ℕ → ℕ → Bool
 runs_back lines day back = nat_le back day && schedule_runs (first_record lines) (day - back)
 

@@ -25,7 +25,7 @@ use docker_state::{State, Timetable, UidSchedules};
 
 /// The schedule chosen for a UID on a day: among the UID's live schedules that run on the day, the
 /// one with the lowest STP indicator. If several have that indicator, the one with the latest first
-/// date is chosen. The chosen schedule may be a cancellation. `None` if no schedule runs.
+/// date is chosen. The chosen schedule may be a cancellation. Returns `None` if no schedule runs.
 pub fn chosen<'a>(state: &'a State, uid: &Uid, day: Day) -> Option<ScheduleView<'a>>
     ensures { IsChosenOn (live_table state.now) uid.now day result }
 {
@@ -41,7 +41,7 @@ fn chosen_in<'a>(timetable: &Timetable<'a>, uid: &Uid, day: Day) -> Option<Sched
 }
 
 /// The train of a UID that starts on a day: the schedule chosen in a timetable, unless the chosen
-/// schedule is a cancellation. `None` if the train doesn't run.
+/// schedule is a cancellation. Returns `None` if the train doesn't run.
 pub fn train_on<'a>(timetable: &Timetable<'a>, uid: &Uid, day: Day) -> Option<ScheduleView<'a>>
     ensures { (rows : List Row) → AreRowsOf (live_in timetable.now) rows
         → result ≡ train_in rows uid.now day }
@@ -84,7 +84,7 @@ pub(crate) fn train_from<'a>(
     unless_cancelled(best_of(Some(train.again()), schedules_of(from, uid), uid, day))
 }
 
-/// Returns the best schedule of a UID on a day among `so_far` and all these rows.
+/// Returns the best schedule of a UID on a day among `so_far` and the schedules in these rows.
 fn best_of<'a>(
     so_far: Option<ScheduleView<'a>>,
     rows: UidSchedules<'a>,

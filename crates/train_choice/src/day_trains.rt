@@ -72,8 +72,8 @@ impl<'a> DayTrains<'a> {
         }
     }
 
-    /// Whether the kept train runs by the schedule. `None` if no train is kept, or if the kept
-    /// train has another UID.
+    /// Whether the kept train runs by the schedule. Returns `None` if no train is kept, or if the
+    /// kept train has another UID.
     fn known(&self, key: &ScheduleKey) -> Option<bool>
         ensures { IfSome result (λ answer. (rows : List Row)
             → AreRowsOf (live_in self.now.timetable) rows

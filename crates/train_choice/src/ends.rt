@@ -7,8 +7,8 @@ ghost use Rattle.train_choice.specs.Occurrences.{occurrences};
 use crate::schedule_view::ScheduleView;
 use cif_line::Line;
 
-/// The lines at which a train starts and ends: its first LO and its first LT. `None` if its
-/// schedule has no journey.
+/// The lines at which a train starts and ends: the first LO and the first LT of its schedule.
+/// Returns `None` if the schedule has no journey.
 pub fn ends_of<'a>(train: &ScheduleView<'a>) -> Option<(&'a Line, &'a Line)>
     ensures origin { IfSome result (λ ends.
         find (λ line. has_identity (codes "LO") line) train.now.lines ≡ Some ends.0.now) }

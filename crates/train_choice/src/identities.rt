@@ -45,8 +45,9 @@ impl<'a> Identities<'a> {
         }
     }
 
-    /// The identity of the train of a UID that starts on a day, from its basic schedule. Four
-    /// question marks if that train doesn't run. `Memory` if there is no room to keep the identity.
+    /// The identity of the train of a UID that starts on a day, from its basic schedule. Returns
+    /// four question marks if that train doesn't run, and `Memory` if there is no room to keep the
+    /// identity.
     pub fn identity(&mut self, uid: &Uid, day: Day) -> Result<[u8; 4], Memory>
         ensures same { self.new ≡ self.old }
         ensures identity { IfOk result (λ identity. (rows : List Row)
@@ -74,7 +75,8 @@ impl<'a> Identities<'a> {
     }
 }
 
-/// The train identity in a train's basic schedule. Four question marks if there is no train.
+/// The train identity in a train's basic schedule. Returns four question marks if there is no
+/// train.
 fn identity_of(train: Option<ScheduleView<'_>>) -> [u8; 4]
     ensures { result ≡ identity_of train.entry }
 {

@@ -1,5 +1,5 @@
-//! The choice: which schedule of a train counts on a day, and which association of a group. Also
-//! the events of a schedule.
+//! Chooses the schedule by which a train runs on a day, and the association that counts in a group.
+//! Also lists the events of a schedule.
 #![tactic(auto)]
 
 mod choice;

@@ -13,7 +13,7 @@ use crate::times::EventTimes;
 use cif_line::{Line, Tiploc, kind};
 
 /// How often a train passes midnight between its start and an event: 0 to 2 times. Events are
-/// numbered from 1. `None` if there is no event with this number.
+/// numbered from 1. Returns `None` if there is no event with this number.
 #[tactic(auto, using(crate::proofs::FallsCounted::falls_there, crate::proofs::FallsCounted::falls_are))]
 pub fn falls(view: &ScheduleView<'_>, event: u64) -> Option<u8>
     ensures there { IsSome result ↔
@@ -25,8 +25,8 @@ pub fn falls(view: &ScheduleView<'_>, event: u64) -> Option<u8>
     Some(falls as u8)
 }
 
-/// How often midnight is passed before the event with this number. `None` if no event has this
-/// number.
+/// How often midnight is passed before the event with this number. Returns `None` if no event has
+/// this number.
 fn falls_among(events: Events<'_>, event: u64) -> Option<u64>
     ensures { result ≡ falls_among event events.entry }
 {
@@ -64,8 +64,8 @@ fn falls_along(lines: &[Line]) -> bool
     false
 }
 
-/// The last time in the line, in half minutes. `before` if the line has no time. `None` if a time
-/// is below the preceding time, where `before` precedes the first time.
+/// The last time in the line, in half minutes, or `before` if the line has no time. Returns `None`
+/// if a time is below the preceding time, where `before` precedes the first time.
 fn ascending_to(line: &Line, before: u16) -> Option<u16>
     requires good { HasGoodFields line.now }
     ensures { result ≡ ascends before (times_of line.now) }

@@ -39,8 +39,8 @@ impl RecentRuns {
     }
 }
 
-/// The day `back` days before `day`. `None` if there is no such day, because days are numbered from
-/// 0.
+/// The day `back` days before `day`. Returns `None` if there is no such day, because days are
+/// numbered from 0.
 pub fn day_back(day: Day, back: u16) -> Option<Day>
     ensures { SomeIff result (back ≤ day) (day - back) }
 {
@@ -110,7 +110,7 @@ pub(crate) fn runs_on_recent_weekday(line: &Line, day: Day) -> bool
 }
 
 /// Whether the days run of a basic schedule include the weekday of the day `back` days before
-/// `day`. False if there is no such day.
+/// `day`. Returns false if there is no such day.
 fn runs_on_weekday_back(line: &Line, day: Day, back: u16) -> bool
     ensures { result ≡ marked_back (columns 22 28 line.now) day back }
 {

@@ -8,7 +8,7 @@ use crate::link_view::LinkView;
 use crate::schedule_view::ScheduleView;
 use cif_change::{Body, Key};
 
-/// The schedule in a row. `None` if the row isn't a schedule.
+/// The schedule in a row, or `None` if the row isn't a schedule.
 pub fn schedule_of<'a>(key: &'a Key, body: &'a Body) -> Option<ScheduleView<'a>>
     requires { IsBodyOf (key_meant key.now) (body_meant body.now) }
     ensures { result ≡ schedule_of (key_meant key.entry.now) (body_meant body.entry.now) }
@@ -19,7 +19,7 @@ pub fn schedule_of<'a>(key: &'a Key, body: &'a Body) -> Option<ScheduleView<'a>>
     }
 }
 
-/// The association in a row. `None` if the row isn't an association.
+/// The association in a row, or `None` if the row isn't an association.
 pub fn association_of<'a>(key: &'a Key, body: &'a Body) -> Option<LinkView<'a>>
     requires { IsBodyOf (key_meant key.now) (body_meant body.now) }
     ensures { result ≡ association_of (key_meant key.entry.now) (body_meant body.entry.now) }

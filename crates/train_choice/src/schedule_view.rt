@@ -55,7 +55,7 @@ impl<'a> ScheduleView<'a> {
         ScheduleView { key, lines }
     }
 
-    /// A second view of the schedule.
+    /// Another view of the same schedule.
     pub(crate) fn again(&self) -> ScheduleView<'a>
         ensures { result ≡ self.now }
     {
@@ -90,7 +90,7 @@ impl<'a> ScheduleView<'a> {
         }
     }
 
-    /// Whether the schedule runs on a day. Doesn't read the lines if the day is before the
+    /// Whether the schedule runs on a day. The call doesn't read the lines if the day is before the
     /// runs-from date in the key.
     pub fn runs_on(&self, day: Day) -> bool
         ensures { result ≡ schedule_runs (first_record self.now.lines) day }
@@ -98,8 +98,8 @@ impl<'a> ScheduleView<'a> {
         (self.key.runs_from.number() <= day.number()) && schedule_runs_on(self.first(), day)
     }
 
-    /// On which of three days the schedule runs: a day and the two days before it. Doesn't read the
-    /// lines if the day is before the runs-from date in the key.
+    /// On which of three days the schedule runs: a day and the two days before it. The call doesn't
+    /// read the lines if the day is before the runs-from date in the key.
     pub fn recent_runs(&self, day: Day) -> RecentRuns
         ensures { AreRecentRuns (runs_back self.now.lines day) result }
     {

@@ -79,7 +79,7 @@ fn origin_times(line: &Line) -> EventTimes
     }
 }
 
-/// The times at an intermediate location: an arrival, a pass and a departure, each if there is one.
+/// The times at an intermediate location, which may have an arrival, a pass and a departure.
 #[tactic(auto, using(crate::proofs::LineTimes::line_times))]
 fn call_times(line: &Line) -> EventTimes
     requires kind { HasKind intermediate_location line.now }

@@ -17,7 +17,8 @@ pub(crate) struct UidTrain<'a> {
 }
 
 impl<'a> UidTrain<'a> {
-    /// Whether the train runs by the schedule with this key. `None` if the key has another UID.
+    /// Whether the train runs by the schedule with this key. Returns `None` if the key has another
+    /// UID.
     pub(crate) fn asked(&self, key: &ScheduleKey) -> Option<bool>
         ensures { result ≡ (if bytes_eq self.now.uid key.now.uid
             then Some (runs_by self.now.train (schedule_key_meant key.now)) else None) }

@@ -76,7 +76,7 @@ impl<'a> EventWalk<'a> {
         self.identity = identity_after(kind, line, self.identity);
     }
 
-    /// The next event of the current line. `None` if the line has no further event.
+    /// The next event of the current line, or `None` if the line has no further event.
     pub(crate) fn next_event(&mut self) -> Option<Occurrence<'a>>
         requires room { HasRoom self.old 0 }
         ensures event { YieldsFirstBy occurrence_meant events_here self.old result self.new }
@@ -101,7 +101,7 @@ impl<'a> EventWalk<'a> {
 }
 
 /// Returns 1 if `time` is below the last time, because the train then passes midnight between the
-/// two times. Otherwise 0.
+/// two times. Otherwise returns 0.
 fn fall(last: Option<Time>, time: Time) -> u64
     ensures value { result ≡ fall_at last time }
     ensures few { result ≤ 1 }

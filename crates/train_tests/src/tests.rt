@@ -22,7 +22,7 @@ fn uid(rt: &impl Abort, word: &str) -> Uid {
     uid_of_word(word).expect(rt, "a UID")
 }
 
-/// The state of a file with these records. `None` if memory runs out.
+/// The state of a file with these records, or `None` if memory runs out.
 fn state_of(alloc: Global, records: &[&[u8]]) -> Option<State> {
     let text = text(alloc, records, b"\n").ok()?;
     let file = read_pieces(alloc, &[text.as_slice()], 1000).ok()?;

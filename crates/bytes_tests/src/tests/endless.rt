@@ -27,13 +27,14 @@ const HEAD_OF_MOST: &[u8] =
 const HEAD_ABOVE_MOST: &[u8] =
     b"\x03C10001\x5b\xf1P\x5b\xf0\x04\xecDFROC1A\x00\x00\x00\x02\x01\xff\xff\xff\xff";
 
-/// The mark, followed by the last day of C10001's schedule, 2024-06-14, as the horizon.
+/// The mark, followed by the horizon 2024-06-14, which is the last day of C10001's schedule.
 const UNDER_LAST: &[u8] = b"DKS2\x5b\xf5";
 
-/// The mark, followed by the day after the last day of C10001's schedule as the horizon.
+/// The mark, followed by the horizon 2024-06-15, which is the day after the last day of C10001's
+/// schedule.
 const UNDER_AFTER: &[u8] = b"DKS2\x5b\xf6";
 
-/// The mark, followed by a number above the last day of the calendar as the horizon.
+/// The mark, followed by a horizon that isn't a day: the number after the last day of the calendar.
 const UNDER_TOO_LATE: &[u8] = b"DKS2\x8e\xad";
 
 /// Asserts that a text is refused, both when it is read `step` bytes at a time and when a state
@@ -75,7 +76,7 @@ pub(super) fn refused_each_way(
     refused_by(rt, alloc, &mut own, before, text, limit, fault, 4096);
 }
 
-/// Asserts that a text that begins with `front` and then repeats `again` without end is refused.
+/// Asserts that a text without end is refused: it begins with `front`, and then repeats `again`.
 /// The text is read `step` bytes at a time, and then received.
 fn refused_endless_by(
     rt: &impl Abort,
@@ -99,8 +100,8 @@ fn refused_endless_by(
     text_is(rt, alloc, own, before);
 }
 
-/// Like `refused_each_way`, for a text that begins with `front` and then repeats `again` without
-/// end.
+/// Like `refused_each_way`, for a text without end, which begins with `front` and then repeats
+/// `again`.
 fn refused_without_end(
     rt: &impl Abort,
     alloc: Global,
@@ -137,7 +138,7 @@ fn with_items(rt: &impl Abort, alloc: Global, front: &[&[u8]]) -> Vec<u8> {
     items
 }
 
-/// Asserts that the first `n` bytes of a text are refused because they are too short.
+/// Asserts that a text is refused as too short if it is cut after its first `n` bytes.
 fn refused_front(rt: &impl Abort, alloc: Global, text: &[u8], n: usize) {
     let fault = at(last_place(&BEGINNINGS, n), StateCause::Short);
     let front = text.get(..n).expect(rt, "a front");
@@ -160,7 +161,8 @@ fn texts_cut_short(rt: HostRuntime) {
     refused_each_way(&rt, alloc, known, 310, long);
 }
 
-/// The mark of a text, the head of its entry, and the offset and cause of its fault.
+/// A row: the beginning of a text up to its ledger, the head of the text's entry, and the offset
+/// and cause of the text's fault.
 type Changed = (&'static [u8], &'static [u8], u64, StateCause);
 
 const CHANGED: &[Changed] = &[
@@ -171,12 +173,13 @@ const CHANGED: &[Changed] = &[
     (MARK, HEAD_LAPSED, 67, StateCause::Tail),
 ];
 
-/// The text with one file and one schedule, with this mark and this head.
+/// The text of a state with one file and one schedule. The text begins with `mark`, and `head` is
+/// the head of its entry.
 fn text_with(rt: &impl Abort, alloc: Global, mark: &[u8], head: &[u8]) -> Vec<u8> {
     joined_text(rt, alloc, &[mark, ONE, ITEM, ONE, head, BS, LO, LT])
 }
 
-/// Asserts that the text with this mark and this head is refused.
+/// Asserts that the text of a row is refused with the row's fault.
 fn refused_change(rt: &impl Abort, alloc: Global, row: &Changed) {
     let (mark, head, place, cause) = *row;
     let text = text_with(rt, alloc, mark, head);
@@ -219,7 +222,7 @@ fn texts_without_end(rt: HostRuntime) {
     refused_without_end(&rt, alloc, items.as_slice(), &[0], 1_002, long);
 }
 
-/// Pieces of texts with a huge count, and their faults.
+/// Texts with a huge count, each with the offset and cause of its fault.
 const HUGE: &[Row] = &[
     (
         &[MARK, MOST, ITEM, ONE, HEAD, BS, LO, LT],
@@ -238,8 +241,8 @@ const HUGE: &[Row] = &[
     ),
 ];
 
-/// Asserts that a text of these pieces is refused by every reader, and that a state that tries to
-/// receive the text is unchanged.
+/// Asserts that the concatenation of these pieces is refused by every reader, and that a state that
+/// tries to receive this text is unchanged.
 fn refused_everywhere(
     rt: &impl Abort,
     alloc: Global,
@@ -263,8 +266,8 @@ fn huge_counts(rt: HostRuntime) {
     refused_everywhere(&rt, alloc, &[items.as_slice()], 1_002, long);
 }
 
-/// Asserts that migrating a text that begins with `front` and then repeats `again` without end is
-/// refused.
+/// Asserts that a text without end can't be migrated. The text begins with `front`, and then
+/// repeats `again`.
 fn refused_old_endless(
     rt: &impl Abort,
     alloc: Global,
@@ -301,7 +304,7 @@ fn old_texts_without_end(rt: HostRuntime) {
     refused_old_endless(&rt, alloc, items.as_slice(), &[0], 1_000, long);
 }
 
-/// Like `HUGE`, in the older format.
+/// Like `HUGE`, for texts in the older format.
 const OLD_HUGE: &[Row] = &[
     (
         &[OLD_MARK, MOST, ITEM, ONE, HEAD, BS, LO, LT],

@@ -1,4 +1,4 @@
-//! Devices that move one byte per call, and fail at each call in turn.
+//! Devices that move one byte per call, and fail at the first call, then at the second, and so on.
 ghost use Rattle.std.specs.Prelude.{◌<◌};
 
 use super::compare::same;
@@ -52,7 +52,8 @@ fn a_sink_that_fails_has_the_bytes_before(rt: HostRuntime) {
     writes(&rt, alloc, &state, 312, Ok(()), known.as_slice());
 }
 
-/// Asserts that reading a text from a source that fails at this call returns this fault.
+/// Asserts that neither a state, nor an excerpt, nor a ledger can be read from a source that fails
+/// at this call. Each reader returns this fault.
 fn reads_not(rt: &impl Abort, alloc: Global, text: &[u8], call: u64, fault: ReadFault)
     requires { 0 < call }
 {
@@ -131,7 +132,8 @@ fn a_source_that_fails_at_each_call(rt: HostRuntime) {
     passes(&rt, alloc, known, joined.as_slice());
 }
 
-/// The fault of a source that fails at this call, and whose text has the wrong format.
+/// The fault of reading a text with the wrong mark from a source that fails at this call. The mark
+/// has four bytes.
 fn fault_at(call: u64) -> ReadFault {
     if call < 5 {
         ReadFault::Source

@@ -1,4 +1,4 @@
-//! Texts with a horizon, and lapsed entries.
+//! Texts of states with a horizon and with lapsed entries.
 
 use super::compare::same;
 use super::pieces::{
@@ -13,7 +13,8 @@ use std::alloc::Global;
 use std::process::Abort;
 use test_records::{AA_JOIN, BODY_OF_TI, BS, BS_NO_END, HD, LO, LT, TI, ZZ};
 
-/// The text with one file, this horizon, and one entry of these parts.
+/// The text of a state with one file, this horizon, and one entry. `parts` are the parts of the
+/// entry.
 fn under(rt: &impl Abort, alloc: Global, horizon: &[u8], parts: &[&[u8]]) -> Vec<u8> {
     let entry = joined_text(rt, alloc, parts);
     let pieces = [b"DKS2", horizon, ONE, ITEM, ONE, entry.as_slice()];
@@ -29,13 +30,14 @@ fn accepted(rt: &impl Abort, alloc: Global, text: &[u8], horizon: u16) {
     goes_round(rt, alloc, &state, text.len(), 1);
 }
 
-/// Asserts that a text with this horizon and one entry of these parts is accepted.
+/// Asserts that the text with this horizon and one entry, which has these parts, is accepted.
 fn accepted_under(rt: &impl Abort, alloc: Global, horizon: &[u8], parts: &[&[u8]], number: u16) {
     let text = under(rt, alloc, horizon, parts);
     accepted(rt, alloc, text.as_slice(), number);
 }
 
-/// Asserts that a text with this horizon and one entry of these parts is refused with this fault.
+/// Asserts that the text with this horizon and one entry, which has these parts, is refused with
+/// this fault.
 fn refused_under(
     rt: &impl Abort,
     alloc: Global,
@@ -88,7 +90,8 @@ fn puts_that_end_before_the_horizon(rt: HostRuntime) {
     );
 }
 
-/// Asserts that a lapsed entry is accepted in a text of `len` bytes with this horizon.
+/// Asserts that a text with this horizon and one lapsed entry is accepted. `entry` has the parts of
+/// the entry before its op, and the text has `len` bytes.
 fn accepted_lapsed(
     rt: &impl Abort,
     alloc: Global,
@@ -102,7 +105,7 @@ fn accepted_lapsed(
     accepted(rt, alloc, text.as_slice(), number);
 }
 
-/// Asserts that a lapsed entry of each kind of key is accepted in a text with this horizon.
+/// Asserts that a text with this horizon is accepted for a lapsed entry of each kind of key.
 fn each_accepted_lapsed(rt: &impl Abort, alloc: Global, horizon: &[u8], number: u16) {
     accepted_lapsed(rt, alloc, horizon, number, ASHFELD_HEAD, 65);
     accepted_lapsed(rt, alloc, horizon, number, JOINS_HEAD, 81);
@@ -121,15 +124,15 @@ fn what_has_lapsed_has_no_body(rt: HostRuntime) {
     refused_under(&rt, alloc, AFTER, &[SCHEDULE_HEAD, b"\x03"], bad);
 }
 
-/// The state of a file with these records, with this day as its horizon.
+/// The state of a file with these records, under this horizon.
 fn lapsed(rt: &impl Abort, alloc: Global, records: &[&[u8]], day: &str) -> State {
     let mut state = state(rt, alloc, records);
     state.set_horizon(Day::from_iso(day).expect(rt, "a day"));
     state
 }
 
-/// Asserts that the state of the file with C10001's schedule, with this day as its horizon, has a
-/// text of `len` bytes with one entry of these parts.
+/// Asserts the text of the state of the file with C10001's schedule after this horizon is set. The
+/// text has `len` bytes and one entry, which has these parts.
 fn has_under(
     rt: &impl Abort,
     alloc: Global,

@@ -26,7 +26,7 @@ fn merged(rt: &impl Abort, alloc: Global, files: &[&[&[u8]]]) -> State {
     all
 }
 
-/// Lets a state receive a text, which is read `step` bytes at a time.
+/// Lets a state receive a text from a source that returns `step` bytes per read.
 fn receive(rt: &impl Abort, alloc: Global, all: &mut State, text: &[u8], step: usize)
     requires { 0 < step }
 {
@@ -43,8 +43,8 @@ fn receive_file(rt: &impl Abort, alloc: Global, all: &mut State, file: &[&[u8]],
     receive(rt, alloc, all, text.bytes(), step);
 }
 
-/// Asserts the text of a state that receives the states of these files in this order, read `step`
-/// bytes at a time. Receiving their joined state afterwards changes nothing.
+/// Asserts that a state has the text `wanted` after it has received the states of these files in
+/// this order. Receiving the joined state afterwards changes nothing.
 fn receives(rt: &impl Abort, alloc: Global, files: &[&[&[u8]]], wanted: &[u8], step: usize)
     requires { 0 < step }
 {
@@ -58,7 +58,7 @@ fn receives(rt: &impl Abort, alloc: Global, files: &[&[&[u8]]], wanted: &[u8], s
 }
 
 /// Asserts that the join of these files' states, in this order, has this text. A state that
-/// receives the texts of these states has this text too.
+/// receives the texts of these states has the same text.
 fn merges_to(rt: &impl Abort, alloc: Global, files: &[&[&[u8]]], pieces: &[&[u8]], name: &str) {
     let all = merged(rt, alloc, files);
     let wanted = joined_text(rt, alloc, pieces);
@@ -69,7 +69,7 @@ fn merges_to(rt: &impl Abort, alloc: Global, files: &[&[&[u8]]], pieces: &[&[u8]
     goes_round(rt, alloc, &all, wanted.len(), 80);
 }
 
-/// Asserts that these pieces form a text of `len` bytes.
+/// Asserts that the concatenation of these pieces has `len` bytes.
 fn len_is(rt: &impl Abort, alloc: Global, pieces: &[&[u8]], len: usize) {
     let text = joined_text(rt, alloc, pieces);
     same(rt, text.len(), len);
@@ -128,7 +128,7 @@ const OF_LATE: Records = &[
     LT_1030,
 ];
 
-/// The three files in each order, with a name for each row.
+/// The three files in each order, with a name for each order.
 const ORDERS: &[(&[Records], &str)] = &[
     (&[FIFTH, SEVENTH, NINTH], "5, 7, 9"),
     (&[FIFTH, NINTH, SEVENTH], "5, 9, 7"),
@@ -161,7 +161,7 @@ const OF_LONGER: Records = &[MARK, ONE, ITEM, ONE, HEAD, BS_LONGER, LO_0850, LT]
 
 const OF_LATER: Records = &[MARK, ONE, ITEM, ONE, HEAD, BS, LO_0905, LT];
 
-/// Two files with equal stamps, the text of their state, and a name for the row.
+/// Two files with equal stamps, the text of the state of both files, and a name for the row.
 const TIES: &[(&[Records], Records, &str)] = &[
     (&[PLAIN, PLAIN], OF_PLAIN, "the same"),
     (&[PLAIN, LONGER], OF_LONGER, "longer"),

@@ -1,4 +1,4 @@
-//! Texts in the older format, which has no horizon.
+//! Migrates texts in the older format, which has no horizon.
 ghost use Rattle.std.specs.Prelude.{◌-◌, ◌^◌, ◌<◌};
 
 use super::compare::same;
@@ -36,7 +36,7 @@ pub(super) fn refused_old_source<S: Source>(
     same(rt, read, Some(ReadFault::State(fault)));
 }
 
-/// Asserts that migrating a text of these pieces is refused with this fault.
+/// Asserts that migrating the concatenation of these pieces is refused with this fault.
 pub(super) fn refused_old(
     rt: &impl Abort,
     alloc: Global,
@@ -92,7 +92,7 @@ fn old_texts_of_a_wrong_length(rt: HostRuntime) {
     refused_fronts(&rt, alloc, old);
 }
 
-/// Faults in the mark and in the ledger.
+/// Texts that can't be migrated because of a fault in the mark or in the ledger.
 const LEDGERS: &[Row] = &[
     (
         &[b"DKS2", ONE, ITEM, ONE, HEAD, BS, LO, LT],
@@ -123,7 +123,7 @@ fn old_texts_with_a_bad_ledger(rt: HostRuntime) {
     }
 }
 
-/// Faults in an entry.
+/// Texts that can't be migrated because of a fault in an entry.
 const ENTRIES: &[Row] = &[
     (
         &[OLD_MARK, ONE, ITEM, ONE, HEAD_OF_NO_TAG, BS, LO, LT],

@@ -7,14 +7,14 @@ use std::alloc::Global;
 use std::process::Abort;
 use test_records::{AA_JOIN, BS, BS_DELETED, LO, LT};
 
-/// The text with a ledger of one file and one entry. The entry has these parts.
+/// The text of a state with one file and one entry. The entry has these parts.
 fn with_entry(rt: &impl Abort, alloc: Global, parts: &[&[u8]]) -> Vec<u8> {
     let entry = joined_text(rt, alloc, parts);
     joined_text(rt, alloc, &[MARK, ONE, ITEM, ONE, entry.as_slice()])
 }
 
-/// Asserts that a text with one entry of these parts is read, that its state is written as the same
-/// text, and that the text has `len` bytes.
+/// Asserts that a text with one entry, which has these parts, is read. Its state is written as the
+/// same text, which has `len` bytes.
 fn accepted(rt: &impl Abort, alloc: Global, parts: &[&[u8]], len: usize) {
     let text = with_entry(rt, alloc, parts);
     let state = read(rt, alloc, text.as_slice(), 4096, 1000);
@@ -22,20 +22,20 @@ fn accepted(rt: &impl Abort, alloc: Global, parts: &[&[u8]], len: usize) {
     goes_round(rt, alloc, &state, len, 1);
 }
 
-/// Asserts that a text with one entry of these parts is refused for this cause, at the entry's
-/// offset.
+/// Asserts that a text with one entry, which has these parts, is refused. The fault has this cause,
+/// and the offset of the entry.
 fn refused_entry(rt: &impl Abort, alloc: Global, parts: &[&[u8]], cause: StateCause) {
     let text = with_entry(rt, alloc, parts);
     refused(rt, alloc, &[text.as_slice()], 1000, at(41, cause));
 }
 
-/// Asserts that an entry is accepted: the deletion of this key, by the record with this number.
+/// Asserts that a deletion of this key, by the record with this number, is accepted as an entry.
 fn accepted_deletion(rt: &impl Abort, alloc: Global, key: &[u8], number: &[u8]) {
     accepted(rt, alloc, &[key, FILE, number, DELETED], 67);
 }
 
-/// Asserts that an entry is refused for this cause: the deletion of this key, by the record with
-/// this number.
+/// Asserts that a deletion of this key, by the record with this number, is refused as an entry for
+/// this cause.
 fn refused_deletion(rt: &impl Abort, alloc: Global, key: &[u8], number: &[u8], cause: StateCause) {
     refused_entry(rt, alloc, &[key, FILE, number, DELETED], cause);
 }
@@ -118,8 +118,8 @@ fn bad_bodies(rt: HostRuntime) {
     }
 }
 
-/// Asserts that an entry of a schedule is refused for its body: this count of lines, and these
-/// lines.
+/// Asserts that an entry of a schedule is refused for its body, which consists of this count of
+/// lines and these lines.
 fn refused_schedule(rt: &impl Abort, alloc: Global, count: &[u8; 4], lines: &[&[u8]]) {
     let lines = joined_text(rt, alloc, lines);
     let parts = [C10001, FILE, SECOND, PUT, count, lines.as_slice()];

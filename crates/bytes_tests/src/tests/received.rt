@@ -11,8 +11,8 @@ use std::alloc::Global;
 use std::process::Abort;
 use test_records::{AA_JOIN, BS, HD, LO, LO_0905, LT, LT_0935, ZZ};
 
-/// Asserts that an empty state that receives two texts then has the text `wanted`, with the horizon
-/// of the second text.
+/// Asserts that an empty state that receives two texts then has the horizon 15 June and the text
+/// `wanted`.
 fn receives(rt: &impl Abort, alloc: Global, first: &[u8], second: &[u8], wanted: &[u8]) {
     let mut all = State::empty(alloc);
     let answer = join_state(alloc, &mut all, &mut Bytes::new(first, 7), 1000);
@@ -37,15 +37,15 @@ fn a_horizon_received(rt: HostRuntime) {
     receives(&rt, alloc, lapsed, known, lapsed);
 }
 
-/// Asserts that a text of these pieces is refused, and that a state that tries to receive the text
-/// is unchanged.
+/// Asserts that the concatenation of these pieces is refused, and that a state that tries to
+/// receive this text is unchanged.
 fn refused(rt: &impl Abort, alloc: Global, pieces: &[&[u8]], limit: u64, fault: StateFault) {
     let text = joined_text(rt, alloc, pieces);
     refused_each_way(rt, alloc, text.as_slice(), limit, fault);
 }
 
-/// Asserts that the first `n` bytes of a text are refused, and that a state that tries to receive
-/// them is unchanged.
+/// Asserts that a text is refused as too short if it is cut after its first `n` bytes, and that a
+/// state that tries to receive these bytes is unchanged.
 fn refused_front(rt: &impl Abort, alloc: Global, text: &[u8], n: usize) {
     let front = text.get(..n).expect(rt, "a front");
     refused(rt, alloc, &[front], 1000, at(60, StateCause::Short));
@@ -69,7 +69,7 @@ fn what_is_refused_changes_nothing(rt: HostRuntime) {
     refused(&rt, alloc, twice, 1000, at(311, StateCause::Order));
 }
 
-/// A source from which these bytes can be read, and which then fails.
+/// A source that returns the bytes of `front`, and then fails.
 #[derive(Drop)]
 struct Broken<'a> {
     front: &'a [u8],

@@ -50,8 +50,8 @@ fn last_day_of_the_calendar(rt: HostRuntime) {
     shows(&rt, rt.alloc(), &[file], "COLWELL", "2059-12-31", lines);
 }
 
-/// Asserts the lines at Colwell when this record cancels one of two trains: C40001, or C40002,
-/// which is the next working of C40001 a day later.
+/// Asserts the docker lines at Colwell on 10 June. The record `cancellation` cancels one of two
+/// trains: C40001, or C40002, which is the next working of C40001 a day later.
 fn without(rt: &impl Abort, alloc: Global, cancellation: &[u8], lines: &[&[u8]]) {
     let file: &[&[u8]] = &[
         HD,
@@ -81,8 +81,8 @@ fn cancelled_base(rt: HostRuntime) {
     without(&rt, rt.alloc(), BS_C40001_CANCELLED, &[]);
 }
 
-/// Asserts the lines at Colwell on 10 June. The file has C40001, this association, and C40002 on 11
-/// June.
+/// Asserts the docker lines at Colwell on 10 June. The file has C40001, this association, and
+/// C40002 on 11 June.
 fn works_on(rt: &impl Abort, alloc: Global, association: &[u8], lines: &[&[u8]]) {
     let file: &[&[u8]] = &[
         HD,
@@ -98,8 +98,8 @@ fn works_on(rt: &impl Abort, alloc: Global, association: &[u8], lines: &[&[u8]])
     shows(rt, alloc, &[file], "COLWELL", "2024-06-10", lines);
 }
 
-/// Each date indicator, an unknown date indicator, and an unknown category. An association with an
-/// unknown date indicator or an unknown category has no line.
+/// Checks each date indicator, an unknown date indicator, and an unknown category. An association
+/// with an unknown date indicator or an unknown category has no line.
 #[test]
 fn date_indicators(rt: HostRuntime) {
     let only: &[&[u8]] = &[COMES_2350];

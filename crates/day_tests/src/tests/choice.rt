@@ -11,8 +11,7 @@ use test_records::{
     BS, BS_CANCELLED, BS_OVERLAY, BS_WEEK, BS_WEEKEND, HD, LO, LO_0910, LO_0915, LT, ZZ,
 };
 
-/// A permanent schedule, its overlay and its cancellation. The test checks which of them is chosen
-/// on each day.
+/// Checks which of a permanent schedule, its overlay and its cancellation is chosen on each day.
 #[test]
 fn choice(rt: HostRuntime) {
     let alloc = rt.alloc();
@@ -36,7 +35,7 @@ fn choice(rt: HostRuntime) {
     shows(&rt, alloc, files, "ASHFELD", "2024-06-16", &[LEAVES_0900]);
 }
 
-/// The same file with a fourth schedule, which begins later than the permanent schedule.
+/// Like `choice`, with a fourth schedule, which begins later than the permanent schedule.
 #[test]
 fn choice_with_a_later_schedule(rt: HostRuntime) {
     let alloc = rt.alloc();
@@ -82,7 +81,7 @@ fn chosen_cancellation(rt: HostRuntime) {
     chosen_is(&rt, &state, "2024-06-17", None);
 }
 
-/// The days on which a basic schedule runs.
+/// Checks the days on which a basic schedule runs.
 #[test]
 fn days(rt: HostRuntime) {
     let line = Line::new(BS).expect(&rt, "a line");

@@ -1,4 +1,4 @@
-//! Dockers while memory runs out. The state is unchanged, and a second call returns the docker. The
+//! Dockers when memory runs out. The state is unchanged, and a second call returns the docker. The
 //! test run decides which allocation is refused. Each call is made at most twice.
 
 use super::compare::same;
@@ -38,7 +38,7 @@ fn divided(rt: &impl Abort, alloc: Global) -> State {
     }
 }
 
-/// Asserts how many ledger items, entries and live rows a state has.
+/// Asserts that a state has these numbers of ledger items, entries and live rows.
 fn counts_are(rt: &impl Abort, state: &State, items: usize, entries: usize, rows: usize) {
     let mut live = 0usize;
     for _ in state.live() {

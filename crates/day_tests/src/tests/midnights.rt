@@ -40,15 +40,16 @@ fn two_midnights(rt: HostRuntime) {
     shows(&rt, alloc, files, "BRAYTON", "2024-06-12", come);
 }
 
-/// Asserts how often C20001 passes midnight before an event, if the train starts on 10 June.
+/// Asserts how often C20001 passes midnight before an event. `None` means that the event doesn't
+/// exist. The train starts on 10 June.
 fn midnights_are(rt: &impl Abort, state: &State, event: u64, wanted: Option<u8>) {
     let uid = Uid::from_field(b"C20001").expect(rt, "a UID");
     let view = chosen(state, &uid, day(rt, "2024-06-10")).expect(rt, "a schedule");
     same(rt, falls(&view, event), wanted);
 }
 
-/// How often C20001 passes midnight before each event. The result is `None` for an event that
-/// doesn't exist.
+/// Checks how often C20001 passes midnight before each event. The result is `None` for an event
+/// that doesn't exist.
 #[test]
 fn midnights_up_to_events(rt: HostRuntime) {
     let state = state(&rt, rt.alloc(), TWO_NIGHTS);

@@ -18,10 +18,10 @@ use test_records::{
     LT_0020, LT_1100_PLAIN, LT_ASHFELD_0100, LT_COLWELL_2350, LT_DUNMERE_1100, TI, ZZ, text,
 };
 
-/// C10001 leaves Ashfeld at 09:00, by a new schedule with the STP indicator `N`.
+/// A docker line: C10001 leaves Ashfeld at 09:00, by a new schedule with the STP indicator `N`.
 const LEAVES_AS_NEW: &[u8] = b"0900  D 1A10 C10001 N   1   SL      0900 ASHFELD BRAYTON";
 
-/// C10001 leaves Colwell at 10:45, by its overlay.
+/// A docker line: C10001 leaves Colwell at 10:45, by its overlay.
 const LEAVES_ELSEWHERE: &[u8] = b"1045  D 1A10 C10001 O   5                COLWELL DUNMERE";
 
 /// The cancellation of C20001 on 10 June.
@@ -32,11 +32,12 @@ const BS_NIGHT_CANCELLED: &[u8] =
 const AA_DIVIDE_CANCELLED: &[u8] =
     b"AANC30001C300022406102406101000000VVSCOLWELL2 TP                               C";
 
-/// C40001 becomes C40002 on the next day, by an association with the STP indicator `N`.
+/// The association by which C40001 becomes C40002 on the next day. It has the STP indicator `N`.
 const AA_NEW: &[u8] =
     b"AANC40001C400022406102406101000000NPNCOLWELL  TP                               N";
 
-/// C40001 becomes C40002, whose identity isn't known, by an association with the STP indicator `N`.
+/// A docker line: C40001 becomes C40002, whose identity isn't known, by an association with the STP
+/// indicator `N`.
 const WORKS_ON_AS_NEW: &[u8] = b"2350  N 4D40 C40001 N   1                C40002  ????   ";
 
 /// The heading of the docker of Ashfeld on 10 June, with its description.
@@ -67,8 +68,8 @@ fn keeps(rt: &impl Abort, alloc: Global, files: &[&[&[u8]]], at: &str, on: &str,
     lines_are(rt, alloc, &joined_back(rt, alloc, files), at, on, wanted);
 }
 
-/// A permanent schedule is on the docker of each of its days, even of a day on which it is overlaid
-/// or cancelled.
+/// A permanent schedule is on the docker of each day on which it runs, even if it is overlaid or
+/// cancelled on that day.
 #[test]
 fn overlaid_and_cancelled(rt: HostRuntime) {
     let alloc = rt.alloc();
@@ -198,8 +199,9 @@ fn cancelled_association(rt: HostRuntime) {
     keeps(&rt, alloc, files, "COLWELL", "2024-06-10", otherwise);
 }
 
-/// Asserts the permanent lines at Colwell on 10 June. The file has C40001, this association, C40002
-/// on the day after, and the cancellation of C40002.
+/// Asserts two dockers of Colwell on 10 June. The docker has the arrival of C40001 and the line
+/// `now`, and the permanent docker has the lines `wanted`. The file has C40001, this association,
+/// C40002 on 11 June, and the cancellation of C40002.
 fn works_on(rt: &impl Abort, alloc: Global, association: &[u8], now: &[u8], wanted: &[&[u8]]) {
     let file: &[&[u8]] = &[
         HD,
@@ -224,8 +226,8 @@ fn works_on(rt: &impl Abort, alloc: Global, association: &[u8], now: &[u8], want
     keeps(rt, alloc, &[file], "COLWELL", "2024-06-10", wanted);
 }
 
-/// A cancelled associated train has its identity on the permanent docker. A short-term association
-/// has no line on the permanent docker.
+/// On the permanent docker, the line of an association has the identity of the associated train,
+/// even if that train is cancelled. A short-term association has no line.
 #[test]
 fn identity_of_a_cancelled_partner(rt: HostRuntime) {
     let unknown = WORKS_ON_UNKNOWN;
@@ -233,7 +235,7 @@ fn identity_of_a_cancelled_partner(rt: HostRuntime) {
     works_on(&rt, rt.alloc(), AA_NEW, WORKS_ON_AS_NEW, &[COMES_2350]);
 }
 
-/// The heading of a permanent docker has the description of the place.
+/// The heading of a permanent docker has the description of the timing point.
 #[test]
 fn permanent_heading(rt: HostRuntime) {
     let alloc = rt.alloc();

@@ -1,4 +1,4 @@
-//! Which change counts if several files change the same key.
+//! Which change counts if several files have changes to the same key.
 
 use super::shows;
 use std::alloc::Global;

@@ -18,14 +18,14 @@ fn prints(rt: &impl Abort, alloc: Global, files: &[&[&[u8]]], at: &str, wanted: 
     same(rt, kept.bytes(), wanted.as_slice());
 }
 
-/// The docker of a place that a train leaves.
+/// Checks the docker of a place that a train leaves.
 #[test]
 fn whole_text(rt: HostRuntime) {
     let files: &[&[&[u8]]] = &[&[HD, BS, LO, LT, ZZ]];
     prints(&rt, rt.alloc(), files, "ASHFELD", ASHFELD_0900);
 }
 
-/// The docker of a place that no file names.
+/// Checks the docker of a place that isn't in any file.
 #[test]
 fn place_without_a_record(rt: HostRuntime) {
     let files: &[&[&[u8]]] = &[&[HD, BS, LO, LT, ZZ]];
@@ -40,7 +40,8 @@ fn headings(rt: HostRuntime) {
     prints(&rt, rt.alloc(), files, "ASHFELD", NONE_AT_ASHFELD);
 }
 
-/// Asserts whether the docker of Ashfeld on 10 June fits in a sink with this room.
+/// Asserts that the docker of Ashfeld on 10 June fits in a sink with this room if and only if
+/// `wanted` is true.
 fn fits(rt: &impl Abort, alloc: Global, state: &State, room: usize, wanted: bool) {
     let docker = docker(alloc, state, &place(rt, "ASHFELD"), day(rt, "2024-06-10")).expect(
         rt, "a docker",

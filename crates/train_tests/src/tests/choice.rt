@@ -34,31 +34,33 @@ const TRAINS: &[&[u8]] = &[
     ZZ,
 ];
 
-/// The heading if C10001 runs by its permanent schedule, record 5 of the file.
+/// The heading for 10 June, on which C10001 runs by its permanent schedule, record 5 of the file.
 const PERMANENT: &[u8] =
     b"TRAIN  C10001  2024-06-10 P RUNS      2024-06-09 2100 DFROC1A          5        ";
 
-/// The heading if C10001 runs by its overlay, record 8.
+/// The heading for 11 June, on which C10001 runs by its overlay, record 8.
 const OVERLAY: &[u8] =
     b"TRAIN  C10001  2024-06-11 O RUNS      2024-06-09 2100 DFROC1A          8        ";
 
-/// The heading if C10001 runs by the new schedule, record 12, which is chosen before an overlay.
+/// The heading for 13 June, on which C10001 runs by the new schedule, record 12. A new schedule is
+/// chosen before an overlay.
 const NEW: &[u8] =
     b"TRAIN  C10001  2024-06-13 N RUNS      2024-06-09 2100 DFROC1A         12        ";
 
-/// The heading if C10001 is cancelled, by record 11.
+/// The heading for 14 June, on which C10001 is cancelled by record 11.
 const CANCELLED: &[u8] =
     b"TRAIN  C10001  2024-06-14 C CANCELLED 2024-06-09 2100 DFROC1A         11        ";
 
-/// The heading if C10001 runs by the permanent schedule that begins on that day, record 15.
+/// The heading for 16 June, on which C10001 runs by the permanent schedule that begins later,
+/// record 15.
 const SUNDAY: &[u8] =
     b"TRAIN  C10001  2024-06-16 P RUNS      2024-06-09 2100 DFROC1A         15        ";
 
-/// The heading if C10002 runs, by record 2.
+/// The heading for 14 June, on which C10002 runs by record 2.
 const OTHER: &[u8] =
     b"TRAIN  C10002  2024-06-14 P RUNS      2024-06-09 2100 DFROC1A          2        ";
 
-/// The heading for a day before C10001's first schedule begins.
+/// The heading for 9 June, before C10001's first schedule begins.
 const NONE_BEFORE: &[u8] =
     b"TRAIN  C10001  2024-06-09   NONE                                                ";
 
@@ -71,7 +73,7 @@ fn trains(rt: &impl Abort, alloc: Global) -> State {
     joined(rt, alloc, &[TRAINS])
 }
 
-/// Days on which the permanent schedule is chosen, and a day on which its overlay is chosen.
+/// Checks days on which the permanent schedule is chosen, and a day on which its overlay is chosen.
 #[test]
 fn permanent_and_overlay(rt: HostRuntime) {
     let state = trains(&rt, rt.alloc());
@@ -102,7 +104,7 @@ fn new_and_later(rt: HostRuntime) {
     says(&rt, rt.alloc(), &state, "C10001", "2024-06-16", sunday);
 }
 
-/// Days on which no schedule runs, and a UID without schedules.
+/// Checks days on which no schedule runs, and a UID without schedules.
 #[test]
 fn none(rt: HostRuntime) {
     let state = trains(&rt, rt.alloc());

@@ -31,23 +31,24 @@ const RESTORES: &[&[u8]] = &[HD_10B_0605, BS_CANCELLED_DELETED, ZZ];
 /// A later file that revises the permanent schedule.
 const REVISES: &[&[u8]] = &[HD_10B_0605, BS_REVISED_SHORTER, LO_0920, LT, ZZ];
 
-/// The heading if C10001 runs by the overlay, record 5 of the first file.
+/// The heading for 11 June, on which C10001 runs by the overlay, record 5 of the first file.
 const OVERLAY: &[u8] =
     b"TRAIN  C10001  2024-06-11 O RUNS      2024-06-09 2100 DFROC1A          5        ";
 
-/// The heading if C10001 runs by the permanent schedule, record 2 of the first file.
+/// The heading for 14 June, on which C10001 runs by the permanent schedule, record 2 of the first
+/// file.
 const RESTORED: &[u8] =
     b"TRAIN  C10001  2024-06-14 P RUNS      2024-06-09 2100 DFROC1A          2        ";
 
-/// The heading if C10001 runs by the revision, record 2 of the second file.
+/// The heading for 12 June, on which C10001 runs by the revision, record 2 of the second file.
 const REVISED: &[u8] =
     b"TRAIN  C10001  2024-06-12 P RUNS      2024-06-10 0605 DFROC1B          2        ";
 
-/// The heading if no schedule of C10001 runs on 12 June.
+/// The heading for 12 June, on which no schedule of C10001 runs.
 const NONE: &[u8] =
     b"TRAIN  C10001  2024-06-12   NONE                                                ";
 
-/// The heading if no schedule of C10001 runs on 15 June. The revision ends on 13 June.
+/// The heading for 15 June, on which no schedule of C10001 runs. The revision ends on 13 June.
 const NONE_AFTER: &[u8] =
     b"TRAIN  C10001  2024-06-15   NONE                                                ";
 

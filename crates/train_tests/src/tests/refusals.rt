@@ -1,4 +1,5 @@
-//! A day before the horizon is refused, a word that isn't a UID is refused, and a full sink fails.
+//! A day before the horizon is refused, a word that isn't a UID is refused, and printing to a full
+//! sink fails.
 
 use super::compare::same;
 use super::texts::{END, NONE_ON_17_JUNE};
@@ -63,8 +64,8 @@ fn lapsed(rt: HostRuntime) {
     );
 }
 
-/// Prints C10001 on 10 June to a sink with this room, and asserts the fault and the bytes that the
-/// sink has.
+/// Prints the text for C10001 on 10 June to a sink with this room, and asserts the fault and the
+/// bytes that the sink then has.
 fn takes(rt: &impl Abort, alloc: Global, state: &State, room: usize, wanted: Option<TrainFault>) {
     let mut kept = Kept::new(alloc, room).expect(rt, "room");
     let all = text(alloc, &[MONDAY, BS_WEEK, LO, LT, END], b"\n").expect(rt, "a text");
@@ -87,7 +88,7 @@ fn full_sink(rt: HostRuntime) {
     takes(&rt, rt.alloc(), &state, 0, Some(TrainFault::Sink));
 }
 
-/// Asserts whether a word is a UID.
+/// Asserts that a word is a UID if and only if `wanted` is true.
 fn is_uid(rt: &impl Abort, word: &str, wanted: bool) {
     same(rt, uid_of_word(word).is_some(), wanted);
 }

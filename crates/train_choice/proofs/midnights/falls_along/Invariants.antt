@@ -3,7 +3,8 @@ use Rattle.docker_model.specs.records.Field.{HasGoodFields}
 use Rattle.train_choice.specs.Midnights.{falls_along}
 use Rattle.train_choice.proofs.midnights.falls_along.Given as goal
 
--- whether midnight is passed depends only on the last time and the remaining lines
+-- the train passes midnight in the remaining lines, which follow the time `last`, if and only if it
+-- passes midnight in all lines
 abbrev pub invariant-loop-line : goal.invariant-loop-line
 invariant-loop-line l = record {
   same : falls_along l.last l.behind ≡ falls_along 0 l.lines;

@@ -1,4 +1,4 @@
--- If the parser reads a piece without a fault, the taker has taken the piece.
+-- If the parser reads a piece without a fault, the `ParserTaker` has taken the piece.
 use Rattle.docker_bytes.proofs.ReadLemmas.{takes_more, refuses_more}
 use Rattle.docker_bytes.proofs.read.ParserTaker.take.Goals as goal
 

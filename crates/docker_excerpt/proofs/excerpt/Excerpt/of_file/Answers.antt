@@ -1,4 +1,5 @@
--- The kept changes of a file make the same docker as the state of the whole file.
+-- Each docker of the state made from the kept changes of a file is a docker of the state of the
+-- whole file.
 use Rattle.std.proofs.Common.{ap, sym, ◌∙◌, subst}
 use Rattle.docker_excerpt.specs.Values.{Excerpt, with_entries, StandsAt}
 use Rattle.docker_excerpt.proofs.ThinExcerpt.{given_is_state, state_is_summary, thin_stands}
