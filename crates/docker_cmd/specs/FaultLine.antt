@@ -43,7 +43,7 @@ abbrev pub state_line : StateFault → List ℕ
 state_line fault =
     codes "docker: state refused: offset " ++ decimal fault.at ++ codes ": " ++ state_text.cause_text fault.cause ++ codes "\n"
 
--- the line that reports a refused day: a day before the horizon plus three days
+-- the line that reports a refused day: a day earlier than three days after the horizon
 abbrev pub day_line : List ℕ
 day_line = codes "docker: day refused: before horizon plus three days\n"
 

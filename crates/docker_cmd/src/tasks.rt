@@ -47,7 +47,7 @@ pub(crate) struct Row<'a> {
 }
 
 impl<'a> Row<'a> {
-    /// Makes a row of these columns.
+    /// Makes a row from these columns.
     fn of(name: &'a str, ids: &'a [&'a str], reads: Sources) -> Row<'a>
         ensures name { result.name.now ≡ name.now }
         ensures ids { result.ids.now ≡ ids.now }
@@ -242,7 +242,7 @@ impl Task {
         }
     }
 
-    /// Returns the timing point of the task, if it has one.
+    /// Returns the timing point that the task names, if it names one.
     pub(crate) fn tiploc(self) -> Option<Tiploc>
         ensures { result ≡ tiploc_of (task_meant self) }
     {
@@ -252,7 +252,7 @@ impl Task {
         }
     }
 
-    /// Returns the day of the task, if it has one.
+    /// Returns the day that the task names, if it names one.
     pub(crate) fn day(self) -> Option<Day>
         ensures { result ≡ day_of (task_meant self) }
     {
@@ -283,8 +283,8 @@ impl Task {
         }
     }
 
-    /// Returns the horizon that the task sets on the state that it has read; `None` if it sets
-    /// none.
+    /// Returns the horizon that the task sets on the state that it has read; `None` if the task
+    /// sets no horizon.
     pub fn horizon(self) -> Option<Day>
         ensures { result ≡ horizon_of (task_meant self) }
     {

@@ -40,7 +40,7 @@ module _ (earlier : List (List ℕ)) where
   gained_both (gain ∷ gains) more old now new first second = (first.0, first.1, gained_both gains more first.0 now new first.2 second)
 
   module _ (setting : Setting) (before after : SessionView) where
-    -- if `take` was done, the state gained the file
+    -- if `take` succeeded, the state gained the file
     gained_file : (file : Text) (text : List ℕ) (gains : List Gain) → Joins file StopsInFile EndsTaking before (done_with text) after
         → GainsFile file before after gains → AreGained earlier gains before.desk.state after.desk.state
     gained_file file text gains does gained = by does.result does.opens.read does.told does.opens.asked does.opens.ends
@@ -94,7 +94,7 @@ module _ (earlier : List (List ℕ)) where
         by (Ok found) None told asked ends = absurd ends.0.0
         by (Err fault) read told asked ends = let never : ⊥ = cc in absurd never
 
-    -- if a request was done, the state gained what `GainsDone` says
+    -- if a request succeeded, the state gained what `GainsDone` says
     gained_done : (request : RequestView) (text : List ℕ) (gains : List Gain) → ((day : ℕ) → request ≡ horizon_request day → IsDay day)
         → DoesRequest setting request before (done_with text) after → GainsDone setting earlier request before after gains
         → AreGained earlier gains before.desk.state after.desk.state

@@ -10,7 +10,7 @@ use Rattle.docker_model.specs.state.StateText.{dks_2, state_text}
 use Rattle.docker_desk.specs.Desk.{EndsSaving}
 use Rattle.docker_desk.specs.Reading.{OpensOnce, Reading, events_of}
 
--- if some events were added to a history and then others, their concatenation was added
+-- appending events to a history, and then more events, is the same as appending their concatenation
 pub then : (old middle new : List Event) (first next : List Event) → middle ≡ old ++ first → new ≡ middle ++ next → new ≡ old ++ (first ++ next)
 then old middle new first next before after =
     after ∙ ap (λ (events : List Event). events ++ next) before ∙ append_assoc old first next
@@ -51,7 +51,7 @@ then_closed name held left old opened_now new opens closes = then old opened_now
 
 -- ---- a saving
 
--- if the state's text was stored and the file was then looked at, the saving was done
+-- if the state's text was stored and the file was then looked at, the saving succeeded
 pub saved_then : (names_bytes : Bool) (name : Text) (look : ℕ) (own state : State) (old middle new : List Event)
     → IsStored names_bytes name look (state_text dks_2 own) old middle → new ≡ middle ++ looked name ∷ [] → own ≡ state
     → EndsSaving names_bytes name look (state_text dks_2 state) old new (Ok tt)

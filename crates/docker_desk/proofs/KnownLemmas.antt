@@ -32,7 +32,7 @@ use Rattle.docker_desk.specs.Learning.{AreLearned, Hears, HearsFile, HearsState,
 
 -- ---- what is known
 
--- the union of some knowledge with `nothing` equals that knowledge
+-- the union of any knowledge with `nothing` equals that knowledge
 known_with_nothing : (known : Known) → united known nothing ≡ known
 known_with_nothing known = λ i. record { files = append-nil known.files i; horizon = max-zero known.horizon i }
 
@@ -119,7 +119,7 @@ module _ (setting : Setting) (before after : SessionView) where
   some_answer (Ok done) told = let never : ⊥ = cc in never
   some_answer (Err fault) told = let never : ⊥ = cc in never
 
-  -- after a request is done, the state is the summary of what was known before and of what was
+  -- after a request succeeds, the state is the summary of what was known before and of what was
   -- learned
   known_done : (request : RequestView) (text : List ℕ) (old heard : Known) → ((day : ℕ) → request ≡ horizon_request day → IsDay day)
       → DoesRequest setting request before (done_with text) after → Hears setting request before after heard → IsKnown old before.desk.state
@@ -185,7 +185,7 @@ module _ (setting : Setting) (before after : SessionView) where
 
 -- ---- steps
 
--- the date that a `horizon` request names is a day
+-- the day that a `horizon` request names is a valid day number
 one_day : (words : List Text) (day : ℕ) → OfOne (λ date. NamesDay date day) words → IsDay day
 one_day [] day of = absurd of
 one_day (word ∷ []) day of = of.within

@@ -52,7 +52,7 @@ without_both (x ∷ xs) ys first second = (first.0, without_both xs ys first.1 s
 
 -- ---- one reading after another
 
--- reading some bytes and then more bytes is reading their concatenation
+-- reading bytes and then more bytes is the same as reading their concatenation
 pub reads_on : (old now new : Option (List ℕ)) (line more : List ℕ) → Reads old line now → Reads now more new → Reads old (line ++ more) new
 reads_on old now None line more first then_more = first ∙ ap (option_map (λ rest. line ++ rest)) then_more
 reads_on old now (Some rest) line more first then_more =
@@ -63,11 +63,11 @@ pub reads_none : (left : Option (List ℕ)) → Reads left [] left
 reads_none None = refl
 reads_none (Some bytes) = refl
 
--- reading no bytes is reading at least 0 bytes
+-- if no bytes were read, at least 0 bytes were read
 pub many_none : (left : Option (List ℕ)) → ReadsMany 0 left left
 many_none left = record { lost = []; many = omega arith; read = reads_none left }
 
--- reading at least n bytes and then one more is reading at least n + 1 bytes
+-- if at least n bytes and then one more were read, at least n + 1 bytes were read
 pub many_more : (n : ℕ) (old now new : Option (List ℕ)) (byte : ℕ) → ReadsMany n old now → Reads now (byte ∷ []) new → ReadsMany (n + 1) old new
 many_more n old now new byte many then_one = record {
   lost = many.lost ++ byte ∷ [];
@@ -75,11 +75,11 @@ many_more n old now new byte many then_one = record {
   read = reads_on old now new many.lost (byte ∷ []) many.read then_one;
 }
 
--- reading at least n bytes is reading at least 0 bytes
+-- if at least n bytes were read, at least 0 bytes were read
 pub some_read : (n : ℕ) (old now new : Option (List ℕ)) → ReadsMany n old now → new ≡ now → ReadsMany 0 old new
 some_read n old now new many same = record { lost = many.lost; many = omega arith; read = subst (Reads old many.lost) (sym same) many.read }
 
--- reading a line and then at least n bytes is reading at least n bytes
+-- if a line and then at least n bytes were read, at least n bytes were read
 pub many_behind : (n : ℕ) (old now new : Option (List ℕ)) (line : List ℕ) → Reads old line now → ReadsMany n now new → ReadsMany n old new
 many_behind n old now new line first many = record {
   lost = line ++ many.lost;

@@ -64,7 +64,7 @@ first_lines_some text (line ∷ lines) rest first =
     let one = line_is_some text line first.0 first.1.0 in let more = first_lines_some first.0 lines rest first.1.1 in omega (arith, one, more)
 
 module _ (old now : DeviceBytes) (lines : List LineView) where
-  -- if some lines were read from an input and then one more, all these lines were read in order
+  -- if lines were read from an input and then one more line, all these lines were read in order
   pub reads_more : (new : DeviceBytes) (line : LineView) → ReadsFirst old lines now → ReadsNext now line new → ReadsFirst old (lines ++ line ∷ []) new
   reads_more new line = by old
     where
@@ -74,8 +74,8 @@ module _ (old now : DeviceBytes) (lines : List LineView) where
           let there : ReadsNext (Some first.0) line new = subst (λ d. ReadsNext d line new) first.1.1 next in
           (there.0, (first_lines_more text lines (line ∷ []) first.0 there.0 first.1.0 (there.0, (there.1.0, refl)), there.1.1))
 
-  -- if some lines were read, and the bytes left begin with more lines, the input begins with the
-  -- concatenation
+  -- if lines were read, and the bytes left begin with more lines, the input begins with all these
+  -- lines
   pub begins_more : (more : List LineView) → ReadsFirst old lines now → BeginsWith now more → BeginsWith old (lines ++ more)
   begins_more more = by old
     where
@@ -85,8 +85,8 @@ module _ (old now : DeviceBytes) (lines : List LineView) where
           let there : BeginsWith (Some first.0) more = subst (λ d. BeginsWith d more) first.1.1 next in
           (there.0, first_lines_more text lines more first.0 there.0 first.1.0 there.1)
 
-  -- if some lines were read, and the bytes left consist of more lines, the input consists of the
-  -- concatenation
+  -- if lines were read, and the bytes left consist of more lines, the input consists of all these
+  -- lines
   pub has_more : (more : List LineView) → ReadsFirst old lines now → HasLines now more → HasLines old (lines ++ more)
   has_more more = by old
     where
@@ -159,8 +159,8 @@ takes_more (Some taken) now new first second one two =
 -- ---- steps
 
 module _ (setting : Setting) where
-  -- if some steps end at a point, and more steps begin at that point, their concatenation is a list
-  -- of steps
+  -- steps from one point to a second point, followed by steps from the second to a third, are steps
+  -- from the first point to the third
   steps_more : (first now last : SessionView) (steps more : List Step) → AreSteps setting first steps now → AreSteps setting now more last
       → AreSteps setting first (steps ++ more) last
   steps_more first now last [] more are then_more = subst (λ m. AreSteps setting m more last) are then_more

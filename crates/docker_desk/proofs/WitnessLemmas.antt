@@ -32,7 +32,7 @@ use Rattle.docker_desk.proofs.ReadingLemmas.{one_reading}
 use Rattle.docker_desk.proofs.KnownLemmas.{one_read}
 use Rattle.state_laws.proofs.texts.ReportedWithHorizon.{valid_is_told}
 
--- the line `files`, which asks for the list of files
+-- the line `files`, which requests the list of files
 abbrev asked_line : List ℕ
 asked_line = codes "files"
 
@@ -93,7 +93,7 @@ asked_files may_write (Some save_request) asks = let first = heads 102 115 _ _ a
 
 -- ---- the answer
 
--- an answer that is done and has no text has the bytes `0 0 0` and a line feed
+-- the answer to a request that succeeded and has no text consists of `0 0 0` and a line feed
 empty_told : answer_bytes (done_with []) ≡ codes "0 0 0\n"
 empty_told = ap (λ (zero : List ℕ). zero ++ codes " " ++ zero ++ codes " " ++ zero ++ codes "\n" ++ []) zero_told
   where

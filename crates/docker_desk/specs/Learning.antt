@@ -30,7 +30,7 @@ pub record IsKnown (known : Known) (state : State) : Type 0 where
   pub good : IsGoodKnown dks_2 known
   pub is : IsStateOf known state
 
--- on each day that the state's horizon doesn't refuse, the state and this table have the same
+-- for each day that isn't refused under the state's horizon, the state and this table have the same
 -- dockers without the short-term plan
 abbrev pub KeepsAs : State → Table → Type 0
 KeepsAs state table = (place : List ℕ) (day : ℕ) (text : List ℕ) → ¬ IsDayRefused state.horizon day

@@ -92,14 +92,15 @@ pub record MeetsEnd (at_end ended now_ended passed now_passed : Bool) : Type 0 w
   pub told : ended ≡ false → now_ended ≡ at_end
   pub kept : ended ≡ false → now_passed ≡ passed
 
--- whether the source reported its end when the next byte was read. It did if there was no byte
+-- whether the source reported its end when the next byte was read. The source reports its end if
+-- there is no next byte
 abbrev pub is_end_of_bytes : {A E : Type 0} → Result (Option A) E → Bool
 is_end_of_bytes (Ok (Some byte)) = false
 is_end_of_bytes (Ok None) = true
 is_end_of_bytes (Err fault) = false
 
--- whether the source reported its end when the next line was read. It did if the line is cut or
--- there is no line
+-- whether the source reported its end when the next line was read. The source reports its end if
+-- the line is cut or there is no line
 abbrev pub is_end_of_lines : Result Asked InputFault → Bool
 is_end_of_lines (Ok (asked.Line line)) = false
 is_end_of_lines (Ok asked.Bad) = false
@@ -107,8 +108,7 @@ is_end_of_lines (Ok asked.Cut) = true
 is_end_of_lines (Ok asked.End) = true
 is_end_of_lines (Err fault) = false
 
--- the line that these bytes are if the source ends after them: None if there are no bytes,
--- otherwise a cut line
+-- the last line of a source that ends after these bytes: a cut line, or None if there are no bytes
 abbrev pub cut_or_end : List ℕ → Option LineView
 cut_or_end [] = None
 cut_or_end (byte ∷ bytes) = Some cut_line

@@ -60,7 +60,7 @@ pub record RequestRow : Type 0 where
   pub ids : List Text
   pub writes : Bool
 
--- makes a row of these columns
+-- makes a row from these columns
 abbrev pub row : Text → List Text → Bool → RequestRow
 row name ids writes = record { name = name; ids = ids; writes = writes }
 

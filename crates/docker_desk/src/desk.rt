@@ -70,8 +70,8 @@ impl Desk {
         self.unsaved
     }
 
-    /// Returns the docker of a timing point on a day, as a whole text. Refused for a day before the
-    /// horizon plus three days, or because memory ran out.
+    /// Returns the text of the docker of a timing point on a day. Refused if the day is earlier
+    /// than three days after the horizon, or if memory ran out.
     pub fn print(&self, place: &Tiploc, day: Day) -> Answer
         ensures { IsDockerAnswer self.now.state place.now day (answer_meant result) }
     {
@@ -83,8 +83,8 @@ impl Desk {
         }
     }
 
-    /// Returns the docker of a timing point on a day without the short-term plan, as a whole text.
-    /// Refused for the same faults as `print`.
+    /// Returns the text of the docker that `permanent` prints for a timing point on a day: a docker
+    /// without the short-term plan. Refused for the same faults as `print`.
     pub fn permanent(&self, place: &Tiploc, day: Day) -> Answer
         ensures { IsPermanentAnswer self.now.state place.now day (answer_meant result) }
     {
@@ -95,9 +95,8 @@ impl Desk {
         }
     }
 
-    /// Returns the schedule that is chosen for a train on a day, or a line which says that no
-    /// schedule is chosen, as a whole text. Refused for a day before the horizon, or because memory
-    /// ran out.
+    /// Returns the text of the schedule that is chosen for a train on a day, or a line which says
+    /// that no schedule is chosen. Refused for a day before the horizon, or because memory ran out.
     pub fn train(&self, uid: &Uid, day: Day) -> Answer
         ensures { IsTrainAnswer self.now.state uid.now day (answer_meant result) }
     {

@@ -117,8 +117,8 @@ pub fn offices_know_as_desks()
 
 /// Two sessions that know the same files under the same horizon have equal states, and so equal
 /// texts. Two sessions that know the same files, even under different horizons, print the same
-/// docker for each timing point and each day that neither refuses. Both facts are also true of a
-/// session and an office of a run.
+/// docker for each timing point and each day that is refused under neither horizon. Both facts are
+/// also true of a session and an office of a run.
 pub fn known_files_fix_states()
     ensures state { (first second : Known) (one two : State) → IsKnown first one
         → IsKnown second two → AreOneKnowledge first second → one ≡ two }
@@ -141,9 +141,9 @@ pub fn dockers_are_of_the_plain_table()
 {}
 
 /// Two sessions that know the same files, even under different horizons, have the same dockers
-/// without the short-term plan, for each timing point and each day that neither refuses. The same
-/// is true of a session and an office of a run. If no two of the files have the same moment, these
-/// are the dockers of the plain table without its short-term entries.
+/// without the short-term plan. This holds for each timing point and each day that is refused under
+/// neither horizon. The same is true of a session and an office of a run. If no two of the files
+/// have the same moment, these are the dockers of the plain table without its short-term entries.
 pub fn known_files_fix_permanent_answers()
     ensures docker { (first second : Known) (one two : State) → IsKnown first one
         → IsKnown second two → HaveSameFiles first.files second.files → (place : List ℕ) (day : ℕ)
@@ -185,8 +185,8 @@ pub fn known_files_fix_lists()
     one_known_text();
 }
 
-/// If no two files that a session knows have the same moment, its list of timing points is the list
-/// of their plain table, without the entries that have lapsed.
+/// If no two files that a session knows have the same moment, the session lists the same timing
+/// points as their plain table without its lapsed entries.
 pub fn places_are_of_the_plain_table()
     ensures { (known : Known) (state : State) → IsKnown known state
         → HaveDistinctMoments known.files → (plain : Table) × IsPlainTable known.files plain

@@ -50,7 +50,7 @@ struct RequestRow<'a> {
 }
 
 impl<'a> RequestRow<'a> {
-    /// Makes a row of these columns.
+    /// Makes a row from these columns.
     fn of(name: &'a str, ids: &'a [&'a str], writes: bool) -> RequestRow<'a>
         ensures name { result.name.now ≡ name.now }
         ensures ids { result.ids.now ≡ ids.now }

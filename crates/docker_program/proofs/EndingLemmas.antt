@@ -108,7 +108,7 @@ module _ (run : Run) (job : JobView) (rest : Bytes) where
     at_history : has.read ≡ history_read run.old.history job has.is.opened.read
     at_history = has.is.opened.history
 
--- ---- a command that was done
+-- ---- a command that ended with status 0
 
 done_to : (run : Run) (job : JobView) (rest : Bytes) (stored : Option Text)
     (has : HasRead run.old run.new (Writes (from_first_look run.names_bytes run.old)) job rest) → AsksFor run.words run.old.input job rest
@@ -162,7 +162,7 @@ done_by run (Some (Office office.Memory)) same ends = let never : ⊥ = omega ar
 pub run_done : (run : Run) → IsRun run 0 → IsDone run
 run_done run performs = done_by run performs.ending performs.status_is performs.ends
 
--- ---- a command that wasn't done
+-- ---- a command that ended with another status
 
 part_to : (run : Run) (job : JobView) (rest : Bytes) (stored : Option Text)
     (has : HasRead run.old run.new (WritesPart (from_first_look run.names_bytes run.old)) job rest) → AsksFor run.words run.old.input job rest

@@ -33,7 +33,7 @@ no_refused (docker_written place day) (office_read state) none = λ refused. non
 no_refused files_written (office_read state) none = λ refused. refused
 no_refused state_written (office_read state) none = λ refused. refused
 
--- writing a job's output to a draft fails only because the draft failed, and then it failed exactly
+-- if writing a job's output to a draft fails, the fault is `Sink`, and the draft failed exactly
 -- once
 pub fails_alone : {K : Type 0} (taken : K → Bytes) (failures : K → ℕ) (old new : K) (prepared : PreparedView) (name : Text) (fault : OfficeFault) →
     stored_by prepared.job ≡ Some name → EndsEmitting taken failures (output_of prepared.job.task) prepared.read old new (Err fault) →
@@ -124,7 +124,7 @@ then_dropped before middle now name look made given_up =
 
 -- ---- a job that prints
 
--- for a job that prints, the writing ends as the writing to the output device ends
+-- for a job that prints, writing its output ends with the result of writing to the output device
 pub ends_printed : {K : Type 0} (taken : K → Bytes) (failures : K → ℕ) (old new : K) (prepared : PreparedView) (history : List Event)
     (by : Drafting) (result : Result ⊤ OfficeFault) → stored_by prepared.job ≡ None
     → EndsEmitting taken failures (output_of prepared.job.task) prepared.read old new result → (IsRefused prepared → result ≡ Err office.Lapsed)

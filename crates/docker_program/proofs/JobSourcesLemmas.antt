@@ -16,7 +16,8 @@ use Rattle.docker_program.specs.Sources.{AreRead, Asking, FailsToOpen, IsOpened,
 
 -- ---- histories
 
--- if some events were added to a history, and then one more, their concatenation was added
+-- appending events to a history, and then one more event, is the same as appending all these events
+-- at once
 pub one_more : (old before now events : List Event) (event : Event) → before ≡ old ++ events → now ≡ before ++ event ∷ []
     → now ≡ old ++ (events ++ event ∷ [])
 one_more old before now events event earlier last =
@@ -84,7 +85,7 @@ reads_none history rest first first_left second second_left job result none none
       reads = reads;
     })
 
--- a job whose only source is standard input reads it
+-- a job whose only source is standard input reads standard input
 pub reads_stdin : (history : List Event) (rest left second second_left : Bytes) (job : JobView) (result : Result PreparedView OfficeFault)
     → second ≡ Some [] → ReadsInOrder job rest left second second_left result
     → ReadsBy standard_input (asking history history rest left) job result

@@ -71,7 +71,7 @@ pub record MayStore (run : Run) (job : JobView) (read : SourcesRead) (text : Lis
       (history_read run.old.history job read) run.new.history
   pub unprinted : run.new.output ≡ run.old.output
 
--- a command printed this text. It isn't a docker of a day that the horizon refuses
+-- a command printed this text. The text isn't a docker of a refused day
 pub record Prints (run : Run) (job : JobView) (read : SourcesRead) (text : List ℕ) : Type 0 where
   pub reads : Reads run job read text
   pub unstored : stored_by job ≡ None
@@ -79,7 +79,8 @@ pub record Prints (run : Run) (job : JobView) (read : SourcesRead) (text : List 
   pub history : run.new.history ≡ history_read run.old.history job read
   pub printed : Takes run.old.output text run.new.output
 
--- this event isn't `placed` or `unplaced`: no draft replaced a file, and none may have replaced one
+-- this event isn't `placed` or `unplaced`: no draft replaced a file, and no draft may have replaced
+-- one
 abbrev pub IsNoStoring : Event → Type 0
 IsNoStoring (placed name bytes) = ⊥
 IsNoStoring (unplaced name bytes) = ⊥
@@ -148,7 +149,7 @@ Knows (horizon_task day) first second known =
 Knows migrate_task first second known = HoldsKnown dks_1 first known
 
 -- this text is the docker at this timing point for this day, made from the summary of what is
--- known. The horizon doesn't refuse the day
+-- known. The day isn't refused under the known horizon
 pub record PrintsKnown (known : Known) (place : List ℕ) (day : ℕ) (text : List ℕ) : Type 0 where
   pub good : IsGoodKnown dks_2 known
   pub allowed : ¬ IsDayRefused known.horizon day
@@ -174,8 +175,9 @@ WritesKnown migrate_task known text = IsKnownText dks_2 known text
 
 -- how a version of a STATE file was made. Either a command made it: `new`, `take`, `merge`,
 -- `horizon` or `migrate`. Or a desk saved it, after reading its state from an earlier version and
--- gaining these things. A number names an earlier version, of any office, counted from 0. `migrate`
--- reads a text in the older format that has this knowledge
+-- gaining these things. A number gives the index of an earlier version of any office, counted from
+-- 0. `migrate` reads the text of a summary in the older format, and `known` is the knowledge of
+-- that summary
 pub data Origin : Type 0 where
   begun : Origin
   taken : (own : ℕ) (file : List (List ℕ)) → Origin
@@ -214,7 +216,7 @@ IsMade earlier (migrated known) text =
 IsMade earlier (saved own gains) text = IsSaved earlier own gains text
 
 -- each of these versions was made from earlier versions. Those are the versions that precede it in
--- the list, and versions with these texts from before the list
+-- the list, and the versions made before the list, whose texts are given
 abbrev pub AreMade : List (List ℕ) → List Version → Type 0
 AreMade earlier [] = ⊤
 AreMade earlier (version ∷ versions) = IsMade earlier version.origin version.text

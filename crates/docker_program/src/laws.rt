@@ -23,8 +23,8 @@ pub fn commands_store_or_print()
 
 /// Suppose that STATE held the text of the summary of some files under a horizon. Suppose also that
 /// the command took a file, or merged the text of such a summary. If the command stores a text,
-/// this is the text of the summary of all these files, under the greatest horizon. If it prints, it
-/// prints the docker of that summary, or the list of its files.
+/// this is the text of the summary of all these files, under the greatest horizon. If the command
+/// prints, it prints the docker of that summary, or the list of its files.
 pub fn commands_keep_summaries()
     ensures stored { (run : Run) (job : JobView) (read : SourcesRead) (text : List ℕ)
         (known : Known) → Stores run job read text → Knows job.task read.first read.second known
@@ -57,8 +57,8 @@ pub fn versions_are_summaries()
 {}
 
 /// Texts that know the same files under the same horizon are equal, byte for byte. Two offices that
-/// know the same files print equal dockers, for each timing point and each day that neither horizon
-/// refuses.
+/// know the same files print equal dockers, for each timing point and each day that is refused
+/// under neither horizon.
 pub fn known_files_fix_texts()
     ensures text { (one two : Known) (text other : List ℕ) → IsKnownText dks_2 one text
         → IsKnownText dks_2 two other → AreOneKnowledge one two → text ≡ other }
