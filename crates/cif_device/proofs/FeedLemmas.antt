@@ -25,8 +25,7 @@ pub at_start : {T Terms : Type 0} (takes : Taking T Terms) (terms : Terms) (text
 at_start takes terms text left taker taken =
     record { bytes = []; size = refl; lost = lost_nothing left; taken = subst (takes taker terms) (sym (append-nil text)) taken }
 
--- a taker that was fed some bytes and takes the next piece was fed these bytes followed by the
--- piece
+-- if a taker was fed bytes and takes the next piece, it was fed these bytes followed by the piece
 pub next_turn : {T Terms : Type 0} (takes : Taking T Terms) (fed n : ℕ) (terms : Terms) (text : List ℕ) (initial now next : Option (List ℕ)) (before after : T)
     (piece : List ℕ) → (at : HasFed takes fed terms text initial now before) → length piece ≡ n → Reads now piece next
     → takes after terms ((text ++ at.bytes) ++ piece) → HasFed takes (fed + n) terms text initial next after
@@ -111,7 +110,7 @@ end_stays (Some left) (Some rest) (byte ∷ piece) more end = let none : ⊥ = c
 pub ended_by : (n room : ℕ) (ended now_ended passed now_passed : Bool) → Ends n room ended now_ended passed now_passed → n ≡ 0 → 0 < room → now_ended ≡ true
 ended_by n room ended now_ended passed now_passed (reports, _, _, _) none some = reports none some
 
--- if the end wasn't reported before a read of some bytes, it isn't reported after that read
+-- if the end wasn't reported before a read of at least one byte, it isn't reported after that read
 pub going_on : (n room : ℕ) (ended now_ended passed now_passed : Bool) → Ends n room ended now_ended passed now_passed → ¬ (n ≡ 0) → ended ≡ false
     → now_ended ≡ false
 going_on n room ended now_ended passed now_passed (_, going, _, _) some was = going (omega (arith, some)) ∙ was

@@ -17,7 +17,7 @@ pub enum FeedFault<F> {
     Source,
     /// The allocator refused memory. No byte was read.
     Memory,
-    /// The taker refused a piece, with this fault.
+    /// The taker refused a piece. The inner fault says why.
     Refused(F),
 }
 

@@ -8,7 +8,7 @@ desk: usage: [--write] STATE, and then a line for each request: print TIPLOC DAT
 | with --write take FILE | merge OTHER | horizon DATE | save
 ";
 
-/// The docker of Ashfeld on 10 June, from a desk that knows the morning train.
+/// The docker of Ashfeld on 10 June that a desk prints if it knows the morning train.
 pub(crate) const ANSWER_0900: &str = "\
 0 3 171
 DOCKER ASHFELD 2024-06-10                               
@@ -16,7 +16,8 @@ DOCKER ASHFELD 2024-06-10
 END                                                     
 ";
 
-/// The docker of Ashfeld on 10 June, from a desk that knows the morning train and its overlay.
+/// The docker of Ashfeld on 10 June that a desk prints if it knows the morning train and its
+/// overlay.
 pub(crate) const ANSWER_OVERLAID: &str = "\
 0 3 171
 DOCKER ASHFELD 2024-06-10                               
@@ -24,7 +25,7 @@ DOCKER ASHFELD 2024-06-10
 END                                                     
 ";
 
-/// The docker of Ashfeld on 10 June, from a desk that knows the revision.
+/// The docker of Ashfeld on 10 June that a desk prints if it knows the revision.
 pub(crate) const ANSWER_0905: &str = "\
 0 3 171
 DOCKER ASHFELD 2024-06-10                               
@@ -39,13 +40,13 @@ DOCKER ASHFELD 2024-06-18
 END                                                     
 ";
 
-/// The answer to a request for a day that the horizon refuses.
+/// The answer to a request for a day that is refused under the horizon.
 pub(crate) const DAY_REFUSED: &str = "\
 1 1 52
 docker: day refused: before horizon plus three days
 ";
 
-/// The answer to a request that was done and has no text.
+/// The answer to a request that succeeded and that requests no text.
 pub(crate) const DONE: &str = "0 0 0\n";
 
 /// The answer to a request whose file can't be read or stored.

@@ -208,7 +208,7 @@ not_given id (r ∷ rows) rest fresh =
     ap (λ b. option_map_or (λ (x : Row). explicit_source x.source) (cond b (Some r) (find (λ x. bytes_eq x.id id) (rows ++ rest))) false) parts.0
     ∙ not_given id rows rest parts.1
 
--- an id that has a row is given
+-- if an id has a row, `is_given` holds for this id
 given_here : (id word : Text) (rest : List Row) → is_given id (row id word ∷ rest) ≡ true
 given_here id word rest =
     ap (λ b. option_map_or (λ (x : Row). explicit_source x.source) (cond b (Some (row id word)) (find (λ x. bytes_eq x.id id) rest)) false)

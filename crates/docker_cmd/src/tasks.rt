@@ -1,4 +1,4 @@
-//! The table of subcommands, and the tasks that they do.
+//! The table of subcommands, and the tasks of jobs.
 ghost use Rattle.std.specs.Prelude.{◌≡◌, IfSome, IsNone, None, Some, codes, find, if◌then◌else◌, length, map, option_map};
 ghost use Rattle.std.specs.Option.{option_copied};
 ghost use Rattle.std.specs.Str.{bytes_eq};

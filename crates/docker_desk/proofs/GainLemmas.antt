@@ -124,7 +124,7 @@ module _ (earlier : List (List ℕ)) where
     gained_asked (Some request) no_request gains days does gained = absurd (never_unasked setting before after request does)
 
   module _ (setting : Setting) where
-    -- after some steps, the state gained what `GainedBy` says
+    -- after a list of steps, the state gained what `GainedBy` says
     gained_steps : (first last : SessionView) (steps : List Step) (gains : List Gain) → AreSteps setting first steps last → GainedBy setting earlier steps gains
         → AreGained earlier gains first.desk.state last.desk.state
     gained_steps first last [] gains are gained = gained_none gains _ _ gained (ap (λ (m : SessionView). m.desk.state) are)
@@ -136,8 +136,8 @@ module _ (earlier : List (List ℕ)) where
         (λ day same. day_asked setting.may_write step.line step.request day are.1.0.asks same) are.1.0.does gained.1.1.0)
         (gained_steps step.after last steps gained.1.0 are.1.1 gained.1.1.1.0)))
 
-    -- if the text is saved after some steps, `IsPlaced` holds. The saved text is the text of the
-    -- version read at the beginning, with the gains of the steps
+    -- if the text is saved after a list of steps, `IsPlaced` holds. The saved text is the text of
+    -- the version read at the beginning, with the gains of the steps
     pub places_version : (first before after : SessionView) (steps : List Step) (old : List Event) (own : ℕ) (gains : List Gain) (answer : List ℕ)
         → (begins : BeginsAt setting.name old first) → HoldsVersion earlier begins.held own → AreSteps setting first steps before
         → GainedBy setting earlier steps gains → Saves setting before (done_with answer) after → IsPlaced setting earlier own gains before after

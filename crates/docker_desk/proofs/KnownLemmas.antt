@@ -206,7 +206,7 @@ module _ (setting : Setting) where
       known_asked setting step.before step.after step.request step.answer old new
       (λ day same. day_asked setting.may_write step.line step.request day does.asks same) does.does learns is
 
-  -- after some steps, the state is the summary of what is known after all of them
+  -- after a list of steps, the state is the summary of what is known after the last step
   pub known_steps : (first last : SessionView) (steps : List Step) (old new : Known) → IsKnown old first.desk.state → AreSteps setting first steps last
       → AreLearned setting old steps new → IsKnown new last.desk.state
   known_steps first last [] old new is are learned =

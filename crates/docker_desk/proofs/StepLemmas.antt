@@ -35,8 +35,8 @@ pub reads_none : (input : DeviceBytes) → ReadsFirst input [] input
 reads_none None = tt
 reads_none (Some text) = (text, (refl, refl))
 
--- if a text begins with some lines, and the bytes after them begin with others, the text begins
--- with the concatenation
+-- if a text begins with lines, and the bytes after them begin with more lines, the text begins with
+-- all these lines
 first_lines_more : (text : List ℕ) (lines more : List LineView) (rest last : List ℕ) → AreFirstLines text lines rest → AreFirstLines rest more last
     → AreFirstLines text (lines ++ more) last
 first_lines_more text [] more rest last first then_more = subst (λ t. AreFirstLines t more last) first then_more

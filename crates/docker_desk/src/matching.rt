@@ -118,7 +118,7 @@ fn begins_with(text: &[u8], front: &[u8]) -> bool
     front.len() <= text.len() && &text[..front.len()] == front
 }
 
-/// Whether this is the text of the office's state.
+/// Whether `text` is the text of the office's state.
 fn is_text_of<B: Begun>(text: &[u8], office: &Office) -> bool
     requires { B.bytes ≡ Some text.now }
     ensures { IsTrue result ↔ (text.now ≡ state_text dks_2 office.now) }

@@ -1,4 +1,4 @@
--- How a text is stored in a file, as the folder's history before and after shows. The number of a
+-- Says how a text is stored in a file, by the folder's history before and after. The number of a
 -- look is the number of its event, counted from 0.
 use Rattle.std.specs.Prelude.{◌≡◌, ℕ, Bool, ⊤, ◌⊎◌, List, [], ◌∷◌, ◌++◌, Result, Ok, Err}
 use Rattle.docker_host.specs.History.{Text, Event, drafted, undrafted, placed, unplaced, dropped, named_if}

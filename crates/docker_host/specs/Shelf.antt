@@ -1,4 +1,4 @@
--- The files on a shelf, as its history determines them.
+-- The files on a shelf. The shelf's history determines them.
 use Rattle.std.specs.Prelude.{◌≡◌, ℕ, min, length, Bool, ⊤, if◌then◌else◌, List, [], ◌∷◌, Option, None, Some, IsSome}
 use Rattle.std.specs.Str.{bytes_eq}
 use Rattle.docker_host.specs.History.{Text, Event, looked, opened, unopened, closed, drafted, undrafted, placed, unplaced, dropped}
@@ -43,7 +43,7 @@ after_event texts (undrafted name look) = texts
 after_event texts (unplaced name bytes) = texts
 after_event texts (dropped name) = texts
 
--- these files after some events
+-- these files after a list of events
 abbrev pub after_events : Texts → List Event → Texts
 after_events texts [] = texts
 after_events texts (event ∷ events) = after_events (after_event texts event) events

@@ -45,24 +45,24 @@ fn a_sink_that_fails_once(rt: HostRuntime) {
     sends(&rt, alloc, &office, 312, Ok(()), text.as_slice());
 }
 
-/// Returns the result when an office takes a file. The source gives one byte per read, and only the
-/// read with this number fails.
+/// Returns the result when an office takes a file. The source returns one byte per read, and only
+/// the read with this number fails.
 fn taken(office: &mut Office, text: &[u8], read: u64) -> Result<(), OfficeFault>
     requires { 0 < read }
 {
     office.take(&mut Fuse::new(Bytes::new(text, 1), read), 1000)
 }
 
-/// Returns the result when an office receives a state. The source gives one byte per read, and only
-/// the read with this number fails.
+/// Returns the result when an office receives a state. The source returns one byte per read, and
+/// only the read with this number fails.
 fn received(office: &mut Office, text: &[u8], read: u64) -> Result<(), OfficeFault>
     requires { 0 < read }
 {
     office.receive(&mut Fuse::new(Bytes::new(text, 1), read), 1000)
 }
 
-/// Returns the result when an office reloads a state. The source gives one byte per read, and only
-/// the read with this number fails.
+/// Returns the result when an office reloads a state. The source returns one byte per read, and
+/// only the read with this number fails.
 fn reloaded(office: &mut Office, text: &[u8], read: u64) -> Result<(), OfficeFault>
     requires { 0 < read }
 {

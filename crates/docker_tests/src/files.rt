@@ -33,7 +33,7 @@ pub(crate) const EVENING: File = &[HD, BS, LO_2355, LT_0005, ZZ];
 /// The morning train, in a full extract.
 pub(crate) const FULL: File = &[HD_FULL, BS, LO, LT, ZZ];
 
-/// A revision of the morning train, a day later.
+/// A file of 10 June that revises the morning train to leave five minutes later.
 pub(crate) const REVISION: File = &[HD_10B, BS_REVISED, LO_0905, LT_0935, ZZ];
 
 /// An update of 5 June: it deletes C10003 and puts C10001.
@@ -57,7 +57,7 @@ pub(crate) const EIGHTH: File = &[HD_8A, BS, LO, LT, ZZ];
 /// A new timing point.
 pub(crate) const PLACE: File = &[HD, TI, ZZ];
 
-/// A new code for that timing point, a day later.
+/// A file of 10 June that gives this timing point a new code.
 pub(crate) const RENAMED: File = &[HD_10B, TA, ZZ];
 
 /// A file with a train, its overlay on two days, its cancellation on a third day, and then these
@@ -201,7 +201,7 @@ pub(crate) const DELETED_AT_NO_TIME: File = &[HD, BS_DELETED, LO_2400, LT, ZZ];
 /// An update of the year 2000, without changes.
 pub(crate) const EARLY: File = &[HD_EARLY, ZZ];
 
-/// A train on Wednesdays without a last day.
+/// A train that runs on Wednesdays, by a schedule without a last day.
 pub(crate) const NO_END: File = &[HD, BS_WEDNESDAYS, LO, LT, ZZ];
 
 /// An amendment of a timing point that leaves its code unchanged.
