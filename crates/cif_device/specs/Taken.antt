@@ -3,13 +3,13 @@
 use Rattle.std.specs.Prelude.{◌≡◌, ℕ, ◌≤◌, List, ◌++◌, length, Option}
 use Rattle.cif_device.specs.Device.{Reads}
 
--- a relation between a taker, its terms and a text, which says that the taker has taken the text
--- under these terms
+-- a relation between a taker, its terms and a text. The relation says that the taker has taken the
+-- text under these terms
 abbrev pub Taking : Type 0 → Type 0 → Type 1
 Taking T Terms = T → Terms → List ℕ → Type 0
 
--- a relation between a taker, its terms, a text, a piece and a fault, which says that the taker
--- took the text and then refused the piece with this fault
+-- a relation between a taker, its terms, a text, a piece and a fault. The relation says that the
+-- taker took the text and then refused the piece with this fault
 abbrev pub Refusing : Type 0 → Type 0 → Type 0 → Type 1
 Refusing T Terms Fault = T → Terms → List ℕ → List ℕ → Fault → Type 0
 

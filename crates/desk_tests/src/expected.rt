@@ -46,7 +46,7 @@ pub(crate) const DAY_REFUSED: &str = "\
 docker: day refused: before horizon plus three days
 ";
 
-/// The answer to a request that succeeded and that requests no text.
+/// The answer that has no text, for a request that succeeded.
 pub(crate) const DONE: &str = "0 0 0\n";
 
 /// The answer to a request whose file can't be read or stored.

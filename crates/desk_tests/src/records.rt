@@ -10,7 +10,7 @@ pub(crate) type Parts = &'static [&'static [u8]];
 /// A file of one train from Ashfeld to Brayton.
 pub(crate) const MORNING: Parts = &[HD, BS, LO, LT, ZZ];
 
-/// A file of 10 June with a revision of the morning train, which now leaves five minutes later.
+/// A file of 10 June that revises the morning train to leave five minutes later.
 pub(crate) const REVISION: Parts = &[HD_10B, BS_REVISED, LO_0905, LT, ZZ];
 
 /// The file of the revision, without its trailer.

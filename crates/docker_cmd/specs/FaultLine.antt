@@ -47,7 +47,7 @@ state_line fault =
 abbrev pub day_line : List ℕ
 day_line = codes "docker: day refused: before horizon plus three days\n"
 
--- the line that reports out of memory
+-- the line that reports that memory ran out
 abbrev pub memory_line : List ℕ
 memory_line = codes "docker: want of memory\n"
 

@@ -19,13 +19,13 @@ pub enum Subcommand {
     New,
     /// Checks a file, and counts its records and changes.
     Check,
-    /// Prints the docker of a timing point on a day, from one file.
+    /// Reads one file, and prints the docker of a timing point on a day.
     Day,
-    /// Takes another file into a state.
+    /// Takes a file into a state.
     Take,
     /// Joins a state with another state.
     Merge,
-    /// Prints the docker of a timing point on a day, from a state.
+    /// Reads a state, and prints the docker of a timing point on a day.
     Print,
     /// Lists the files that a state knows.
     Files,

@@ -120,14 +120,14 @@ found_held (Some text) None compared.Same state left held is = let never : ⊥ =
 found_held (Some text) (Some it) compared.Other state left held is = λ same. is (sym held ∙ same)
 found_held (Some text) None compared.Other state left held is = absurd is
 
--- if the reading through a copy stopped where the reading of a state may stop, so did the reading
--- of the file
+-- if the copying source was read no further than the result needs, the file was read no further
+-- than the result needs
 pub stops_as : (held left seen seen_left : Bytes) → ReadsFewOfState dks_2 seen seen_left → seen ≡ held → left ≡ seen_left
     → StopsInState (reading held left)
 stops_as held left seen seen_left stops same same_left =
     subst (λ (bytes : Bytes). ReadsFewOfState dks_2 bytes left) same (subst (ReadsFewOfState dks_2 seen) (sym same_left) stops)
 
--- if the reading through a copy ended with a fault, so did the comparison
+-- if reading the copying source ended with a fault, the comparison ended with this fault
 pub refuses_as : (held left seen seen_left : Bytes) (old new : State) (fault : OfficeFault)
     → IsWhyUnread WantsMemory dks_2 most_bytes seen seen_left (why_unread fault) → new ≡ old → seen ≡ held → left ≡ seen_left
     → EndsComparing old new (Err fault) (Some (reading held left))
@@ -138,7 +138,7 @@ refuses_as held left seen seen_left old new fault why kept same same_left = (
   kept,
 )
 
--- if a copy has the text of these bytes, so have the items of the copy's vector
+-- if a copy has the text of these bytes, the items of the copy's vector are this text
 copied : {Z : Type 0} (bytes : Bytes) (copy : Option (Vec ℕ Z)) → IfSome copy (λ it. IsText bytes it.items)
     → IfSome (option_map (λ (it : Vec ℕ Z). it.items) copy) (IsText bytes)
 copied bytes None held = tt

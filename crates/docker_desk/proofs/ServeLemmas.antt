@@ -32,8 +32,8 @@ pub tells_first : (first second piece : List ℕ) (old new : FaultsView) → pie
 tells_first first second piece old new one failed part =
     inr (failed, part_of_front old.taken new.taken first second (subst (λ text. TakesPart old.taken text new.taken) one part))
 
--- if the state's file was looked at, opened and read, the session begins with the desk that was
--- read
+-- if the state's file was looked at, opened and read, the session begins with the desk whose state
+-- was read
 pub begins : {T : Type 0} (desk_in : T → DeskView) (name : Text) (old new : List Event) (made : T) (look failures : ℕ)
     → LooksAndOpens name (EndsOpening desk_in (Ok made)) old new → look ≡ length old
     → BeginsAt name old (session_view (desk_in made) look new failures)

@@ -209,7 +209,8 @@ module _ (setting : Setting) where
       → AreSteps setting before (step_of line before answer after does ∷ []) after
   one_step line before answer after does = (refl, (is_step line before answer after does, refl))
 
-  -- appending an answered line to the part of a session gives a longer part
+  -- after one more line is answered, `IsSoFar` holds for the next point and a count that is greater
+  -- by one
   so_far_more : (count : ℕ) (first now next : SessionView) (input input_now input_next output output_now output_next : DeviceBytes)
       → IsSoFar count first now input input_now output output_now → ServesNext setting now next input_now input_next output_now output_next None
       → IsSoFar (count + 1) first next input input_next output output_next
@@ -236,8 +237,8 @@ module _ (setting : Setting) where
       so_far_more count first now next input input_now input_next output output_now output_next so_far
       (subst (ServesNext setting now next input_now input_next output_now output_next) none serves)
 
-  -- if the bytes left in the input end a session with more steps, the whole input ends the session
-  -- with all steps
+  -- if `EndsSession` holds for the bytes left in the input and more steps, it holds for the whole
+  -- input and all steps
   ends_more : (ending : Ending) (count : ℕ) (first now : SessionView) (input input_now output output_now output_last : DeviceBytes) (more : List Step)
       → (so_far : IsSoFar count first now input input_now output output_now) → EndsSession ending input_now more output_now output_last
       → EndsSession ending input (so_far.steps ++ more) output output_last
@@ -273,8 +274,8 @@ module _ (setting : Setting) where
       by InputEndless ends = (begins ends.0, (endless_more input input_now (lines_of so_far.steps) so_far.read ends.1.0, gained ends.1.1))
       by OutputFailed ends = (begins ends.0, breaks ends.1)
 
-  -- the part of a session up to a point, followed by the steps that end the session, is a session
-  -- that ended
+  -- the answered part of a session up to a point, followed by the rest of the session from that
+  -- point, is a whole session with the same ending
   pub ended_after : (ending : Ending) (count : ℕ) (first now last : SessionView) (input input_now output output_now output_last : DeviceBytes)
       → IsSoFar count first now input input_now output output_now → AnswersLines setting now last input_now output_now output_last ending
       → AnswersLines setting first last input output output_last ending

@@ -79,8 +79,8 @@ pub record ReadsMany (least : ℕ) (old new : Option (List ℕ)) : Type 0 where
   pub many : least ≤ length lost
   pub read : Reads old lost new
 
--- reading a line ended with this result: the line, or a source that failed, or a line of at least 2
--- ^ 64 - 1 bytes
+-- reading a line ended with this result: the line that was read; `Failed` if the source failed; or
+-- `Endless` if at least 2 ^ 64 - 1 bytes were read
 abbrev pub EndsLine : Option (List ℕ) → Result Asked InputFault → Option (List ℕ) → Type 0
 EndsLine old (Ok asked) new = ReadsAsked old (asked_meant asked) new
 EndsLine old (Err Failed) new = ReadsMany 0 old new

@@ -76,8 +76,8 @@ pub fn next_line<S: Source>(ahead: &mut Ahead, source: &mut S) -> Result<Asked, 
     unreachable!()
 }
 
-/// Returns what these bytes are if the source ends after them: a cut line, or `End` if there are no
-/// bytes.
+/// Returns the last line of a source that ends after these bytes: a cut line, or `End` if there are
+/// no bytes.
 fn without_feed(line: &RequestLine) -> Asked
     ensures { asked_meant result ≡ cut_or_end line.now.items }
 {

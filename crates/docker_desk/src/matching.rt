@@ -10,8 +10,8 @@ use docker_cmd::Office;
 use std::marker::{Brand, Model, PhantomData};
 
 /// A sink that compares what is written to it with a text. It takes the bytes of the text, and
-/// after them the first byte that differs. After that it fails. It allocates nothing. Its type
-/// parameter `B` gives contracts the text.
+/// after them the first byte that differs. After that it fails. It allocates nothing. Contracts get
+/// the text from its type parameter `B`.
 #[derive(Drop)]
 pub(crate) struct Matching<'a, B: Begun> {
     text: &'a [u8],

@@ -25,7 +25,7 @@ pub data Event : Type 0 where
   drafted : (name : Text) (look : ℕ) → Event
   -- no draft for the named file could be made from the look that is the event with this number
   undrafted : (name : Text) (look : ℕ) → Event
-  -- a draft replaced the named file, which holds these bytes from then on
+  -- a draft replaced the named file. From then on the file holds these bytes
   placed : (name : Text) (bytes : Bytes) → Event
   -- a draft with these bytes failed to replace the named file. The file holds these bytes, or the
   -- bytes that it held before

@@ -4,8 +4,8 @@ use Rattle.std.specs.Str.{bytes_eq}
 use Rattle.docker_host.specs.History.{Text, Event, looked, opened, unopened, closed, drafted, undrafted, placed, unplaced, dropped}
 
 -- An opened file on a shelf: the bytes left in it, the number of bytes that can be read before a
--- read fails, and its failure count. Also whether it has reported its end, and whether it was read
--- after that.
+-- read fails, and its failure count. Also whether the opened file has reported its end, and whether
+-- it was read after that.
 pub record PageView : Type 0 where
   pub left : List ℕ
   pub sound : ℕ

@@ -45,7 +45,7 @@ pub enum Note<'a> {
     Drafted(&'a str, &'a Position),
     /// No draft for a named file could be made from the look at this position of the history.
     Undrafted(&'a str, &'a Position),
-    /// A draft replaced a named file, which holds these bytes from then on.
+    /// A draft replaced a named file. From then on the file holds these bytes.
     Placed(&'a str, &'a [u8]),
     /// A draft replaced a named file. Contracts don't know the bytes of the draft.
     PlacedUnnamed(&'a str),

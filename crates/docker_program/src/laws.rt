@@ -38,10 +38,10 @@ pub fn commands_keep_summaries()
 {}
 
 /// Each version of a STATE file is the text of the summary of what the version knows. The list of
-/// versions determines what each version knows: it says how each was made, and from which earlier
-/// versions of any office. So versions that know the same files under the same horizon are equal,
-/// byte for byte. Each docker printed from a version is the docker of the summary of what that
-/// version knows.
+/// versions determines what each version knows: the list records how each version was made, and
+/// from which earlier versions of any office. So versions that know the same files under the same
+/// horizon are equal, byte for byte. Each docker printed from a version is the docker of the
+/// summary of what that version knows.
 pub fn versions_are_summaries()
     ensures summary { (versions : List Version) (number : ℕ) (text : List ℕ) (known : Known)
         → AreVersions versions → IsVersion versions number text known

@@ -15,7 +15,7 @@ use std::alloc::Global;
 use std::process::Abort;
 use test_records::printed::{ASHFELD_0900, NONE_ON_18_JUNE};
 
-/// Returns the event that an office takes this text, which may have as many records as any file.
+/// Returns the event that an office takes this text. The text may have as many records as any file.
 fn take(office: usize, text: &[u8]) -> Event<'_>
     ensures { HasGoodLimit (event_meant result) }
 {
