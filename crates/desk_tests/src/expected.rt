@@ -1,6 +1,6 @@
 //! The answers and the reported lines that tests expect, worked out by hand.
 
-/// The usage line, which answers a line that isn't a request: 217 bytes.
+/// The answer to a line that isn't a request: the usage line, of 217 bytes.
 pub(crate) const USAGE: &str = "\
 2 1 217
 desk: usage: [--write] STATE, and then a line for each request: print TIPLOC DATE \
@@ -61,10 +61,10 @@ pub(crate) const UNSAVED: &str = "desk: changes not saved\n";
 /// The lines that report a failed input or output and unsaved changes.
 pub(crate) const DEVICE_UNSAVED: &str = "docker: device failed\ndesk: changes not saved\n";
 
-/// The answer to `files` of a desk that knows the morning train.
+/// A desk's answer to `files` if it knows the morning train.
 pub(crate) const FILES: &str = "0 1 34\n2024-06-09 2100 DFROC1A U DFROC1Z\n";
 
-/// The answer to `files` of a desk that knows the revision too.
+/// A desk's answer to `files` if it knows both the morning train and the revision.
 pub(crate) const BOTH_FILES: &str = "\
 0 2 68
 2024-06-09 2100 DFROC1A U DFROC1Z

@@ -1,4 +1,4 @@
-//! The faults that end the program before its job is done.
+//! The faults that end the program before it has finished its job.
 use crate::job_fault::JobFault;
 use docker_office::OfficeFault;
 use thiserror::Error;

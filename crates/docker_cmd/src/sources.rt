@@ -21,7 +21,7 @@ pub const MOST_BYTES: u64 = 1_099_511_627_776;
 pub(crate) enum Content {
     /// The counts of a file that was only checked.
     File(FileCount),
-    /// An office with its state, after it has read all its sources.
+    /// The office that has read all sources, with its state.
     Office(Office),
 }
 

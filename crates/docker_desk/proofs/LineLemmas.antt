@@ -169,7 +169,8 @@ reads_cut old now new (b ∷ line) read end same good = by old now new read end 
           ),
         )
 
--- this byte makes the line bad: it isn't printable, or the line already has 255 bytes
+-- this byte makes the line bad: the byte isn't a line feed, and either it isn't printable or the
+-- line already has 255 bytes
 pub record IsSpoiled (line : List ℕ) (b : ℕ) : Type 0 where
   pub other : b ≢ 10
   pub why : (length line ≡ 255) ⊎ (is_printable b ≡ false)

@@ -93,7 +93,7 @@ asked_files may_write (Some save_request) asks = let first = heads 102 115 _ _ a
 
 -- ---- the answer
 
--- the answer to a request that succeeded and has no text consists of `0 0 0` and a line feed
+-- an answer that has no text, to a request that succeeded, consists of `0 0 0` and a line feed
 empty_told : answer_bytes (done_with []) ≡ codes "0 0 0\n"
 empty_told = ap (λ (zero : List ℕ). zero ++ codes " " ++ zero ++ codes " " ++ zero ++ codes "\n" ++ []) zero_told
   where

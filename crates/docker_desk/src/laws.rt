@@ -101,8 +101,9 @@ pub fn saves_are_versions()
         → IsPlaced setting earlier own gains before after }
 {}
 
-/// A session can be split at any step. The steps before it end at a point, and the later steps
-/// begin at this point. So whatever a law says of a session's last point is true of every point.
+/// A session can be split at any step. The steps before that step end at a point, and the later
+/// steps begin at this point. So whatever a law says of a session's last point is true of every
+/// point.
 pub fn each_point_is_a_last_one()
     ensures { (setting : Setting) (first last : SessionView) (earlier later : List Step)
         → AreSteps setting first (earlier ++ later) last → (between : SessionView)

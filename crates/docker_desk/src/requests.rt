@@ -236,7 +236,7 @@ fn request_of(verb: Verb, rest: &str) -> Option<Request<'_>>
     }
 }
 
-/// Returns the `print` request with this rest of the line, if it fits.
+/// Returns the `print` request if this rest of the line fits `print`.
 fn print_request(rest: &str) -> Option<Request<'_>>
     ensures { FitsRest verb.Print rest.now (option_map request_meant result) }
 {
@@ -244,7 +244,7 @@ fn print_request(rest: &str) -> Option<Request<'_>>
     Some(Request::Print { place, day })
 }
 
-/// Returns the `permanent` request with this rest of the line, if it fits.
+/// Returns the `permanent` request if this rest of the line fits `permanent`.
 fn permanent_request(rest: &str) -> Option<Request<'_>>
     ensures { FitsRest verb.Permanent rest.now (option_map request_meant result) }
 {
@@ -268,7 +268,7 @@ fn place_and_day(rest: &str) -> Option<(Tiploc, Day)>
     Some((place, day))
 }
 
-/// Returns the `train` request with this rest of the line, if it fits.
+/// Returns the `train` request if this rest of the line fits `train`.
 fn train_request(rest: &str) -> Option<Request<'_>>
     ensures { FitsRest verb.Train rest.now (option_map request_meant result) }
 {
@@ -278,7 +278,7 @@ fn train_request(rest: &str) -> Option<Request<'_>>
     Some(Request::Train { uid, day })
 }
 
-/// Returns the `horizon` request with this rest of the line, if it fits.
+/// Returns the `horizon` request if this rest of the line fits `horizon`.
 fn horizon_request(rest: &str) -> Option<Request<'_>>
     ensures { FitsRest verb.Horizon rest.now (option_map request_meant result) }
 {

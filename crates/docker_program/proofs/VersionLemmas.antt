@@ -50,8 +50,8 @@ stored_either : (run : Run) (job : JobView) (read : SourcesRead) (text : List �
 stored_either run job read text known (inl stores) knows = stores_known run job read text known stores knows
 stored_either run job read text known (inr stores) knows = may_store_known run job read text known stores knows
 
--- a text that a command stored, or may have stored, is the text of the summary of what its job
--- knows
+-- a text that a command stored, or may have stored, is the text of the summary of what the
+-- command's job knows
 by_command : {Held : Bytes → Bytes → Type 0} (task : TaskView) (known : Known) (text : List ℕ) (by : ByCommand task Held text)
     → Knows task by.read.first by.read.second known → IsKnownText dks_2 known text
 by_command task known text by knows =

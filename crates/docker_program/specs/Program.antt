@@ -62,7 +62,7 @@ reading old new job rest now =
     asking (with_look_at (stored_by job) old.history) now rest new.input
 
 -- the program ended after the job's sources were opened, read and closed, or after a file couldn't
--- be opened. `Holds` is true of the changes to the folder and to standard input up to then
+-- be opened. `Holds` is true of the changes to the folder and to standard input by that time
 abbrev pub EndsReading : HostView → HostView → (Asking → JobView → Type 0)
     → JobView → Bytes → Type 0
 EndsReading old new Holds job rest = Holds (reading old new job rest new.history) job

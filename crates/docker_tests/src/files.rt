@@ -51,7 +51,7 @@ pub(crate) const NINTH_OPEN: File = &[HD_9C, BS, LO_1100, LT_1130];
 /// A file that deletes C10001.
 pub(crate) const DELETION: File = &[HD_9B, BS_DELETED, ZZ];
 
-/// C10001, in a file of the day before its deletion.
+/// A file of 8 June that puts C10001. `DELETION` deletes this train on 9 June.
 pub(crate) const EIGHTH: File = &[HD_8A, BS, LO, LT, ZZ];
 
 /// A new timing point.
@@ -137,7 +137,7 @@ pub(crate) const LATER: File = &[HD, BS, LO_0905, LT, ZZ];
 /// The deletion of the morning train, in a file with the same header.
 pub(crate) const DELETED: File = &[HD, BS_DELETED, ZZ];
 
-/// The morning train until the end of July, in a file of 8 June.
+/// A file of 8 June in which the morning train runs until the end of July.
 pub(crate) const JULY: File = &[HD_8A, BS_JULY, LO, LT, ZZ];
 
 /// A train that leaves Ashfeld half a minute past 09:00, without a public time.
