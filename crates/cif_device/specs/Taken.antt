@@ -1,5 +1,5 @@
 -- The text that a taker has taken, and the bytes left in the source that feeds the taker. The terms
--- of a taker, such as a limit on its text, stay the same while it takes.
+-- of a taker, such as a limit on its text, stay the same while the taker takes the text.
 use Rattle.std.specs.Prelude.{◌≡◌, ℕ, ◌≤◌, List, ◌++◌, length, Option}
 use Rattle.cif_device.specs.Device.{Reads}
 

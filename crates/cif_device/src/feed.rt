@@ -26,7 +26,8 @@ pub trait Taker {
     /// The reason why the taker refuses a piece.
     type Fault: Drop;
 
-    // The terms of a taker, such as a limit on the text. They stay the same while the taker takes.
+    // The terms of a taker, such as a limit on the text. They stay the same while the taker takes
+    // the text.
     ghost Terms: { Type 0 };
 
     // Whether this taker has taken this text under these terms, and refused no piece of it.

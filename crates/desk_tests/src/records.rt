@@ -36,10 +36,10 @@ const ITEM: &[u8] = b"\x5b\xf0\x04\xecDFROC1AUDFROC1Z";
 
 const ITEM_LATER: &[u8] = b"\x5b\xf1\x04\xecDFROC1BUDFROC1A";
 
-/// The entries of C10001 in these two files, without their ops.
+/// The entries of C10001 in the morning train's file and in the revision, without their ops.
 const ENTRY: &[u8] = b"\x03C10001\x5b\xf1P\x5b\xf0\x04\xecDFROC1A\0\0\0\x02";
 
-/// The entry of the overlay of C10001 in the first file, without its op.
+/// The entry of the overlay of C10001 in the morning train's file, without its op.
 const ENTRY_OVERLAY: &[u8] = b"\x03C10001\x5b\xf1O\x5b\xf0\x04\xecDFROC1A\0\0\0\x05";
 
 const ENTRY_LATER: &[u8] = b"\x03C10001\x5b\xf1P\x5b\xf1\x04\xecDFROC1B\0\0\0\x02";

@@ -9,8 +9,8 @@ use Rattle.docker_desk.specs.declared.lines.InputFault.{InputFault}
 use Rattle.docker_desk.specs.declared.lines.InputFault.TheVariants.{Failed, Endless}
 
 -- a line of a text: whole, bad or cut. A whole line has at most 255 printable bytes before its line
--- feed. A bad line is longer or has another byte. A cut line has no line feed, because the text
--- ends
+-- feed. A bad line is longer or has a byte that isn't printable. A cut line has no line feed,
+-- because the text ends
 pub data LineView : Type 0 where
   whole_line : (line : List ℕ) → LineView
   bad_line : LineView
@@ -27,7 +27,7 @@ pub record IsBadLine (text rest : List ℕ) : Type 0 where
   pub one : IsWithoutFeed line
   pub bad : ¬ IsLineText line
 
--- the text is a line without a line feed
+-- the text is a cut line: it isn't empty and has no line feed
 pub record IsCutLine (text : List ℕ) : Type 0 where
   pub some : text ≢ []
   pub one : IsWithoutFeed text

@@ -83,7 +83,7 @@ fn answer_request<D: Folder>(
     }
 }
 
-/// Returns the answer to a request that has no text.
+/// Converts a request's result to the answer, for a request whose answer has no text.
 fn answer_to<T: Drop>(outcome: Result<T, OfficeFault>) -> Answer
     ensures { answer_meant result ≡ answer_of outcome }
 {

@@ -144,8 +144,8 @@ impl Desk {
         answer_on(page, printed)
     }
 
-    /// Takes the named file, which is opened once. A refusal, `File`, `Source` or `Memory`, leaves
-    /// the desk unchanged.
+    /// Takes the named file, which is opened once. A refusal leaves the desk unchanged. Its fault
+    /// is `File`, `Source` or `Memory`.
     pub fn take<D: Folder>(&mut self, name: &str, folder: &mut D) -> Result<(), OfficeFault>
         requires { D.failures folder.old < 2 ^ 64 - 1 }
         ensures opens { OpensOnce name.now StopsInFile
@@ -165,8 +165,8 @@ impl Desk {
         }
     }
 
-    /// Joins the desk's state with the state in the named file, which is opened once. A refusal,
-    /// `State`, `Source` or `Memory`, leaves the desk unchanged.
+    /// Joins the desk's state with the state in the named file, which is opened once. A refusal
+    /// leaves the desk unchanged. Its fault is `State`, `Source` or `Memory`.
     pub fn receive<D: Folder>(&mut self, name: &str, folder: &mut D) -> Result<(), OfficeFault>
         requires { D.failures folder.old < 2 ^ 64 - 1 }
         ensures opens { OpensOnce name.now StopsInState
@@ -207,8 +207,8 @@ impl Desk {
     /// Looks at the named file, then opens it once and joins the desk's state with the state in the
     /// file. If this succeeds, `seen` becomes the result of this look, and the call returns whether
     /// the file held the text of the desk's new state. The texts are compared only if `compares` is
-    /// set and there is memory to keep the file's text until then. The desk then has unsaved
-    /// changes unless the comparison showed that the file held that text.
+    /// set and there is memory to keep the file's text for that. The desk then has unsaved changes
+    /// unless the comparison showed that the file held that text.
     pub fn renew<D: Folder>(
         &mut self,
         name: &str,

@@ -58,7 +58,7 @@ pub(crate) fn receive_state<D: Folder>(
 
 /// Opens the named file once, and has the office receive the state in it. Also returns whether the
 /// file held the text of the office's new state. The texts are compared only if `compares` is set,
-/// and if there is memory to keep the file's text until then.
+/// and if there is memory to keep the file's text for that.
 pub(crate) fn renew_state<D: Folder>(
     alloc: Global,
     office: &mut Office,

@@ -25,7 +25,7 @@ one_more old before now events event earlier last =
 
 -- ---- what each result implies
 
--- if the sources of a job were read, its files had been opened
+-- if the sources of a job were read, the job's files had been opened
 opened_by : (asked : Asking) (job : JobView) (result : Result PreparedView OfficeFault) → AreRead (names_of job) asked job result → IsOpened asked job
 opened_by asked job result read = record {
   read = read.read;

@@ -134,7 +134,7 @@ pub(crate) const LONGER: File = &[HD, BS_LONGER, LO_0850, LT, ZZ];
 /// The morning train, leaving five minutes later.
 pub(crate) const LATER: File = &[HD, BS, LO_0905, LT, ZZ];
 
-/// The deletion of the morning train, in a file with the same header.
+/// A file that deletes the morning train. It has the same header as the morning train's file.
 pub(crate) const DELETED: File = &[HD, BS_DELETED, ZZ];
 
 /// A file of 8 June in which the morning train runs until the end of July.
