@@ -98,7 +98,7 @@ module _ (s : Subcommand) (words : List Text) (plain : list_all is_plain_word wo
     })
   ]
 
--- ---- words of any kind
+-- ---- whether `clap` accepts the words
 
 -- the word isn't the name of any subcommand in this list
 abbrev IsNoneOf : Text → List Subcommand → Type 0

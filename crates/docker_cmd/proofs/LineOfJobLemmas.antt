@@ -69,7 +69,7 @@ no_line_at_end (Some text) (Some rest) line read end good = λ other behind is.
     let whole : text ≡ line = same ∙ ap (λ r. line ++ r) end ∙ append-nil line in
     ended line other behind good (sym whole ∙ is.whole)
 
--- if the first byte of a text that isn't printable isn't a line feed, the text has no job line
+-- if the first unprintable byte of a text isn't a line feed, the text has no job line
 pub no_line_at : (old now new : Option (List ℕ)) (line : List ℕ) (b : ℕ) → Reads old line now → Reads now (b ∷ []) new → ArePrintable line
     → is_printable b ≡ false → b ≢ 10 → HasNoLine old
 no_line_at old now new line b first feed good bad other = by old new (reads_on old now new line b first feed)

@@ -12,7 +12,7 @@ use Rattle.docker_cmd.specs.declared.reads.Sources.{Sources}
 use Rattle.docker_cmd.specs.Prepared.{DeviceBytes, FailsBy, HasNoSource, HasReadToEnd, HoldsSomeState, IsContentOf, IsWhyRefused, ReadView}
 use Rattle.docker_cmd.specs.Prepared.{ReadsFew, ReadsFewOfFile, ReadsFewOfState, most_bytes, one_state, state_and_file, taken_file, two_states}
 
--- ---- one source
+-- ---- reading one source
 
 -- if reading a state from the only source ends with a fault, this fault is one for which the source
 -- may be refused
@@ -67,7 +67,7 @@ file_failed_alone A one one_now two office.Memory counted = (counted, refl)
 file_failed_alone A one one_now two office.Lapsed counted = counted
 file_failed_alone A one one_now two office.Sink counted = counted
 
--- ---- two sources
+-- ---- reading two sources
 
 -- suppose that reading a state from the first source ends with a fault, so that the file in the
 -- second source isn't read. Then this fault is one for which the sources may be refused

@@ -57,7 +57,7 @@ paired [] words = []
 paired (id ∷ ids) [] = []
 paired (id ∷ ids) (word ∷ words) = row id word ∷ paired ids words
 
--- ---- one required word
+-- ---- reading one required word
 
 -- if the disjunction of two tests is false, both tests are false
 neither : (a b : Bool) → (a || b) ≡ false → (a ≡ false) × (b ≡ false)
@@ -124,7 +124,7 @@ placed_fault s position id word rest h rows found settles plain =
     let after = placed_walked s position id word h rows found settles plain in
     λ i. or_else (turn i) (walk_fault s [] (after i) rest)
 
--- ---- all words of a subcommand
+-- ---- reading all words of a subcommand
 
 -- a list with the fault for too many words if there are more words than ids, otherwise the empty
 -- list
@@ -230,7 +230,7 @@ missing position (id ∷ ids) (word ∷ words) rows fresh =
     ∙ ap (λ rs. list_any (λ a. a.required && not (is_given a.id rs)) tail) (sym (append_assoc rows (row id word ∷ []) after))
     ∙ missing (next position) ids words (rows ++ row id word ∷ []) (fresh.1 word)
 
--- ---- a whole subcommand
+-- ---- the matches and the faults of a subcommand
 
 -- the faults if the number of words differs from the number of ids
 abbrev pub count_fault : List Text → List Text → Kinds

@@ -23,7 +23,7 @@ abbrev pub other_words : List Text → List Text
 other_words [] = []
 other_words (word ∷ words) = words
 
--- ---- names
+-- ---- looking up a subcommand by its name
 
 -- a subcommand's name determines the subcommand
 pub same_subcommand : (s t : Subcommand) → name_of s ≡ name_of t → s ≡ t

@@ -98,7 +98,7 @@ module _ (before after : SessionView) (known : Known) where
       }
       by (Err fault) told stores = let never : ⊥ = cc in absurd never
 
--- ---- steps
+-- ---- what a session learns from its steps
 
 -- if `take` succeeded, there is a file that the session learned
 takes_heard : (file : Text) (text : List ℕ) (before after : SessionView) → Joins file StopsInFile EndsTaking before (done_with text) after

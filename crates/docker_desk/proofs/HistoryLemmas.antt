@@ -30,7 +30,7 @@ then_unplaced name made_for look old middle new took bytes made failed same held
     then old middle new (drafted name look ∷ []) (unplaced name bytes ∷ []) made
     (failed ∙ (λ i. middle ++ unplaced (same i) (held i) ∷ []))
 
--- ---- an opening
+-- ---- how an opening is recorded
 
 -- `OpensOnce` is preserved if the states before and after are replaced by equal ones
 pub opens_as : (name : Text) (Stops : Reading → Type 0) (Ends : State → State → Result ⊤ OfficeFault → Option Reading → Type 0) (own now old new : State)
@@ -49,7 +49,7 @@ pub then_closed : (name : Text) (held left : Bytes) (old opened_now new : List E
     → new ≡ opened_now ++ closed left ∷ [] → new ≡ old ++ events_of name (record { held = held; left = left })
 then_closed name held left old opened_now new opens closes = then old opened_now new (opened name held ∷ []) (closed left ∷ []) opens closes
 
--- ---- a saving
+-- ---- how a saving ends
 
 -- if the state's text was stored and the file was then looked at, the saving succeeded
 pub saved_then : (names_bytes : Bool) (name : Text) (look : ℕ) (own state : State) (old middle new : List Event)

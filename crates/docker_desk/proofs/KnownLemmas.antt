@@ -74,7 +74,7 @@ known_file file state is few summary = record {
   is = summary;
 }
 
--- ---- one request
+-- ---- what is known after one request
 
 module _ (setting : Setting) (before after : SessionView) where
   -- after a file is taken, the state is the summary of what was known before and of the file
@@ -183,7 +183,7 @@ module _ (setting : Setting) (before after : SessionView) where
       subst (λ k. IsKnown k after.desk.state) (sym learns) (subst (IsKnown old) (sym (same_refused request fault does)) is)
   known_asked (Some request) no_request old new days does learns is = absurd (never_unasked request does)
 
--- ---- steps
+-- ---- what is known after each step
 
 -- the day that a `horizon` request names is a valid day number
 one_day : (words : List Text) (day : ℕ) → OfOne (λ date. NamesDay date day) words → IsDay day
@@ -227,7 +227,7 @@ module _ (setting : Setting) where
   steps_apart first last (step ∷ earlier) later are =
       let apart = steps_apart step.after last earlier later are.1.1 in (apart.0, ((are.0, (are.1.0, apart.1.0)), apart.1.1))
 
--- ---- the beginning
+-- ---- what is known at the beginning
 
 -- if a file held the text of a state, reading the file returns that state
 pub one_read : (limit : ℕ) (left : Option (List ℕ)) (read sent : State) → ReadsState dks_2 limit left read → HoldsState dks_2 limit left sent → read ≡ sent

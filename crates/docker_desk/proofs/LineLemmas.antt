@@ -124,7 +124,7 @@ skips_before (Some text) None new b read other line = let never : ⊥ = cc in ab
 skips_before (Some text) (Some left) new b read other line =
     let same : text ≡ b ∷ left = cc in (subst IsWithoutFeed (sym same) (other, line.0), line.1)
 
--- ---- lines
+-- ---- reading a whole, cut or bad line
 
 -- at most 255 printable bytes, followed by a line feed, are a whole line
 pub reads_whole : (old now new : Option (List ℕ)) (line : List ℕ) → Reads old line now → Reads now (10 ∷ []) new → ArePrintable line → length line ≤ 255

@@ -42,7 +42,7 @@ counted_back status first opened start read after same none counted back = (
   λ differs. let never = counted.1 differs in omega (arith, same, none, back, never),
 )
 
--- ---- a file
+-- ---- taking a file
 
 -- if an office took or refused a file, the desk's `take` ends in the same way
 pub takes : (left left_now : Bytes) (old new : State) (result : Result ⊤ OfficeFault)
@@ -66,7 +66,7 @@ taking_counted before after (Err (office.State fault)) counted = absurd counted
 taking_counted before after (Err office.Lapsed) counted = absurd counted
 taking_counted before after (Err office.Sink) counted = absurd counted
 
--- ---- a state
+-- ---- receiving or reloading a state
 
 -- if an office refused to receive a state, the desk refuses for the same fault
 pub refuses_to_receive : (left left_now : Bytes) (fault : OfficeFault)

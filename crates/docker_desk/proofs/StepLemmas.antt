@@ -22,7 +22,7 @@ use Rattle.docker_desk.specs.Doing.{AreSteps, DoesLine, IsStep}
 use Rattle.docker_desk.specs.Answering.{AnswersLines, AreFirstLines, BeginsWith, BreaksOff, CountsNext, EndsSession}
 use Rattle.docker_desk.specs.Answering.{HasLines, IsEndless, IsFollowed, ServesNext, TellsAnswer, answers_text, lines_of}
 
--- ---- the input
+-- ---- reading the lines of the input
 
 -- the bytes of the input begin with these lines, and the bytes after the lines are left. This says
 -- nothing if contracts don't know which bytes the input held
@@ -143,7 +143,7 @@ endless_line (Some text) new many = by new many.read
         let least = many.many in
         omega (arith, size, both, least)
 
--- ---- the output
+-- ---- writing to the output
 
 -- writing no bytes leaves an output unchanged
 pub takes_none : (output : DeviceBytes) → Takes output [] output
@@ -156,7 +156,7 @@ takes_more None now new first second one two = two ∙ ap (option_map (λ taken.
 takes_more (Some taken) now new first second one two =
     two ∙ ap (option_map (λ taken. taken ++ second)) one ∙ ap Some (append_assoc taken first second)
 
--- ---- steps
+-- ---- appending steps
 
 module _ (setting : Setting) where
   -- steps from one point to a second point, followed by steps from the second to a third, are steps
@@ -303,7 +303,7 @@ module _ (setting : Setting) where
       many_lines : (steps : List Step) → length steps ≡ 2 ^ 64 - 1 → length (lines_of steps) ≡ 2 ^ 64 - 1
       many_lines steps many = length-map steps (λ (step : Step). step.line) ∙ many
 
--- ---- one line
+-- ---- answering one line
 
 module _ (setting : Setting) (now next : SessionView) (input input_now output output_now : DeviceBytes) where
   -- if the input is at its end, the session ends without another line

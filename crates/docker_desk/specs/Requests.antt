@@ -11,7 +11,7 @@ use Rattle.docker_desk.specs.declared.requests.Verb.TheVariants as verb
 use Rattle.docker_desk.specs.declared.requests.Request.{Request}
 use Rattle.docker_desk.specs.declared.requests.Request.TheVariants as code
 
--- a request, with the timing point, the train, the day or the file that it names
+-- a request, with the timing point, the train, the day or the file that the request names
 pub data RequestView : Type 0 where
   print_request : (place : List ℕ) (day : ℕ) → RequestView
   permanent_request : (place : List ℕ) (day : ℕ) → RequestView

@@ -18,7 +18,7 @@ use Rattle.docker_desk.specs.declared.ending.Ending.TheVariants.{Ended, InputFai
 use Rattle.docker_desk.specs.SessionViews.{SessionView, setting}
 use Rattle.docker_desk.specs.Answering.{AnswersLines, CountsStreams}
 
--- ---- words
+-- ---- the words of a session
 
 -- the words of a session: the name of the state's file, with `--write` before it if the desk may
 -- write
@@ -36,7 +36,7 @@ pub record NamesSession (words : List Text) (name : Text) (may_write : Bool) : T
 abbrev pub NameNoSession : List Text → Type 0
 NameNoSession words = (name : Text) (may_write : Bool) → ¬ NamesSession words name may_write
 
--- ---- the start
+-- ---- how a session starts
 
 -- starting a desk from a file ended with this result. Either the desk has the state that the file
 -- held, and no unsaved changes; or the file couldn't be opened, or its text was refused
@@ -59,7 +59,7 @@ pub record BeginsAt (name : Text) (old : List Event) (first : SessionView) : Typ
   pub saved : first.desk.unsaved ≡ false
   pub look : first.look ≡ length old
 
--- ---- the end
+-- ---- how a session ends
 
 -- the line that reports unsaved changes
 abbrev pub unsaved_line : List ℕ
@@ -93,7 +93,7 @@ pub record EndsWithStatus (ending : Ending) (unsaved : Bool) (status : ℕ) (old
   pub status_is : status ≡ ending_status ending unsaved
   pub tells : TellsText (ending_text ending unsaved) old new
 
--- ---- a session
+-- ---- a whole session
 
 -- these words aren't the words of a session. The usage line was written to the sink of faults, and
 -- nothing else changed

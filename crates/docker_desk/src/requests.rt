@@ -143,7 +143,7 @@ fn first_named<'a>(verbs: &'a [Verb], name: &str) -> Option<&'a Verb>
     verbs.iter().find(|verb| verb.is_named(name))
 }
 
-/// A request, with the timing point, the train, the day or the file that it names.
+/// A request, with the timing point, the train, the day or the file that the request names.
 #[derive(Clone, Copy, Debug)]
 pub enum Request<'a> {
     /// `print`.

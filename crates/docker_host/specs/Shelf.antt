@@ -22,7 +22,7 @@ page_count page room = min room (min (min page.sound 100) (length page.left))
 abbrev pub Texts : Type 0
 Texts = Text → Option Text
 
--- there are no files
+-- the texts of a shelf without files
 abbrev pub no_texts : Texts
 no_texts name = None
 

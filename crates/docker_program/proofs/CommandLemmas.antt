@@ -130,7 +130,7 @@ known_text known state text is same = record {
   is = (state, is.is, same);
 }
 
--- ---- a command
+-- ---- what a command writes, given what it knows
 
 -- if an office without files takes a file, its state becomes the summary of that file
 taken_alone : (bytes : Bytes) (file : List (List ℕ)) (state : State) → HoldsFile bytes file → TakesFile most_records bytes no_state state

@@ -16,7 +16,7 @@ use Rattle.docker_program.specs.Writing.{WantsToWrite, WantsToWriteTo, Writes, W
 use Rattle.docker_program.specs.Program.{AsksFor, EndsBy, FailsToRead, HasRead, IsAsked, WantsMemory, ending_status, from_first_look, reading, writing}
 use Rattle.docker_program.specs.Commands.{AreNoStorings, IsDone, IsRun, IsUndone, Reads, Run, StoresNothing, history_read}
 
--- ---- no storing
+-- ---- events that store nothing
 
 -- the new history extends the old one by events that store nothing
 NoStoring : List Event → List Event → Type 0
@@ -70,7 +70,7 @@ nothing_stored : (run : Run) → NoStoring run.old.history run.new.history → S
 unfolding NoStoring
 nothing_stored run none = record { events = none.0; history = none.1; none = none.2 }
 
--- ---- sources
+-- ---- reading the sources stores nothing
 
 module _ (run : Run) (job : JobView) (rest : Bytes) where
   none_if_opened : (now : List Event) → IsOpened (reading run.old run.new job rest now) job → NoStoring run.old.history now

@@ -14,7 +14,7 @@ use Rattle.docker_cmd.specs.Words.{Text}
 use Rattle.docker_program.specs.SourceNames.{SourceNames, no_source, standard_input, one_file, file_and_input, names_of}
 use Rattle.docker_program.specs.Sources.{AreRead, Asking, FailsToOpen, IsOpened, ReadsBy, ReadsNamed, asking}
 
--- ---- histories
+-- ---- appending to a history
 
 -- appending events to a history, and then one more event, is the same as appending all these events
 -- at once
@@ -71,7 +71,7 @@ pub reads_named : (names : SourceNames) (asked : Asking) (job : JobView) (result
 reads_named names asked job result is reads =
     by_result asked job result (subst (λ (names : SourceNames). ReadsBy names asked job result) is reads)
 
--- ---- each kind of sources
+-- ---- what is read from each kind of sources
 
 -- a job without a source reads nothing
 pub reads_none : (history : List Event) (rest first first_left second second_left : Bytes) (job : JobView) (result : Result PreparedView OfficeFault)
@@ -111,7 +111,7 @@ reads_alone name before now rest second second_left job result none (inr read) =
       reads = read.reads;
     })
 
--- ---- failures
+-- ---- how failures are counted
 
 -- if neither of two sources failed and the status isn't 4, their failure counts are unchanged, as
 -- the status requires

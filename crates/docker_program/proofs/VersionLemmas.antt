@@ -167,7 +167,7 @@ plain_known_docker known place day text prints distinct =
           prints.allowed).0 prints.docker,
     )
 
--- ---- versions
+-- ---- the text and the dockers of a version
 
 -- what a version knows determines its text
 pub one_version : (versions : List Version) (number another : ℕ) (text other : List ℕ) (known also : Known) → AreVersions versions

@@ -21,7 +21,7 @@ use Rattle.docker_program.specs.SourceNames.{names_of, stored_by}
 use Rattle.docker_program.specs.Sources.{AreOthers, SourcesRead, with_files_read, with_look_at}
 use Rattle.docker_program.specs.Program.{AsksFor, Performs}
 
--- ---- one command
+-- ---- what one command does
 
 -- the history after a command has opened, read and closed its sources. If its job writes a file,
 -- the first new event is a look at this file. The openings and closings of the files that the job
