@@ -63,15 +63,15 @@ pub one_more : {T Terms : Type 0} (takes : Taking T Terms) (fed : ℕ) (terms : 
 one_more takes fed terms text initial now next taker piece at more few =
     record { bytes = at.bytes; piece = piece; lost = lost_more initial now next at.bytes piece at.lost more; few = few; taker = taker; taken = at.taken }
 
--- a source whose bytes the taker has all taken has returned at most one piece beyond the bytes that
--- the taker has taken
+-- if the taker has taken all bytes that a source returned, the source has returned at most one
+-- piece beyond the bytes that the taker has taken
 pub no_more : {T Terms : Type 0} (takes : Taking T Terms) (fed : ℕ) (terms : Terms) (text : List ℕ) (initial now next : Option (List ℕ)) (taker : T)
     → HasFed takes fed terms text initial now taker → next ≡ now → LosesOnePieceMore takes 65536 terms text initial next
 no_more takes fed terms text initial now next taker at same =
     one_more takes fed terms text initial now next taker [] at (subst (Reads now []) (sym same) (lost_nothing now)) (omega arith)
 
--- a source that returned nothing has returned at most one piece beyond the bytes that the taker has
--- taken
+-- if a source returned nothing, it has returned at most one piece beyond the bytes that the taker
+-- has taken
 pub nothing_read : {T Terms : Type 0} (takes : Taking T Terms) (terms : Terms) (text : List ℕ) (left : Option (List ℕ)) (taker : T) → takes taker terms text
     → LosesOnePieceMore takes 65536 terms text left left
 nothing_read takes terms text left taker taken = no_more takes 0 terms text left left left taker (at_start takes terms text left taker taken) refl

@@ -56,7 +56,7 @@ takes left left_now old new (Err (office.State fault)) outcome kept = absurd out
 takes left left_now old new (Err office.Lapsed) outcome kept = absurd outcome
 takes left left_now old new (Err office.Sink) outcome kept = absurd outcome
 
--- the failure count grows as the result's status requires
+-- after a file was taken or refused, `IsCounted` holds for the result's status
 pub taking_counted : (before after : ℕ) (result : Result ⊤ OfficeFault) → CountsTaking before after result → IsCounted (result_status result) before after
 taking_counted before after (Ok done) counted = not_failed 0 before after (λ is. omega arith) counted
 taking_counted before after (Err (office.File fault)) counted = not_failed _ before after (λ is. omega arith) counted
@@ -92,7 +92,7 @@ pub reloads : (left left_now : Bytes) (new : State) (result : Result ⊤ OfficeF
 reloads left left_now new (Ok done) outcome = outcome
 reloads left left_now new (Err fault) outcome = refuses_to_receive left left_now fault outcome
 
--- the failure count grows as the fault's status requires
+-- after a state was refused, `IsCounted` holds for the fault's status
 fault_counted : (before after : ℕ) (fault : OfficeFault) → CountsWhy (why_unread fault) before after
     → IsCounted (result_status {A = ⊤} (Err fault)) before after
 fault_counted before after (office.State fault) counted = not_failed _ before after (λ is. omega arith) counted

@@ -53,8 +53,8 @@ TellsDocker live place day (done_with text) = IsDockerText live place day text
 TellsDocker live place day (refused_for fault) = fault ≡ office.Memory
 TellsDocker live place day no_request = ⊥
 
--- this is an answer to `permanent`, the request for a docker without the short-term plan. It is
--- refused for the same faults as `print`
+-- this is an answer to `permanent`, the request for a docker without the short-term plan. The
+-- request is refused for the same faults as `print`
 abbrev pub IsPermanentAnswer : State → List ℕ → ℕ → AnswerView → Type 0
 IsPermanentAnswer state place day (done_with text) =
     IsDockerText (permanent_table (live_table state)) place day text × (¬ IsDayRefused state.horizon day)

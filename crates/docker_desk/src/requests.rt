@@ -26,11 +26,11 @@ pub enum Verb {
     Places,
     /// Shows the horizon, the newest full extract, the last day, and the number of live entries.
     Known,
-    /// Joins the state with the state that its file holds now.
+    /// Joins the state with the state that the state's file holds now.
     Renew,
-    /// Takes another file into the state.
+    /// Takes the named file into the state.
     Take,
-    /// Joins the state with another state.
+    /// Joins the state with the state in the named file.
     Merge,
     /// Sets a horizon. The state keeps its own horizon if that is later.
     Horizon,

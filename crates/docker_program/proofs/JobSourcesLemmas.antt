@@ -113,13 +113,14 @@ reads_alone name before now rest second second_left job result none (inr read) =
 
 -- ---- how failures are counted
 
--- if neither of two sources failed and the status isn't 4, their failure counts are unchanged, as
--- the status requires
+-- if neither of two sources failed and the status isn't 4, `IsCounted` holds for the sum of their
+-- failure counts
 none_failed : (status one one_now two two_now : ℕ) → status ≢ 4 → one_now ≡ one → two_now ≡ two → IsCounted status (one + two) (one_now + two_now)
 none_failed status one one_now two two_now other first second =
     ((λ is. absurd (other is), λ rose. let never : ⊥ = omega arith in absurd never), λ differs. omega arith)
 
--- when two sources are read, their failure counts grow as the result's status requires
+-- when two sources are read, `IsCounted` holds for the result's status and the sum of their failure
+-- counts
 pub counted_together : {A : Type 0} (result : Result A OfficeFault) (one one_now two two_now : ℕ) → CountsSources result one one_now two two_now →
     IsCounted (result_status result) (one + two) (one_now + two_now)
 counted_together (Ok made) one one_now two two_now counts = none_failed 0 one one_now two two_now (λ is. omega arith) counts.0 counts.1
