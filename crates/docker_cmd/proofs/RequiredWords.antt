@@ -21,11 +21,11 @@ use Rattle.docker_cmd.specs.Words.{is_plain_word}
 use Rattle.docker_cmd.specs.Grammar.{docker_shape, required_rule, words_shape}
 use Rattle.docker_cmd.proofs.PlainWords.{at, plain_turn, plain_walked}
 
--- the program's own level, after `clap` has built it
+-- the top level of the program, after `clap` has built the program
 abbrev pub built_top : Shape
 built_top = record docker_shape { is_leaf = false; is_built = true }
 
--- a subcommand of the program, after `clap` has built it
+-- a subcommand of the program, after `clap` has built the subcommand
 abbrev pub leaf : Text → List Text → Shape
 leaf name ids = built_leaf (inherited built_top (words_shape name ids))
 

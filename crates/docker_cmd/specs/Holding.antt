@@ -1,5 +1,5 @@
--- What a job keeps in memory, converted to the form that the definitions use, and which outputs can
--- be written from it.
+-- Converts what a job keeps in memory to the form that the definitions use, and says which outputs
+-- can be written from what is kept.
 use Rattle.std.specs.Prelude.{◌≡◌}
 use Rattle.docker_office.specs.Values.{Excerpt}
 use Rattle.docker_cmd.specs.Content.{content_meant}

@@ -206,8 +206,9 @@ IsWhyRefused sources first left second second_left office.Memory = WantsFor sour
 IsWhyRefused sources first left second second_left office.Lapsed = ⊥
 IsWhyRefused sources first left second second_left office.Sink = ⊥
 
--- reading the sources ended with this result. Either it is a value with the property `IsMade`, and
--- each file was read to its end. Or it is a fault for which the sources may be refused
+-- reading the sources ended with this result. Either the result is a value with the property
+-- `IsMade`, and each file was read to its end. Or the result is a fault for which the sources may
+-- be refused
 abbrev pub EndsReading : {A : Type 0} → (A → Type 0) → Sources → DeviceBytes → DeviceBytes → DeviceBytes → DeviceBytes → Result A OfficeFault → Type 0
 EndsReading IsMade sources first left second second_left (Ok made) = IsMade made × HasReadToEnd sources left second_left
 EndsReading IsMade sources first left second second_left (Err fault) = IsWhyRefused sources first left second second_left fault

@@ -89,7 +89,7 @@ many_behind n old now new line first many = record {
 
 -- ---- the rest of a bad line
 
--- if the next byte is a line feed, reading it skips the line
+-- if the next byte is a line feed, reading this byte skips the line
 pub skips_feed : (old new : Option (List ℕ)) → Reads old (10 ∷ []) new → SkipsLine old new
 skips_feed None new read = tt
 skips_feed (Some text) None read = let never : ⊥ = cc in absurd never

@@ -78,9 +78,9 @@ ending_status InputFailed unsaved = 4
 ending_status InputEndless unsaved = 4
 ending_status OutputFailed unsaved = 4
 
--- the text that the sink of faults gains at the end of a session. It has the line that reports a
--- failed device, if a device failed, and then the line that reports unsaved changes, if there are
--- any
+-- the text that the sink of faults gains at the end of a session. This text has the line that
+-- reports a failed device, if a device failed, and then the line that reports unsaved changes, if
+-- there are any
 abbrev pub ending_text : Ending → Bool → List ℕ
 ending_text Ended unsaved = unsaved_text unsaved
 ending_text InputFailed unsaved = device_line ++ unsaved_text unsaved
@@ -112,8 +112,8 @@ pub record LeavesStreams (old new : HostView) : Type 0 where
   pub input_failures : new.input_failures ≡ old.input_failures
   pub output_failures : new.output_failures ≡ old.output_failures
 
--- the state's file was looked at. But it couldn't be opened, or no state could be read from it. The
--- fault was reported, and the session ended
+-- the state's file was looked at. But the file couldn't be opened, or no state could be read from
+-- it. The fault was reported, and the session ended
 pub record IsRefusedStart (words : List Text) (old new : HostView) (status : ℕ) : Type 0 where
   pub name : Text
   pub may_write : Bool

@@ -186,7 +186,7 @@ impl Desk {
         }
     }
 
-    /// Sets a horizon: the desk keeps the later of this day and its own horizon. This is never
+    /// Sets a horizon: the desk keeps the later of this day and its own horizon. The call is never
     /// refused.
     pub fn set_horizon(&mut self, day: Day)
         ensures { self.new

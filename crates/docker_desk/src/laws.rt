@@ -1,5 +1,5 @@
-//! Laws of every session. Each law is the contract of a function that does nothing. It holds for
-//! all values that its clauses name.
+//! Laws of every session. Each law is the contract of a function that does nothing. The law holds
+//! for all values that the function's clauses name.
 ghost use Rattle.std.specs.Prelude.{◌≡◌, ◌≤◌, ◌++◌, ℕ, List, Some, length};
 ghost use Rattle.docker_model.specs.state.Lapse.{IsDayRefused, lapse_table};
 ghost use Rattle.docker_model.specs.state.State.{State, live_table};

@@ -9,9 +9,9 @@ use cif_line::{Failed, Sink};
 use docker_cmd::Office;
 use std::marker::{Brand, Model, PhantomData};
 
-/// A sink that compares what is written to it with a text. It takes the bytes of the text, and
-/// after them the first byte that differs. After that it fails. It allocates nothing. Contracts get
-/// the text from its type parameter `B`.
+/// A sink that compares what is written to it with a text. The sink takes the bytes of the text,
+/// and after them the first byte that differs. Then the sink fails. It allocates nothing. Contracts
+/// get the text from its type parameter `B`.
 #[derive(Drop)]
 pub(crate) struct Matching<'a, B: Begun> {
     text: &'a [u8],

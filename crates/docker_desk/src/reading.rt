@@ -14,7 +14,7 @@ use docker_host::Folder;
 use std::alloc::Global;
 use std::marker::Brand;
 
-/// Opens the named file once, and has the office take it.
+/// Opens the named file once, and has the office take the file.
 pub(crate) fn take_file<D: Folder>(
     office: &mut Office,
     name: &str,

@@ -37,7 +37,7 @@ pub enum Note<'a> {
     OpenedUnnamed(&'a str),
     /// A named file couldn't be opened.
     Unopened(&'a str),
-    /// An opened file was closed when these bytes of it were still to be read.
+    /// An opened file was closed when these bytes were still to be read.
     Closed(&'a [u8]),
     /// An opened file was closed. Contracts don't know its bytes.
     ClosedUnnamed,

@@ -140,7 +140,8 @@ taken_alone bytes file state holds takes =
     (known_joined nothing (of_file takes.file) no_state takes.own state known_nothing
     (known_file takes.file takes.own takes.is_text.is takes.is_text.within takes.of_file) takes.joined)
 
--- if an office takes a file, its state becomes the summary of what it knew before and of that file
+-- if an office takes a file, the office's state becomes the summary of what the office knew before
+-- and of that file
 pub taken_behind : (own : Known) (bytes : Bytes) (file : List (List ℕ)) (old new : State) → IsKnown own old → HoldsFile bytes file
     → TakesFile most_records bytes old new → IsKnown (united own (of_file file)) new
 taken_behind own bytes file old new is holds takes =

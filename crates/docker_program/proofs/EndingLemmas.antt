@@ -204,7 +204,7 @@ want_none run job rest None has wants = none_same run.old.history has.read run.n
 want_none run job rest (Some name) has wants =
     none_more run.old.history has.read run.new.history (undrafted name (length run.old.history) ∷ []) (read_none run job rest has) wants (tt, tt)
 
--- if a command left the folder's history unchanged, it stored nothing
+-- if a command left the folder's history unchanged, the command stored nothing
 unasked : (run : Run) → run.new.history ≡ run.old.history → IsUndone run
 unasked run same = inl (nothing_stored run (none_same run.old.history run.old.history run.new.history (none_here run.old.history) same))
 

@@ -77,8 +77,8 @@ all_gained knowns texts (gain ∷ gains) known old new are is gained =
     all_gained knowns texts gains (known_with knowns known gain) gained.0 new are
     (gained_known knowns texts gain known old gained.0 are is gained.1) gained.2
 
--- a text that a session saved is the text of the summary of what was known at its beginning and of
--- everything that it gained
+-- a text that a session saved is the text of the summary of what was known at the session's
+-- beginning and of everything that the session gained
 saved_known : (knowns : List Known) (texts : List (List ℕ)) (own : ℕ) (gains : List Gain) (text : List ℕ) → AreKnown knowns texts
     → IsSaved texts own gains text → IsKnownText dks_2 (known_once knowns (known_at knowns own) gains) text
 saved_known knowns texts own gains text are is =

@@ -173,11 +173,11 @@ WritesKnown migrate_task known text = IsKnownText dks_2 known text
 
 -- ---- versions of STATE files
 
--- how a version of a STATE file was made. Either a command made it: `new`, `take`, `merge`,
--- `horizon` or `migrate`. Or a desk saved it, after reading its state from an earlier version and
--- gaining these things. A number gives the index of an earlier version of any office, counted from
--- 0. `migrate` reads the text of a summary in the older format, and `known` is the knowledge of
--- that summary
+-- how a version of a STATE file was made. Either a command made the version: `new`, `take`,
+-- `merge`, `horizon` or `migrate`. Or a desk saved the version, after reading its state from an
+-- earlier version and gaining these things. A number gives the index of an earlier version of any
+-- office, counted from 0. `migrate` reads the text of a summary in the older format, and `known` is
+-- the knowledge of that summary
 pub data Origin : Type 0 where
   begun : Origin
   taken : (own : ℕ) (file : List (List ℕ)) → Origin
@@ -226,14 +226,15 @@ AreMade earlier (version ∷ versions) = IsMade earlier version.origin version.t
 abbrev pub known_at : List Known → ℕ → Known
 known_at earlier number = slice_index_or earlier number nothing
 
--- what is known after this gain, given what was known before it and what the earlier versions know
+-- what is known after this gain, given what was known before the gain and what the earlier versions
+-- know
 abbrev pub known_with : List Known → Known → Gain → Known
 known_with earlier known (file_gained file) = united known (of_file file)
 known_with earlier known (version_gained number) = united known (known_at earlier number)
 known_with earlier known (horizon_gained day) = united known (of_horizon day)
 
--- what is known after these gains, given what was known before them and what the earlier versions
--- know
+-- what is known after these gains, given what was known before the gains and what the earlier
+-- versions know
 abbrev pub known_once : List Known → Known → List Gain → Known
 known_once earlier known [] = known
 known_once earlier known (gain ∷ gains) =

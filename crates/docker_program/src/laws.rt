@@ -1,5 +1,6 @@
 //! Laws that hold for each command, and for each list of versions of STATE files. Each law is the
-//! contract of a function that does nothing. It holds for all values that its clauses name.
+//! contract of a function that does nothing. The law holds for all values that the function's
+//! clauses name.
 ghost use Rattle.std.specs.Prelude.{◌≡◌, ◌≢◌, ℕ, List, Some};
 ghost use Rattle.docker_model.specs.state.StateText.{dks_2};
 ghost use Rattle.docker_model.specs.state.Summary.{HaveDistinctMoments};
