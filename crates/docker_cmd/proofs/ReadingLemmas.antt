@@ -187,8 +187,8 @@ refused_at asked sources first left second second_left fault is reads =
 pub some_at : (P : Type 0) (asked sources : Sources) → asked ≡ sources → ¬ HasNoSource (sources_meant sources) → HasNoSource (sources_meant asked) → P
 some_at P asked sources is some none = absurd (some (subst (λ (s : Sources). HasNoSource (sources_meant s)) is none))
 
--- if there is a second source, either the reading stopped at the first, or the first was good and
--- the second was read
+-- if there is a second source, either the reading stopped at the first source, or the first source
+-- was read successfully and the second was read
 pub read_second : {First Second Good Kept : Type 0} → Second → First ⊎ (Good × Kept) → First ⊎ (Second × Good × Kept)
 read_second has (inl left) = inl left
 read_second has (inr both) = inr (has, both.0, both.1)

@@ -49,7 +49,7 @@ three_counted Holds (a ∷ b ∷ []) is = absurd is
 three_counted Holds (a ∷ b ∷ c ∷ []) is = refl
 three_counted Holds (a ∷ b ∷ c ∷ d ∷ words) is = absurd is
 
--- the words of a task are as many as its subcommand requires
+-- a task has as many words as the task's subcommand requires
 pub words_counted : (task : TaskView) (words : List Text) → AreWordsOf task words → length words ≡ length (ids_of (subcommand_of task))
 words_counted new_task words is = one_counted _ words is
 words_counted check_task words is = one_counted _ words is

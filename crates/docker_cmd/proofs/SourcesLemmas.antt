@@ -174,7 +174,8 @@ read_of_task asked task first left second second_left read is reads =
 pub some_of_task : (P : Type 0) (asked task : TaskView) → asked ≡ task → ¬ HasNoSource (sources_of task) → HasNoSource (sources_of asked) → P
 some_of_task P asked task is some none = absurd (some (subst (λ t. HasNoSource (sources_of t)) is none))
 
--- if the second source was read only after a good first one, the same holds for equal `Sources`
+-- if the second source was read only after the first was read successfully, the same holds for
+-- equal `Sources`
 pub second_for : {First Good Kept : Type 0} (sources others : Sources) → sources ≡ others → First ⊎ (HasSecondSource sources × Good × Kept)
     → First ⊎ (HasSecondSource others × Good × Kept)
 second_for {First} {Good} {Kept} sources others same order = subst (λ s. First ⊎ (HasSecondSource s × Good × Kept)) same order

@@ -206,7 +206,7 @@ pub record IsPlaced (setting : Setting) (earlier : List Text) (own : ℕ) (gains
   pub asked : after.history ≡ before.history ++ drafted setting.name before.look
       ∷ placed setting.name (named_if setting.names_bytes text) ∷ looked setting.name ∷ []
 
--- at some point of some session, the desk has this knowledge and this state
+-- there is a session with a point at which the desk has this knowledge and this state
 pub record KnowsAt (setting : Setting) (known : Known) (state : State) : Type 0 where
   pub start : Known
   pub first : SessionView

@@ -49,7 +49,7 @@ impl Model for Desk {
 }
 
 impl Desk {
-    /// Returns the desk of an office that was just read.
+    /// Returns the desk of an office whose state was just read.
     pub fn new(alloc: Global, office: Office) -> Desk
         ensures { result ≡ record { state = office; unsaved = false } }
     {

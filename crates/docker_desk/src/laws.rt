@@ -89,8 +89,8 @@ pub fn saves_tell_what_is_known()
 
 /// What a desk saves is a version of its state's file. Its text is the text of a state that was
 /// read from an earlier version, and that then gained what the steps before the saving gained.
-/// `earlier` has the texts of all earlier versions of any state's file. `own` is the number of the
-/// version that was read first.
+/// `earlier` lists the texts of all earlier versions of any state's file. `own` is the number of
+/// the version that was read first.
 pub fn saves_are_versions()
     ensures { (setting : Setting) (first before after : SessionView) (steps : List Step)
         (old : List Event) (earlier : List (List ℕ)) (own : ℕ) (gains : List Gain)
