@@ -107,7 +107,7 @@ pub(crate) const LAPSED_STATE: Parts = &[MARK_15, ONE, ITEM, ONE, ENTRY, LAPSED]
 /// The ledger item of a full extract of 9 June 2024, 21:00.
 const ITEM_FULL: &[u8] = b"\x5b\xf0\x04\xecDFROC1AFDFROC1Z";
 
-/// The entries of three timing points in that file, without their ops.
+/// The entries of three timing points in the full extract of 9 June, without their ops.
 const ASHFELD: &[u8] = b"\x01ASHFELD\x5b\xf0\x04\xecDFROC1A\0\0\0\x02";
 
 const BRAYTON: &[u8] = b"\x01BRAYTON\x5b\xf0\x04\xecDFROC1A\0\0\0\x03";
@@ -122,7 +122,7 @@ const WITHOUT_CODES: &[u8] = b"\x01         CORHAM EXCHANGE                     
 
 const DELETED: &[u8] = b"\0";
 
-/// The state that knows these timing points, with Brayton deleted, and the morning train.
+/// The state that knows these timing points and the morning train. Brayton is deleted.
 pub(crate) const PLACES_STATE: Parts = &[
     MARK,
     ONE,

@@ -213,7 +213,7 @@ abbrev pub EndsReading : {A : Type 0} → (A → Type 0) → Sources → DeviceB
 EndsReading IsMade sources first left second second_left (Ok made) = IsMade made × HasReadToEnd sources left second_left
 EndsReading IsMade sources first left second second_left (Err fault) = IsWhyRefused sources first left second second_left fault
 
--- the sources were read in their order, no further than the result needs, and `Ends` is true
+-- the sources were read in their order, no further than the result needs, and `Ends` holds
 pub record ReadsFew (sources : Sources) (first left second second_left : DeviceBytes) (Ends : Type 0) : Type 0 where
   pub first_few : ReadsFewOfFirst sources first left
   pub second_few : ReadsFewOfSecond sources first second second_left

@@ -110,8 +110,8 @@ pub fn each_point_is_a_last_one()
         × AreSteps setting first earlier between × AreSteps setting between later last }
 {}
 
-/// The state of an office at the end of a run is the summary of what the office knows, like the
-/// state of a desk.
+/// The state of an office at the end of a run is the summary of what the office knows. The same
+/// holds for the state of a desk.
 pub fn offices_know_as_desks()
     ensures { (known : Known) (state : State) → EndsWith known state → IsKnown known state }
 {}

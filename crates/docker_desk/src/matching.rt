@@ -93,8 +93,8 @@ impl<B: Begun> Sink for Matching<'_, B> {
     }
 }
 
-/// Returns the length of a common prefix of the text and the piece. It needn't be the longest, but
-/// is 0 only if the first bytes differ or the text is empty.
+/// Returns the length of a common prefix of the text and the piece. The prefix needn't be the
+/// longest one, but its length is 0 only if the first bytes differ or the text is empty.
 fn matching_front(text: &[u8], piece: &[u8]) -> usize
     requires { 0 < length piece.now }
     ensures within { (result ≤ length text.now) × (result ≤ length piece.now) }

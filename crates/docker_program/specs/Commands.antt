@@ -61,8 +61,8 @@ pub record Stores (run : Run) (job : JobView) (read : SourcesRead) (text : List 
       (history_read run.old.history job read) run.new.history
   pub unprinted : run.new.output ≡ run.old.output
 
--- a command may have stored this text: replacing the file that the job writes with a draft with
--- this text failed. The file now holds either this text or what it held before
+-- a command may have stored this text: a draft with this text failed to replace the file that the
+-- job writes. The file now holds either this text or what it held before
 pub record MayStore (run : Run) (job : JobView) (read : SourcesRead) (text : List ℕ) : Type 0 where
   pub reads : Reads run job read text
   pub name : Text
@@ -267,6 +267,6 @@ pub record IsVersion (versions : List Version) (number : ℕ) (text : List ℕ)
   pub text_is : text ≡ slice_index_or (map (λ (version : Version). version.text) versions) number []
   pub known_is : known ≡ known_at (known_after [] versions) number
 
--- the job of printing the docker at this timing point for this day, named by these words
+-- the job that these words name: printing the docker at this timing point for this day
 abbrev pub printing : (place : List ℕ) (day : ℕ) (words : List Text) → JobView
 printing place day words = record { task = print_task place day; words = words }

@@ -128,10 +128,10 @@ pub(crate) const IDENTITY: File = &[
     ZZ,
 ];
 
-/// The morning train until a later day, leaving ten minutes earlier.
+/// A file in which the morning train runs until a later day and leaves ten minutes earlier.
 pub(crate) const LONGER: File = &[HD, BS_LONGER, LO_0850, LT, ZZ];
 
-/// The morning train, leaving five minutes later.
+/// A file in which the morning train leaves five minutes later.
 pub(crate) const LATER: File = &[HD, BS, LO_0905, LT, ZZ];
 
 /// A file that deletes the morning train. It has the same header as the morning train's file.
@@ -164,16 +164,16 @@ macro_rules! two_trains {
     };
 }
 
-/// A train to Colwell, whose next working starts on the next day.
+/// A train to Colwell. Its next working starts on the next day.
 pub(crate) const NEXT_DAY: File = two_trains!(BS_C40001, AA_N);
 
-/// A train to Colwell, whose next working starts on the same day.
+/// A train to Colwell. Its next working starts on the same day.
 pub(crate) const SAME_DAY: File = two_trains!(BS_C40001, AA_S);
 
 /// A train to Colwell and its next working. The association has a space as its date indicator.
 pub(crate) const NO_INDICATOR: File = two_trains!(BS_C40001, AA_BLANK);
 
-/// A train to Colwell, whose next working starts on the day before.
+/// A train to Colwell. Its next working starts on the day before.
 pub(crate) const DAY_BEFORE: File = two_trains!(BS_C40001, AA_P);
 
 /// A train to Colwell and its next working. The association has an unknown date indicator.
@@ -185,7 +185,7 @@ pub(crate) const UNKNOWN_CATEGORY: File = two_trains!(BS_C40001, AA_OTHER);
 /// A train to Colwell and its next working, on the last day of the calendar.
 pub(crate) const LAST_DAY: File = two_trains!(BS_C40001_LAST, AA_LAST);
 
-/// A train to Colwell, whose next working is cancelled.
+/// A train to Colwell. Its next working is cancelled.
 pub(crate) const PARTNER_CANCELLED: File = two_trains!(BS_C40001, AA_N, BS_C40002_CANCELLED);
 
 /// A train to Colwell that is cancelled, and its next working.
