@@ -20,8 +20,7 @@ written_whole own text new none whole =
     let same : ◌≡◌ {A = Option (List ℕ)} (Some new) (Some text) =
     subst (λ (front : List ℕ). ◌≡◌ {A = Option (List ℕ)} (Some new) (Some (front ++ text))) none whole in cc
 
--- if an answer has the permanent docker for a day that isn't refused, it is an answer to
--- `permanent`
+-- an answer that has the permanent docker for a day that isn't refused is an answer to `permanent`
 pub told_docker : (state : State) (place : List ℕ) (day : ℕ) (answer : AnswerView) → ¬ IsDayRefused state.horizon day
     → TellsDocker (permanent_table (live_table state)) place day answer → IsPermanentAnswer state place day answer
 told_docker state place day (done_with text) allowed told = (told, allowed)

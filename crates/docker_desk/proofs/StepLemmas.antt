@@ -121,7 +121,7 @@ module _ (old now : DeviceBytes) (lines : List LineView) where
       by None first = tt
       by (Some text) first = (first.0, first.1.0)
 
--- if reading a line succeeded with a line, this line is the next line of the input
+-- if reading returned a line, this line is the next line of the input
 pub next_read : (old new : DeviceBytes) (read : Asked) (line : LineView) → asked_meant read ≡ Some line → EndsLine old (Ok read) new → ReadsNext old line new
 next_read old new read line is ends = subst (λ (met : Option LineView). ReadsAsked old met new) is ends
 

@@ -11,7 +11,7 @@ use Rattle.docker_train.specs.Origin.{CameFrom}
 use Rattle.docker_train.specs.TrainText.{IsFoundFor, IsTrainText, Stamped}
 use Rattle.docker_desk.specs.Learning.{IsKnown, IsTrainOf}
 
--- each schedule that is found in a summary came from one of the files
+-- each schedule that is found in a summary came from one of the summary's files
 abbrev pub FoundCameFrom : Type 0
 FoundCameFrom =
     (files : Files) (horizon : ℕ) (state : State) (uid : List ℕ) (day : ℕ) (found : Stamped) → IsSummary files horizon state

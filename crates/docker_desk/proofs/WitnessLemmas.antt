@@ -36,7 +36,7 @@ use Rattle.state_laws.proofs.texts.ReportedWithHorizon.{valid_is_told}
 abbrev asked_line : List ℕ
 asked_line = codes "files"
 
--- the output holds the answer that lists no files, or the answer that memory ran out
+-- the output holds the answer that lists no files, or the answer that reports that memory ran out
 abbrev pub IsAnswered : Bytes → Type 0
 IsAnswered output = (output ≡ Some (codes "0 0 0\n")) ⊎ (output ≡ Some memory_answer)
 

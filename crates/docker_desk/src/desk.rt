@@ -25,9 +25,9 @@ use state_lists::{KnownText, known_text, print_places};
 use std::alloc::Global;
 use std::marker::Model;
 
-/// A desk: an office, and whether its state may differ from the state that STATE's file was last
-/// seen to hold. The desk also keeps the text of its last answer to `known`, until its state may
-/// change.
+/// A desk: an office, and whether the office's state may differ from the state that STATE's file
+/// was last seen to hold. The desk also keeps the text of its last answer to `known`, until the
+/// office's state may change.
 #[derive(Debug, Drop)]
 pub struct Desk {
     alloc: Global,
@@ -237,7 +237,7 @@ impl Desk {
     }
 
     /// Stores the text of the desk's state in the named file, by a draft from the look `seen`. If
-    /// this succeeds, looks at the file again, and `seen` becomes the result of the new look. A
+    /// storing succeeds, looks at the file again, and `seen` becomes the result of the new look. A
     /// refusal leaves the desk and `seen` unchanged. The fault is `Sink` if the draft can't be made
     /// or written or can't replace the file, and `Memory` if there is no memory to make the draft.
     pub fn save<D: Folder>(

@@ -180,8 +180,8 @@ pub fn known_files_fix_lists()
         → IsKnown second two → AreOneKnowledge first second → (text other : List ℕ)
         → IsKnownText one text → IsKnownText two other → text ≡ other }
 {
-    // These calls are made only for their contracts. By these, a state has only one list of timing
-    // points, and only one text of what is known.
+    // These calls are made only for their contracts. By these contracts, a state has only one list
+    // of timing points, and only one text of what is known.
     one_places_text();
     one_known_text();
 }

@@ -16,7 +16,7 @@ use std::process::Abort;
 /// The number of events of a run.
 const STEPS: usize = 16;
 
-/// The first day that may be a horizon, 10 June 2024, and the number of such days.
+/// The first day that may be a horizon, 10 June 2024, and the number of days that may be a horizon.
 const FIRST_HORIZON: usize = 23537;
 
 const HORIZONS: usize = 16;
