@@ -205,9 +205,9 @@ impl Desk {
     }
 
     /// Looks at the named file, then opens it once and joins the desk's state with the state in the
-    /// file. If this succeeds, `seen` becomes the result of this look, and the call returns whether
-    /// the file held the text of the desk's new state. The texts are compared only if `compares` is
-    /// set and there is memory to keep the file's text for that. The desk then has unsaved changes
+    /// file. On success, `seen` becomes the result of this look, and the call returns whether the
+    /// file held the text of the desk's new state. The texts are compared only if `compares` is set
+    /// and there is memory to keep the file's text for that. The desk then has unsaved changes
     /// unless the comparison showed that the file held that text.
     pub fn renew<D: Folder>(
         &mut self,
@@ -236,10 +236,10 @@ impl Desk {
         }
     }
 
-    /// Stores the text of the desk's state in the named file, by a draft from the look `seen`. If
-    /// storing succeeds, looks at the file again, and `seen` becomes the result of the new look. A
-    /// refusal leaves the desk and `seen` unchanged. The fault is `Sink` if the draft can't be made
-    /// or written or can't replace the file, and `Memory` if there is no memory to make the draft.
+    /// Stores the text of the desk's state in the named file, by a draft from the look `seen`. On
+    /// success, looks at the file again, and `seen` becomes the result of the new look. A refusal
+    /// leaves the desk and `seen` unchanged. The fault is `Sink` if the draft can't be made or
+    /// written or can't replace the file, and `Memory` if there is no memory to make the draft.
     pub fn save<D: Folder>(
         &mut self,
         name: &str,

@@ -13,7 +13,7 @@ use std::fs::{File, Metadata};
 use std::io::ErrorKind;
 use std::marker::Model;
 
-/// A draft: a new text for a file, while it is being written.
+/// A draft: the new text of a file, while this text is being written.
 #[derive(Drop)]
 pub struct DraftFile {
     name: String,

@@ -67,7 +67,7 @@ impl From<AllocError> for OpenFault {
 pub struct Drafted<'a, K> {
     /// The name of the file.
     pub name: &'a str,
-    /// The new text of the file, while it is being written.
+    /// The new text of the file, while this text is being written.
     pub draft: K,
 }
 
@@ -76,7 +76,7 @@ pub trait Folder {
     /// An opened file.
     type File: Source + Drop;
 
-    /// A new text for a file, while it is being written.
+    /// A new text for a file, while this text is being written.
     type Draft: Sink + Drop;
 
     /// What a look has found out about a file.

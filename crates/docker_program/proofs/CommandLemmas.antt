@@ -132,7 +132,7 @@ known_text known state text is same = record {
 
 -- ---- what a command writes, given what it knows
 
--- if an office without files takes a file, its state becomes the summary of that file
+-- if an office without files takes a file, the office's state becomes the summary of that file
 taken_alone : (bytes : Bytes) (file : List (List ℕ)) (state : State) → HoldsFile bytes file → TakesFile most_records bytes no_state state
     → IsKnown (of_file file) state
 taken_alone bytes file state holds takes =
@@ -158,7 +158,8 @@ known_older known bytes state holds reads = record {
   is = state_held dks_1 known bytes state holds reads;
 }
 
--- a docker printed from a state is a docker of what is known of the state
+-- if a state is the summary of what is known, each docker printed from the state is a docker of
+-- what is known
 known_docker : (known : Known) (state : State) (place : List ℕ) (day : ℕ) (text : List ℕ) → IsKnown known state → ¬ IsDayRefused state.horizon day
     → IsOutputText (output_of (print_task place day)) (office_read state) text → PrintsKnown known place day text
 known_docker known state place day text is allowed text_is = record {
