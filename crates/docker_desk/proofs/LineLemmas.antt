@@ -21,7 +21,7 @@ pub none_ahead : (left : Option (List ℕ)) → with_ahead [] left ≡ left
 none_ahead None = refl
 none_ahead (Some rest) = refl
 
--- if bytes were read ahead, the next byte read is the first of them
+-- if bytes were read ahead, the next byte read is the first of these bytes
 pub first_ahead : (byte : ℕ) (old new : List ℕ) (left : Option (List ℕ)) → old ≡ byte ∷ new → ReadsByte (with_ahead old left) (Some byte) (with_ahead new left)
 first_ahead byte old new None same = refl
 first_ahead byte old new (Some rest) same = ap (λ bytes. Some (bytes ++ rest)) same

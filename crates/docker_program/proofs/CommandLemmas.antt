@@ -108,7 +108,7 @@ known_file file state is few summary = record {
   is = summary;
 }
 
--- the state of no files is the summary of no knowledge
+-- the state of no files is the summary of `nothing`: no files and no horizon
 pub known_nothing : IsKnown nothing no_state
 known_nothing = record {
   good = nothing_good dks_2;

@@ -54,7 +54,7 @@ pub record IsNotAsked (words : List Text) (old new : HostView) (Why : Type 0) : 
   pub at_most : AsksAtMost words old.input new.input
   pub unasked : new.history ≡ old.history
 
--- the changes of the folder and of standard input while a job's sources were opened, read and
+-- the changes to the folder and to standard input while a job's sources were opened, read and
 -- closed. `now` is the folder's history after the closing. If the job writes a file, the history
 -- before includes the look at this file
 abbrev pub reading : HostView → HostView → JobView → Bytes → List Event → Asking
