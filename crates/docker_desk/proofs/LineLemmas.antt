@@ -58,7 +58,7 @@ reads_on old now None line more first then_more = first ∙ ap (option_map (λ r
 reads_on old now (Some rest) line more first then_more =
     first ∙ ap (option_map (λ rest. line ++ rest)) then_more ∙ ap Some (sym (append_assoc line more rest))
 
--- reading no bytes leaves the source unchanged
+-- if a source is unchanged, no bytes were read from it
 pub reads_none : (left : Option (List ℕ)) → Reads left [] left
 reads_none None = refl
 reads_none (Some bytes) = refl

@@ -145,7 +145,7 @@ endless_line (Some text) new many = by new many.read
 
 -- ---- writing to the output
 
--- writing no bytes leaves an output unchanged
+-- if an output is unchanged, no bytes were written to it
 pub takes_none : (output : DeviceBytes) → Takes output [] output
 takes_none None = refl
 takes_none (Some taken) = ap Some (sym (append-nil taken))

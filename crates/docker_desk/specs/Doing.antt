@@ -106,7 +106,7 @@ DoesAsked setting (Some request) before answer after =
     DoesRequest setting request before answer after
 DoesAsked setting None before answer after = (answer ≡ no_request) × (after ≡ before)
 
--- this step is one that a session can do. The step's line has the step's request. Carrying out the
+-- this step may occur in a session. The step's line has the step's request. Carrying out the
 -- request at the step's first point gives the step's answer and ends at the step's second point.
 -- The folder failed once in the step if the answer has status 4, and otherwise didn't fail
 pub record IsStep (setting : Setting) (step : Step) : Type 0 where
