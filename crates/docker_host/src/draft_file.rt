@@ -27,7 +27,7 @@ pub struct DraftFile {
 pub(crate) struct Placed {
     /// The name of the file.
     pub(crate) name: String,
-    /// The version of the draft. The next look at the file should see this version.
+    /// The version of the draft. The next look at the file will see this version.
     pub(crate) version: Version,
 }
 
