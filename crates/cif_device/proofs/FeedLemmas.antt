@@ -25,8 +25,7 @@ pub at_start : {T Terms : Type 0} (takes : Taking T Terms) (terms : Terms) (text
 at_start takes terms text left taker taken =
     record { bytes = []; size = refl; lost = lost_nothing left; taken = subst (takes taker terms) (sym (append-nil text)) taken }
 
--- a taker that was fed some bytes and takes the next piece was fed these bytes followed by the
--- piece
+-- if a taker was fed bytes and takes the next piece, it was fed these bytes followed by the piece
 pub next_turn : {T Terms : Type 0} (takes : Taking T Terms) (fed n : ℕ) (terms : Terms) (text : List ℕ) (initial now next : Option (List ℕ)) (before after : T)
     (piece : List ℕ) → (at : HasFed takes fed terms text initial now before) → length piece ≡ n → Reads now piece next
     → takes after terms ((text ++ at.bytes) ++ piece) → HasFed takes (fed + n) terms text initial next after
@@ -64,15 +63,15 @@ pub one_more : {T Terms : Type 0} (takes : Taking T Terms) (fed : ℕ) (terms : 
 one_more takes fed terms text initial now next taker piece at more few =
     record { bytes = at.bytes; piece = piece; lost = lost_more initial now next at.bytes piece at.lost more; few = few; taker = taker; taken = at.taken }
 
--- a source whose bytes the taker has all taken has returned at most one piece beyond the bytes that
--- the taker has taken
+-- if the taker has taken all bytes that a source returned, the source has returned at most one
+-- piece beyond the bytes that the taker has taken
 pub no_more : {T Terms : Type 0} (takes : Taking T Terms) (fed : ℕ) (terms : Terms) (text : List ℕ) (initial now next : Option (List ℕ)) (taker : T)
     → HasFed takes fed terms text initial now taker → next ≡ now → LosesOnePieceMore takes 65536 terms text initial next
 no_more takes fed terms text initial now next taker at same =
     one_more takes fed terms text initial now next taker [] at (subst (Reads now []) (sym same) (lost_nothing now)) (omega arith)
 
--- a source that returned nothing has returned at most one piece beyond the bytes that the taker has
--- taken
+-- if a source returned nothing, it has returned at most one piece beyond the bytes that the taker
+-- has taken
 pub nothing_read : {T Terms : Type 0} (takes : Taking T Terms) (terms : Terms) (text : List ℕ) (left : Option (List ℕ)) (taker : T) → takes taker terms text
     → LosesOnePieceMore takes 65536 terms text left left
 nothing_read takes terms text left taker taken = no_more takes 0 terms text left left left taker (at_start takes terms text left taker taken) refl
@@ -111,7 +110,7 @@ end_stays (Some left) (Some rest) (byte ∷ piece) more end = let none : ⊥ = c
 pub ended_by : (n room : ℕ) (ended now_ended passed now_passed : Bool) → Ends n room ended now_ended passed now_passed → n ≡ 0 → 0 < room → now_ended ≡ true
 ended_by n room ended now_ended passed now_passed (reports, _, _, _) none some = reports none some
 
--- if the end wasn't reported before a read of some bytes, it isn't reported after that read
+-- if the end wasn't reported before a read of at least one byte, it isn't reported after that read
 pub going_on : (n room : ℕ) (ended now_ended passed now_passed : Bool) → Ends n room ended now_ended passed now_passed → ¬ (n ≡ 0) → ended ≡ false
     → now_ended ≡ false
 going_on n room ended now_ended passed now_passed (_, going, _, _) some was = going (omega (arith, some)) ∙ was

@@ -1,19 +1,19 @@
 -- The text that a taker has taken, and the bytes left in the source that feeds the taker. The terms
--- of a taker, such as a limit on its text, stay the same while it takes.
+-- of a taker, such as a limit on its text, stay the same while the taker takes the text.
 use Rattle.std.specs.Prelude.{◌≡◌, ℕ, ◌≤◌, List, ◌++◌, length, Option}
 use Rattle.cif_device.specs.Device.{Reads}
 
--- a relation between a taker, its terms and a text, which says that the taker has taken the text
--- under these terms
+-- a relation between a taker, its terms and a text. The relation says that the taker has taken the
+-- text under these terms
 abbrev pub Taking : Type 0 → Type 0 → Type 1
 Taking T Terms = T → Terms → List ℕ → Type 0
 
--- a relation between a taker, its terms, a text, a piece and a fault, which says that the taker
--- took the text and then refused the piece with this fault
+-- a relation between a taker, its terms, a text, a piece and a fault. The relation says that the
+-- taker took the text and then refused the piece with this fault
 abbrev pub Refusing : Type 0 → Type 0 → Type 0 → Type 1
 Refusing T Terms Fault = T → Terms → List ℕ → List ℕ → Fault → Type 0
 
--- the taker has taken some text under some terms
+-- there are a text and terms such that the taker has taken the text under these terms
 pub record IsTaking {T Terms : Type 0} (takes : Taking T Terms) (taker : T) : Type 0 where
   pub terms : Terms
   pub text : List ℕ
@@ -31,8 +31,8 @@ pub record HasFed {T Terms : Type 0} (takes : Taking T Terms) (count : ℕ) (ter
   pub lost : Reads old bytes new
   pub taken : takes taker terms (text ++ bytes)
 
--- the source returned some bytes, which a taker has taken after the text, and then one more piece
--- of at most `most` bytes
+-- the source returned bytes, and then one more piece of at most `most` bytes. There is a taker that
+-- has taken the text followed by these bytes, without the piece
 pub record LosesOnePieceMore {T Terms : Type 0} (takes : Taking T Terms) (most : ℕ) (terms : Terms) (text : List ℕ) (old new : Option (List ℕ)) : Type 0 where
   pub bytes : List ℕ
   pub piece : List ℕ
@@ -41,8 +41,8 @@ pub record LosesOnePieceMore {T Terms : Type 0} (takes : Taking T Terms) (most :
   pub taker : T
   pub taken : takes taker terms (text ++ bytes)
 
--- the source returned some bytes, which the taker took after the text, and then one more piece,
--- which the taker refused with this fault
+-- the source returned bytes, and then one more piece of at most `most` bytes. The taker took the
+-- text followed by these bytes, and then refused the piece with this fault
 pub record HasRefused {T Terms Fault : Type 0} (takes : Taking T Terms) (refuses : Refusing T Terms Fault) (most : ℕ) (terms : Terms) (text : List ℕ)
     (old new : Option (List ℕ)) (taker : T) (fault : Fault) : Type 0 where
   pub more : LosesOnePieceMore takes most terms text old new

@@ -17,7 +17,7 @@ pub enum FeedFault<F> {
     Source,
     /// The allocator refused memory. No byte was read.
     Memory,
-    /// The taker refused a piece, with this fault.
+    /// The taker refused a piece. The inner fault says why.
     Refused(F),
 }
 
@@ -26,7 +26,8 @@ pub trait Taker {
     /// The reason why the taker refuses a piece.
     type Fault: Drop;
 
-    // The terms of a taker, such as a limit on the text. They stay the same while the taker takes.
+    // The terms of a taker, such as a limit on the text. They stay the same while the taker takes
+    // the text.
     ghost Terms: { Type 0 };
 
     // Whether this taker has taken this text under these terms, and refused no piece of it.

@@ -116,8 +116,8 @@ fn an_answer_with_a_text(rt: HostRuntime) {
     answers(&rt, rt.alloc(), &Answer::Text(page), "0 2 8\none\ntwo\n");
 }
 
-/// Writes the usage answer to a sink that takes one byte per write. Only the write with this number
-/// fails. Returns the result and the sink.
+/// Writes the answer that has the usage line to a sink that takes one byte per write. Only the
+/// write with this number fails. Returns the result and the sink.
 fn broken_at(rt: &impl Abort, alloc: Global, write: u64) -> (Result<(), Failed>, Fuse<Kept>)
     requires { 0 < write }
 {

@@ -9,7 +9,7 @@ pub(crate) fn same<T: PartialEq + Debug + Drop>(rt: &impl Abort, got: T, wanted:
     assert_eq!(rt; got, wanted);
 }
 
-/// Asserts that two values are equal. The message of a failure has this name.
+/// Asserts that two values are equal. The failure message contains this name.
 pub(crate) fn same_in<T: PartialEq + Debug + Drop>(rt: &impl Abort, name: &str, got: T, wanted: T) {
     assert_eq!(rt; got, wanted, "{name}");
 }

@@ -1,6 +1,6 @@
 //! The answers and the reported lines that tests expect, worked out by hand.
 
-/// The usage line, which answers a line that isn't a request: 217 bytes.
+/// The answer to a line that isn't a request: the usage line, of 217 bytes.
 pub(crate) const USAGE: &str = "\
 2 1 217
 desk: usage: [--write] STATE, and then a line for each request: print TIPLOC DATE \
@@ -8,7 +8,7 @@ desk: usage: [--write] STATE, and then a line for each request: print TIPLOC DAT
 | with --write take FILE | merge OTHER | horizon DATE | save
 ";
 
-/// The docker of Ashfeld on 10 June, from a desk that knows the morning train.
+/// The docker of Ashfeld on 10 June that a desk prints if it knows the morning train.
 pub(crate) const ANSWER_0900: &str = "\
 0 3 171
 DOCKER ASHFELD 2024-06-10                               
@@ -16,7 +16,8 @@ DOCKER ASHFELD 2024-06-10
 END                                                     
 ";
 
-/// The docker of Ashfeld on 10 June, from a desk that knows the morning train and its overlay.
+/// The docker of Ashfeld on 10 June that a desk prints if it knows the morning train and its
+/// overlay.
 pub(crate) const ANSWER_OVERLAID: &str = "\
 0 3 171
 DOCKER ASHFELD 2024-06-10                               
@@ -24,7 +25,7 @@ DOCKER ASHFELD 2024-06-10
 END                                                     
 ";
 
-/// The docker of Ashfeld on 10 June, from a desk that knows the revision.
+/// The docker of Ashfeld on 10 June that a desk prints if it knows the revision.
 pub(crate) const ANSWER_0905: &str = "\
 0 3 171
 DOCKER ASHFELD 2024-06-10                               
@@ -39,13 +40,13 @@ DOCKER ASHFELD 2024-06-18
 END                                                     
 ";
 
-/// The answer to a request for a day that the horizon refuses.
+/// The answer to a request for a day that is refused under the horizon.
 pub(crate) const DAY_REFUSED: &str = "\
 1 1 52
 docker: day refused: before horizon plus three days
 ";
 
-/// The answer to a request that was done and has no text.
+/// The answer that has no text, for a request that succeeded.
 pub(crate) const DONE: &str = "0 0 0\n";
 
 /// The answer to a request whose file can't be read or stored.
@@ -60,10 +61,10 @@ pub(crate) const UNSAVED: &str = "desk: changes not saved\n";
 /// The lines that report a failed input or output and unsaved changes.
 pub(crate) const DEVICE_UNSAVED: &str = "docker: device failed\ndesk: changes not saved\n";
 
-/// The answer to `files` of a desk that knows the morning train.
+/// A desk's answer to `files` if it knows the morning train.
 pub(crate) const FILES: &str = "0 1 34\n2024-06-09 2100 DFROC1A U DFROC1Z\n";
 
-/// The answer to `files` of a desk that knows the revision too.
+/// A desk's answer to `files` if it knows both the morning train and the revision.
 pub(crate) const BOTH_FILES: &str = "\
 0 2 68
 2024-06-09 2100 DFROC1A U DFROC1Z

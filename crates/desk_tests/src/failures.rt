@@ -41,7 +41,7 @@ fn an_output_that_fails(rt: HostRuntime) {
 }
 
 /// Asserts the status, the answers and the reported lines of a session in which the desk may write.
-/// Its input gives one byte per read, and only the read with this number fails.
+/// Its input returns one byte per read, and only the read with this number fails.
 fn input_fails_at(rt: &impl Abort, alloc: Global, read: u64, answers: &[&str], end: (u8, &str))
     requires { 0 < read }
 {

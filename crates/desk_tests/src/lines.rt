@@ -162,8 +162,8 @@ fn a_thousand_lines(rt: HostRuntime) {
     are_lines_in_pieces(&rt, text.as_slice(), &[(LINE, b"renew".as_slice()); 1000]);
 }
 
-/// Reads one line from a source that gives one byte per read; only the read with this number fails.
-/// Returns how often the source failed, and whether reading the line failed.
+/// Reads one line from a source that returns one byte per read. Only the read with this number
+/// fails. Returns how often the source failed, and whether reading the line failed.
 fn read_with_fuse(text: &[u8], read: u64) -> (u64, bool)
     requires { 0 < read }
 {

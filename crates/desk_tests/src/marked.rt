@@ -3,8 +3,8 @@ ghost use Rattle.std.specs.Prelude.{None};
 
 use cif_line::{Failed, Source};
 
-/// A source that gives at most 100 bytes per read. It records whether it has reported its end, and
-/// whether it was read after that. It never fails.
+/// A source that returns at most 100 bytes per read. It records whether it has reported its end,
+/// and whether it was read after that. It never fails.
 #[derive(Drop)]
 pub(crate) struct Marked<'a> {
     rest: &'a [u8],

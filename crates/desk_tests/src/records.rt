@@ -7,10 +7,10 @@ use test_records::{BS, BS_OVERLAY_WEEKDAYS, BS_REVISED, HD, HD_10B, LO, LO_0905,
 /// The lines of a file, or the parts of a state's text.
 pub(crate) type Parts = &'static [&'static [u8]];
 
-/// A file of one train from Ashfeld to Brayton.
+/// A file with one train, from Ashfeld to Brayton.
 pub(crate) const MORNING: Parts = &[HD, BS, LO, LT, ZZ];
 
-/// A file of 10 June with a revision of the morning train, which now leaves five minutes later.
+/// A file of 10 June that revises the morning train to leave five minutes later.
 pub(crate) const REVISION: Parts = &[HD_10B, BS_REVISED, LO_0905, LT, ZZ];
 
 /// The file of the revision, without its trailer.
@@ -36,10 +36,10 @@ const ITEM: &[u8] = b"\x5b\xf0\x04\xecDFROC1AUDFROC1Z";
 
 const ITEM_LATER: &[u8] = b"\x5b\xf1\x04\xecDFROC1BUDFROC1A";
 
-/// The entries of C10001 in these two files, without their ops.
+/// The entries of C10001 in the morning train's file and in the revision, without their ops.
 const ENTRY: &[u8] = b"\x03C10001\x5b\xf1P\x5b\xf0\x04\xecDFROC1A\0\0\0\x02";
 
-/// The entry of the overlay of C10001 in the first file, without its op.
+/// The entry of the overlay of C10001 in the morning train's file, without its op.
 const ENTRY_OVERLAY: &[u8] = b"\x03C10001\x5b\xf1O\x5b\xf0\x04\xecDFROC1A\0\0\0\x05";
 
 const ENTRY_LATER: &[u8] = b"\x03C10001\x5b\xf1P\x5b\xf1\x04\xecDFROC1B\0\0\0\x02";
@@ -107,7 +107,7 @@ pub(crate) const LAPSED_STATE: Parts = &[MARK_15, ONE, ITEM, ONE, ENTRY, LAPSED]
 /// The ledger item of a full extract of 9 June 2024, 21:00.
 const ITEM_FULL: &[u8] = b"\x5b\xf0\x04\xecDFROC1AFDFROC1Z";
 
-/// The entries of three timing points in that file, without their ops.
+/// The entries of three timing points in the full extract of 9 June, without their ops.
 const ASHFELD: &[u8] = b"\x01ASHFELD\x5b\xf0\x04\xecDFROC1A\0\0\0\x02";
 
 const BRAYTON: &[u8] = b"\x01BRAYTON\x5b\xf0\x04\xecDFROC1A\0\0\0\x03";
@@ -122,7 +122,7 @@ const WITHOUT_CODES: &[u8] = b"\x01         CORHAM EXCHANGE                     
 
 const DELETED: &[u8] = b"\0";
 
-/// The state that knows these timing points, with Brayton deleted, and the morning train.
+/// The state that knows these timing points and the morning train. Brayton is deleted.
 pub(crate) const PLACES_STATE: Parts = &[
     MARK,
     ONE,

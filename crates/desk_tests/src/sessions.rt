@@ -149,7 +149,7 @@ const LEFT_UNSAVED: &[Row] = &[
     ),
 ];
 
-/// Rows of sessions with refused requests, which change nothing.
+/// Rows of sessions with refused requests. Refused requests change nothing.
 const REFUSED: &[Row] = &[
     (
         WRITING,

@@ -22,7 +22,7 @@ pub(crate) fn shelf_with(rt: &impl Abort, alloc: Global, name: &str, text: &[u8]
     shelf
 }
 
-/// Returns a shelf with the file `S`, which holds this state.
+/// Returns a shelf with the file `S`. The file holds this state.
 pub(crate) fn shelf_of(rt: &impl Abort, alloc: Global, state: Parts) -> Shelf
     ensures { result.failures ≡ 0 }
 {

@@ -9,7 +9,7 @@ use docker_desk::Desk;
 use std::alloc::Global;
 use std::process::Abort;
 
-/// The answer for the morning train on 10 June. The second record of the update of 9 June put its
+/// The answer for the morning train on 10 June. The second record of the update of 9 June put this
 /// schedule.
 const RUNS: &str = "\
 0 5 405
@@ -21,7 +21,7 @@ END
 ";
 
 /// The answer for the revision of the morning train. The second record of the update of 10 June put
-/// its schedule.
+/// this schedule.
 const REVISED: &str = "\
 0 5 405
 TRAIN  C10001  2024-06-10 P RUNS      2024-06-10 2100 DFROC1B          2        

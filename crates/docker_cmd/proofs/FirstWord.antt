@@ -79,7 +79,7 @@ module _ (subs : List Shape) (s : Shape) (name : Text) (words : List Text)
   named_walk : walk [] names nothing_held (name ∷ words) ≡ after_name name words
   named_walk = ap (λ w. fold (walked [] names) w words) named_walked ∙ sym (walk_stopped [] names (walk_from nothing_held) name [] words)
 
-  -- the subcommand's name has no fault
+  -- the walk finds no fault in the subcommand's name
   named_turn : turn_fault built_top names (walk_from nothing_held) name ≡ []
   named_turn =
       let word_part = ap (λ o. other_fault built_top o name nothing_held) met
@@ -91,7 +91,7 @@ module _ (subs : List Shape) (s : Shape) (name : Text) (words : List Text)
   unfolding walk_fault
   named_walk_fault = ap₂ or_else named_turn (ap (λ w. walk_fault built_top names w words) named_walked ∙ no_later_fault names name [] words)
 
-  -- the faults of the command are those that the subcommand has for the words after its name
+  -- the faults of the command are the subcommand's faults for the words after its name
   pub named_fault : built_fault (built_with subs) nothing_held (name ∷ words) ≡ level_fault s [] nothing_held words false []
   unfolding defaults_fault
   named_fault =
@@ -100,7 +100,7 @@ module _ (subs : List Shape) (s : Shape) (name : Text) (words : List Text)
       (check_fault built_top [] (is_some (option_map (λ x. rows_at x words) found)))) under
       ∙ or_else_none (level_fault s [] nothing_held words false [])
 
-  -- the matches of the command are those that the subcommand has for the words after its name
+  -- the matches of the command are the subcommand's matches for the words after its name
   pub named_rows : entered (built_with subs) (walk [] names nothing_held (name ∷ words)).stopped ≡ Some (rows_at s words)
   named_rows =
       ap (λ (w : Walk). entered (built_with subs) w.stopped) named_walk ∙ ap (option_map (λ x. rows_at x words)) under

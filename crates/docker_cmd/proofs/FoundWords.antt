@@ -8,7 +8,7 @@ use Rattle.docker_cmd.specs.Words.{Text, texts}
 use Rattle.docker_cmd.specs.Grammar.{found_words}
 
 -- looking up all ids returns `found`, the words of the ids before `i`, followed by the words of the
--- ids from `i` on. It returns None if one of the ids from `i` on has no word
+-- ids from `i` on. The lookup returns None if one of the ids from `i` on has no word
 abbrev pub HasFound : List (Bor Text) → List Row → ℕ → List Text → Type 0
 HasFound ids rows i found = found_words (texts ids) rows ≡ option_map (λ rest. found ++ rest) (found_words (texts (drop i ids)) rows)
 
@@ -20,8 +20,8 @@ none_yet ids rows = by (found_words (texts ids) rows)
     by None = refl
     by (Some words) = refl
 
--- the words found before id `i`, then this word of id `i`, then the words of later ids; None if any
--- of these is missing
+-- the words found before id `i`, then this word of id `i`, then the words of later ids. None if id
+-- `i` or a later id has no word
 abbrev with_word : List (Bor Text) → List Row → ℕ → List Text → Option Text → Option (List Text)
 with_word ids rows i found here = option_map (λ rest. found ++ rest)
     (option_and_then (λ word. option_map (λ words. word ∷ words) (found_words (texts (drop (i + 1) ids)) rows)) here)

@@ -1,5 +1,5 @@
 -- `clap` accepts words if and only if they name a subcommand. If `clap` accepts the words, it finds
--- that subcommand and the words after it.
+-- the subcommand that they name, and the words after its name.
 use Rattle.std.proofs.Common.{◌≡◌, ◌∙◌, ◌⊎◌, ◌||◌, inl, inr, Bool, cond, true, false, refl, sym, ap, subst}
 use Rattle.std.proofs.Common.{List, [], ◌∷◌, length, map, Some, None, option_map, true≢false, arith}
 use Rattle.std.specs.Prelude.{option_and_then}
@@ -19,12 +19,12 @@ use Rattle.docker_cmd.proofs.RequiredWords.{count_fault, leaf_fault, paired, row
 use Rattle.docker_cmd.proofs.Rows.{known, leaf_of, leaves, named_back}
 use Rattle.docker_cmd.proofs.TaskWords.{first_word, other_words, same_subcommand}
 
--- the words are the subcommand's name, followed by as many words as it requires
+-- the words are the subcommand's name, followed by as many words as the subcommand requires
 pub record AreRequired (words : List Text) (s : Subcommand) (behind : List Text) : Type 0 where
   pub whole : words ≡ name_of s ∷ behind
   pub count : length behind ≡ length (ids_of s)
 
--- the words name a subcommand, and `clap` finds it and the words after it
+-- the words name a subcommand, and `clap` finds this subcommand and the words after its name
 pub record Takes (words : List Text) : Type 0 where
   pub subcommand : Subcommand
   pub behind : List Text
@@ -73,7 +73,8 @@ module _ (s : Subcommand) (words : List Text) (plain : list_all is_plain_word wo
       ap found_in (named_rows leaves (leaf_of s) (name_of s) words k.met k.under)
       ∙ ap (found_at (name_of s)) (rows_found (name_of s) (ids_of s) words k.fits k.fresh plain)
 
-  -- if there are as many words as the subcommand requires, looking them up finds all of them
+  -- if there are as many words as the subcommand requires, looking up the subcommand's ids finds
+  -- all of these words
   words_at_name : length words ≡ length (ids_of s) → found_at (name_of s) (paired (ids_of s) words) ≡ Some (pair_of s words)
   words_at_name count =
       ap (option_and_then (λ t. option_map (pair_of t) (found_words (ids_of t) (paired (ids_of s) words)))) (named_back s)
@@ -97,7 +98,7 @@ module _ (s : Subcommand) (words : List Text) (plain : list_all is_plain_word wo
     })
   ]
 
--- ---- words of any kind
+-- ---- whether `clap` accepts the words
 
 -- the word isn't the name of any subcommand in this list
 abbrev IsNoneOf : Text → List Subcommand → Type 0
@@ -145,7 +146,7 @@ by_name word words plain (s ∷ ss) unnamed = by (bytes_eq (name_of s) word) ref
     by true same rest = subst (λ w. Judged (w ∷ words)) ((bytes_eq-Decides (name_of s) word).0 same) (named_judged s words plain)
     by false differ rest = rest differ
 
--- plain words are either accepted or refused
+-- `clap` either accepts or refuses plain words
 pub judged : (words : List Text) → list_all is_plain_word words ≡ true → Judged words
 judged [] plain = inr (record {
   fault = λ empty. true≢false (sym (ap is_empty (sym (no_word leaves) ∙ empty)));

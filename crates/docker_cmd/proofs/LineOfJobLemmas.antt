@@ -54,7 +54,8 @@ pub printable_more : (line : List ℕ) (b : ℕ) → ArePrintable line → is_pr
 printable_more [] b good here = (here, tt)
 printable_more (y ∷ line) b good here = (good.0, printable_more line b good.1 here)
 
--- reading the bytes of a line and then one more byte is reading the line with this byte appended
+-- reading the bytes of a line and then one more byte is the same as reading the line with this byte
+-- appended
 pub reads_on : (old now new : Option (List ℕ)) (line : List ℕ) (b : ℕ) → Reads old line now → Reads now (b ∷ []) new → Reads old (line ++ b ∷ []) new
 reads_on old now None line b first then_one = first ∙ ap (option_map (λ rest. line ++ rest)) then_one
 reads_on old now (Some rest) line b first then_one = first ∙ ap (option_map (λ rest. line ++ rest)) then_one ∙ ap Some (sym (append_assoc line (b ∷ []) rest))
@@ -68,7 +69,7 @@ no_line_at_end (Some text) (Some rest) line read end good = λ other behind is.
     let whole : text ≡ line = same ∙ ap (λ r. line ++ r) end ∙ append-nil line in
     ended line other behind good (sym whole ∙ is.whole)
 
--- if the first byte of a text that isn't printable isn't a line feed, the text has no job line
+-- if the first unprintable byte of a text isn't a line feed, the text has no job line
 pub no_line_at : (old now new : Option (List ℕ)) (line : List ℕ) (b : ℕ) → Reads old line now → Reads now (b ∷ []) new → ArePrintable line
     → is_printable b ≡ false → b ≢ 10 → HasNoLine old
 no_line_at old now new line b first feed good bad other = by old new (reads_on old now new line b first feed)
@@ -90,7 +91,8 @@ no_line_behind (Some text) (Some rest) line read good long_line = λ found behin
     let short : length found ≤ 255 = is.line_text.short in
     long line found rest behind good (omega arith) (sym same ∙ is.whole)
 
--- if 255 printable bytes begin a text and the next byte isn't a line feed, the text has no job line
+-- if a text begins with 255 printable bytes and the next byte isn't a line feed, the text has no
+-- job line
 pub no_line_full : (old now new : Option (List ℕ)) (line : List ℕ) (b : ℕ) → Reads old line now → Reads now (b ∷ []) new → ArePrintable line
     → length line ≡ 255 → b ≢ 10 → HasNoLine old
 no_line_full old now new line b first feed good full other = by (is_printable b) refl
@@ -116,7 +118,8 @@ one_line (y ∷ a) (z ∷ b) r s a_good b_good same =
     let rest : a ≡ b = one_line a b r s a_good.1 b_good.1 (cc) in
     cc
 
--- if a job line was read and its words name no job, the source names no job
+-- if a job line was read and its words name no job, the source doesn't begin with a job line that
+-- names a job
 pub no_job_on_line : (old new : Option (List ℕ)) (line : List ℕ) → ReadsLine old line new → NameNoJob (words_in line) → HasNoJob old
 no_job_on_line None new line read none = tt
 no_job_on_line (Some text) new line read none = λ other behind is.
@@ -141,16 +144,17 @@ printable_small b good = by (leb_tells b 126) good
 pub line_ascii : (line : List ℕ) → AllPass is_printable line → IsAscii line
 line_ascii line good = IsAscii-from_all line (λ k d within. printable_small (get_or line k d) (good k d within))
 
--- if a job line was read and its words name a job, the source names a job
+-- if a job line was read and its words name a job, the source begins with a job line that names a
+-- job
 pub job_on_line : (old new : Option (List ℕ)) (line : List ℕ) → ReadsLine old line new → ¬ NameNoJob (words_in line) → HasJob old
 job_on_line None new line read some = tt
 job_on_line (Some text) new line read some = (line, (read.0, (read.1, some)))
 
--- reading a line of at most 256 bytes is reading at most 256 bytes
+-- if a line of at most 256 bytes was read, at most 256 bytes were read
 pub reads_few : (old now new : Option (List ℕ)) (line : List ℕ) → Reads old line now → new ≡ now → length line ≤ 256 → ReadsAtMost 256 old new
 reads_few old now new line read same few = record { lost = line; few = few; read = subst (Reads old line) (sym same) read }
 
--- reading a line of at most 255 bytes and one more byte is reading at most 256 bytes
+-- if a line of at most 255 bytes and then one more byte were read, at most 256 bytes were read
 pub reads_one_more : (old now new : Option (List ℕ)) (line : List ℕ) (b : ℕ) → Reads old line now → Reads now (b ∷ []) new → length line ≤ 255
     → ReadsAtMost 256 old new
 reads_one_more old now new line b first then_one few =

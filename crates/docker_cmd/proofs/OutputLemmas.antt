@@ -1,4 +1,4 @@
--- What a job writes follows from what its office prints.
+-- Lemmas on writing a docker, given the contract of the office that prints it.
 use Rattle.std.proofs.Common.{◌≡◌, ◌≢◌, ◌+◌, ◌⊎◌, ℕ, List, inl, inr, refl, Ok, Err}
 use Rattle.std.specs.Prelude.{IfErr, IsOk, Result, ⊤}
 use Rattle.docker_model.specs.state.Lapse.{IsDayRefused}
@@ -9,7 +9,8 @@ use Rattle.docker_office.specs.declared.fault.OfficeFault.{OfficeFault}
 use Rattle.docker_office.specs.declared.fault.OfficeFault.TheVariants as office
 use Rattle.docker_cmd.specs.Prepared.{DeviceBytes, EndsEmitting, docker_written, office_read}
 
--- if an office prints a docker as its contract says, writing the docker ends as `EndsEmitting` says
+-- if an office prints a docker as the office's contract says, writing the docker ends as
+-- `EndsEmitting` says
 pub docker_ends : {K : Type 0} (taken : K → DeviceBytes) (failures : K → ℕ) (state : State) (place : List ℕ) (day : ℕ) (old new : K)
     (result : Result ⊤ OfficeFault)
     → (IsOk result → PrintsDocker state place day (taken old) (taken new))

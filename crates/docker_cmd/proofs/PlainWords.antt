@@ -44,7 +44,7 @@ plain_met c names position word h plain none =
     ∙ ap (λ long. long_or_other c idle word long h) (no_long word plain)
     ∙ ap (λ flags. short_or_plain c idle word flags h) (no_short word plain)
 
--- a plain word that isn't a subcommand's name has no fault by itself
+-- a plain word that isn't a subcommand's name causes no fault by itself
 pub plain_fault : (s : Shape) (names : Names) (word : Text) (h : Held) → is_plain_word word ≡ true → subcommand_met names idle word ≡ None
     → word_fault s names false idle word h ≡ []
 plain_fault s names word h plain none =

@@ -12,7 +12,7 @@ use Rattle.docker_cmd.specs.declared.reads.Sources.{Sources}
 use Rattle.docker_cmd.specs.Prepared.{DeviceBytes, FailsBy, HasNoSource, HasReadToEnd, HoldsSomeState, IsContentOf, IsWhyRefused, ReadView}
 use Rattle.docker_cmd.specs.Prepared.{ReadsFew, ReadsFewOfFile, ReadsFewOfState, most_bytes, one_state, state_and_file, taken_file, two_states}
 
--- ---- one source
+-- ---- reading one source
 
 -- if reading a state from the only source ends with a fault, this fault is one for which the source
 -- may be refused
@@ -67,7 +67,7 @@ file_failed_alone A one one_now two office.Memory counted = (counted, refl)
 file_failed_alone A one one_now two office.Lapsed counted = counted
 file_failed_alone A one one_now two office.Sink counted = counted
 
--- ---- two sources
+-- ---- reading two sources
 
 -- suppose that reading a state from the first source ends with a fault, so that the file in the
 -- second source isn't read. Then this fault is one for which the sources may be refused
@@ -165,7 +165,7 @@ state_failed one one_now two two_now office.Sink same counted = counted
 
 -- ---- the sources of a task
 
--- replacing the sources with equal ones preserves what was read from them
+-- what was read from sources is also what was read from equal sources
 pub read_at : (asked sources : Sources) (first left second second_left : DeviceBytes) (read : ReadView) → asked ≡ sources
     → ReadsFew (sources_meant sources) first left second second_left
     (IsContentOf (sources_meant sources) first second read × HasReadToEnd (sources_meant sources) left second_left)
@@ -175,7 +175,7 @@ read_at asked sources first left second second_left read is reads =
     subst (λ (s : Sources). ReadsFew (sources_meant s) first left second second_left
     (IsContentOf (sources_meant s) first second read × HasReadToEnd (sources_meant s) left second_left)) (sym is) reads
 
--- replacing the sources with equal ones preserves the fault for which they may be refused
+-- sources may be refused for the same faults as equal sources
 pub refused_at : (asked sources : Sources) (first left second second_left : DeviceBytes) (fault : OfficeFault) → asked ≡ sources
     → ReadsFew (sources_meant sources) first left second second_left (IsWhyRefused (sources_meant sources) first left second second_left fault)
     → ReadsFew (sources_meant asked) first left second second_left (IsWhyRefused (sources_meant asked) first left second second_left fault)
@@ -183,12 +183,12 @@ refused_at asked sources first left second second_left fault is reads =
     subst (λ (s : Sources). ReadsFew (sources_meant s) first left second second_left
     (IsWhyRefused (sources_meant s) first left second second_left fault)) (sym is) reads
 
--- replacing the sources with equal ones preserves that they aren't `no_source`
+-- of two equal `Sources`, one can't be `no_source` while the other isn't
 pub some_at : (P : Type 0) (asked sources : Sources) → asked ≡ sources → ¬ HasNoSource (sources_meant sources) → HasNoSource (sources_meant asked) → P
 some_at P asked sources is some none = absurd (some (subst (λ (s : Sources). HasNoSource (sources_meant s)) is none))
 
--- if there is a second source, either the reading stopped at the first, or the first was good and
--- the second was read
+-- if there is a second source, either the reading stopped at the first source, or the first source
+-- was read successfully and the second was read
 pub read_second : {First Second Good Kept : Type 0} → Second → First ⊎ (Good × Kept) → First ⊎ (Second × Good × Kept)
 read_second has (inl left) = inl left
 read_second has (inr both) = inr (has, both.0, both.1)

@@ -21,11 +21,11 @@ use Rattle.docker_cmd.specs.Words.{is_plain_word}
 use Rattle.docker_cmd.specs.Grammar.{docker_shape, required_rule, words_shape}
 use Rattle.docker_cmd.proofs.PlainWords.{at, plain_turn, plain_walked}
 
--- the program's own level, after `clap` has built it
+-- the top level of the program, after `clap` has built the program
 abbrev pub built_top : Shape
 built_top = record docker_shape { is_leaf = false; is_built = true }
 
--- a subcommand of the program, after `clap` has built it
+-- a subcommand of the program, after `clap` has built the subcommand
 abbrev pub leaf : Text → List Text → Shape
 leaf name ids = built_leaf (inherited built_top (words_shape name ids))
 
@@ -57,15 +57,14 @@ paired [] words = []
 paired (id ∷ ids) [] = []
 paired (id ∷ ids) (word ∷ words) = row id word ∷ paired ids words
 
--- ---- one required word
+-- ---- reading one required word
 
 -- if the disjunction of two tests is false, both tests are false
 neither : (a b : Bool) → (a || b) ≡ false → (a ≡ false) × (b ≡ false)
 neither true b e = absurd (true≢false e)
 neither false b e = (refl, e)
 
--- if there is no row with this id, changing the rows at the id appends the rows that are given for
--- this case
+-- if no row has this id, changing the rows at the id appends the rows in `missing`
 at_new : (id : Text) (change : Row → List Row) (missing rows : List Row) → has_row id rows ≡ false → at_row id change missing rows ≡ rows ++ missing
 at_new id change missing [] fresh = refl
 at_new id change missing (r ∷ rows) fresh =
@@ -78,7 +77,7 @@ used_new position id word rows fresh =
     ap (with_values id (reading_by (new_rule id)) CommandLine (word ∷ [])) (at_new id (λ _. []) [] rows fresh ∙ append-nil rows)
     ∙ at_new id (more_values CommandLine (word ∷ [])) (row id word ∷ []) rows fresh
 
--- at the end of the walk, what the walk holds becomes these rows, without a fault
+-- at the end of the walk, what the walk holds becomes these rows, and no fault is found
 record Settles (s : Shape) (h : Held) (rows : List Row) : Type 0 where
   rows_are : settled_rows s.rules h.pending h.rows ≡ rows
   no_fault : settle_fault s.rules s.args_override_self h ≡ []
@@ -112,7 +111,7 @@ placed_walked s position id word h rows found settles plain =
     ∙ at_positional s.rules position id word h
     ∙ ap (λ rs. at (holding rs id word h.skip) (next position)) settles.rows_are
 
--- a required word at its position has no fault
+-- a required word at its position causes no fault
 placed_fault : (s : Shape) (position : ℕ) (id word : Text) (rest : List Text) (h : Held) (rows : List Row)
     → arg_by_index s.rules position ≡ Some (placed position id)
     → Settles s h rows → is_plain_word word ≡ true
@@ -125,9 +124,10 @@ placed_fault s position id word rest h rows found settles plain =
     let after = placed_walked s position id word h rows found settles plain in
     λ i. or_else (turn i) (walk_fault s [] (after i) rest)
 
--- ---- all words of a subcommand
+-- ---- reading all words of a subcommand
 
--- the fault if there are more words than ids, otherwise none
+-- a list with the fault for too many words if there are more words than ids, otherwise the empty
+-- list
 abbrev surplus_fault : List Text → List Text → Kinds
 surplus_fault [] [] = []
 surplus_fault [] (word ∷ words) = kind.UnknownArgument ∷ []
@@ -140,7 +140,8 @@ is_short [] words = false
 is_short (id ∷ ids) [] = true
 is_short (id ∷ ids) (word ∷ words) = is_short ids words
 
--- the faults of the walk over the words are the fault for more words than ids, if there are more
+-- the only fault of the walk over the words is the fault for too many words, if there are more
+-- words than ids
 words_fault : (s : Shape) (position : ℕ) (ids words : List Text) (h : Held) (rows : List Row) → stray_fault s ≡ kind.UnknownArgument ∷ []
     → Fits s.rules position ids → Fresh rows ids
     → Settles s h rows → list_all is_plain_word words ≡ true → walk_fault s [] (at h position) words ≡ surplus_fault ids words
@@ -199,8 +200,8 @@ no_default_fault position (id ∷ ids) rows =
     ap (λ b. or_else (cond b [] []) (defaults_fault (with_default rows (placed position id)) rest)) (or-true (has_row id rows))
     ∙ ap (λ rs. defaults_fault rs rest) (same_rows id rows) ∙ no_default_fault (next position) ids rows
 
--- if there is no row with an id among the first rows, the id is given in all rows if and only if it
--- is given in the other rows
+-- if none of the first rows has an id, `is_given` holds for the id in all rows if and only if it
+-- holds in the other rows
 not_given : (id : Text) (rows rest : List Row) → has_row id rows ≡ false → is_given id (rows ++ rest) ≡ is_given id rest
 not_given id [] rest fresh = refl
 not_given id (r ∷ rows) rest fresh =
@@ -208,7 +209,7 @@ not_given id (r ∷ rows) rest fresh =
     ap (λ b. option_map_or (λ (x : Row). explicit_source x.source) (cond b (Some r) (find (λ x. bytes_eq x.id id) (rows ++ rest))) false) parts.0
     ∙ not_given id rows rest parts.1
 
--- an id that has a row is given
+-- if an id has a row, `is_given` holds for this id
 given_here : (id word : Text) (rest : List Row) → is_given id (row id word ∷ rest) ≡ true
 given_here id word rest =
     ap (λ b. option_map_or (λ (x : Row). explicit_source x.source) (cond b (Some (row id word)) (find (λ x. bytes_eq x.id id) rest)) false)
@@ -229,7 +230,7 @@ missing position (id ∷ ids) (word ∷ words) rows fresh =
     ∙ ap (λ rs. list_any (λ a. a.required && not (is_given a.id rs)) tail) (sym (append_assoc rows (row id word ∷ []) after))
     ∙ missing (next position) ids words (rows ++ row id word ∷ []) (fresh.1 word)
 
--- ---- a whole subcommand
+-- ---- the matches and the faults of a subcommand
 
 -- the faults if the number of words differs from the number of ids
 abbrev pub count_fault : List Text → List Text → Kinds

@@ -49,7 +49,7 @@ three_counted Holds (a ∷ b ∷ []) is = absurd is
 three_counted Holds (a ∷ b ∷ c ∷ []) is = refl
 three_counted Holds (a ∷ b ∷ c ∷ d ∷ words) is = absurd is
 
--- the words of a task are as many as its subcommand requires
+-- a task has as many words as the task's subcommand requires
 pub words_counted : (task : TaskView) (words : List Text) → AreWordsOf task words → length words ≡ length (ids_of (subcommand_of task))
 words_counted new_task words is = one_counted _ words is
 words_counted check_task words is = one_counted _ words is
@@ -120,14 +120,14 @@ suit migrate_task words is = is
 
 -- ---- looking up words at ids
 
--- looking up one word at its id finds it
+-- looking up one word at its id finds this word
 one_found : (a : Text) → ((x : Text) → found_words (a ∷ []) (paired (a ∷ []) (x ∷ [])) ≡ Some (x ∷ []))
     → (words : List Text) → length words ≡ 1 → found_words (a ∷ []) (paired (a ∷ []) words) ≡ Some words
 one_found a found [] one = absurd (omega (arith, one))
 one_found a found (x ∷ []) one = found x
 one_found a found (x ∷ y ∷ words) one = absurd (omega (arith, one))
 
--- looking up two words at their ids finds them
+-- looking up two words at their ids finds these words
 two_found : (a b : Text) → ((x y : Text) → found_words (a ∷ b ∷ []) (paired (a ∷ b ∷ []) (x ∷ y ∷ [])) ≡ Some (x ∷ y ∷ []))
     → (words : List Text) → length words ≡ 2 → found_words (a ∷ b ∷ []) (paired (a ∷ b ∷ []) words) ≡ Some words
 two_found a b found [] two = absurd (omega (arith, two))
@@ -135,7 +135,7 @@ two_found a b found (x ∷ []) two = absurd (omega (arith, two))
 two_found a b found (x ∷ y ∷ []) two = found x y
 two_found a b found (x ∷ y ∷ z ∷ words) two = absurd (omega (arith, two))
 
--- looking up three words at their ids finds them
+-- looking up three words at their ids finds these words
 three_found : (a b c : Text) → ((x y z : Text) → found_words (a ∷ b ∷ c ∷ []) (paired (a ∷ b ∷ c ∷ []) (x ∷ y ∷ z ∷ [])) ≡ Some (x ∷ y ∷ z ∷ []))
     → (words : List Text) → length words ≡ 3 → found_words (a ∷ b ∷ c ∷ []) (paired (a ∷ b ∷ c ∷ []) words) ≡ Some words
 three_found a b c found [] three = absurd (omega (arith, three))

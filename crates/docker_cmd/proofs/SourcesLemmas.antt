@@ -1,4 +1,4 @@
--- What a task makes of its sources follows from what was read from them.
+-- What a task makes from its sources follows from what was read from them.
 use Rattle.std.proofs.Common.{◌≡◌, ℕ, [], ◌∷◌, ◌⊎◌, Option, None, refl, sym, ◌∙◌, ap, subst, Some}
 use Rattle.cif_laws.proofs.lists.Membership.{Contains-single, nil-Contains}
 use Rattle.docker_model.specs.file.File.{most_records}
@@ -114,7 +114,8 @@ written_of : (task : TaskView) (first second : DeviceBytes) (read : ReadView) �
 written_of task first second (file_read file) is = ap output_of (checked task is.0)
 written_of task first second (office_read state) is = state_written_of task first second state is
 
--- setting a horizon preserves which outputs can be written from a content
+-- an output that can be written from a content can still be written after a horizon was set on that
+-- content
 still_written : (output : Output) (horizon : Option ℕ) (read : ReadView) → IsWrittenOf output read → IsWrittenOf output (under horizon read)
 still_written output None read is = is
 still_written output (Some day) (file_read file) is = is
@@ -144,7 +145,7 @@ task_read task sources horizon first left second second_left own made same_sourc
       ends = (subst (λ read. IsReadOf task first second read) (sym is) (read_of task first second own moved.ends.0), moved.ends.1);
     }
 
--- replacing the sources with equal ones preserves the fault for which they may be refused
+-- sources may be refused for the same faults as equal sources
 pub refused_for : (sources others : Sources) (first left second second_left : DeviceBytes) (fault : OfficeFault) → sources ≡ others
     → ReadsFew sources first left second second_left (IsWhyRefused sources first left second second_left fault)
     → ReadsFew others first left second second_left (IsWhyRefused others first left second second_left fault)
@@ -161,7 +162,7 @@ prepared_read job first left second second_left read reads =
 
 -- ---- tasks that keep only a part of what they have read
 
--- replacing a task with an equal one preserves what it has read
+-- what a task has read is also what an equal task has read
 pub read_of_task : (asked task : TaskView) (first left second second_left : DeviceBytes) (read : ReadView) → asked ≡ task
     → ReadsFew (sources_of task) first left second second_left (IsReadOf task first second read × HasReadToEnd (sources_of task) left second_left)
     → ReadsFew (sources_of asked) first left second second_left (IsReadOf asked first second read × HasReadToEnd (sources_of asked) left second_left)
@@ -169,12 +170,12 @@ read_of_task asked task first left second second_left read is reads =
     subst (λ t. ReadsFew (sources_of t) first left second second_left (IsReadOf t first second read × HasReadToEnd (sources_of t) left second_left))
     (sym is) reads
 
--- if a task has a source, so has an equal task
+-- of two equal tasks, one can't lack a source while the other has one
 pub some_of_task : (P : Type 0) (asked task : TaskView) → asked ≡ task → ¬ HasNoSource (sources_of task) → HasNoSource (sources_of asked) → P
 some_of_task P asked task is some none = absurd (some (subst (λ t. HasNoSource (sources_of t)) is none))
 
--- replacing the sources with equal ones preserves that the second was read only after a good first
--- one
+-- if the second source was read only after the first was read successfully, the same holds for
+-- equal `Sources`
 pub second_for : {First Good Kept : Type 0} (sources others : Sources) → sources ≡ others → First ⊎ (HasSecondSource sources × Good × Kept)
     → First ⊎ (HasSecondSource others × Good × Kept)
 second_for {First} {Good} {Kept} sources others same order = subst (λ s. First ⊎ (HasSecondSource s × Good × Kept)) same order

@@ -23,7 +23,7 @@ abbrev pub other_words : List Text → List Text
 other_words [] = []
 other_words (word ∷ words) = words
 
--- ---- names
+-- ---- looking up a subcommand by its name
 
 -- a subcommand's name determines the subcommand
 pub same_subcommand : (s t : Subcommand) → name_of s ≡ name_of t → s ≡ t
@@ -54,7 +54,7 @@ name_back word s found = found_name word s subcommands found
 nothing_asked : (s : Subcommand) (words : List Text) → ¬ Suit s words → IsTaskOf s words None
 nothing_asked s words never = λ task same is. never (subst (λ t. Suit t words) same (suit task words is))
 
--- replacing a subcommand and a task with equal ones preserves that words name the task
+-- if words name a task of a subcommand, they also name an equal task of an equal subcommand
 pub asked : (s t : Subcommand) (words : List Text) (r q : Option Task) → t ≡ s → q ≡ r → IsTaskOf s words (option_map task_meant r)
     → IsTaskOf t words (option_map task_meant q)
 asked s t words r q same result is =
@@ -84,7 +84,7 @@ state_alone s task same holds back [] d one = absurd (omega (arith, one))
 state_alone s task same holds back (a ∷ []) d one = tested s (a.now ∷ []) a.now task same (holds a.now) (back a.now)
 state_alone s task same holds back (a ∷ b ∷ words) d one = absurd (omega (arith, one))
 
--- if the first of two words is the name of STATE, the words name the task unless this word is
+-- if the first of two words is the name of STATE, the two words name the task unless the name is
 -- `stdin`
 pub state_first : (s : Subcommand) (task : Task) (words : List (Bor Text)) (d e : Bor Text) → subcommand_of (task_meant task) ≡ s
     → ((state : Text) → NamesStored state → AreWordsOf (task_meant task) (state ∷ (slice_index_or words 1 e).now ∷ []))

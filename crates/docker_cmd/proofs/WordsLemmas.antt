@@ -33,8 +33,8 @@ pub record IsFound (words : List Text) (found : Option (Subcommand × List Text)
   pub is : found ≡ Some (pair_of subcommand behind)
   pub names : NamesSubcommand words subcommand behind
 
--- if `clap` accepts plain words, it finds the subcommand that they name and the words after its
--- name
+-- if `clap` accepts plain words, it finds the subcommand that the words name, and the words after
+-- its name
 pub words_found : (words : List Text) → list_all is_plain_word words ≡ true → fault_of docker_app words ≡ []
     → IsFound words (found_in (subcommand_of docker_app words))
 words_found words plain none = elim (judged words plain) [
@@ -56,13 +56,13 @@ words_refused words kind plain (inr among) other = elim (judged words plain) [
   | inr refuses ↦ λ s behind names. refuses.names_none s behind (record { whole = names.whole; count = names.count })
 ]
 
--- `read_words` may return this result for these words. `held` gives the texts of the words after
--- the subcommand
+-- `read_words` may return this result for these words. The function `held` returns the texts of the
+-- words after the subcommand
 abbrev pub IsRead : {B : Type 0} → (B → List Text) → List Text → Result (Subcommand × B) JobFault → Type 0
 IsRead held words result = IfOk result (λ read. NamesSubcommand words read.0 (held read.1)) × ((result ≡ Err Usage) → NameNoSubcommand words)
 
 -- if `clap` found the subcommand that the words name, and the words after its name, `read_words`
--- may return them
+-- may return this subcommand and these words
 pub read_found : {B : Type 0} (held : B → List Text) (words : List Text) (found : Option (Subcommand × B)) (rows : Option (Subcommand × List Text))
     → IsFound words rows → option_map (λ read. pair_of read.0 (held read.1)) found ≡ rows → IsRead held words (ok_or found Usage)
 read_found held words None rows is same = let bad : None ≡ Some (pair_of is.subcommand is.behind) = same ∙ is.is in absurd (cc)

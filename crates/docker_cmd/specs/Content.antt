@@ -1,4 +1,4 @@
--- The content that the code has read, as the definitions see it.
+-- The content that the code has read, converted to the form that the definitions use.
 use Rattle.docker_cmd.specs.Prepared.{ReadView, file_read, office_read}
 use Rattle.docker_cmd.specs.declared.sources.Content.{Content}
 use Rattle.docker_cmd.specs.declared.sources.Content.TheVariants.{File, Office}

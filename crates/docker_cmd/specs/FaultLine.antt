@@ -43,11 +43,11 @@ abbrev pub state_line : StateFault → List ℕ
 state_line fault =
     codes "docker: state refused: offset " ++ decimal fault.at ++ codes ": " ++ state_text.cause_text fault.cause ++ codes "\n"
 
--- the line that reports a refused day: a day before the horizon plus three days
+-- the line that reports a refused day: a day earlier than three days after the horizon
 abbrev pub day_line : List ℕ
 day_line = codes "docker: day refused: before horizon plus three days\n"
 
--- the line that reports out of memory
+-- the line that reports that memory ran out
 abbrev pub memory_line : List ℕ
 memory_line = codes "docker: want of memory\n"
 

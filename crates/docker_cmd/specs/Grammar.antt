@@ -9,7 +9,7 @@ use Rattle.docker_cmd.specs.declared.tasks.Subcommand.{Subcommand}
 abbrev pub required_rule : Text → Rule
 required_rule id = record (new_rule id) { required = true }
 
--- the subcommand with this name, which requires these words
+-- the subcommand with this name and these required words
 abbrev pub words_shape : Text → List Text → Shape
 words_shape name ids = record (new_shape name) { rules = map required_rule ids }
 

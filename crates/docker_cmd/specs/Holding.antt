@@ -1,4 +1,5 @@
--- What a job keeps in memory, as the definitions see it.
+-- Converts what a job keeps in memory to the form that the definitions use, and says which outputs
+-- can be written from what is kept.
 use Rattle.std.specs.Prelude.{◌≡◌}
 use Rattle.docker_office.specs.Values.{Excerpt}
 use Rattle.docker_cmd.specs.Content.{content_meant}
@@ -6,7 +7,7 @@ use Rattle.docker_cmd.specs.Prepared.{IsWrittenOf, Output, ReadView, docker_writ
 use Rattle.docker_cmd.specs.declared.holding.Holding.{Holding}
 use Rattle.docker_cmd.specs.declared.holding.Holding.TheVariants.{Whole, Place, Ledger}
 
--- the content from which this excerpt was made: a whole state
+-- the content from which an excerpt was made. That content is a whole state
 abbrev pub place_read : Excerpt → ReadView
 place_read office = office_read office.state
 

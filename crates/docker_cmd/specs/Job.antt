@@ -10,8 +10,8 @@ pub record JobView : Type 0 where
   pub task : TaskView
   pub words : List Text
 
--- the words name this job: they are the name of its subcommand, followed by words that name its
--- task. No word is empty or begins with a hyphen
+-- the words name this job: they are the name of the job's subcommand, followed by words that name
+-- the job's task. No word is empty or begins with a hyphen
 pub record IsJobOf (words : List Text) (job : JobView) : Type 0 where
   pub plain : IsTrue (list_all is_plain_word words)
   pub whole : words ≡ name_of (subcommand_of job.task) ∷ job.words
@@ -25,14 +25,14 @@ NameNoJob words = (job : JobView) → ¬ IsJobOf words job
 abbrev pub AskNothing : Subcommand → List Text → Type 0
 AskNothing subcommand words = (task : TaskView) → subcommand_of task ≡ subcommand → ¬ AreWordsOf task words
 
--- these words name this task of the subcommand; None says that the words name no task of the
--- subcommand
+-- if a task is given, these words name this task of the subcommand. If None is given, the words
+-- name no task of the subcommand
 abbrev pub IsTaskOf : Subcommand → List Text → Option TaskView → Type 0
 IsTaskOf subcommand words (Some task) = (subcommand_of task ≡ subcommand) × AreWordsOf task words
 IsTaskOf subcommand words None = AskNothing subcommand words
 
--- the words name this subcommand: its name is followed by as many words as it requires, and no word
--- is empty or begins with a hyphen
+-- the words name this subcommand: they are the subcommand's name, followed by as many words as the
+-- subcommand requires, and no word is empty or begins with a hyphen
 pub record NamesSubcommand (words : List Text) (subcommand : Subcommand) (behind : List Text) : Type 0 where
   pub plain : IsTrue (list_all is_plain_word words)
   pub whole : words ≡ name_of subcommand ∷ behind

@@ -15,8 +15,8 @@ pub record IsJobLine (text line rest : List ℕ) : Type 0 where
   pub whole : text ≡ line ++ 10 ∷ rest
   pub line_text : IsLineText line
 
--- a job line was read from a source. If contracts know which bytes the source held, these were the
--- line, its line feed, and the bytes that are left in it
+-- a job line was read from a source. If contracts know which bytes the source held, it held the
+-- line, the line feed, and then the bytes that are left in the source
 abbrev pub ReadsLine : Option (List ℕ) → List ℕ → Option (List ℕ) → Type 0
 ReadsLine None line new = IsLineText line
 ReadsLine (Some text) line new = (rest : List ℕ) × IsJobLine text line rest × (new ≡ Some rest)
@@ -46,7 +46,7 @@ ReadsByte old None new = IsEnd old × (new ≡ old)
 ReadsByte old (Some byte) new = Reads old (byte ∷ []) new
 
 -- a job line that names this job was read from a source. If contracts know which bytes the source
--- held, these were the line, its line feed, and the bytes that are left in it
+-- held, it held the line, the line feed, and then the bytes that are left in the source
 abbrev pub ReadsJob : Option (List ℕ) → JobView → Option (List ℕ) → Type 0
 ReadsJob old job new = (line : List ℕ) × ReadsLine old line new × IsJobOf (words_in line) job
 

@@ -38,7 +38,7 @@ pub data ReadView : Type 0 where
   file_read : (file : FileCounted) → ReadView
   office_read : (state : State) → ReadView
 
--- a job with the content that it has read
+-- a job, and the content that the job has read
 pub record PreparedView : Type 0 where
   pub job : JobView
   pub read : ReadView
@@ -51,7 +51,7 @@ HasNoSource sources = sources ≡ no_source
 abbrev pub HasSecondSource : Sources → Type 0
 HasSecondSource sources = (sources ≡ state_and_file) ⊎ (sources ≡ two_states)
 
--- a source held the text of some state
+-- there is a state whose text the source held
 abbrev pub HoldsSomeState : DeviceBytes → Type 0
 HoldsSomeState left = (state : State) × ReadsState dks_2 most_bytes left state
 
@@ -75,8 +75,8 @@ pub record RaisesState (day : ℕ) (first : DeviceBytes) (state : State) : Type 
   pub reads : ReadsState dks_2 most_bytes first own
   pub raised : state ≡ raise_horizon day own
 
--- this is the state that an office has after it has read these sources. If a file was only checked,
--- there is no state
+-- this is the state of an office that has read these sources. If a file was only checked, there is
+-- no state
 abbrev pub IsStateOf : Sources → DeviceBytes → DeviceBytes → State → Type 0
 IsStateOf no_source first second state = state ≡ no_state
 IsStateOf checked_file first second state = ⊥
@@ -90,18 +90,20 @@ abbrev pub IsContentOf : Sources → DeviceBytes → DeviceBytes → ReadView �
 IsContentOf sources first second (file_read file) = (sources ≡ checked_file) × CountsText most_records first file
 IsContentOf sources first second (office_read state) = IsStateOf sources first second state
 
--- this is the state that a task makes of its sources. `horizon` raises the horizon of the state
--- that it has read, and `check` makes no state
+-- this is the state that a task makes from its sources. `horizon` raises the horizon of the state
+-- that was read, and `check` makes no state
 abbrev pub IsStateReadBy : TaskView → DeviceBytes → DeviceBytes → State → Type 0
 IsStateReadBy (horizon_task day) first second state = RaisesState day first state
 IsStateReadBy task first second state = IsStateOf (sources_of task) first second state
 
--- this is what a task makes of its sources: `check` the counts of its file, any other task a state
+-- this is what a task makes from its sources. `check` makes the counts of its file, and any other
+-- task makes a state
 abbrev pub IsReadOf : TaskView → DeviceBytes → DeviceBytes → ReadView → Type 0
 IsReadOf task first second (file_read file) = (task ≡ check_task) × CountsText most_records first file
 IsReadOf task first second (office_read state) = IsStateReadBy task first second state
 
--- this content, after a horizon was set on its state; None sets no horizon
+-- the content after this horizon was set on its state. If the horizon is None, or the content has
+-- no state, the content is unchanged
 abbrev pub under : Option ℕ → ReadView → ReadView
 under None read = read
 under (Some day) (file_read file) = file_read file
@@ -144,9 +146,9 @@ RefusesStateOf two_states first second fault =
 abbrev pub WantsForState : Format → DeviceBytes → DeviceBytes → Type 0
 WantsForState format old new = WantsMemory format most_at_once most_bytes old new
 
--- memory ran out while these sources were read. If it ran out for the first source, nothing of the
--- second was read. If it ran out for the second, the first held a state. A file that is only
--- checked needs memory only before its first byte is read
+-- memory ran out while these sources were read. If memory ran out for the first source, nothing of
+-- the second was read. If memory ran out for the second, the first held a state. A file that is
+-- only checked needs memory only before its first byte is read
 abbrev pub WantsFor : Sources → DeviceBytes → DeviceBytes → DeviceBytes → DeviceBytes → Type 0
 WantsFor no_source old new second_old second_new = ⊥
 WantsFor checked_file old new second_old second_new = Reads old [] new
@@ -157,16 +159,16 @@ WantsFor state_and_file old new second_old second_new =
 WantsFor two_states old new second_old second_new =
     (WantsForState dks_2 old new × (second_new ≡ second_old)) ⊎ (HoldsSomeState old × WantsForState dks_2 second_old second_new)
 
--- the reading of a file stopped no later than the piece that decides the result
+-- a file was read no further than the piece that decides the result
 abbrev pub ReadsFewOfFile : DeviceBytes → DeviceBytes → Type 0
 ReadsFewOfFile old new = ReadsNoFurther most_at_once most_records old new
 
--- the reading of a state stopped no later than the piece that decides the result
+-- a state was read no further than the piece that decides the result
 abbrev pub ReadsFewOfState : Format → DeviceBytes → DeviceBytes → Type 0
 ReadsFewOfState format old new = ReadsOnePieceMore format most_at_once most_bytes old new
 
--- the reading of the first source stopped no later than the piece that decides the result. Without
--- a source, nothing was read
+-- the first source was read no further than the piece that decides the result. If the task has no
+-- source, nothing was read
 abbrev pub ReadsFewOfFirst : Sources → DeviceBytes → DeviceBytes → Type 0
 ReadsFewOfFirst no_source old new = new ≡ old
 ReadsFewOfFirst checked_file old new = ReadsFewOfFile old new
@@ -175,8 +177,8 @@ ReadsFewOfFirst (one_state format) old new = ReadsFewOfState format old new
 ReadsFewOfFirst state_and_file old new = ReadsFewOfState dks_2 old new
 ReadsFewOfFirst two_states old new = ReadsFewOfState dks_2 old new
 
--- the reading of the second source stopped no later than the piece that decides the result. If the
--- first source held no state, nothing of the second was read
+-- the second source was read no further than the piece that decides the result. If the first source
+-- held no state, nothing of the second was read
 abbrev pub ReadsFewOfSecond : Sources → DeviceBytes → DeviceBytes → DeviceBytes → Type 0
 ReadsFewOfSecond no_source first old new = new ≡ old
 ReadsFewOfSecond checked_file first old new = new ≡ old
@@ -194,8 +196,8 @@ HasReadToEnd (one_state format) first second = ⊤
 HasReadToEnd state_and_file first second = IsEnd second
 HasReadToEnd two_states first second = ⊤
 
--- this is a fault for which these sources may be refused, given what they held and what is left in
--- them. `Sink` and `Lapsed` can't occur
+-- this is a fault for which these sources may be refused, given the bytes that the sources held and
+-- the bytes that are left. `Sink` and `Lapsed` can't occur
 abbrev pub IsWhyRefused : Sources → DeviceBytes → DeviceBytes → DeviceBytes → DeviceBytes → OfficeFault → Type 0
 IsWhyRefused sources first left second second_left (office.File fault) = RefusesFileOf sources first second fault
 IsWhyRefused sources first left second second_left (office.State fault) = RefusesStateOf sources first second fault
@@ -204,13 +206,14 @@ IsWhyRefused sources first left second second_left office.Memory = WantsFor sour
 IsWhyRefused sources first left second second_left office.Lapsed = ⊥
 IsWhyRefused sources first left second second_left office.Sink = ⊥
 
--- reading the sources ended with this result. Either it is a value with the property `IsMade`, and
--- each file was read to its end. Or it is a fault for which the sources may be refused
+-- reading the sources ended with this result. Either the result is a value with the property
+-- `IsMade`, and each file was read to its end. Or the result is a fault for which the sources may
+-- be refused
 abbrev pub EndsReading : {A : Type 0} → (A → Type 0) → Sources → DeviceBytes → DeviceBytes → DeviceBytes → DeviceBytes → Result A OfficeFault → Type 0
 EndsReading IsMade sources first left second second_left (Ok made) = IsMade made × HasReadToEnd sources left second_left
 EndsReading IsMade sources first left second second_left (Err fault) = IsWhyRefused sources first left second second_left fault
 
--- the sources were read in their order, no further than the result needs, and `Ends` is true
+-- the sources were read in their order, no further than the result needs, and `Ends` holds
 pub record ReadsFew (sources : Sources) (first left second second_left : DeviceBytes) (Ends : Type 0) : Type 0 where
   pub first_few : ReadsFewOfFirst sources first left
   pub second_few : ReadsFewOfSecond sources first second second_left
@@ -227,13 +230,13 @@ abbrev pub ReadsContent : {A : Type 0} → (A → ReadView) → Sources → Devi
 ReadsContent meant sources first left second second_left result =
     ReadsSources (λ made. IsContentOf sources first second (meant made)) sources first left second second_left result
 
--- a task's sources were read no further than the result needs. The result is what the task makes of
--- them, or a fault
+-- a task's sources were read no further than the result needs. The result is what the task makes
+-- from these sources, or a fault
 abbrev pub ReadsTask : {A : Type 0} → (A → ReadView) → TaskView → DeviceBytes → DeviceBytes → DeviceBytes → DeviceBytes → Result A OfficeFault → Type 0
 ReadsTask meant task first left second second_left result =
     ReadsSources (λ made. IsReadOf task first second (meant made)) (sources_of task) first left second second_left result
 
--- the prepared job consists of this job and of what its task makes of its sources
+-- the prepared job consists of this job and of what its task makes from its sources
 abbrev pub IsPreparedFor : JobView → DeviceBytes → DeviceBytes → PreparedView → Type 0
 IsPreparedFor job first second prepared = (prepared.job ≡ job) × IsReadOf job.task first second prepared.read
 
@@ -256,8 +259,8 @@ FailsBy first first_now second second_now office.Memory = HaveNotFailed first fi
 FailsBy first first_now second second_now office.Lapsed = ⊥
 FailsBy first first_now second second_now office.Sink = ⊥
 
--- two sources were read with this result. If it is the fault `Source`, the sum of their failure
--- counts grew by one; otherwise both counts are unchanged
+-- two sources were read with this result. If the result is the fault `Source`, the sum of their
+-- failure counts grew by one; otherwise both counts are unchanged
 abbrev pub CountsSources : {A : Type 0} → Result A OfficeFault → ℕ → ℕ → ℕ → ℕ → Type 0
 CountsSources (Ok made) first first_now second second_now = HaveNotFailed first first_now second second_now
 CountsSources (Err fault) first first_now second second_now = FailsBy first first_now second second_now fault
@@ -301,7 +304,8 @@ GainsOutput prepared old new = GainsText (output_of prepared.job.task) prepared.
 abbrev pub GainsPart : PreparedView → DeviceBytes → DeviceBytes → Type 0
 GainsPart prepared old new = GainsTextPart (output_of prepared.job.task) prepared.read old new
 
--- the output is a docker of a day that the state's horizon refuses
+-- the output is a docker of a refused day: the state has a horizon, and the day is earlier than
+-- three days after the horizon
 abbrev pub IsRefusedDocker : Output → ReadView → Type 0
 IsRefusedDocker output (file_read file) = ⊥
 IsRefusedDocker counts_written (office_read state) = ⊥
@@ -309,7 +313,7 @@ IsRefusedDocker (docker_written place day) (office_read state) = IsDayRefused st
 IsRefusedDocker files_written (office_read state) = ⊥
 IsRefusedDocker state_written (office_read state) = ⊥
 
--- the job would print a docker of a day that the state's horizon refuses
+-- the job would print a docker of a refused day
 abbrev pub IsRefused : PreparedView → Type 0
 IsRefused prepared = IsRefusedDocker (output_of prepared.job.task) prepared.read
 

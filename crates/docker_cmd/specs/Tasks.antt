@@ -12,13 +12,14 @@ use Rattle.docker_cmd.specs.declared.tasks.Subcommand.TheVariants.{New, Check, D
 use Rattle.docker_cmd.specs.declared.tasks.Task.{Task}
 use Rattle.docker_cmd.specs.declared.tasks.Task.TheVariants as task
 
--- a row of the table: a subcommand's name, the names of the words after it, and what it reads
+-- a row of the table: a subcommand's name, the names of the words after it, and what the subcommand
+-- reads
 pub record Row : Type 0 where
   pub name : Text
   pub ids : List Text
   pub reads : Sources
 
--- makes a row of these columns
+-- makes a row from these columns
 abbrev pub row : Text → List Text → Sources → Row
 row name ids reads = record { name = name; ids = ids; reads = reads }
 
@@ -94,13 +95,13 @@ subcommand_of files_task = Files
 subcommand_of (horizon_task day) = Horizon
 subcommand_of migrate_task = Migrate
 
--- the timing point of a task, if it has one
+-- the timing point that a task names, if it names one
 abbrev pub tiploc_of : TaskView → Option (List ℕ)
 tiploc_of (day_task place day) = Some place
 tiploc_of (print_task place day) = Some place
 tiploc_of _ = None
 
--- the day of a task, if it has one
+-- the day that a task names, if it names one
 abbrev pub day_of : TaskView → Option ℕ
 day_of (day_task place day) = Some day
 day_of (print_task place day) = Some day
@@ -135,7 +136,7 @@ output_of files_task = files_written
 output_of (horizon_task day) = state_written
 output_of migrate_task = state_written
 
--- the horizon that a task sets on the state that it reads; None if it sets none
+-- the horizon that a task sets on the state that it reads; None if the task sets no horizon
 abbrev pub horizon_of : TaskView → Option ℕ
 horizon_of (horizon_task day) = Some day
 horizon_of _ = None

@@ -6,7 +6,7 @@ use arrayvec::ArrayVec;
 use fixed_text::put;
 use itoa::Buffer;
 
-/// A line with its line feed. Any two counts fit in it.
+/// A line with its line feed. There is room for any two counts.
 pub(crate) type CheckText = ArrayVec<u8, 64>;
 
 /// Returns the line for a file with `records` records and `changes` changes. The header and the

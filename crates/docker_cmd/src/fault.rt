@@ -1,4 +1,4 @@
-//! The faults that end the program before its job is done.
+//! The faults that end the program before it has finished its job.
 use crate::job_fault::JobFault;
 use docker_office::OfficeFault;
 use thiserror::Error;
@@ -7,10 +7,10 @@ use thiserror::Error;
 /// that the program writes to standard error.
 #[derive(Clone, Copy, PartialEq, Eq, Debug, Error)]
 pub enum Fault {
-    /// No job was found, for this reason.
+    /// No job was found. The inner fault says why.
     #[error("{0}")]
     Job(JobFault),
-    /// The job was refused or couldn't be finished, for this reason.
+    /// The job was refused or couldn't be finished. The inner fault says why.
     #[error("{0}")]
     Office(OfficeFault),
 }

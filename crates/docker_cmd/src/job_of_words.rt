@@ -60,7 +60,7 @@ fn asks(subcommand: Subcommand, words: &[&str]) -> bool
     subcommand.task(words).is_some()
 }
 
-/// Returns copies of the words that the job can own.
+/// Returns copies of the words. The job can own these copies.
 fn owned_words(alloc: Global, words: &[&str]) -> Result<Vec<String>, AllocError>
     ensures { IfOk result (λ owned. map (λ word. string_bytes word) owned.items ≡ texts words.now) }
 {

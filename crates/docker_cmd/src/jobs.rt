@@ -1,4 +1,4 @@
-//! A job, which the words of a command name.
+//! A job: what the words of a command ask for.
 ghost use Rattle.std.specs.Prelude.{◌≡◌, length, map, string_bytes};
 ghost use Rattle.docker_cmd.specs.Tasks.{day_of, ids_of, subcommand_of, task_meant, tiploc_of};
 

@@ -1,5 +1,5 @@
-//! Reads the job line. A program that is started without words reads them from the first line of
-//! its standard input.
+//! Reads the job line. A program that is started without words reads its words from the first line
+//! of its standard input.
 ghost use Rattle.std.specs.Prelude.{◌≡◌, ◌+◌, ◌*◌, ◌-◌, ◌^◌, ◌<◌, ◌≤◌, ◌↔◌, ◌≢◌, ◌++◌, length, Some, IfOk, IsErr, OnErr, Err, MatchOption, IfSome};
 ghost use Rattle.std.specs.List.{position_or_len, before_first, after_first};
 ghost use Rattle.cif_device.specs.Device.{CountsFailure};

@@ -52,10 +52,10 @@ impl<'a> Prepared<'a> {
 
 /// Reads a job's sources, in the order of its words, and returns the job with the counts of its
 /// file or with an office. `new` reads nothing. `check` and `day` read FILE from the first source;
-/// `print`, `files`, `horizon` and `migrate` read STATE from it. `take` and `merge` read STATE from
-/// the first source. If the first source held a state, `take` then reads FILE from the second
-/// source, and `merge` reads OTHER from the second source. Each source is read to its end, or to
-/// the piece that decides the result. A piece has at most 65,536 bytes.
+/// `print`, `files`, `horizon` and `migrate` read STATE from the first source. `take` and `merge`
+/// read STATE from the first source. If the first source held a state, `take` then reads FILE from
+/// the second source, and `merge` reads OTHER from the second source. Each source is read to its
+/// end, or to the piece that decides the result. A piece has at most 65,536 bytes.
 ///
 /// Fails with `File` or `State` if a source doesn't hold a file or a state, with `Source` if a
 /// source failed, and with `Memory` if memory ran out. With `Memory`, the records and parts that

@@ -11,7 +11,7 @@ pub enum Sources {
     TakenFile,
     /// A state.
     State,
-    /// A state in the older format, with the mark `DKS1`.
+    /// A state in the older format, whose mark is `DKS1`.
     OlderState,
     /// A state, and then a CIF file that the office with this state takes.
     StateAndFile,

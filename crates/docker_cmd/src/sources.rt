@@ -21,12 +21,12 @@ pub const MOST_BYTES: u64 = 1_099_511_627_776;
 pub(crate) enum Content {
     /// The counts of a file that was only checked.
     File(FileCount),
-    /// An office with its state, after it has read all its sources.
+    /// The office that has read all sources, with its state.
     Office(Office),
 }
 
 impl Content {
-    /// Sets the horizon on the office of this content. `None` sets no horizon.
+    /// Sets the horizon on the content's office, if the content has one. `None` sets no horizon.
     pub(crate) fn under(self, horizon: Option<Day>) -> Content
         ensures { content_meant result ≡ under horizon (content_meant self) }
     {
@@ -105,7 +105,8 @@ fn office_of_state<S: Source>(alloc: Global, source: &mut S) -> Result<Office, O
     Ok(office)
 }
 
-/// Returns an office that has reloaded the state in a source, in the older format.
+/// Returns an office that has reloaded the state in a source. The state's text is in the older
+/// format.
 fn office_of_older_state<S: Source>(alloc: Global, source: &mut S) -> Result<Office, OfficeFault>
     requires { S.failures source.old < 2 ^ 64 - 1 }
     ensures { EndsReadingState S.left S.failures dks_1 most_bytes

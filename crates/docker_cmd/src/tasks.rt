@@ -1,4 +1,4 @@
-//! The table of subcommands, and the tasks that they do.
+//! The table of subcommands, and the tasks of jobs.
 ghost use Rattle.std.specs.Prelude.{◌≡◌, IfSome, IsNone, None, Some, codes, find, if◌then◌else◌, length, map, option_map};
 ghost use Rattle.std.specs.Option.{option_copied};
 ghost use Rattle.std.specs.Str.{bytes_eq};
@@ -19,13 +19,13 @@ pub enum Subcommand {
     New,
     /// Checks a file, and counts its records and changes.
     Check,
-    /// Prints the docker of a timing point on a day, from one file.
+    /// Reads one file, and prints the docker of a timing point on a day.
     Day,
-    /// Takes another file into a state.
+    /// Takes a file into a state.
     Take,
     /// Joins a state with another state.
     Merge,
-    /// Prints the docker of a timing point on a day, from a state.
+    /// Reads a state, and prints the docker of a timing point on a day.
     Print,
     /// Lists the files that a state knows.
     Files,
@@ -47,7 +47,7 @@ pub(crate) struct Row<'a> {
 }
 
 impl<'a> Row<'a> {
-    /// Makes a row of these columns.
+    /// Makes a row from these columns.
     fn of(name: &'a str, ids: &'a [&'a str], reads: Sources) -> Row<'a>
         ensures name { result.name.now ≡ name.now }
         ensures ids { result.ids.now ≡ ids.now }
@@ -242,7 +242,7 @@ impl Task {
         }
     }
 
-    /// Returns the timing point of the task, if it has one.
+    /// Returns the timing point that the task names, if it names one.
     pub(crate) fn tiploc(self) -> Option<Tiploc>
         ensures { result ≡ tiploc_of (task_meant self) }
     {
@@ -252,7 +252,7 @@ impl Task {
         }
     }
 
-    /// Returns the day of the task, if it has one.
+    /// Returns the day that the task names, if it names one.
     pub(crate) fn day(self) -> Option<Day>
         ensures { result ≡ day_of (task_meant self) }
     {
@@ -283,8 +283,8 @@ impl Task {
         }
     }
 
-    /// Returns the horizon that the task sets on the state that it has read; `None` if it sets
-    /// none.
+    /// Returns the horizon that the task sets on the state that it has read; `None` if the task
+    /// sets no horizon.
     pub fn horizon(self) -> Option<Day>
         ensures { result ≡ horizon_of (task_meant self) }
     {

@@ -36,8 +36,8 @@ pub(crate) fn are_plain(words: &[&str]) -> bool
 }
 
 /// Returns the subcommand that the words name, and the words after it. A word that is empty or
-/// begins with a hyphen is a usage error: there are no options, and `help` isn't a subcommand. This
-/// may fail with `Memory` even if the words name no subcommand.
+/// begins with a hyphen is a usage error: there are no options, and `help` isn't a subcommand. The
+/// call may fail with `Memory` even if the words name no subcommand.
 pub(crate) fn read_words<'a>(
     alloc: Global,
     words: &'a [&'a str],

@@ -15,6 +15,6 @@ pub enum Output {
     },
     /// The list of the files that a state knows.
     Files,
-    /// A state's text, which replaces the file that the first word names.
+    /// The text of a state. This text replaces the file that the first word names.
     State,
 }

@@ -40,7 +40,7 @@ module _ (earlier : List (List ℕ)) where
   gained_both (gain ∷ gains) more old now new first second = (first.0, first.1, gained_both gains more first.0 now new first.2 second)
 
   module _ (setting : Setting) (before after : SessionView) where
-    -- if `take` was done, the state gained the file
+    -- if `take` succeeded, the state gained the file
     gained_file : (file : Text) (text : List ℕ) (gains : List Gain) → Joins file StopsInFile EndsTaking before (done_with text) after
         → GainsFile file before after gains → AreGained earlier gains before.desk.state after.desk.state
     gained_file file text gains does gained = by does.result does.opens.read does.told does.opens.asked does.opens.ends
@@ -94,7 +94,7 @@ module _ (earlier : List (List ℕ)) where
         by (Ok found) None told asked ends = absurd ends.0.0
         by (Err fault) read told asked ends = let never : ⊥ = cc in absurd never
 
-    -- if a request was done, the state gained what `GainsDone` says
+    -- if a request succeeded, the state gained what `GainsDone` says
     gained_done : (request : RequestView) (text : List ℕ) (gains : List Gain) → ((day : ℕ) → request ≡ horizon_request day → IsDay day)
         → DoesRequest setting request before (done_with text) after → GainsDone setting earlier request before after gains
         → AreGained earlier gains before.desk.state after.desk.state
@@ -124,7 +124,7 @@ module _ (earlier : List (List ℕ)) where
     gained_asked (Some request) no_request gains days does gained = absurd (never_unasked setting before after request does)
 
   module _ (setting : Setting) where
-    -- after some steps, the state gained what `GainedBy` says
+    -- after a list of steps, the state gained what `GainedBy` says
     gained_steps : (first last : SessionView) (steps : List Step) (gains : List Gain) → AreSteps setting first steps last → GainedBy setting earlier steps gains
         → AreGained earlier gains first.desk.state last.desk.state
     gained_steps first last [] gains are gained = gained_none gains _ _ gained (ap (λ (m : SessionView). m.desk.state) are)
@@ -136,8 +136,8 @@ module _ (earlier : List (List ℕ)) where
         (λ day same. day_asked setting.may_write step.line step.request day are.1.0.asks same) are.1.0.does gained.1.1.0)
         (gained_steps step.after last steps gained.1.0 are.1.1 gained.1.1.1.0)))
 
-    -- if the text is saved after some steps, `IsPlaced` holds. The saved text is the text of the
-    -- version read at the beginning, with the gains of the steps
+    -- if the text is saved after a list of steps, `IsPlaced` holds. The saved text is the text of
+    -- the version read at the beginning, with the gains of the steps
     pub places_version : (first before after : SessionView) (steps : List Step) (old : List Event) (own : ℕ) (gains : List Gain) (answer : List ℕ)
         → (begins : BeginsAt setting.name old first) → HoldsVersion earlier begins.held own → AreSteps setting first steps before
         → GainedBy setting earlier steps gains → Saves setting before (done_with answer) after → IsPlaced setting earlier own gains before after

@@ -55,7 +55,7 @@ module _ (before after : SessionView) (known : Known) where
         of = known_read most_bytes holds.read.held there.received holds.sent known there.read holds.holds holds.of;
       }
 
-  -- if `merge` was done, the session learns the summary that the merged file held
+  -- if `merge` succeeded, the session learns the summary that the merged file held
   pub hears_merged : (other : Text) (text : List ℕ) → Joins other StopsInState EndsReceiving before (done_with text) after
       → HoldsKnown (events_of other) before after known → HearsState (events_of other) before after known
   hears_merged other text does holds = by does.result does.opens.read does.told does.opens.asked does.opens.ends
@@ -68,7 +68,7 @@ module _ (before after : SessionView) (known : Known) where
       by (Ok done) None told asked ends = absurd ends
       by (Err fault) read told asked ends = let never : ⊥ = cc in absurd never
 
-  -- if `renew` was done, the session learns the summary that the state's file held
+  -- if `renew` succeeded, the session learns the summary that the state's file held
   pub hears_renewed : (setting : Setting) (text : List ℕ) → Renews setting before (done_with text) after
       → HoldsKnown (renewing setting.name) before after known → HearsState (renewing setting.name) before after known
   hears_renewed setting text does holds = by does.result does.opens.read does.told does.opens.asked does.opens.ends
@@ -82,7 +82,7 @@ module _ (before after : SessionView) (known : Known) where
       by (Ok found) None told asked ends = absurd ends.0.0
       by (Err fault) read told asked ends = let never : ⊥ = cc in absurd never
 
-  -- if `save` was done, the saved text is the text of the summary of what is known
+  -- if `save` succeeded, the saved text is the text of the summary of what is known
   pub places_known : (setting : Setting) (text : List ℕ) → IsKnown known before.desk.state → Saves setting before (done_with text) after
       → PlacesKnown setting before after known
   places_known setting text is does = by does.result does.told does.stores
@@ -98,9 +98,9 @@ module _ (before after : SessionView) (known : Known) where
       }
       by (Err fault) told stores = let never : ⊥ = cc in absurd never
 
--- ---- steps
+-- ---- what a session learns from its steps
 
--- if `take` was done, the session learns some file
+-- if `take` succeeded, there is a file that the session learned
 takes_heard : (file : Text) (text : List ℕ) (before after : SessionView) → Joins file StopsInFile EndsTaking before (done_with text) after
     → (heard : Known) × HearsFile file before after heard
 takes_heard file text before after does = by does.result does.opens.read does.told does.opens.asked does.opens.ends
@@ -116,7 +116,8 @@ takes_heard file text before after does = by does.result does.opens.read does.to
     by (Err fault) read told asked ends = let never : ⊥ = cc in absurd never
 
 module _ (setting : Setting) where
-  -- from each request that was done, the session learns some knowledge, possibly nothing
+  -- for each request that succeeded, there is knowledge, possibly `nothing`, that the session
+  -- learned from it
   hears_some : (request : RequestView) (text : List ℕ) (before after : SessionView) → DoesRequest setting request before (done_with text) after
       → ReceivesKnown setting request before after → (heard : Known) × Hears setting request before after heard
   hears_some (print_request place day) text before after does received = (nothing, refl)
@@ -131,7 +132,7 @@ module _ (setting : Setting) where
   hears_some (horizon_request day) text before after does received = (record { files = []; horizon = day }, refl)
   hears_some save_request text before after does received = (nothing, refl)
 
-  -- from each step, the session learns some knowledge, possibly nothing
+  -- for each step, there is knowledge, possibly `nothing`, that the session learned from it
   learns_some : (request : Option RequestView) (answer : AnswerView) (before after : SessionView) (old : Known) → DoesAsked setting request before answer after
       → HearsKnown setting request before answer after → (new : Known) × Learns setting request before answer after old new
   learns_some (Some request) (done_with text) before after old does hears =
@@ -140,7 +141,8 @@ module _ (setting : Setting) where
   learns_some (Some request) no_request before after old does hears = (old, refl)
   learns_some None answer before after old does hears = (old, refl)
 
-  -- from all steps together, the session learns some knowledge, possibly nothing
+  -- for all steps together, there is knowledge, possibly `nothing`, that the session learned from
+  -- them
   pub learned_of : (first last : SessionView) (steps : List Step) (old : Known) → AreSteps setting first steps last → AllHearKnown setting steps
       → (new : Known) × AreLearned setting old steps new
   learned_of first last [] old are hear = (old, refl)

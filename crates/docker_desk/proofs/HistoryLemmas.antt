@@ -10,7 +10,7 @@ use Rattle.docker_model.specs.state.StateText.{dks_2, state_text}
 use Rattle.docker_desk.specs.Desk.{EndsSaving}
 use Rattle.docker_desk.specs.Reading.{OpensOnce, Reading, events_of}
 
--- if some events were added to a history and then others, their concatenation was added
+-- appending events to a history, and then more events, is the same as appending their concatenation
 pub then : (old middle new : List Event) (first next : List Event) → middle ≡ old ++ first → new ≡ middle ++ next → new ≡ old ++ (first ++ next)
 then old middle new first next before after =
     after ∙ ap (λ (events : List Event). events ++ next) before ∙ append_assoc old first next
@@ -30,7 +30,7 @@ then_unplaced name made_for look old middle new took bytes made failed same held
     then old middle new (drafted name look ∷ []) (unplaced name bytes ∷ []) made
     (failed ∙ (λ i. middle ++ unplaced (same i) (held i) ∷ []))
 
--- ---- an opening
+-- ---- how an opening is recorded
 
 -- `OpensOnce` is preserved if the states before and after are replaced by equal ones
 pub opens_as : (name : Text) (Stops : Reading → Type 0) (Ends : State → State → Result ⊤ OfficeFault → Option Reading → Type 0) (own now old new : State)
@@ -49,9 +49,9 @@ pub then_closed : (name : Text) (held left : Bytes) (old opened_now new : List E
     → new ≡ opened_now ++ closed left ∷ [] → new ≡ old ++ events_of name (record { held = held; left = left })
 then_closed name held left old opened_now new opens closes = then old opened_now new (opened name held ∷ []) (closed left ∷ []) opens closes
 
--- ---- a saving
+-- ---- how a saving ends
 
--- if the state's text was stored and the file was then looked at, the saving was done
+-- if the state's text was stored and the file was then looked at, the saving succeeded
 pub saved_then : (names_bytes : Bool) (name : Text) (look : ℕ) (own state : State) (old middle new : List Event)
     → IsStored names_bytes name look (state_text dks_2 own) old middle → new ≡ middle ++ looked name ∷ [] → own ≡ state
     → EndsSaving names_bytes name look (state_text dks_2 state) old new (Ok tt)

@@ -32,7 +32,7 @@ use Rattle.docker_desk.specs.Learning.{AreLearned, Hears, HearsFile, HearsState,
 
 -- ---- what is known
 
--- the union of some knowledge with `nothing` equals that knowledge
+-- the union of any knowledge with `nothing` equals that knowledge
 known_with_nothing : (known : Known) → united known nothing ≡ known
 known_with_nothing known = λ i. record { files = append-nil known.files i; horizon = max-zero known.horizon i }
 
@@ -74,7 +74,7 @@ known_file file state is few summary = record {
   is = summary;
 }
 
--- ---- one request
+-- ---- what is known after one request
 
 module _ (setting : Setting) (before after : SessionView) where
   -- after a file is taken, the state is the summary of what was known before and of the file
@@ -119,7 +119,7 @@ module _ (setting : Setting) (before after : SessionView) where
   some_answer (Ok done) told = let never : ⊥ = cc in never
   some_answer (Err fault) told = let never : ⊥ = cc in never
 
-  -- after a request is done, the state is the summary of what was known before and of what was
+  -- after a request succeeds, the state is the summary of what was known before and of what was
   -- learned
   known_done : (request : RequestView) (text : List ℕ) (old heard : Known) → ((day : ℕ) → request ≡ horizon_request day → IsDay day)
       → DoesRequest setting request before (done_with text) after → Hears setting request before after heard → IsKnown old before.desk.state
@@ -183,9 +183,9 @@ module _ (setting : Setting) (before after : SessionView) where
       subst (λ k. IsKnown k after.desk.state) (sym learns) (subst (IsKnown old) (sym (same_refused request fault does)) is)
   known_asked (Some request) no_request old new days does learns is = absurd (never_unasked request does)
 
--- ---- steps
+-- ---- what is known after each step
 
--- the date that a `horizon` request names is a day
+-- the day that a `horizon` request names is a valid day number
 one_day : (words : List Text) (day : ℕ) → OfOne (λ date. NamesDay date day) words → IsDay day
 one_day [] day of = absurd of
 one_day (word ∷ []) day of = of.within
@@ -206,7 +206,7 @@ module _ (setting : Setting) where
       known_asked setting step.before step.after step.request step.answer old new
       (λ day same. day_asked setting.may_write step.line step.request day does.asks same) does.does learns is
 
-  -- after some steps, the state is the summary of what is known after all of them
+  -- after a list of steps, the state is the summary of what is known after the last step
   pub known_steps : (first last : SessionView) (steps : List Step) (old new : Known) → IsKnown old first.desk.state → AreSteps setting first steps last
       → AreLearned setting old steps new → IsKnown new last.desk.state
   known_steps first last [] old new is are learned =
@@ -227,7 +227,7 @@ module _ (setting : Setting) where
   steps_apart first last (step ∷ earlier) later are =
       let apart = steps_apart step.after last earlier later are.1.1 in (apart.0, ((are.0, (are.1.0, apart.1.0)), apart.1.1))
 
--- ---- the beginning
+-- ---- what is known at the beginning
 
 -- if a file held the text of a state, reading the file returns that state
 pub one_read : (limit : ℕ) (left : Option (List ℕ)) (read sent : State) → ReadsState dks_2 limit left read → HoldsState dks_2 limit left sent → read ≡ sent

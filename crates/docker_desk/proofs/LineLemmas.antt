@@ -21,7 +21,7 @@ pub none_ahead : (left : Option (List ℕ)) → with_ahead [] left ≡ left
 none_ahead None = refl
 none_ahead (Some rest) = refl
 
--- if bytes were read ahead, the next byte read is the first of them
+-- if bytes were read ahead, the next byte read is the first of these bytes
 pub first_ahead : (byte : ℕ) (old new : List ℕ) (left : Option (List ℕ)) → old ≡ byte ∷ new → ReadsByte (with_ahead old left) (Some byte) (with_ahead new left)
 first_ahead byte old new None same = refl
 first_ahead byte old new (Some rest) same = ap (λ bytes. Some (bytes ++ rest)) same
@@ -52,22 +52,22 @@ without_both (x ∷ xs) ys first second = (first.0, without_both xs ys first.1 s
 
 -- ---- one reading after another
 
--- reading some bytes and then more bytes is reading their concatenation
+-- reading bytes and then more bytes is the same as reading their concatenation
 pub reads_on : (old now new : Option (List ℕ)) (line more : List ℕ) → Reads old line now → Reads now more new → Reads old (line ++ more) new
 reads_on old now None line more first then_more = first ∙ ap (option_map (λ rest. line ++ rest)) then_more
 reads_on old now (Some rest) line more first then_more =
     first ∙ ap (option_map (λ rest. line ++ rest)) then_more ∙ ap Some (sym (append_assoc line more rest))
 
--- reading no bytes leaves all bytes
+-- if a source is unchanged, no bytes were read from it
 pub reads_none : (left : Option (List ℕ)) → Reads left [] left
 reads_none None = refl
 reads_none (Some bytes) = refl
 
--- reading no bytes is reading at least 0 bytes
+-- if no bytes were read, at least 0 bytes were read
 pub many_none : (left : Option (List ℕ)) → ReadsMany 0 left left
 many_none left = record { lost = []; many = omega arith; read = reads_none left }
 
--- reading at least n bytes and then one more is reading at least n + 1 bytes
+-- if at least n bytes and then one more were read, at least n + 1 bytes were read
 pub many_more : (n : ℕ) (old now new : Option (List ℕ)) (byte : ℕ) → ReadsMany n old now → Reads now (byte ∷ []) new → ReadsMany (n + 1) old new
 many_more n old now new byte many then_one = record {
   lost = many.lost ++ byte ∷ [];
@@ -75,11 +75,11 @@ many_more n old now new byte many then_one = record {
   read = reads_on old now new many.lost (byte ∷ []) many.read then_one;
 }
 
--- reading at least n bytes is reading at least 0 bytes
+-- if at least n bytes were read, at least 0 bytes were read
 pub some_read : (n : ℕ) (old now new : Option (List ℕ)) → ReadsMany n old now → new ≡ now → ReadsMany 0 old new
 some_read n old now new many same = record { lost = many.lost; many = omega arith; read = subst (Reads old many.lost) (sym same) many.read }
 
--- reading a line and then at least n bytes is reading at least n bytes
+-- if a line and then at least n bytes were read, at least n bytes were read
 pub many_behind : (n : ℕ) (old now new : Option (List ℕ)) (line : List ℕ) → Reads old line now → ReadsMany n now new → ReadsMany n old new
 many_behind n old now new line first many = record {
   lost = line ++ many.lost;
@@ -89,7 +89,7 @@ many_behind n old now new line first many = record {
 
 -- ---- the rest of a bad line
 
--- if the next byte is a line feed, reading it skips the line
+-- if the next byte is a line feed, reading this byte skips the line
 pub skips_feed : (old new : Option (List ℕ)) → Reads old (10 ∷ []) new → SkipsLine old new
 skips_feed None new read = tt
 skips_feed (Some text) None read = let never : ⊥ = cc in absurd never
@@ -124,7 +124,7 @@ skips_before (Some text) None new b read other line = let never : ⊥ = cc in ab
 skips_before (Some text) (Some left) new b read other line =
     let same : text ≡ b ∷ left = cc in (subst IsWithoutFeed (sym same) (other, line.0), line.1)
 
--- ---- lines
+-- ---- reading a whole, cut or bad line
 
 -- at most 255 printable bytes, followed by a line feed, are a whole line
 pub reads_whole : (old now new : Option (List ℕ)) (line : List ℕ) → Reads old line now → Reads now (10 ∷ []) new → ArePrintable line → length line ≤ 255
@@ -169,7 +169,8 @@ reads_cut old now new (b ∷ line) read end same good = by old now new read end 
           ),
         )
 
--- this byte makes the line bad: it isn't printable, or the line already has 255 bytes
+-- this byte makes the line bad: the byte isn't a line feed, and either it isn't printable or the
+-- line already has 255 bytes
 pub record IsSpoiled (line : List ℕ) (b : ℕ) : Type 0 where
   pub other : b ≢ 10
   pub why : (length line ≡ 255) ⊎ (is_printable b ≡ false)

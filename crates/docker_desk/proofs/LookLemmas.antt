@@ -38,7 +38,7 @@ module _ (name : Text) where
     number = placing.number;
   })
 
-  -- a look that is followed by an opening of the file is good
+  -- a look that is directly followed by an opening of the file is good
   good_opened : (old new : List Event) (held left : Bytes) (look : ℕ) → new ≡ old ++ looked name ∷ opened name held ∷ closed left ∷ []
       → look ≡ length old → IsGoodLook name new look
   good_opened old new held left look grown number =

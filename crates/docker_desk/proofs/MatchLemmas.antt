@@ -35,8 +35,8 @@ never_whole text own front taken (Some byte) test some same is none fails = (
   λ whole. absurd (none [] (same ∙ sym whole ∙ sym is ∙ sym (append-nil (front ++ byte ∷ [])))),
 )
 
--- if a sink fails only after taking bytes that aren't a prefix of the text, it took exactly the
--- text if and only if exactly the text was sent
+-- if a sink fails only after taking bytes that aren't a prefix of the text, the sink took exactly
+-- the text if and only if exactly the text was sent
 pub sent_compares : (text sent before taken own : List ℕ) (bytes : Option (List ℕ)) (failures_before failures : ℕ) (done : Result ⊤ OfficeFault)
     (ok whole : Bool) → before ≡ [] → failures_before ≡ 0 → bytes ≡ Some text → bytes ≡ Some own → OnOk done (Takes (Some before) sent (Some taken))
     → OnErr done (TakesPart (Some before) sent (Some taken)) → CountsFailure (done ≡ Err office.Sink) failures_before failures

@@ -42,7 +42,7 @@ counted_back status first opened start read after same none counted back = (
   λ differs. let never = counted.1 differs in omega (arith, same, none, back, never),
 )
 
--- ---- a file
+-- ---- taking a file
 
 -- if an office took or refused a file, the desk's `take` ends in the same way
 pub takes : (left left_now : Bytes) (old new : State) (result : Result ⊤ OfficeFault)
@@ -56,7 +56,7 @@ takes left left_now old new (Err (office.State fault)) outcome kept = absurd out
 takes left left_now old new (Err office.Lapsed) outcome kept = absurd outcome
 takes left left_now old new (Err office.Sink) outcome kept = absurd outcome
 
--- the failure count grows as the result's status requires
+-- after a file was taken or refused, `IsCounted` holds for the result's status
 pub taking_counted : (before after : ℕ) (result : Result ⊤ OfficeFault) → CountsTaking before after result → IsCounted (result_status result) before after
 taking_counted before after (Ok done) counted = not_failed 0 before after (λ is. omega arith) counted
 taking_counted before after (Err (office.File fault)) counted = not_failed _ before after (λ is. omega arith) counted
@@ -66,7 +66,7 @@ taking_counted before after (Err (office.State fault)) counted = absurd counted
 taking_counted before after (Err office.Lapsed) counted = absurd counted
 taking_counted before after (Err office.Sink) counted = absurd counted
 
--- ---- a state
+-- ---- receiving or reloading a state
 
 -- if an office refused to receive a state, the desk refuses for the same fault
 pub refuses_to_receive : (left left_now : Bytes) (fault : OfficeFault)
@@ -92,7 +92,7 @@ pub reloads : (left left_now : Bytes) (new : State) (result : Result ⊤ OfficeF
 reloads left left_now new (Ok done) outcome = outcome
 reloads left left_now new (Err fault) outcome = refuses_to_receive left left_now fault outcome
 
--- the failure count grows as the fault's status requires
+-- after a state was refused, `IsCounted` holds for the fault's status
 fault_counted : (before after : ℕ) (fault : OfficeFault) → CountsWhy (why_unread fault) before after
     → IsCounted (result_status {A = ⊤} (Err fault)) before after
 fault_counted before after (office.State fault) counted = not_failed _ before after (λ is. omega arith) counted
@@ -120,14 +120,14 @@ found_held (Some text) None compared.Same state left held is = let never : ⊥ =
 found_held (Some text) (Some it) compared.Other state left held is = λ same. is (sym held ∙ same)
 found_held (Some text) None compared.Other state left held is = absurd is
 
--- if the reading through a copy stopped where the reading of a state may stop, so did the reading
--- of the file
+-- if the copying source was read no further than the result needs, the file was read no further
+-- than the result needs
 pub stops_as : (held left seen seen_left : Bytes) → ReadsFewOfState dks_2 seen seen_left → seen ≡ held → left ≡ seen_left
     → StopsInState (reading held left)
 stops_as held left seen seen_left stops same same_left =
     subst (λ (bytes : Bytes). ReadsFewOfState dks_2 bytes left) same (subst (ReadsFewOfState dks_2 seen) (sym same_left) stops)
 
--- if the reading through a copy ended with a fault, so did the comparison
+-- if reading the copying source ended with a fault, the comparison ended with this fault
 pub refuses_as : (held left seen seen_left : Bytes) (old new : State) (fault : OfficeFault)
     → IsWhyUnread WantsMemory dks_2 most_bytes seen seen_left (why_unread fault) → new ≡ old → seen ≡ held → left ≡ seen_left
     → EndsComparing old new (Err fault) (Some (reading held left))
@@ -138,7 +138,7 @@ refuses_as held left seen seen_left old new fault why kept same same_left = (
   kept,
 )
 
--- if a copy has the text of these bytes, so have the items of the copy's vector
+-- if a copy has the text of these bytes, the items of the copy's vector are this text
 copied : {Z : Type 0} (bytes : Bytes) (copy : Option (Vec ℕ Z)) → IfSome copy (λ it. IsText bytes it.items)
     → IfSome (option_map (λ (it : Vec ℕ Z). it.items) copy) (IsText bytes)
 copied bytes None held = tt

@@ -55,7 +55,7 @@ no_permanent rest none (merge_request other) same has = cc
 no_permanent rest none (horizon_request day) same has = cc
 no_permanent rest none save_request same has = cc
 
--- ---- names
+-- ---- looking up a verb by its name
 
 -- looking up a verb's name returns that verb
 named_back : (v : Verb) → verb_named (name_of v) ≡ Some v
@@ -88,7 +88,7 @@ name_back : (word : Text) (v : Verb) → verb_named word ≡ Some v → word ≡
 unfolding verb_named
 name_back word v found = found_name word v verbs found
 
--- ---- requests
+-- ---- the request in a line
 
 -- if the first word of a line isn't a verb, the line isn't a request
 pub no_verb : (may_write : Bool) (line : List ℕ) (word : Text) → word ≡ first_word line → None ≡ verb_named word → AsksFor may_write line None

@@ -26,14 +26,14 @@ tells_both first second piece behind old middle new one two sound whole tells = 
     by (inl next) = inl (next.0 ∙ sound, both_taken old.taken middle.taken new.taken first second taken next.1)
     by (inr part) = inr (part.0 ∙ ap (λ n. n + 1) sound, part_of_back old.taken middle.taken new.taken first second taken part.1)
 
--- if writing the first text fails after a part of it, a part of the concatenation was written
+-- if writing the first text fails partway, only a part of the concatenation was written
 pub tells_first : (first second piece : List ℕ) (old new : FaultsView) → piece ≡ first → new.failures ≡ old.failures + 1 → TakesPart old.taken piece new.taken
     → TellsText (first ++ second) old new
 tells_first first second piece old new one failed part =
     inr (failed, part_of_front old.taken new.taken first second (subst (λ text. TakesPart old.taken text new.taken) one part))
 
--- if the state's file was looked at, opened and read, the session begins with the desk that was
--- read
+-- if the state's file was looked at, opened and read, the session begins with the desk whose state
+-- was read
 pub begins : {T : Type 0} (desk_in : T → DeskView) (name : Text) (old new : List Event) (made : T) (look failures : ℕ)
     → LooksAndOpens name (EndsOpening desk_in (Ok made)) old new → look ≡ length old
     → BeginsAt name old (session_view (desk_in made) look new failures)

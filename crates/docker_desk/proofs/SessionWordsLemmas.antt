@@ -13,7 +13,7 @@ two_words (one ∷ []) none some few = absurd (omega arith)
 two_words (one ∷ two ∷ []) none some few = refl
 two_words (one ∷ two ∷ three ∷ more) none some few = absurd (omega arith)
 
--- if there are two words and the first is `--write`, they name a session in which the desk may
+-- if there are two words and the first is `--write`, the words name a session in which the desk may
 -- write
 pub named_to_write : {T : Type 0} (name_in : T → Text) (writes : T → Bool) (words : List (Bor Text)) (none : Bor Text) (found : Option T)
     → 2 ≤ length words → length words < 3 → (get_or words 0 none).now ≡ codes "--write"

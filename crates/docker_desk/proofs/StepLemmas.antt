@@ -22,7 +22,7 @@ use Rattle.docker_desk.specs.Doing.{AreSteps, DoesLine, IsStep}
 use Rattle.docker_desk.specs.Answering.{AnswersLines, AreFirstLines, BeginsWith, BreaksOff, CountsNext, EndsSession}
 use Rattle.docker_desk.specs.Answering.{HasLines, IsEndless, IsFollowed, ServesNext, TellsAnswer, answers_text, lines_of}
 
--- ---- the input
+-- ---- reading the lines of the input
 
 -- the bytes of the input begin with these lines, and the bytes after the lines are left. This says
 -- nothing if contracts don't know which bytes the input held
@@ -35,8 +35,8 @@ pub reads_none : (input : DeviceBytes) → ReadsFirst input [] input
 reads_none None = tt
 reads_none (Some text) = (text, (refl, refl))
 
--- if a text begins with some lines, and the bytes after them begin with others, the text begins
--- with the concatenation
+-- if a text begins with lines, and the bytes after them begin with more lines, the text begins with
+-- all these lines
 first_lines_more : (text : List ℕ) (lines more : List LineView) (rest last : List ℕ) → AreFirstLines text lines rest → AreFirstLines rest more last
     → AreFirstLines text (lines ++ more) last
 first_lines_more text [] more rest last first then_more = subst (λ t. AreFirstLines t more last) first then_more
@@ -64,7 +64,7 @@ first_lines_some text (line ∷ lines) rest first =
     let one = line_is_some text line first.0 first.1.0 in let more = first_lines_some first.0 lines rest first.1.1 in omega (arith, one, more)
 
 module _ (old now : DeviceBytes) (lines : List LineView) where
-  -- if some lines were read from an input and then one more, all these lines were read in order
+  -- if lines were read from an input and then one more line, all these lines were read in order
   pub reads_more : (new : DeviceBytes) (line : LineView) → ReadsFirst old lines now → ReadsNext now line new → ReadsFirst old (lines ++ line ∷ []) new
   reads_more new line = by old
     where
@@ -74,8 +74,8 @@ module _ (old now : DeviceBytes) (lines : List LineView) where
           let there : ReadsNext (Some first.0) line new = subst (λ d. ReadsNext d line new) first.1.1 next in
           (there.0, (first_lines_more text lines (line ∷ []) first.0 there.0 first.1.0 (there.0, (there.1.0, refl)), there.1.1))
 
-  -- if some lines were read, and the bytes left begin with more lines, the input begins with the
-  -- concatenation
+  -- if lines were read, and the bytes left begin with more lines, the input begins with all these
+  -- lines
   pub begins_more : (more : List LineView) → ReadsFirst old lines now → BeginsWith now more → BeginsWith old (lines ++ more)
   begins_more more = by old
     where
@@ -85,8 +85,8 @@ module _ (old now : DeviceBytes) (lines : List LineView) where
           let there : BeginsWith (Some first.0) more = subst (λ d. BeginsWith d more) first.1.1 next in
           (there.0, first_lines_more text lines more first.0 there.0 first.1.0 there.1)
 
-  -- if some lines were read, and the bytes left consist of more lines, the input consists of the
-  -- concatenation
+  -- if lines were read, and the bytes left consist of more lines, the input consists of all these
+  -- lines
   pub has_more : (more : List LineView) → ReadsFirst old lines now → HasLines now more → HasLines old (lines ++ more)
   has_more more = by old
     where
@@ -121,7 +121,7 @@ module _ (old now : DeviceBytes) (lines : List LineView) where
       by None first = tt
       by (Some text) first = (first.0, first.1.0)
 
--- if reading a line succeeded with a line, this line is the next line of the input
+-- if reading returned a line, this line is the next line of the input
 pub next_read : (old new : DeviceBytes) (read : Asked) (line : LineView) → asked_meant read ≡ Some line → EndsLine old (Ok read) new → ReadsNext old line new
 next_read old new read line is ends = subst (λ (met : Option LineView). ReadsAsked old met new) is ends
 
@@ -143,9 +143,9 @@ endless_line (Some text) new many = by new many.read
         let least = many.many in
         omega (arith, size, both, least)
 
--- ---- the output
+-- ---- writing to the output
 
--- writing no bytes leaves an output unchanged
+-- if an output is unchanged, no bytes were written to it
 pub takes_none : (output : DeviceBytes) → Takes output [] output
 takes_none None = refl
 takes_none (Some taken) = ap Some (sym (append-nil taken))
@@ -156,11 +156,11 @@ takes_more None now new first second one two = two ∙ ap (option_map (λ taken.
 takes_more (Some taken) now new first second one two =
     two ∙ ap (option_map (λ taken. taken ++ second)) one ∙ ap Some (append_assoc taken first second)
 
--- ---- steps
+-- ---- appending steps
 
 module _ (setting : Setting) where
-  -- if some steps end at a point, and more steps begin at that point, their concatenation is a list
-  -- of steps
+  -- steps from one point to a second point, followed by steps from the second to a third, are steps
+  -- from the first point to the third
   steps_more : (first now last : SessionView) (steps more : List Step) → AreSteps setting first steps now → AreSteps setting now more last
       → AreSteps setting first (steps ++ more) last
   steps_more first now last [] more are then_more = subst (λ m. AreSteps setting m more last) are then_more
@@ -209,7 +209,8 @@ module _ (setting : Setting) where
       → AreSteps setting before (step_of line before answer after does ∷ []) after
   one_step line before answer after does = (refl, (is_step line before answer after does, refl))
 
-  -- appending an answered line to the part of a session gives a longer part
+  -- after one more line is answered, `IsSoFar` holds for the next point and a count that is greater
+  -- by one
   so_far_more : (count : ℕ) (first now next : SessionView) (input input_now input_next output output_now output_next : DeviceBytes)
       → IsSoFar count first now input input_now output output_now → ServesNext setting now next input_now input_next output_now output_next None
       → IsSoFar (count + 1) first next input input_next output output_next
@@ -236,8 +237,8 @@ module _ (setting : Setting) where
       so_far_more count first now next input input_now input_next output output_now output_next so_far
       (subst (ServesNext setting now next input_now input_next output_now output_next) none serves)
 
-  -- if the bytes left in the input end a session with more steps, the whole input ends the session
-  -- with all steps
+  -- if `EndsSession` holds for the bytes left in the input and more steps, it holds for the whole
+  -- input and all steps
   ends_more : (ending : Ending) (count : ℕ) (first now : SessionView) (input input_now output output_now output_last : DeviceBytes) (more : List Step)
       → (so_far : IsSoFar count first now input input_now output output_now) → EndsSession ending input_now more output_now output_last
       → EndsSession ending input (so_far.steps ++ more) output output_last
@@ -273,8 +274,8 @@ module _ (setting : Setting) where
       by InputEndless ends = (begins ends.0, (endless_more input input_now (lines_of so_far.steps) so_far.read ends.1.0, gained ends.1.1))
       by OutputFailed ends = (begins ends.0, breaks ends.1)
 
-  -- the part of a session up to a point, followed by the steps that end the session, is a session
-  -- that ended
+  -- the answered part of a session up to a point, followed by the rest of the session from that
+  -- point, is a whole session with the same ending
   pub ended_after : (ending : Ending) (count : ℕ) (first now last : SessionView) (input input_now output output_now output_last : DeviceBytes)
       → IsSoFar count first now input input_now output output_now → AnswersLines setting now last input_now output_now output_last ending
       → AnswersLines setting first last input output output_last ending
@@ -302,7 +303,7 @@ module _ (setting : Setting) where
       many_lines : (steps : List Step) → length steps ≡ 2 ^ 64 - 1 → length (lines_of steps) ≡ 2 ^ 64 - 1
       many_lines steps many = length-map steps (λ (step : Step). step.line) ∙ many
 
--- ---- one line
+-- ---- answering one line
 
 module _ (setting : Setting) (now next : SessionView) (input input_now output output_now : DeviceBytes) where
   -- if the input is at its end, the session ends without another line

@@ -11,7 +11,7 @@ use Rattle.docker_train.specs.Origin.{CameFrom}
 use Rattle.docker_train.specs.TrainText.{IsFoundFor, IsTrainText, Stamped}
 use Rattle.docker_desk.specs.Learning.{IsKnown, IsTrainOf}
 
--- each schedule that is found in a summary came from one of the files
+-- each schedule that is found in a summary came from one of the summary's files
 abbrev pub FoundCameFrom : Type 0
 FoundCameFrom =
     (files : Files) (horizon : ℕ) (state : State) (uid : List ℕ) (day : ℕ) (found : Stamped) → IsSummary files horizon state
@@ -25,8 +25,8 @@ FoundIsPlain =
     → IsPlainTable files table → IsDay horizon → horizon ≤ day → IsFoundFor state uid day found
     → IsChosenOn table uid day (option_map (λ (it : Stamped). it.schedule) found)
 
--- if a text shows the schedule of a UID for a day, taken from a state that knows some files,
--- `IsTrainOf` holds for these files
+-- if a text shows the schedule that a state has for a UID on a day, `IsTrainOf` holds for the files
+-- that the state knows
 pub train_known : FoundCameFrom → FoundIsPlain → (known : Known) (state : State) (uid : List ℕ) (day : ℕ) (text : List ℕ) → IsKnown known state
     → IsTrainText state uid day text → state.horizon ≤ day → IsTrainOf known uid day text
 train_known came_from is_plain known state uid day text is train from = record {

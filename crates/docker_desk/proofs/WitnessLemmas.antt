@@ -32,11 +32,11 @@ use Rattle.docker_desk.proofs.ReadingLemmas.{one_reading}
 use Rattle.docker_desk.proofs.KnownLemmas.{one_read}
 use Rattle.state_laws.proofs.texts.ReportedWithHorizon.{valid_is_told}
 
--- the line `files`, which asks for the list of files
+-- the line `files`, which requests the list of files
 abbrev asked_line : List ℕ
 asked_line = codes "files"
 
--- the output holds the answer that lists no files, or the answer that memory ran out
+-- the output holds the answer that lists no files, or the answer that reports that memory ran out
 abbrev pub IsAnswered : Bytes → Type 0
 IsAnswered output = (output ≡ Some (codes "0 0 0\n")) ⊎ (output ≡ Some memory_answer)
 
@@ -63,7 +63,7 @@ named_so : (word name : Text) (may_write : Bool) → word ∷ [] ≡ session_wor
 named_so word name false same = cc
 named_so word name true same = let never : ⊥ = cc in absurd never
 
--- ---- the line
+-- ---- the line `files` is a request
 
 -- the input `files` with a line feed consists of one whole line
 one_line : AreLines (codes "files\n") (whole_line asked_line ∷ [])
@@ -91,9 +91,9 @@ asked_files may_write (Some (merge_request other)) asks = let first = heads 102 
 asked_files may_write (Some (horizon_request day)) asks = let first = heads 102 104 _ _ asks.name in absurd (omega (arith, first))
 asked_files may_write (Some save_request) asks = let first = heads 102 115 _ _ asks.name in absurd (omega (arith, first))
 
--- ---- the answer
+-- ---- the bytes of the answer
 
--- an answer that is done and has no text has the bytes `0 0 0` and a line feed
+-- an answer that has no text, to a request that succeeded, consists of `0 0 0` and a line feed
 empty_told : answer_bytes (done_with []) ≡ codes "0 0 0\n"
 empty_told = ap (λ (zero : List ℕ). zero ++ codes " " ++ zero ++ codes " " ++ zero ++ codes "\n" ++ []) zero_told
   where
@@ -111,7 +111,7 @@ answered output state (refused_for fault) same is takes =
     inr (takes ∙ ap (λ (f : OfficeFault). Some (answer_bytes (refused_for f) ++ [])) is ∙ ap Some (append-nil (answer_bytes (refused_for office.Memory))))
 answered output state no_request same is takes = absurd is
 
--- ---- the state
+-- ---- the file holds the state of no files
 
 -- an opened file holds the text that was last placed under its name on the shelf
 held_there : (text name : Text) (held left : Bytes) → name ≡ codes "S"
@@ -127,7 +127,7 @@ holds_none text is few valid = record {
   is = record { valid = (valid_is_told no_state valid, omega arith, omega arith); is = is; within = omega (arith, few) };
 }
 
--- ---- the session
+-- ---- the session answers the request
 
 module _ (text : List ℕ) (holds : HoldsState dks_2 most_bytes (Some text) no_state) (old : List Event) (output : Bytes)
     (before : old ≡ placed (codes "S") (Some text) ∷ []) where

@@ -11,8 +11,8 @@ use Rattle.docker_desk.specs.Requests.{after_word, first_word, without_spaces}
 
 -- ---- the words of pieces
 
--- the words in a list of pieces are the first piece, if it isn't empty, and the words in the other
--- pieces
+-- the words in a list of pieces are the first piece, unless that piece is empty, followed by the
+-- words in the other pieces
 first_apart : (piece : List ℕ) (pieces : List (List ℕ))
     → filter (λ word. not (length word == 0)) (piece ∷ pieces) ≡ word_or_none piece ++ filter (λ word. not (length word == 0)) pieces
 first_apart piece pieces = by (length piece == 0)
@@ -30,8 +30,8 @@ some_word piece some = by (length piece == 0) refl
     by false is = refl
     by true is = let none : length piece ≡ 0 = search (rules, tests) in absurd (omega (arith, some, none))
 
--- the words of a text with a space are the bytes before the first space, if there are any, and the
--- words of the bytes after that space
+-- the words of a text with a space are the bytes before the first space, unless there are none,
+-- followed by the words of the bytes after that space
 at_space : (text : List ℕ) → position_or_len is_space text < length text
     → words_in text ≡ word_or_none (before_first is_space text) ++ words_in (after_first is_space text)
 at_space text here =
@@ -86,7 +86,7 @@ word_leads (b ∷ text) some = by (is_space b) refl some (word_leads text)
 -- ---- the first word
 
 -- if a space follows the first word, the words are the first word and the words of the bytes after
--- it
+-- that space
 pub words_cut : (text : List ℕ) → without_spaces text ≢ [] → position_or_len is_space (without_spaces text) < length (without_spaces text)
     → words_in text ≡ first_word text ∷ words_in (after_word text)
 words_cut text some here =
@@ -100,7 +100,7 @@ words_cut text some here =
     long = let leads = word_leads text some in
         let size = length-take-le (position_or_len is_space rest) rest (omega (arith, here)) in omega (arith, leads, size)
 
--- if no space follows the first word, it is the only word
+-- if no space follows the first word, the first word is the only word
 pub words_last : (text : List ℕ) → without_spaces text ≢ [] → position_or_len is_space (without_spaces text) ≡ length (without_spaces text)
     → (words_in text ≡ without_spaces text ∷ words_in []) × ((first_word text ≡ without_spaces text) × (after_word text ≡ []))
 words_last text some end = (words_behind_spaces text ∙ without_space rest end ∙ some_word rest long, (first, behind))

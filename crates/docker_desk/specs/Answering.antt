@@ -56,9 +56,9 @@ pub record BreaksOff (steps : List Step)
   pub told : Takes output (answers_text earlier) between
   pub part : TakesPart between (answer_bytes last.answer) output_now
 
--- these steps were done in a session that ended in this way. If the input ended, their lines are
--- all lines of the input; otherwise the input begins with their lines. The output gained their
--- answers; if it failed, it gained only a proper prefix of the last answer
+-- these are the steps of a session that ended in this way. If the input ended, their lines are all
+-- lines of the input; otherwise the input begins with their lines. The output gained their answers.
+-- If the output failed, only a proper prefix of the last answer was written
 abbrev pub EndsSession : Ending → DeviceBytes → List Step → DeviceBytes
     → DeviceBytes → Type 0
 EndsSession Ended input steps output output_now =
@@ -95,8 +95,8 @@ IsFollowed (whole_line line) = ⊤
 IsFollowed bad_line = ⊤
 IsFollowed cut_line = ⊥
 
--- one line was answered, or the session ended at it. With None, the line was answered and the
--- session continues. Otherwise the session ended in this way
+-- one line was answered, or the session ended at this line. With None, the line was answered and
+-- the session continues. Otherwise the session ended in this way
 abbrev pub ServesNext : Setting → SessionView → SessionView → DeviceBytes → DeviceBytes
     → DeviceBytes → DeviceBytes → Option Ending → Type 0
 ServesNext setting before after input input_now output output_now None =

@@ -1,7 +1,8 @@
 -- The bytes of an answer: a header with the size of the text, and then the text.
 use Rattle.std.specs.Prelude.{ℕ, ◌+◌, ◌==◌, if◌then◌else◌, List, [], ◌∷◌, ◌++◌, length, codes, decimal}
 
--- the number of line feeds in a text, which is the number of its lines if each line is whole
+-- the number of line feeds in a text. If each line of the text is whole, this is the number of
+-- lines
 abbrev pub line_count : List ℕ → ℕ
 line_count [] = 0
 line_count (byte ∷ bytes) = if byte == 10 then 1 + line_count bytes else line_count bytes

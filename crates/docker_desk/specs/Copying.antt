@@ -39,7 +39,7 @@ abbrev pub IsNoFront : Text → Text → Type 0
 IsNoFront front text = (more : List ℕ) → text ≢ front ++ more
 
 -- comparing a copy with a text has this result: `Same` if they are equal, `Other` if they differ.
--- `Unknown` says nothing
+-- For `Unknown` this says nothing
 abbrev pub ComparesCopy : Compared → Option Text → Text → Type 0
 ComparesCopy compared.Same copy text = copy ≡ Some text
 ComparesCopy compared.Other None text = ⊥

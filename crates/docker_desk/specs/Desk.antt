@@ -30,8 +30,8 @@ pub record DeskView : Type 0 where
   pub state : State
   pub unsaved : Bool
 
--- this is the fault for which a docker is refused: `Lapsed` if the horizon refuses its day,
--- otherwise `Memory`
+-- this is the fault for which a docker is refused: `Lapsed` if its day is refused under the state's
+-- horizon, otherwise `Memory`
 abbrev pub IsDockerRefused : State → ℕ → OfficeFault → Type 0
 IsDockerRefused state day office.Lapsed = IsDayRefused state.horizon day
 IsDockerRefused state day office.Memory = ¬ IsDayRefused state.horizon day
@@ -53,8 +53,8 @@ TellsDocker live place day (done_with text) = IsDockerText live place day text
 TellsDocker live place day (refused_for fault) = fault ≡ office.Memory
 TellsDocker live place day no_request = ⊥
 
--- this is an answer to `permanent`, the request for a docker without the short-term plan. It is
--- refused for the same faults as `print`
+-- this is an answer to `permanent`, the request for a docker without the short-term plan. The
+-- request is refused for the same faults as `print`
 abbrev pub IsPermanentAnswer : State → List ℕ → ℕ → AnswerView → Type 0
 IsPermanentAnswer state place day (done_with text) =
     IsDockerText (permanent_table (live_table state)) place day text × (¬ IsDayRefused state.horizon day)
@@ -199,14 +199,14 @@ EndsRenewing old new (Err fault) read = IsWhyNot RefusesToReceive fault read × 
 
 -- ---- the unsaved flag and the look
 
--- the unsaved flag after a request that may change the state: set if the request was done,
+-- the unsaved flag after a request that may change the state: set if the request succeeded,
 -- unchanged if it was refused
 abbrev pub unsaved_by : Result ⊤ OfficeFault → Bool → Bool
 unsaved_by (Ok done) unsaved = true
 unsaved_by (Err fault) unsaved = unsaved
 
--- the number of the look after a request: `look` if the request was done, otherwise the number
--- before
+-- the number of the look after a request: `look` if the request succeeded, otherwise the earlier
+-- number
 abbrev pub look_by : {A : Type 0} → Result A OfficeFault → ℕ → ℕ → ℕ
 look_by (Ok done) look before = look
 look_by (Err fault) look before = before

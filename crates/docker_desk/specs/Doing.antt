@@ -16,15 +16,15 @@ use Rattle.docker_desk.specs.declared.compared.Compared.{Compared}
 use Rattle.docker_desk.specs.Replies.{AnswerView, done_with, no_request, refused_for, answer_status}
 use Rattle.docker_desk.specs.SessionViews.{SessionView, Setting, Step}
 
--- the answer to a request whose answer has no text, given the request's result: done, or refused
--- for a fault
+-- converts a request's result to the answer, for a request whose answer has no text. The request
+-- either succeeded or was refused for a fault
 abbrev pub answer_of : {A : Type 0} → Result A OfficeFault → AnswerView
 answer_of (Ok done) = done_with []
 answer_of (Err fault) = refused_for fault
 
--- `take` or `merge`, done at the point `before`, has this answer and ends at the point `after`. The
--- named file is opened once, and the bytes that it held at that moment determine the outcome.
--- `Stops` limits how far the file is read, and `Ends` gives the outcome
+-- carrying out `take` or `merge` at the point `before` gave this answer and ended at the point
+-- `after`. The named file is opened once, and the bytes that it held at that moment determine the
+-- outcome. `Stops` limits how far the file is read, and `Ends` gives the outcome
 pub record Joins (name : Text) (Stops : Reading → Type 0)
     (Ends : State → State → Result ⊤ OfficeFault → Option Reading → Type 0)
     (before : SessionView) (answer : AnswerView) (after : SessionView) : Type 0 where
@@ -35,9 +35,9 @@ pub record Joins (name : Text) (Stops : Reading → Type 0)
   pub unsaved : after.desk.unsaved ≡ unsaved_by result before.desk.unsaved
   pub look : after.look ≡ before.look
 
--- `renew`, done at the point `before`, has this answer and ends at the point `after`. The state's
--- file is looked at and then opened once, and the desk's state is joined with the state that the
--- file then held. If `renew` succeeds, later drafts are made from this look
+-- carrying out `renew` at the point `before` gave this answer and ended at the point `after`. The
+-- state's file is looked at and then opened once, and the desk's state is joined with the state
+-- that the file then held. If `renew` succeeds, later drafts are made from this look
 pub record Renews (setting : Setting) (before : SessionView) (answer : AnswerView) (after : SessionView)
     : Type 0 where
   pub result : Result Compared OfficeFault
@@ -51,9 +51,9 @@ abbrev pub desk_by : Result ⊤ OfficeFault → DeskView → DeskView
 desk_by (Ok done) desk = record desk { unsaved = false }
 desk_by (Err fault) desk = desk
 
--- `save`, done at the point `before`, has this answer and ends at the point `after`. A draft is
--- made from the look of `before`. If the draft replaces the file, the file is looked at again, and
--- later drafts are made from the second look
+-- carrying out `save` at the point `before` gave this answer and ended at the point `after`. A
+-- draft is made from the look of `before`. If the draft replaces the file, the file is looked at
+-- again, and later drafts are made from the second look
 pub record Saves (setting : Setting) (before : SessionView) (answer : AnswerView) (after : SessionView)
     : Type 0 where
   pub result : Result ⊤ OfficeFault
@@ -69,7 +69,7 @@ abbrev pub with_horizon : ℕ → SessionView → SessionView
 with_horizon day before =
     record before { desk = record { state = raise_horizon day before.desk.state; unsaved = true } }
 
--- this request, done at the point `before`, has this answer and ends at the point `after`
+-- carrying out this request at the point `before` gives this answer and ends at the point `after`
 abbrev pub DoesRequest : Setting → RequestView → SessionView → AnswerView → SessionView → Type 0
 DoesRequest setting (print_request place day) before answer after =
     IsDockerAnswer before.desk.state place day answer × (after ≡ before)
@@ -92,29 +92,30 @@ DoesRequest setting (horizon_request day) before answer after =
     (answer ≡ done_with []) × (after ≡ with_horizon day before)
 DoesRequest setting save_request before answer after = Saves setting before answer after
 
--- the line has this request; None says that it has none. A line that isn't whole has no request
+-- the line has this request. None says that the line has no request. A line that isn't whole has
+-- none
 abbrev pub AsksOf : Bool → LineView → Option RequestView → Type 0
 AsksOf may_write (whole_line line) request = IsLineText line × AsksFor may_write line request
 AsksOf may_write bad_line request = request ≡ None
 AsksOf may_write cut_line request = request ≡ None
 
--- a line with this request, done at the point `before`, has this answer and ends at the point
--- `after`. If the line has no request, the answer is `no_request` and nothing changes
+-- carrying out this request at the point `before` gives this answer and ends at the point `after`.
+-- If there is no request, the answer is `no_request` and nothing changes
 abbrev pub DoesAsked : Setting → Option RequestView → SessionView → AnswerView → SessionView → Type 0
 DoesAsked setting (Some request) before answer after =
     DoesRequest setting request before answer after
 DoesAsked setting None before answer after = (answer ≡ no_request) × (after ≡ before)
 
--- this step is one that a session can do. The step's line has the step's request. The request, done
--- at the step's first point, has the step's answer and ends at the step's second point. The folder
--- failed once in the step if the answer has status 4, and otherwise didn't fail
+-- this step may occur in a session. The step's line has the step's request. Carrying out the
+-- request at the step's first point gives the step's answer and ends at the step's second point.
+-- The folder failed once in the step if the answer has status 4, and otherwise didn't fail
 pub record IsStep (setting : Setting) (step : Step) : Type 0 where
   pub asks : AsksOf setting.may_write step.line step.request
   pub does : DoesAsked setting step.request step.before step.answer step.after
   pub counted : IsCounted (answer_status step.answer) step.before.failures step.after.failures
 
--- this line, done at the point `before`, has this answer and ends at the point `after`. The folder
--- failed once if the answer has status 4, and otherwise didn't fail
+-- answering this line at the point `before` gives this answer and ends at the point `after`. The
+-- folder failed once if the answer has status 4, and otherwise didn't fail
 pub record DoesLine (setting : Setting) (line : LineView) (before : SessionView) (answer : AnswerView)
     (after : SessionView) : Type 0 where
   pub request : Option RequestView
@@ -122,7 +123,8 @@ pub record DoesLine (setting : Setting) (line : LineView) (before : SessionView)
   pub does : DoesAsked setting request before answer after
   pub counted : IsCounted (answer_status answer) before.failures after.failures
 
--- these steps, done in turn from the first point, end at the second point
+-- these steps follow one another. The first begins at the first point, and the last ends at the
+-- second point
 abbrev pub AreSteps : Setting → SessionView → List Step → SessionView → Type 0
 AreSteps setting before [] after = after ≡ before
 AreSteps setting before (step ∷ steps) after =

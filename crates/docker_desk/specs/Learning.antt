@@ -30,7 +30,7 @@ pub record IsKnown (known : Known) (state : State) : Type 0 where
   pub good : IsGoodKnown dks_2 known
   pub is : IsStateOf known state
 
--- on each day that the state's horizon doesn't refuse, the state and this table have the same
+-- for each day that isn't refused under the state's horizon, the state and this table have the same
 -- dockers without the short-term plan
 abbrev pub KeepsAs : State → Table → Type 0
 KeepsAs state table = (place : List ℕ) (day : ℕ) (text : List ℕ) → ¬ IsDayRefused state.horizon day
@@ -44,8 +44,8 @@ pub record HearsFile (name : Text) (before after : SessionView) (heard : Known) 
   pub takes : TakesFile most_records read.held before.desk.state after.desk.state
   pub heard_is : heard ≡ record { files = takes.file ∷ []; horizon = 0 }
 
--- `merge` or `renew` opened a file, which added these events. The file held the text of the summary
--- of this knowledge, and the session learned it
+-- `merge` or `renew` opened a file, and the opening added these events to the history. The file
+-- held the text of the summary of this knowledge, and the session learned this knowledge
 pub record HearsState (events : Reading → List Event) (before after : SessionView) (heard : Known)
     : Type 0 where
   pub read : Reading
@@ -57,9 +57,9 @@ pub record HearsState (events : Reading → List Event) (before after : SessionV
 abbrev pub renewing : Text → Reading → List Event
 renewing name read = looked name ∷ events_of name read
 
--- this is the knowledge that a request added when it was done. `take` added its file. `merge` and
--- `renew` added the knowledge of the summary that they received. `horizon` added its day. Any other
--- request added nothing
+-- this is the knowledge that a successful request added. `take` added its file. `merge` and `renew`
+-- added the knowledge of the summary that they received. `horizon` added its day. Any other request
+-- added nothing
 abbrev pub Hears : Setting → RequestView → SessionView → SessionView → Known → Type 0
 Hears setting (print_request place day) before after heard = heard ≡ nothing
 Hears setting (permanent_request place day) before after heard = heard ≡ nothing
@@ -76,8 +76,8 @@ Hears setting (horizon_request day) before after heard =
     heard ≡ record { files = []; horizon = day }
 Hears setting save_request before after heard = heard ≡ nothing
 
--- if `old` was known before a line, `new` is known after it. If the line has a request that was
--- done, `new` also has what the request added
+-- if `old` was known before a line, `new` is known after the line. If the line has a request that
+-- succeeded, `new` also includes what the request added
 abbrev pub Learns : Setting → Option RequestView → SessionView → AnswerView → SessionView
     → Known → Known → Type 0
 Learns setting (Some request) before (done_with text) after old new =
@@ -93,7 +93,8 @@ AreLearned setting old (step ∷ steps) new =
     (now : Known) × (Learns setting step.request step.before step.answer step.after old now
     × AreLearned setting now steps new)
 
--- a file was opened, which added these events. It held the text of the summary of this knowledge
+-- a file was opened, and the opening added these events to the history. The file held the text of
+-- the summary of this knowledge
 pub record HoldsKnown (events : Reading → List Event) (before after : SessionView) (known : Known)
     : Type 0 where
   pub read : Reading
@@ -102,7 +103,7 @@ pub record HoldsKnown (events : Reading → List Event) (before after : SessionV
   pub holds : HoldsState dks_2 most_bytes read.held sent
   pub of : IsKnown known sent
 
--- if the request is `merge` or `renew`, the file held the text of the summary of some knowledge
+-- if the request is `merge` or `renew`, the file held the text of a summary
 abbrev pub ReceivesKnown : Setting → RequestView → SessionView → SessionView → Type 0
 ReceivesKnown setting (print_request place day) before after = ⊤
 ReceivesKnown setting (permanent_request place day) before after = ⊤
@@ -118,8 +119,7 @@ ReceivesKnown setting (merge_request other) before after =
 ReceivesKnown setting (horizon_request day) before after = ⊤
 ReceivesKnown setting save_request before after = ⊤
 
--- if the line's request was done and is `merge` or `renew`, the file held the text of the summary
--- of some knowledge
+-- if the line's request succeeded and is `merge` or `renew`, the file held the text of a summary
 abbrev pub HearsKnown : Setting → Option RequestView → SessionView → AnswerView → SessionView → Type 0
 HearsKnown setting (Some request) before (done_with text) after =
     ReceivesKnown setting request before after
@@ -127,8 +127,7 @@ HearsKnown setting (Some request) before (refused_for fault) after = ⊤
 HearsKnown setting (Some request) before no_request after = ⊤
 HearsKnown setting None before answer after = ⊤
 
--- in each of these steps, every file that was merged or renewed held the text of the summary of
--- some knowledge
+-- in each of these steps, every file that was merged or renewed held the text of a summary
 abbrev pub AllHearKnown : Setting → List Step → Type 0
 AllHearKnown setting [] = ⊤
 AllHearKnown setting (step ∷ steps) =
@@ -151,8 +150,8 @@ pub record GainsFile (name : Text) (before after : SessionView) (gains : List Ga
   pub holds : HoldsFile read.held file
   pub gains_are : gains ≡ file_gained file ∷ []
 
--- a file was opened, which added these events. It held an earlier version of some state's file. The
--- state gained this version and nothing else
+-- a file was opened, and the opening added these events to the history. The file held an earlier
+-- version of any STATE file. The state gained this version and nothing else
 pub record GainsVersion (events : Reading → List Event) (earlier : List Text) (before after : SessionView)
     (gains : List Gain) : Type 0 where
   pub read : Reading
@@ -161,8 +160,8 @@ pub record GainsVersion (events : Reading → List Event) (earlier : List Text) 
   pub holds : HoldsVersion earlier read.held number
   pub gains_are : gains ≡ version_gained number ∷ []
 
--- this is what the state gained by a request that was done: a file, an earlier version of some
--- state's file, a horizon, or nothing
+-- this is what the state gained by a request that succeeded: a file, an earlier version of any
+-- STATE file, a horizon, or nothing
 abbrev pub GainsDone : Setting → List Text → RequestView → SessionView → SessionView → List Gain → Type 0
 GainsDone setting earlier (print_request place day) before after gains = gains ≡ []
 GainsDone setting earlier (permanent_request place day) before after gains = gains ≡ []
@@ -180,7 +179,7 @@ GainsDone setting earlier (horizon_request day) before after gains =
     gains ≡ horizon_gained day ∷ []
 GainsDone setting earlier save_request before after gains = gains ≡ []
 
--- this is what the state gained by a line: nothing, unless the line has a request that was done
+-- this is what the state gained by a line: nothing, unless the line has a request that succeeded
 abbrev pub GainsAsked : Setting → List Text → Option RequestView → SessionView → AnswerView → SessionView
     → List Gain → Type 0
 GainsAsked setting earlier (Some request) before (done_with text) after gains =
@@ -191,7 +190,7 @@ GainsAsked setting earlier None before answer after gains = gains ≡ []
 
 -- this is what the state gained by these steps, in order. Contracts know which bytes were in each
 -- file that was taken, merged or renewed. Each file that was merged or renewed held an earlier
--- version of some state's file
+-- version of any STATE file
 abbrev pub GainedBy : Setting → List Text → List Step → List Gain → Type 0
 GainedBy setting earlier [] gains = gains ≡ []
 GainedBy setting earlier (step ∷ steps) gains = (now : List Gain) × ((more : List Gain)
@@ -207,7 +206,7 @@ pub record IsPlaced (setting : Setting) (earlier : List Text) (own : ℕ) (gains
   pub asked : after.history ≡ before.history ++ drafted setting.name before.look
       ∷ placed setting.name (named_if setting.names_bytes text) ∷ looked setting.name ∷ []
 
--- at some point of some session, the desk has this knowledge and this state
+-- there is a session with a point at which the desk has this knowledge and this state
 pub record KnowsAt (setting : Setting) (known : Known) (state : State) : Type 0 where
   pub start : Known
   pub first : SessionView

@@ -9,8 +9,8 @@ use Rattle.docker_desk.specs.declared.lines.InputFault.{InputFault}
 use Rattle.docker_desk.specs.declared.lines.InputFault.TheVariants.{Failed, Endless}
 
 -- a line of a text: whole, bad or cut. A whole line has at most 255 printable bytes before its line
--- feed. A bad line is longer or has another byte. A cut line has no line feed, because the text
--- ends
+-- feed. A bad line is longer or has a byte that isn't printable. A cut line has no line feed,
+-- because the text ends
 pub data LineView : Type 0 where
   whole_line : (line : List ℕ) → LineView
   bad_line : LineView
@@ -27,7 +27,7 @@ pub record IsBadLine (text rest : List ℕ) : Type 0 where
   pub one : IsWithoutFeed line
   pub bad : ¬ IsLineText line
 
--- the text is a line without a line feed
+-- the text is a cut line: it isn't empty and has no line feed
 pub record IsCutLine (text : List ℕ) : Type 0 where
   pub some : text ≢ []
   pub one : IsWithoutFeed text
@@ -79,8 +79,8 @@ pub record ReadsMany (least : ℕ) (old new : Option (List ℕ)) : Type 0 where
   pub many : least ≤ length lost
   pub read : Reads old lost new
 
--- reading a line ended with this result: the line, or a source that failed, or a line of at least 2
--- ^ 64 - 1 bytes
+-- reading a line ended with this result: the line that was read; `Failed` if the source failed; or
+-- `Endless` if at least 2 ^ 64 - 1 bytes were read
 abbrev pub EndsLine : Option (List ℕ) → Result Asked InputFault → Option (List ℕ) → Type 0
 EndsLine old (Ok asked) new = ReadsAsked old (asked_meant asked) new
 EndsLine old (Err Failed) new = ReadsMany 0 old new
@@ -92,14 +92,15 @@ pub record MeetsEnd (at_end ended now_ended passed now_passed : Bool) : Type 0 w
   pub told : ended ≡ false → now_ended ≡ at_end
   pub kept : ended ≡ false → now_passed ≡ passed
 
--- whether the source reported its end when the next byte was read. It did if there was no byte
+-- whether the source reported its end when the next byte was read. The source reports its end if
+-- there is no next byte
 abbrev pub is_end_of_bytes : {A E : Type 0} → Result (Option A) E → Bool
 is_end_of_bytes (Ok (Some byte)) = false
 is_end_of_bytes (Ok None) = true
 is_end_of_bytes (Err fault) = false
 
--- whether the source reported its end when the next line was read. It did if the line is cut or
--- there is no line
+-- whether the source reported its end when the next line was read. The source reports its end if
+-- the line is cut or there is no line
 abbrev pub is_end_of_lines : Result Asked InputFault → Bool
 is_end_of_lines (Ok (asked.Line line)) = false
 is_end_of_lines (Ok asked.Bad) = false
@@ -107,8 +108,7 @@ is_end_of_lines (Ok asked.Cut) = true
 is_end_of_lines (Ok asked.End) = true
 is_end_of_lines (Err fault) = false
 
--- the line that these bytes are if the source ends after them: None if there are no bytes,
--- otherwise a cut line
+-- the last line of a source that ends after these bytes: a cut line, or None if there are no bytes
 abbrev pub cut_or_end : List ℕ → Option LineView
 cut_or_end [] = None
 cut_or_end (byte ∷ bytes) = Some cut_line

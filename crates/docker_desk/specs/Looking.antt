@@ -21,8 +21,8 @@ pub record IsAfterPlacing (name : Text) (history : List Event) (look : ℕ) : Ty
   pub whole : history ≡ earlier ++ placed name bytes ∷ looked name ∷ later
   pub number : look ≡ length earlier + 1
 
--- this look comes right before an opening of the file, or right after a draft replaced it. So if a
--- draft from this look replaces a text, the desk has read or written that text, unless the text
--- arrived after the look
+-- this look directly precedes an opening of the file, or directly follows the replacement of the
+-- file by a draft. So if a draft from this look replaces a text, the desk has read or written that
+-- text, unless the text arrived after the look
 abbrev pub IsGoodLook : Text → List Event → ℕ → Type 0
 IsGoodLook name history look = IsBeforeOpening name history look ⊎ IsAfterPlacing name history look

@@ -11,7 +11,7 @@ use Rattle.docker_desk.specs.declared.requests.Verb.TheVariants as verb
 use Rattle.docker_desk.specs.declared.requests.Request.{Request}
 use Rattle.docker_desk.specs.declared.requests.Request.TheVariants as code
 
--- a request, with the timing point, the train, the day or the file that it names
+-- a request, with the timing point, the train, the day or the file that the request names
 pub data RequestView : Type 0 where
   print_request : (place : List ℕ) (day : ℕ) → RequestView
   permanent_request : (place : List ℕ) (day : ℕ) → RequestView
@@ -39,7 +39,7 @@ request_meant (code.Merge other) = merge_request other.now
 request_meant (code.Horizon day) = horizon_request day
 request_meant code.Save = save_request
 
--- the verb of a request, which is the word that names it
+-- the verb of a request: the word that names the request
 abbrev pub verb_of : RequestView → Verb
 verb_of (print_request place day) = verb.Print
 verb_of (permanent_request place day) = verb.Permanent
@@ -60,7 +60,7 @@ pub record RequestRow : Type 0 where
   pub ids : List Text
   pub writes : Bool
 
--- makes a row of these columns
+-- makes a row from these columns
 abbrev pub row : Text → List Text → Bool → RequestRow
 row name ids writes = record { name = name; ids = ids; writes = writes }
 
@@ -168,8 +168,7 @@ abbrev pub AsksFor : Bool → List ℕ → Option RequestView → Type 0
 AsksFor may_write line (Some request) = IsRequestOf may_write line request
 AsksFor may_write line None = (request : RequestView) → ¬ IsRequestOf may_write line request
 
--- the rest of a line, after this verb, makes this request; None says that it doesn't make any
--- request
+-- the rest of a line, after this verb, makes this request; None says that the rest makes no request
 abbrev pub FitsRest : Verb → List ℕ → Option RequestView → Type 0
 FitsRest verb rest (Some request) = (verb_of request ≡ verb) × HasRest request rest
 FitsRest verb rest None = (request : RequestView) → verb_of request ≡ verb → ¬ HasRest request rest

@@ -18,7 +18,7 @@ use Rattle.docker_desk.specs.declared.ending.Ending.TheVariants.{Ended, InputFai
 use Rattle.docker_desk.specs.SessionViews.{SessionView, setting}
 use Rattle.docker_desk.specs.Answering.{AnswersLines, CountsStreams}
 
--- ---- words
+-- ---- the words of a session
 
 -- the words of a session: the name of the state's file, with `--write` before it if the desk may
 -- write
@@ -36,7 +36,7 @@ pub record NamesSession (words : List Text) (name : Text) (may_write : Bool) : T
 abbrev pub NameNoSession : List Text → Type 0
 NameNoSession words = (name : Text) (may_write : Bool) → ¬ NamesSession words name may_write
 
--- ---- the start
+-- ---- how a session starts
 
 -- starting a desk from a file ended with this result. Either the desk has the state that the file
 -- held, and no unsaved changes; or the file couldn't be opened, or its text was refused
@@ -59,7 +59,7 @@ pub record BeginsAt (name : Text) (old : List Event) (first : SessionView) : Typ
   pub saved : first.desk.unsaved ≡ false
   pub look : first.look ≡ length old
 
--- ---- the end
+-- ---- how a session ends
 
 -- the line that reports unsaved changes
 abbrev pub unsaved_line : List ℕ
@@ -78,8 +78,9 @@ ending_status InputFailed unsaved = 4
 ending_status InputEndless unsaved = 4
 ending_status OutputFailed unsaved = 4
 
--- the text that the sink of faults gains at the end of a session. It has the line that reports a
--- failed device, if one failed, and then the line that reports unsaved changes, if there are any
+-- the text that the sink of faults gains at the end of a session. This text has the line that
+-- reports a failed device, if a device failed, and then the line that reports unsaved changes, if
+-- there are any
 abbrev pub ending_text : Ending → Bool → List ℕ
 ending_text Ended unsaved = unsaved_text unsaved
 ending_text InputFailed unsaved = device_line ++ unsaved_text unsaved
@@ -92,7 +93,7 @@ pub record EndsWithStatus (ending : Ending) (unsaved : Bool) (status : ℕ) (old
   pub status_is : status ≡ ending_status ending unsaved
   pub tells : TellsText (ending_text ending unsaved) old new
 
--- ---- a session
+-- ---- a whole session
 
 -- these words aren't the words of a session. The usage line was written to the sink of faults, and
 -- nothing else changed
@@ -111,8 +112,8 @@ pub record LeavesStreams (old new : HostView) : Type 0 where
   pub input_failures : new.input_failures ≡ old.input_failures
   pub output_failures : new.output_failures ≡ old.output_failures
 
--- the state's file was looked at. But it couldn't be opened, or no state could be read from it. The
--- fault was reported, and the session ended
+-- the state's file was looked at. But the file couldn't be opened, or no state could be read from
+-- it. The fault was reported, and the session ended
 pub record IsRefusedStart (words : List Text) (old new : HostView) (status : ℕ) : Type 0 where
   pub name : Text
   pub may_write : Bool

@@ -19,7 +19,7 @@ setting name may_write names_bytes =
     record { name = name; may_write = may_write; names_bytes = names_bytes }
 
 -- a point of a session: what the desk knows, and the number of the look from which the next draft
--- is made. A point also has the folder's events before it, and the folder's failure count
+-- is made. A point also records the folder's earlier events, and the folder's failure count
 pub record SessionView : Type 0 where
   pub desk : DeskView
   pub look : ℕ
@@ -32,7 +32,7 @@ session_view desk look history failures =
     record { desk = desk; look = look; history = history; failures = failures }
 
 -- a step of a session: a line, its request if it has one, its answer, and the points before and
--- after it
+-- after the step
 pub record Step : Type 0 where
   pub line : LineView
   pub request : Option RequestView

@@ -15,7 +15,8 @@ use crate::session_words::SessionWords;
 use docker_cmd::OfficeFault;
 use docker_host::Folder;
 
-/// Answers one line, by doing the request that it makes, if any. A refusal changes nothing.
+/// Answers one line. If the line makes a request, carries out the request. A refusal changes
+/// nothing.
 pub fn answer_line<D: Folder>(
     words: &SessionWords<'_>,
     line: &[u8],
@@ -38,7 +39,7 @@ pub fn answer_line<D: Folder>(
     }
 }
 
-/// Does a request, and returns its answer.
+/// Carries out a request, and returns the answer.
 fn answer_request<D: Folder>(
     words: &SessionWords<'_>,
     request: Request<'_>,
@@ -83,7 +84,7 @@ fn answer_request<D: Folder>(
     }
 }
 
-/// Returns the answer to a request that has no text.
+/// Converts a request's result to the answer, for a request whose answer has no text.
 fn answer_to<T: Drop>(outcome: Result<T, OfficeFault>) -> Answer
     ensures { answer_meant result ≡ answer_of outcome }
 {

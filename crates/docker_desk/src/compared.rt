@@ -6,7 +6,7 @@ pub enum Compared {
     Same,
     /// The file held another text.
     Other,
-    /// The texts weren't compared, because the caller didn't request it or because there was no
-    /// memory to keep the file's text.
+    /// The texts weren't compared, because the caller didn't request a comparison or because there
+    /// was no memory to keep the file's text.
     Unknown,
 }

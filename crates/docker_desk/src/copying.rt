@@ -22,7 +22,7 @@ impl Begun for Brand {
 }
 
 /// A source, with a copy of all bytes that were read from it. The copy is `None` if there was no
-/// memory for it. `at_end` says whether the last read reported the end of the source.
+/// memory for the copy. `at_end` says whether the last read reported the end of the source.
 #[derive(Drop)]
 pub(crate) struct Copying<B: Begun, S: Source> {
     source: S,
@@ -67,8 +67,8 @@ impl<B: Begun, S: Source> Copying<B, S> {
         }
     }
 
-    /// Returns the source and the copy. The copy is `None` if there was no memory for it, or if the
-    /// source wasn't read to its end. Otherwise the copy has all bytes that the source held.
+    /// Returns the source and the copy. The copy is `None` if there was no memory for the copy, or
+    /// if the source wasn't read to its end. Otherwise the copy has all bytes that the source held.
     pub(crate) fn into_parts(self) -> (S, Option<Vec<u8>>)
         ensures left { S.left result.0 ≡ self.left }
         ensures failures { S.failures result.0 ≡ self.failures }

@@ -25,9 +25,9 @@ use state_lists::{KnownText, known_text, print_places};
 use std::alloc::Global;
 use std::marker::Model;
 
-/// A desk: an office, and whether its state may differ from the state that STATE's file was last
-/// seen to hold. The desk also keeps the text of its last answer to `known`, until its state may
-/// change.
+/// A desk: an office, and whether the office's state may differ from the state that STATE's file
+/// was last seen to hold. The desk also keeps the text of its last answer to `known`, until the
+/// office's state may change.
 #[derive(Debug, Drop)]
 pub struct Desk {
     alloc: Global,
@@ -49,7 +49,7 @@ impl Model for Desk {
 }
 
 impl Desk {
-    /// Returns the desk of an office that was just read.
+    /// Returns the desk of an office whose state was just read.
     pub fn new(alloc: Global, office: Office) -> Desk
         ensures { result ≡ record { state = office; unsaved = false } }
     {
@@ -70,8 +70,8 @@ impl Desk {
         self.unsaved
     }
 
-    /// Returns the docker of a timing point on a day, as a whole text. Refused for a day before the
-    /// horizon plus three days, or because memory ran out.
+    /// Returns the text of the docker of a timing point on a day. Refused if the day is earlier
+    /// than three days after the horizon, or if memory ran out.
     pub fn print(&self, place: &Tiploc, day: Day) -> Answer
         ensures { IsDockerAnswer self.now.state place.now day (answer_meant result) }
     {
@@ -83,8 +83,8 @@ impl Desk {
         }
     }
 
-    /// Returns the docker of a timing point on a day without the short-term plan, as a whole text.
-    /// Refused for the same faults as `print`.
+    /// Returns the text of the docker that `permanent` prints for a timing point on a day: a docker
+    /// without the short-term plan. Refused for the same faults as `print`.
     pub fn permanent(&self, place: &Tiploc, day: Day) -> Answer
         ensures { IsPermanentAnswer self.now.state place.now day (answer_meant result) }
     {
@@ -95,9 +95,8 @@ impl Desk {
         }
     }
 
-    /// Returns the schedule that is chosen for a train on a day, or a line which says that no
-    /// schedule is chosen, as a whole text. Refused for a day before the horizon, or because memory
-    /// ran out.
+    /// Returns the text of the schedule that is chosen for a train on a day, or a line which says
+    /// that no schedule is chosen. Refused for a day before the horizon, or because memory ran out.
     pub fn train(&self, uid: &Uid, day: Day) -> Answer
         ensures { IsTrainAnswer self.now.state uid.now day (answer_meant result) }
     {
@@ -145,8 +144,8 @@ impl Desk {
         answer_on(page, printed)
     }
 
-    /// Takes the named file, which is opened once. A refusal, `File`, `Source` or `Memory`, leaves
-    /// the desk unchanged.
+    /// Takes the named file, which is opened once. A refusal leaves the desk unchanged. Its fault
+    /// is `File`, `Source` or `Memory`.
     pub fn take<D: Folder>(&mut self, name: &str, folder: &mut D) -> Result<(), OfficeFault>
         requires { D.failures folder.old < 2 ^ 64 - 1 }
         ensures opens { OpensOnce name.now StopsInFile
@@ -166,8 +165,8 @@ impl Desk {
         }
     }
 
-    /// Joins the desk's state with the state in the named file, which is opened once. A refusal,
-    /// `State`, `Source` or `Memory`, leaves the desk unchanged.
+    /// Joins the desk's state with the state in the named file, which is opened once. A refusal
+    /// leaves the desk unchanged. Its fault is `State`, `Source` or `Memory`.
     pub fn receive<D: Folder>(&mut self, name: &str, folder: &mut D) -> Result<(), OfficeFault>
         requires { D.failures folder.old < 2 ^ 64 - 1 }
         ensures opens { OpensOnce name.now StopsInState
@@ -187,7 +186,7 @@ impl Desk {
         }
     }
 
-    /// Sets a horizon: the desk keeps the later of this day and its own horizon. This is never
+    /// Sets a horizon: the desk keeps the later of this day and its own horizon. The call is never
     /// refused.
     pub fn set_horizon(&mut self, day: Day)
         ensures { self.new
@@ -206,10 +205,10 @@ impl Desk {
     }
 
     /// Looks at the named file, then opens it once and joins the desk's state with the state in the
-    /// file. If this succeeds, `seen` becomes the result of this look, and the call returns whether
-    /// the file held the text of the desk's new state. The texts are compared only if `compares` is
-    /// set and there is memory to keep the file's text until then. The desk then has unsaved
-    /// changes unless the comparison showed that the file held that text.
+    /// file. On success, `seen` becomes the result of this look, and the call returns whether the
+    /// file held the text of the desk's new state. The texts are compared only if `compares` is set
+    /// and there is memory to keep the file's text for that. The desk then has unsaved changes
+    /// unless the comparison showed that the file held that text.
     pub fn renew<D: Folder>(
         &mut self,
         name: &str,
@@ -237,10 +236,10 @@ impl Desk {
         }
     }
 
-    /// Stores the text of the desk's state in the named file, by a draft from the look `seen`. If
-    /// this succeeds, looks at the file again, and `seen` becomes the result of the new look. A
-    /// refusal leaves the desk and `seen` unchanged. The fault is `Sink` if the draft can't be made
-    /// or written or can't replace the file, and `Memory` if there is no memory to make the draft.
+    /// Stores the text of the desk's state in the named file, by a draft from the look `seen`. On
+    /// success, looks at the file again, and `seen` becomes the result of the new look. A refusal
+    /// leaves the desk and `seen` unchanged. The fault is `Sink` if the draft can't be made or
+    /// written or can't replace the file, and `Memory` if there is no memory to make the draft.
     pub fn save<D: Folder>(
         &mut self,
         name: &str,

@@ -1,5 +1,5 @@
-//! Laws of every session. Each law is the contract of a function that does nothing. It holds for
-//! all values that its clauses name.
+//! Laws of every session. Each law is the contract of a function that does nothing. The law holds
+//! for all values that the function's clauses name.
 ghost use Rattle.std.specs.Prelude.{◌≡◌, ◌≤◌, ◌++◌, ℕ, List, Some, length};
 ghost use Rattle.docker_model.specs.state.Lapse.{IsDayRefused, lapse_table};
 ghost use Rattle.docker_model.specs.state.State.{State, live_table};
@@ -49,11 +49,11 @@ pub fn known_files_fix_sessions()
         → KnowsAt setting known state → IsKnown known state }
 {}
 
-/// Each point of a session has a look, from which the next draft is made. The look comes right
-/// before an opening of the state's file, whose text was then read, or right after the desk
-/// replaced the file with its own text. So a text that arrived between the look and the reading is
-/// never overwritten unread. Either the desk has read that text, or the file was replaced after the
-/// look and the draft is refused.
+/// Each point of a session has a look, from which the next draft is made. Either the look directly
+/// precedes an opening of the state's file, whose text was then read. Or the look directly follows
+/// a replacement of the file with the desk's own text. So a text that arrived between the look and
+/// the reading is never overwritten unread. Either the desk has read that text, or the file was
+/// replaced after the look and the draft is refused.
 pub fn looks_come_before_readings()
     ensures { (setting : Setting) (old : List Event) (first last : SessionView) (steps : List Step)
         → BeginsAt setting.name old first → AreSteps setting first steps last
@@ -91,8 +91,8 @@ pub fn saves_tell_what_is_known()
 
 /// What a desk saves is a version of its state's file. Its text is the text of a state that was
 /// read from an earlier version, and that then gained what the steps before the saving gained.
-/// `earlier` has the texts of all earlier versions of any state's file. `own` is the number of the
-/// version that was read first.
+/// `earlier` lists the texts of all earlier versions of any state's file. `own` is the number of
+/// the version that was read first.
 pub fn saves_are_versions()
     ensures { (setting : Setting) (first before after : SessionView) (steps : List Step)
         (old : List Event) (earlier : List (List ℕ)) (own : ℕ) (gains : List Gain)
@@ -103,24 +103,25 @@ pub fn saves_are_versions()
         → IsPlaced setting earlier own gains before after }
 {}
 
-/// A session can be split at any step. The steps before it end at a point, and the later steps
-/// begin at this point. So whatever a law says of a session's last point is true of every point.
+/// A session can be split at any step. The steps before that step end at a point, and the later
+/// steps begin at this point. So whatever a law says of a session's last point is true of every
+/// point.
 pub fn each_point_is_a_last_one()
     ensures { (setting : Setting) (first last : SessionView) (earlier later : List Step)
         → AreSteps setting first (earlier ++ later) last → (between : SessionView)
         × AreSteps setting first earlier between × AreSteps setting between later last }
 {}
 
-/// The state of an office at the end of a run is the summary of what the office knows, like the
-/// state of a desk.
+/// The state of an office at the end of a run is the summary of what the office knows. The same
+/// holds for the state of a desk.
 pub fn offices_know_as_desks()
     ensures { (known : Known) (state : State) → EndsWith known state → IsKnown known state }
 {}
 
 /// Two sessions that know the same files under the same horizon have equal states, and so equal
 /// texts. Two sessions that know the same files, even under different horizons, print the same
-/// docker for each timing point and each day that neither refuses. Both facts are also true of a
-/// session and an office of a run.
+/// docker for each timing point and each day that is refused under neither horizon. Both facts are
+/// also true of a session and an office of a run.
 pub fn known_files_fix_states()
     ensures state { (first second : Known) (one two : State) → IsKnown first one
         → IsKnown second two → AreOneKnowledge first second → one ≡ two }
@@ -143,9 +144,9 @@ pub fn dockers_are_of_the_plain_table()
 {}
 
 /// Two sessions that know the same files, even under different horizons, have the same dockers
-/// without the short-term plan, for each timing point and each day that neither refuses. The same
-/// is true of a session and an office of a run. If no two of the files have the same moment, these
-/// are the dockers of the plain table without its short-term entries.
+/// without the short-term plan. This holds for each timing point and each day that is refused under
+/// neither horizon. The same is true of a session and an office of a run. If no two of the files
+/// have the same moment, these are the dockers of the plain table without its short-term entries.
 pub fn known_files_fix_permanent_answers()
     ensures docker { (first second : Known) (one two : State) → IsKnown first one
         → IsKnown second two → HaveSameFiles first.files second.files → (place : List ℕ) (day : ℕ)
@@ -181,14 +182,14 @@ pub fn known_files_fix_lists()
         → IsKnown second two → AreOneKnowledge first second → (text other : List ℕ)
         → IsKnownText one text → IsKnownText two other → text ≡ other }
 {
-    // These calls are made only for their contracts. By these, a state has only one list of timing
-    // points, and only one text of what is known.
+    // These calls are made only for their contracts. By these contracts, a state has only one list
+    // of timing points, and only one text of what is known.
     one_places_text();
     one_known_text();
 }
 
-/// If no two files that a session knows have the same moment, its list of timing points is the list
-/// of their plain table, without the entries that have lapsed.
+/// If no two files that a session knows have the same moment, the session lists the same timing
+/// points as their plain table without its lapsed entries.
 pub fn places_are_of_the_plain_table()
     ensures { (known : Known) (state : State) → IsKnown known state
         → HaveDistinctMoments known.files → (plain : Table) × IsPlainTable known.files plain

@@ -18,8 +18,8 @@ pub type RequestLine = ArrayVec<u8, LONGEST>;
 pub enum Asked {
     /// A whole line: at most 255 printable bytes, ended by a line feed. The line feed isn't kept.
     Line(RequestLine),
-    /// A bad line: it has more bytes, or a byte that isn't printable. It was read up to and
-    /// including its line feed.
+    /// A bad line: it has more than 255 bytes, or a byte that isn't printable. It was read up to
+    /// and including its line feed.
     Bad,
     /// A cut line: the bytes after the last line feed of the source.
     Cut,
@@ -76,8 +76,8 @@ pub fn next_line<S: Source>(ahead: &mut Ahead, source: &mut S) -> Result<Asked, 
     unreachable!()
 }
 
-/// Returns what these bytes are if the source ends after them: a cut line, or `End` if there are no
-/// bytes.
+/// Returns the last line of a source that ends after these bytes: a cut line, or `End` if there are
+/// no bytes.
 fn without_feed(line: &RequestLine) -> Asked
     ensures { asked_meant result ≡ cut_or_end line.now.items }
 {

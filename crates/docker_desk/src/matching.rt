@@ -1,4 +1,4 @@
-//! Finds out whether a text is the text of a state, without making the state's text in memory.
+//! Finds out whether a text is the text of a state. The state's text isn't made in memory for this.
 ghost use Rattle.std.specs.Prelude.{◌≡◌, ◌↔◌, ◌+◌, ◌-◌, ◌<◌, ◌≤◌, [], length, take, Some, IsTrue, option_map};
 ghost use Rattle.docker_model.specs.state.StateText.{dks_2, state_text};
 ghost use Rattle.docker_desk.specs.Copying.{ComparesCopy, IsNoFront};
@@ -9,9 +9,9 @@ use cif_line::{Failed, Sink};
 use docker_cmd::Office;
 use std::marker::{Brand, Model, PhantomData};
 
-/// A sink that compares what is written to it with a text. It takes the bytes of the text, and
-/// after them the first byte that differs. After that it fails. It allocates nothing. Its type
-/// parameter `B` gives contracts the text.
+/// A sink that compares what is written to it with a text. The sink takes the bytes of the text,
+/// and after them the first byte that differs. Then the sink fails. It allocates nothing. Contracts
+/// get the text from its type parameter `B`.
 #[derive(Drop)]
 pub(crate) struct Matching<'a, B: Begun> {
     text: &'a [u8],
@@ -93,8 +93,8 @@ impl<B: Begun> Sink for Matching<'_, B> {
     }
 }
 
-/// Returns the length of a common prefix of the text and the piece. It needn't be the longest, but
-/// is 0 only if the first bytes differ or the text is empty.
+/// Returns the length of a common prefix of the text and the piece. The prefix needn't be the
+/// longest one, but its length is 0 only if the first bytes differ or the text is empty.
 fn matching_front(text: &[u8], piece: &[u8]) -> usize
     requires { 0 < length piece.now }
     ensures within { (result ≤ length text.now) × (result ≤ length piece.now) }
@@ -118,7 +118,7 @@ fn begins_with(text: &[u8], front: &[u8]) -> bool
     front.len() <= text.len() && &text[..front.len()] == front
 }
 
-/// Whether this is the text of the office's state.
+/// Whether `text` is the text of the office's state.
 fn is_text_of<B: Begun>(text: &[u8], office: &Office) -> bool
     requires { B.bytes ≡ Some text.now }
     ensures { IsTrue result ↔ (text.now ≡ state_text dks_2 office.now) }

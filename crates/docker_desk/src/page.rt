@@ -24,7 +24,7 @@ impl Model for Page {
 }
 
 impl Page {
-    /// Returns an empty page, which has allocated nothing.
+    /// Returns an empty page. Allocates nothing.
     pub fn new(alloc: Global) -> Page
         ensures text { result.text ≡ [] }
         ensures no_failure { result.failures ≡ 0 }

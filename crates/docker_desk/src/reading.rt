@@ -14,7 +14,7 @@ use docker_host::Folder;
 use std::alloc::Global;
 use std::marker::Brand;
 
-/// Opens the named file once, and has the office take it.
+/// Opens the named file once, and has the office take the file.
 pub(crate) fn take_file<D: Folder>(
     office: &mut Office,
     name: &str,
@@ -58,7 +58,7 @@ pub(crate) fn receive_state<D: Folder>(
 
 /// Opens the named file once, and has the office receive the state in it. Also returns whether the
 /// file held the text of the office's new state. The texts are compared only if `compares` is set,
-/// and if there is memory to keep the file's text until then.
+/// and if there is memory to keep the file's text for that.
 pub(crate) fn renew_state<D: Folder>(
     alloc: Global,
     office: &mut Office,

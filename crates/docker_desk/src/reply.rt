@@ -15,9 +15,9 @@ use docker_cmd::{Fault, OfficeFault, fault_text, status};
 /// The answer to one line.
 #[derive(Debug, Drop)]
 pub enum Answer {
-    /// The request was done, and the answer has this text.
+    /// The request succeeded, and the answer has this text.
     Text(Page),
-    /// The request was done, and the answer has no text.
+    /// The request succeeded, and the answer has no text.
     Done,
     /// The request was refused for this fault, and changed nothing.
     Refused(OfficeFault),

@@ -26,11 +26,11 @@ pub enum Verb {
     Places,
     /// Shows the horizon, the newest full extract, the last day, and the number of live entries.
     Known,
-    /// Joins the state with the state that its file holds now.
+    /// Joins the state with the state that the state's file holds now.
     Renew,
-    /// Takes another file into the state.
+    /// Takes the named file into the state.
     Take,
-    /// Joins the state with another state.
+    /// Joins the state with the state in the named file.
     Merge,
     /// Sets a horizon. The state keeps its own horizon if that is later.
     Horizon,
@@ -50,7 +50,7 @@ struct RequestRow<'a> {
 }
 
 impl<'a> RequestRow<'a> {
-    /// Makes a row of these columns.
+    /// Makes a row from these columns.
     fn of(name: &'a str, ids: &'a [&'a str], writes: bool) -> RequestRow<'a>
         ensures name { result.name.now ≡ name.now }
         ensures ids { result.ids.now ≡ ids.now }
@@ -143,7 +143,7 @@ fn first_named<'a>(verbs: &'a [Verb], name: &str) -> Option<&'a Verb>
     verbs.iter().find(|verb| verb.is_named(name))
 }
 
-/// A request, with the timing point, the train, the day or the file that it names.
+/// A request, with the timing point, the train, the day or the file that the request names.
 #[derive(Clone, Copy, Debug)]
 pub enum Request<'a> {
     /// `print`.
@@ -236,7 +236,7 @@ fn request_of(verb: Verb, rest: &str) -> Option<Request<'_>>
     }
 }
 
-/// Returns the `print` request with this rest of the line, if it fits.
+/// Returns the `print` request if this rest of the line fits `print`.
 fn print_request(rest: &str) -> Option<Request<'_>>
     ensures { FitsRest verb.Print rest.now (option_map request_meant result) }
 {
@@ -244,7 +244,7 @@ fn print_request(rest: &str) -> Option<Request<'_>>
     Some(Request::Print { place, day })
 }
 
-/// Returns the `permanent` request with this rest of the line, if it fits.
+/// Returns the `permanent` request if this rest of the line fits `permanent`.
 fn permanent_request(rest: &str) -> Option<Request<'_>>
     ensures { FitsRest verb.Permanent rest.now (option_map request_meant result) }
 {
@@ -252,8 +252,8 @@ fn permanent_request(rest: &str) -> Option<Request<'_>>
     Some(Request::Permanent { place, day })
 }
 
-/// Returns the timing point and the day that the rest of the line names, or `None` if it isn't
-/// exactly these two words.
+/// Returns the timing point and the day that the rest of the line names, or `None` if the rest
+/// isn't exactly these two words.
 fn place_and_day(rest: &str) -> Option<(Tiploc, Day)>
     ensures some { IfSome result (λ it. OfTwo (ArePlaceAndDay it.0 it.1) (words_in rest.now)) }
     ensures none { IsNone result → (place : List ℕ) (day : ℕ)
@@ -268,7 +268,7 @@ fn place_and_day(rest: &str) -> Option<(Tiploc, Day)>
     Some((place, day))
 }
 
-/// Returns the `train` request with this rest of the line, if it fits.
+/// Returns the `train` request if this rest of the line fits `train`.
 fn train_request(rest: &str) -> Option<Request<'_>>
     ensures { FitsRest verb.Train rest.now (option_map request_meant result) }
 {
@@ -278,7 +278,7 @@ fn train_request(rest: &str) -> Option<Request<'_>>
     Some(Request::Train { uid, day })
 }
 
-/// Returns the `horizon` request with this rest of the line, if it fits.
+/// Returns the `horizon` request if this rest of the line fits `horizon`.
 fn horizon_request(rest: &str) -> Option<Request<'_>>
     ensures { FitsRest verb.Horizon rest.now (option_map request_meant result) }
 {

@@ -1,4 +1,4 @@
-//! The desk and the look, which change in a session.
+//! What changes in a session: the desk and the look.
 use crate::desk::Desk;
 
 /// A session: the desk, and the result of the look from which the next draft is made. That look was

@@ -12,9 +12,9 @@ use std::alloc::Global;
 const ROOM: usize = 100;
 
 /// Serves a session over a shelf, and returns the answer if the session ends with status 0, and
-/// `Memory` otherwise. The words of the session are `S`. The file `S` holds the text of the state
-/// that knows no files. The input is the one line `files`. The answer lists no files, unless memory
-/// ran out for it.
+/// `Memory` otherwise. The session has one word, `S`. The file `S` holds the text of the state that
+/// knows no files. The input is the one line `files`. The answer lists no files, unless memory ran
+/// out.
 pub fn files_of_none(alloc: Global) -> Result<Kept, Memory>
     ensures { IfOk result (λ output. (output.taken ≡ codes "0 0 0\n")
         ⊎ (output.taken ≡ memory_answer)) }

@@ -1,5 +1,5 @@
--- How a text is stored in a file, as the folder's history before and after shows. The number of a
--- look is the number of its event, counted from 0.
+-- What storing a text in a file adds to the folder's history. The number of a look is the number of
+-- its event, counted from 0.
 use Rattle.std.specs.Prelude.{◌≡◌, ℕ, Bool, ⊤, ◌⊎◌, List, [], ◌∷◌, ◌++◌, Result, Ok, Err}
 use Rattle.docker_host.specs.History.{Text, Event, drafted, undrafted, placed, unplaced, dropped, named_if}
 use Rattle.docker_host.specs.declared.folder.OpenFault.{OpenFault}

@@ -5,7 +5,8 @@ use Rattle.std.specs.Prelude.{◌≡◌, ℕ, Bool, true, false, ⊤, List, Opti
 abbrev pub Text : Type 0
 Text = List ℕ
 
--- the bytes of a text, or `None` if contracts don't know which bytes they are, as for a real file
+-- the bytes of a text; `None` if contracts don't know which bytes they are. For example, contracts
+-- never know the bytes of a real file
 abbrev pub Bytes : Type 0
 Bytes = Option Text
 
@@ -17,14 +18,14 @@ pub data Event : Type 0 where
   opened : (name : Text) (bytes : Bytes) → Event
   -- the named file couldn't be opened
   unopened : (name : Text) → Event
-  -- an opened file was closed, with these bytes still to be read
+  -- an opened file was closed when these bytes were still to be read
   closed : (left : Bytes) → Event
-  -- a draft was made for the named file, from the look that is the event with this number, counted
+  -- a draft for the named file was made from the look that is the event with this number, counted
   -- from 0
   drafted : (name : Text) (look : ℕ) → Event
-  -- no draft could be made for the named file, from the look that is the event with this number
+  -- no draft for the named file could be made from the look that is the event with this number
   undrafted : (name : Text) (look : ℕ) → Event
-  -- a draft replaced the named file, which holds these bytes from then on
+  -- a draft replaced the named file. From then on the file holds these bytes
   placed : (name : Text) (bytes : Bytes) → Event
   -- a draft with these bytes failed to replace the named file. The file holds these bytes, or the
   -- bytes that it held before

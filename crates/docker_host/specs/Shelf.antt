@@ -1,11 +1,11 @@
--- The files on a shelf, as its history determines them.
+-- The files on a shelf. The shelf's history determines them.
 use Rattle.std.specs.Prelude.{◌≡◌, ℕ, min, length, Bool, ⊤, if◌then◌else◌, List, [], ◌∷◌, Option, None, Some, IsSome}
 use Rattle.std.specs.Str.{bytes_eq}
 use Rattle.docker_host.specs.History.{Text, Event, looked, opened, unopened, closed, drafted, undrafted, placed, unplaced, dropped}
 
 -- An opened file on a shelf: the bytes left in it, the number of bytes that can be read before a
--- read fails, and its failure count. Also whether it has reported its end, and whether it was read
--- after that.
+-- read fails, and its failure count. Also whether the opened file has reported its end, and whether
+-- it was read after that.
 pub record PageView : Type 0 where
   pub left : List ℕ
   pub sound : ℕ
@@ -22,7 +22,7 @@ page_count page room = min room (min (min page.sound 100) (length page.left))
 abbrev pub Texts : Type 0
 Texts = Text → Option Text
 
--- there are no files
+-- the texts of a shelf without files
 abbrev pub no_texts : Texts
 no_texts name = None
 
@@ -43,7 +43,7 @@ after_event texts (undrafted name look) = texts
 after_event texts (unplaced name bytes) = texts
 after_event texts (dropped name) = texts
 
--- these files after some events
+-- these files after a list of events
 abbrev pub after_events : Texts → List Event → Texts
 after_events texts [] = texts
 after_events texts (event ∷ events) = after_events (after_event texts event) events

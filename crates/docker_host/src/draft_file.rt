@@ -13,7 +13,7 @@ use std::fs::{File, Metadata};
 use std::io::ErrorKind;
 use std::marker::Model;
 
-/// A draft: a new text for a file, while it is being written.
+/// A draft: the new text of a file, while this text is being written.
 #[derive(Drop)]
 pub struct DraftFile {
     name: String,
@@ -27,7 +27,7 @@ pub struct DraftFile {
 pub(crate) struct Placed {
     /// The name of the file.
     pub(crate) name: String,
-    /// The version of the draft, as a look would see it.
+    /// The version of the draft. The next look at the file will see this version.
     pub(crate) version: Version,
 }
 
@@ -61,8 +61,8 @@ impl DraftFile {
     }
 
     /// Replaces the file with the draft. Returns the version that the next look will see, or `None`
-    /// if that can't be known, as for a file that was written directly. If the file can't be
-    /// replaced, removes the draft if possible and returns `Failed`.
+    /// if that version can't be known. For example, it can't be known for a file that was written
+    /// directly. If the file can't be replaced, removes the draft if possible and returns `Failed`.
     pub(crate) fn place(self, rt: &HostRuntime) -> Result<Option<Placed>, Failed> {
         let DraftFile {
             name,

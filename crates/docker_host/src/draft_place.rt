@@ -6,7 +6,7 @@ use std::fs::{File, Metadata, Permissions, TryLockError};
 use std::os::unix::fs::{MetadataExt, OpenOptionsExt, PermissionsExt};
 use std::{fs, io};
 
-/// The suffix of a draft's name. The rest of its name is the name of the file.
+/// The suffix of a draft's name. The name before the suffix is the name of the draft's file.
 const SUFFIX: &str = ".new";
 
 /// The permission bit that marks a draft: the sticky bit, which has no other meaning on a regular

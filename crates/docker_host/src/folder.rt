@@ -67,7 +67,7 @@ impl From<AllocError> for OpenFault {
 pub struct Drafted<'a, K> {
     /// The name of the file.
     pub name: &'a str,
-    /// The new text of the file, while it is being written.
+    /// The new text of the file, while this text is being written.
     pub draft: K,
 }
 
@@ -76,7 +76,7 @@ pub trait Folder {
     /// An opened file.
     type File: Source + Drop;
 
-    /// A new text for a file, while it is being written.
+    /// A new text for a file, while this text is being written.
     type Draft: Sink + Drop;
 
     /// What a look has found out about a file.
@@ -115,8 +115,8 @@ pub trait Folder {
         ensures failures { CountsFailure (result ≡ Err OpenFault.Failed)
             (failures self.old) (failures self.new) };
 
-    /// Closes an opened file, records the bytes left in the file, and adds its failures to the
-    /// folder's.
+    /// Closes an opened file, records the bytes left in the file, and adds the file's failures to
+    /// the folder's failures.
     fn close(&mut self, file: Self::File)
         requires { failures self.old + Self.File.failures file < 2 ^ 64 }
         ensures asked { history self.new ≡ history self.old ++ closed (Self.File.left file) ∷ [] }
@@ -152,7 +152,7 @@ pub trait Folder {
         ensures failures { CountsFailure (IsErr result)
             (failures self.old + Self.Draft.failures made.entry.draft) (failures self.new) };
 
-    /// Discards a draft, and adds its failures to the folder's.
+    /// Discards a draft, and adds the draft's failures to the folder's failures.
     fn discard(&mut self, made: Drafted<'_, Self::Draft>)
         requires { failures self.old + Self.Draft.failures made.draft < 2 ^ 64 }
         ensures asked { history self.new ≡ history self.old ++ dropped made.entry.name.now ∷ [] }

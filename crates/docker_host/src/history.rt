@@ -37,15 +37,15 @@ pub enum Note<'a> {
     OpenedUnnamed(&'a str),
     /// A named file couldn't be opened.
     Unopened(&'a str),
-    /// An opened file was closed, with these bytes still to be read.
+    /// An opened file was closed when these bytes were still to be read.
     Closed(&'a [u8]),
     /// An opened file was closed. Contracts don't know its bytes.
     ClosedUnnamed,
-    /// A draft was made for a named file, from the look at this position of the history.
+    /// A draft for a named file was made from the look at this position of the history.
     Drafted(&'a str, &'a Position),
-    /// No draft could be made for a named file, from the look at this position of the history.
+    /// No draft for a named file could be made from the look at this position of the history.
     Undrafted(&'a str, &'a Position),
-    /// A draft replaced a named file, which holds these bytes from then on.
+    /// A draft replaced a named file. From then on the file holds these bytes.
     Placed(&'a str, &'a [u8]),
     /// A draft replaced a named file. Contracts don't know the bytes of the draft.
     PlacedUnnamed(&'a str),

@@ -1,4 +1,4 @@
-//! All devices of a program, as one value.
+//! One value for all devices of a program.
 use crate::folder::Folder;
 use cif_device::{Sink, Source};
 use std::marker::Model;

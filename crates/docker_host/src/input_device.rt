@@ -28,7 +28,7 @@ impl Model for InputDevice {
 }
 
 impl InputDevice {
-    /// Returns standard input, from its current position.
+    /// Returns standard input. The first read continues at the current position of standard input.
     pub fn stdin(rt: &HostRuntime) -> InputDevice
         ensures no_failure { result.failures ≡ 0 }
         ensures ended { result.ended ≡ false }

@@ -1,5 +1,5 @@
-//! Folders, each with a history of the calls to it and their results, in order. Also all devices of
-//! a program as one value.
+//! Folders, each with a history of the calls to the folder and their results. Also one value that
+//! holds all devices of a program.
 #![tactic(auto)]
 
 mod draft_file;

@@ -7,7 +7,7 @@ use cif_device::{Failed, Source};
 use std::fs::File;
 use std::marker::Model;
 
-/// An opened file, to be read from its first byte.
+/// An opened file. The first read returns the first bytes of the file.
 #[derive(Drop)]
 pub struct OpenFile {
     file: File,

@@ -2,7 +2,7 @@
 use std::fs::File;
 use std::os::fd::AsRawFd;
 
-/// The highest file descriptor of a standard stream, which is standard error.
+/// The file descriptor of standard error. No standard stream has a higher file descriptor.
 const LAST_STANDARD: i32 = 2;
 
 /// Files that occupy the descriptors of closed standard streams. They can be neither read nor

@@ -1,10 +1,9 @@
-//! Versions of files. They distinguish a file from a file that has replaced it.
+//! Versions of files. A file and a file that has replaced it have different versions.
 use std::fs;
 use std::fs::{File, Metadata};
 use std::os::unix::fs::MetadataExt;
 
-/// The identity of a file, its size, and the time when it was last written. They distinguish the
-/// file from a file that replaces it.
+/// The version of a file: its identity, its size, and the time when it was last written.
 #[derive(Clone, Copy, PartialEq, Eq)]
 pub(crate) struct Version {
     device: u64,

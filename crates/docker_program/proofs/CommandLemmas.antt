@@ -108,7 +108,7 @@ known_file file state is few summary = record {
   is = summary;
 }
 
--- for no knowledge and the state of no files, `IsKnown` holds
+-- the state of no files is the summary of `nothing`: no files and no horizon
 pub known_nothing : IsKnown nothing no_state
 known_nothing = record {
   good = nothing_good dks_2;
@@ -130,9 +130,9 @@ known_text known state text is same = record {
   is = (state, is.is, same);
 }
 
--- ---- a command
+-- ---- what a command writes, given what it knows
 
--- if an office without files takes a file, its state becomes the summary of that file
+-- if an office without files takes a file, the office's state becomes the summary of that file
 taken_alone : (bytes : Bytes) (file : List (List ℕ)) (state : State) → HoldsFile bytes file → TakesFile most_records bytes no_state state
     → IsKnown (of_file file) state
 taken_alone bytes file state holds takes =
@@ -140,7 +140,8 @@ taken_alone bytes file state holds takes =
     (known_joined nothing (of_file takes.file) no_state takes.own state known_nothing
     (known_file takes.file takes.own takes.is_text.is takes.is_text.within takes.of_file) takes.joined)
 
--- if an office takes a file, its state becomes the summary of what it knew before and of that file
+-- if an office takes a file, the office's state becomes the summary of what the office knew before
+-- and of that file
 pub taken_behind : (own : Known) (bytes : Bytes) (file : List (List ℕ)) (old new : State) → IsKnown own old → HoldsFile bytes file
     → TakesFile most_records bytes old new → IsKnown (united own (of_file file)) new
 taken_behind own bytes file old new is holds takes =
@@ -148,8 +149,8 @@ taken_behind own bytes file old new is holds takes =
     (known_joined own (of_file takes.file) old takes.own new is
     (known_file takes.file takes.own takes.is_text.is takes.is_text.within takes.of_file) takes.joined)
 
--- if a source held the text of a summary in the older format, the state read from it is that
--- summary
+-- if a source held the text of a summary in the older format, the state read from the source is
+-- that summary
 known_older : (known : Known) (bytes : Bytes) (state : State) → HoldsKnown dks_1 bytes known → ReadsState dks_1 most_bytes bytes state
     → IsKnown known state
 known_older known bytes state holds reads = record {
@@ -157,7 +158,8 @@ known_older known bytes state holds reads = record {
   is = state_held dks_1 known bytes state holds reads;
 }
 
--- a docker printed from a state is a docker of what is known of the state
+-- if a state is the summary of what is known, each docker printed from the state is a docker of
+-- what is known
 known_docker : (known : Known) (state : State) (place : List ℕ) (day : ℕ) (text : List ℕ) → IsKnown known state → ¬ IsDayRefused state.horizon day
     → IsOutputText (output_of (print_task place day)) (office_read state) text → PrintsKnown known place day text
 known_docker known state place day text is allowed text_is = record {
@@ -202,7 +204,8 @@ written_of_state (horizon_task day) first second state text known days reads is 
 written_of_state migrate_task first second state text known days reads is allowed knows =
     known_text known state text (known_older known first state knows reads) is
 
--- only `check` counts a file, and any text may be its output
+-- `check` is the only task that counts a file, and `WritesKnown` allows any text as the output of
+-- `check`
 written_of_file : (task : TaskView) (known : Known) (text : List ℕ) → task ≡ check_task → WritesKnown task known text
 written_of_file task known text is = subst (λ (t : TaskView). WritesKnown t known text) (sym is) tt
 
@@ -220,7 +223,7 @@ asked_words : (words : List Text) (input rest : Bytes) (job : JobView) → AsksF
 asked_words [] input rest job asks = asks.2.required
 asked_words (word ∷ words) input rest job asks = asks.0.required
 
--- the date that a `horizon` command names is a day
+-- the day that a `horizon` command names is a valid day number
 one_day : (words : List Text) (day : ℕ) → OfTwo (λ state date. NamesStored state × NamesDay date day) words → IsDay day
 one_day [] day of = absurd of
 one_day (word ∷ []) day of = absurd of

@@ -16,7 +16,7 @@ use Rattle.docker_program.specs.Writing.{WantsToWrite, WantsToWriteTo, Writes, W
 use Rattle.docker_program.specs.Program.{AsksFor, EndsBy, FailsToRead, HasRead, IsAsked, WantsMemory, ending_status, from_first_look, reading, writing}
 use Rattle.docker_program.specs.Commands.{AreNoStorings, IsDone, IsRun, IsUndone, Reads, Run, StoresNothing, history_read}
 
--- ---- no storing
+-- ---- events that store nothing
 
 -- the new history extends the old one by events that store nothing
 NoStoring : List Event → List Event → Type 0
@@ -70,7 +70,7 @@ nothing_stored : (run : Run) → NoStoring run.old.history run.new.history → S
 unfolding NoStoring
 nothing_stored run none = record { events = none.0; history = none.1; none = none.2 }
 
--- ---- sources
+-- ---- reading the sources stores nothing
 
 module _ (run : Run) (job : JobView) (rest : Bytes) where
   none_if_opened : (now : List Event) → IsOpened (reading run.old run.new job rest now) job → NoStoring run.old.history now
@@ -108,7 +108,7 @@ module _ (run : Run) (job : JobView) (rest : Bytes) where
     at_history : has.read ≡ history_read run.old.history job has.is.opened.read
     at_history = has.is.opened.history
 
--- ---- a command that was done
+-- ---- a command that ended with status 0
 
 done_to : (run : Run) (job : JobView) (rest : Bytes) (stored : Option Text)
     (has : HasRead run.old run.new (Writes (from_first_look run.names_bytes run.old)) job rest) → AsksFor run.words run.old.input job rest
@@ -162,7 +162,7 @@ done_by run (Some (Office office.Memory)) same ends = let never : ⊥ = omega ar
 pub run_done : (run : Run) → IsRun run 0 → IsDone run
 run_done run performs = done_by run performs.ending performs.status_is performs.ends
 
--- ---- a command that wasn't done
+-- ---- a command that ended with another status
 
 part_to : (run : Run) (job : JobView) (rest : Bytes) (stored : Option Text)
     (has : HasRead run.old run.new (WritesPart (from_first_look run.names_bytes run.old)) job rest) → AsksFor run.words run.old.input job rest
@@ -204,7 +204,7 @@ want_none run job rest None has wants = none_same run.old.history has.read run.n
 want_none run job rest (Some name) has wants =
     none_more run.old.history has.read run.new.history (undrafted name (length run.old.history) ∷ []) (read_none run job rest has) wants (tt, tt)
 
--- if a command left the folder's history unchanged, it stored nothing
+-- if a command left the folder's history unchanged, the command stored nothing
 unasked : (run : Run) → run.new.history ≡ run.old.history → IsUndone run
 unasked run same = inl (nothing_stored run (none_same run.old.history run.old.history run.new.history (none_here run.old.history) same))
 

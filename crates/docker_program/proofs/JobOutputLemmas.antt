@@ -33,7 +33,7 @@ no_refused (docker_written place day) (office_read state) none = λ refused. non
 no_refused files_written (office_read state) none = λ refused. refused
 no_refused state_written (office_read state) none = λ refused. refused
 
--- writing a job's output to a draft fails only because the draft failed, and then it failed exactly
+-- if writing a job's output to a draft fails, the fault is `Sink`, and the draft failed exactly
 -- once
 pub fails_alone : {K : Type 0} (taken : K → Bytes) (failures : K → ℕ) (old new : K) (prepared : PreparedView) (name : Text) (fault : OfficeFault) →
     stored_by prepared.job ≡ Some name → EndsEmitting taken failures (output_of prepared.job.task) prepared.read old new (Err fault) →
@@ -69,7 +69,7 @@ ends_dropped by written prepared name fault is alone given_up kept =
     subst (λ (fault : OfficeFault). EndsWriting by written prepared (Err fault)) (sym alone)
     (subst (λ (stored : Option Text). WritesPartTo stored by written prepared) (sym is) (inr (inl given_up), kept))
 
--- if only the draft failed, one failure is counted, as the status requires
+-- if only the draft failed, and failed once, `IsCounted` holds for the status of the fault `Sink`
 pub counted_alone : (fault : OfficeFault) (before after : ℕ) → fault ≡ office.Sink → after ≡ before + 1 →
     IsCounted (status_of (Office fault)) before after
 counted_alone fault before after alone rose =
@@ -124,7 +124,7 @@ then_dropped before middle now name look made given_up =
 
 -- ---- a job that prints
 
--- for a job that prints, the writing ends as the writing to the output device ends
+-- for a job that prints, writing its output ends with the result of writing to the output device
 pub ends_printed : {K : Type 0} (taken : K → Bytes) (failures : K → ℕ) (old new : K) (prepared : PreparedView) (history : List Event)
     (by : Drafting) (result : Result ⊤ OfficeFault) → stored_by prepared.job ≡ None
     → EndsEmitting taken failures (output_of prepared.job.task) prepared.read old new result → (IsRefused prepared → result ≡ Err office.Lapsed)
@@ -143,13 +143,12 @@ ends_printed taken failures old new prepared history by (Err (office.File fault)
 ends_printed taken failures old new prepared history by (Err (office.State fault)) is ends lapsed = ends
 ends_printed taken failures old new prepared history by (Err office.Source) is ends lapsed = ends
 
--- if no device failed and the status isn't 4, the failure count is unchanged, as the status
--- requires
+-- if a device didn't fail and the status isn't 4, `IsCounted` holds
 none_failed : (status folder before after : ℕ) → status ≢ 4 → after ≡ before → IsCounted status (folder + before) (folder + after)
 none_failed status folder before after other same =
     ((λ is. absurd (other is), λ rose. let never : ⊥ = omega arith in absurd never), λ differs. omega arith)
 
--- when a job prints, the failure count grows as the result's status requires
+-- when a job prints, `IsCounted` holds for the result's status
 pub counted_printed : {K : Type 0} (taken : K → Bytes) (failures : K → ℕ) (old new : K) (prepared : PreparedView) (folder : ℕ)
     (result : Result ⊤ OfficeFault) →
     EndsEmitting taken failures (output_of prepared.job.task) prepared.read old new result →

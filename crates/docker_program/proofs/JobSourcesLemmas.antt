@@ -14,9 +14,10 @@ use Rattle.docker_cmd.specs.Words.{Text}
 use Rattle.docker_program.specs.SourceNames.{SourceNames, no_source, standard_input, one_file, file_and_input, names_of}
 use Rattle.docker_program.specs.Sources.{AreRead, Asking, FailsToOpen, IsOpened, ReadsBy, ReadsNamed, asking}
 
--- ---- histories
+-- ---- appending to a history
 
--- if some events were added to a history, and then one more, their concatenation was added
+-- appending events to a history, and then one more event, is the same as appending all these events
+-- at once
 pub one_more : (old before now events : List Event) (event : Event) → before ≡ old ++ events → now ≡ before ++ event ∷ []
     → now ≡ old ++ (events ++ event ∷ [])
 one_more old before now events event earlier last =
@@ -24,7 +25,7 @@ one_more old before now events event earlier last =
 
 -- ---- what each result implies
 
--- if the sources of a job were read, its files had been opened
+-- if the sources of a job were read, the job's files had been opened
 opened_by : (asked : Asking) (job : JobView) (result : Result PreparedView OfficeFault) → AreRead (names_of job) asked job result → IsOpened asked job
 opened_by asked job result read = record {
   read = read.read;
@@ -70,7 +71,7 @@ pub reads_named : (names : SourceNames) (asked : Asking) (job : JobView) (result
 reads_named names asked job result is reads =
     by_result asked job result (subst (λ (names : SourceNames). ReadsBy names asked job result) is reads)
 
--- ---- each kind of sources
+-- ---- what is read from each kind of sources
 
 -- a job without a source reads nothing
 pub reads_none : (history : List Event) (rest first first_left second second_left : Bytes) (job : JobView) (result : Result PreparedView OfficeFault)
@@ -84,7 +85,7 @@ reads_none history rest first first_left second second_left job result none none
       reads = reads;
     })
 
--- a job whose only source is standard input reads it
+-- a job whose only source is standard input reads standard input
 pub reads_stdin : (history : List Event) (rest left second second_left : Bytes) (job : JobView) (result : Result PreparedView OfficeFault)
     → second ≡ Some [] → ReadsInOrder job rest left second second_left result
     → ReadsBy standard_input (asking history history rest left) job result
@@ -110,15 +111,16 @@ reads_alone name before now rest second second_left job result none (inr read) =
       reads = read.reads;
     })
 
--- ---- failures
+-- ---- how failures are counted
 
--- if neither of two sources failed and the status isn't 4, their failure counts are unchanged, as
--- the status requires
+-- if neither of two sources failed and the status isn't 4, `IsCounted` holds for the sum of their
+-- failure counts
 none_failed : (status one one_now two two_now : ℕ) → status ≢ 4 → one_now ≡ one → two_now ≡ two → IsCounted status (one + two) (one_now + two_now)
 none_failed status one one_now two two_now other first second =
     ((λ is. absurd (other is), λ rose. let never : ⊥ = omega arith in absurd never), λ differs. omega arith)
 
--- when two sources are read, their failure counts grow as the result's status requires
+-- when two sources are read, `IsCounted` holds for the result's status and the sum of their failure
+-- counts
 pub counted_together : {A : Type 0} (result : Result A OfficeFault) (one one_now two two_now : ℕ) → CountsSources result one one_now two two_now →
     IsCounted (result_status result) (one + two) (one_now + two_now)
 counted_together (Ok made) one one_now two two_now counts = none_failed 0 one one_now two two_now (λ is. omega arith) counts.0 counts.1

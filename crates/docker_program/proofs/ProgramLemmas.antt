@@ -93,11 +93,11 @@ ends_done words names_bytes before old new shown read job rest prepared same see
       };
     })
 
--- the view of a host after its sink of faults has taken something
+-- a host whose sink of faults now has these bytes and this failure count
 abbrev pub with_faults : HostView → Bytes → ℕ → HostView
 with_faults host faults failures = record host { faults = faults; faults_failures = failures }
 
--- if a job read its sources whole, that remains true after a fault is reported
+-- reporting a fault afterwards preserves `HasRead`
 read_still : (old new : HostView) (faults : Bytes) (failures : ℕ) (Holds : Written → PreparedView → Type 0) (job : JobView) (rest : Bytes)
     → HasRead old new Holds job rest → HasRead old (with_faults new faults failures) Holds job rest
 read_still old new faults failures Holds job rest has = record { prepared = has.prepared; read = has.read; is = has.is; holds = has.holds }

@@ -77,7 +77,7 @@ check_job file job is = λ i. job_of (check_named job.task job.words (file ∷ [
 take_job : (state file : Text) (job : JobView) → IsJobOf (codes "take" ∷ state ∷ file ∷ []) job → job ≡ job_of take_task (state ∷ file ∷ [])
 take_job state file job is = λ i. job_of (take_named job.task job.words (state ∷ file ∷ []) is.whole i) (sym (ap behind is.whole) i)
 
--- ---- check
+-- ---- what `check` prints
 
 -- `check` writes the counts of the file whose text its source held
 counted : (extract : List ℕ) (first : Bytes) (what : ReadView) (text : List ℕ) → first ≡ Some extract → IsReadOf check_task first (Some []) what
@@ -131,7 +131,7 @@ check_result extract text words old shown new status named zero same put empty m
     (subst (λ (n : ℕ). Performs (codes "check" ∷ file_name ∷ []) true old new n) zero
     (subst (λ (ws : List Text). Performs ws true old new status) named performs))))
 
--- ---- take
+-- ---- what `take` leaves on a shelf
 
 -- if contracts know the bytes that a source held, they know the bytes that are left in it
 rest_known : (held lost : List ℕ) (left : Bytes) → Reads (Some held) lost left → (rest : List ℕ) × (left ≡ Some rest)

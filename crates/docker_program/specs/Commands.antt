@@ -21,7 +21,7 @@ use Rattle.docker_program.specs.SourceNames.{names_of, stored_by}
 use Rattle.docker_program.specs.Sources.{AreOthers, SourcesRead, with_files_read, with_look_at}
 use Rattle.docker_program.specs.Program.{AsksFor, Performs}
 
--- ---- one command
+-- ---- what one command does
 
 -- the history after a command has opened, read and closed its sources. If its job writes a file,
 -- the first new event is a look at this file. The openings and closings of the files that the job
@@ -61,8 +61,8 @@ pub record Stores (run : Run) (job : JobView) (read : SourcesRead) (text : List 
       (history_read run.old.history job read) run.new.history
   pub unprinted : run.new.output ≡ run.old.output
 
--- a command may have stored this text: replacing the file that the job writes with a draft with
--- this text failed. The file now holds either this text or what it held before
+-- a command may have stored this text: a draft with this text failed to replace the file that the
+-- job writes. The file now holds either this text or what it held before
 pub record MayStore (run : Run) (job : JobView) (read : SourcesRead) (text : List ℕ) : Type 0 where
   pub reads : Reads run job read text
   pub name : Text
@@ -71,7 +71,7 @@ pub record MayStore (run : Run) (job : JobView) (read : SourcesRead) (text : Lis
       (history_read run.old.history job read) run.new.history
   pub unprinted : run.new.output ≡ run.old.output
 
--- a command printed this text. It isn't a docker of a day that the horizon refuses
+-- a command printed this text. The text isn't a docker of a refused day
 pub record Prints (run : Run) (job : JobView) (read : SourcesRead) (text : List ℕ) : Type 0 where
   pub reads : Reads run job read text
   pub unstored : stored_by job ≡ None
@@ -79,7 +79,8 @@ pub record Prints (run : Run) (job : JobView) (read : SourcesRead) (text : List 
   pub history : run.new.history ≡ history_read run.old.history job read
   pub printed : Takes run.old.output text run.new.output
 
--- this event isn't `placed` or `unplaced`: no draft replaced a file, and none may have replaced one
+-- this event isn't `placed` or `unplaced`: no draft replaced a file, and no draft may have replaced
+-- one
 abbrev pub IsNoStoring : Event → Type 0
 IsNoStoring (placed name bytes) = ⊥
 IsNoStoring (unplaced name bytes) = ⊥
@@ -148,7 +149,7 @@ Knows (horizon_task day) first second known =
 Knows migrate_task first second known = HoldsKnown dks_1 first known
 
 -- this text is the docker at this timing point for this day, made from the summary of what is
--- known. The horizon doesn't refuse the day
+-- known. The day isn't refused under the known horizon
 pub record PrintsKnown (known : Known) (place : List ℕ) (day : ℕ) (text : List ℕ) : Type 0 where
   pub good : IsGoodKnown dks_2 known
   pub allowed : ¬ IsDayRefused known.horizon day
@@ -172,10 +173,11 @@ WritesKnown migrate_task known text = IsKnownText dks_2 known text
 
 -- ---- versions of STATE files
 
--- how a version of a STATE file was made. Either a command made it: `new`, `take`, `merge`,
--- `horizon` or `migrate`. Or a desk saved it, after reading its state from an earlier version and
--- gaining these things. A number names an earlier version, of any office, counted from 0. `migrate`
--- reads a text in the older format that has this knowledge
+-- how a version of a STATE file was made. Either a command made the version: `new`, `take`,
+-- `merge`, `horizon` or `migrate`. Or a desk saved the version, after reading its state from an
+-- earlier version and gaining these things. A number gives the index of an earlier version of any
+-- office, counted from 0. `migrate` reads the text of a summary in the older format, and `known` is
+-- the knowledge of that summary
 pub data Origin : Type 0 where
   begun : Origin
   taken : (own : ℕ) (file : List (List ℕ)) → Origin
@@ -214,7 +216,7 @@ IsMade earlier (migrated known) text =
 IsMade earlier (saved own gains) text = IsSaved earlier own gains text
 
 -- each of these versions was made from earlier versions. Those are the versions that precede it in
--- the list, and versions with these texts from before the list
+-- the list, and the versions made before the list, whose texts are given
 abbrev pub AreMade : List (List ℕ) → List Version → Type 0
 AreMade earlier [] = ⊤
 AreMade earlier (version ∷ versions) = IsMade earlier version.origin version.text
@@ -224,14 +226,15 @@ AreMade earlier (version ∷ versions) = IsMade earlier version.origin version.t
 abbrev pub known_at : List Known → ℕ → Known
 known_at earlier number = slice_index_or earlier number nothing
 
--- what is known after this gain, given what was known before it and what the earlier versions know
+-- what is known after this gain, given what was known before the gain and what the earlier versions
+-- know
 abbrev pub known_with : List Known → Known → Gain → Known
 known_with earlier known (file_gained file) = united known (of_file file)
 known_with earlier known (version_gained number) = united known (known_at earlier number)
 known_with earlier known (horizon_gained day) = united known (of_horizon day)
 
--- what is known after these gains, given what was known before them and what the earlier versions
--- know
+-- what is known after these gains, given what was known before the gains and what the earlier
+-- versions know
 abbrev pub known_once : List Known → Known → List Gain → Known
 known_once earlier known [] = known
 known_once earlier known (gain ∷ gains) =
@@ -264,6 +267,6 @@ pub record IsVersion (versions : List Version) (number : ℕ) (text : List ℕ)
   pub text_is : text ≡ slice_index_or (map (λ (version : Version). version.text) versions) number []
   pub known_is : known ≡ known_at (known_after [] versions) number
 
--- the job of printing the docker at this timing point for this day, named by these words
+-- the job that these words name: printing the docker at this timing point for this day
 abbrev pub printing : (place : List ℕ) (day : ℕ) (words : List Text) → JobView
 printing place day words = record { task = print_task place day; words = words }

@@ -16,8 +16,8 @@ use Rattle.docker_program.specs.SourceNames.{stored_by}
 use Rattle.docker_program.specs.Sources.{Asking, IsNotOpened, IsOpened, IsPrepared, RefusesFile, RefusesState, WantsForSources, asking, with_look_at}
 use Rattle.docker_program.specs.Writing.{Drafting, RefusesDay, WantsToWrite, Writes, WritesPart, Written, drafting, written}
 
--- the words name this job; or there are no words, and the first line of standard input names it.
--- `rest` are the bytes left in standard input after that
+-- the words name this job; or there are no words, and the first line of standard input names the
+-- job. `rest` are the bytes left in standard input once the job was found
 abbrev pub AsksFor : List Text → Bytes → JobView → Bytes → Type 0
 AsksFor [] input job rest = ReadsJob input job rest
 AsksFor (word ∷ words) input job rest = IsJobOf (word ∷ words) job × (rest ≡ input)
@@ -48,30 +48,30 @@ pub record IsAsked (words : List Text) (input : Bytes)
   pub at_most : AsksAtMost words input rest
   pub holds : Holds job rest
 
--- no job was found, for this reason, and the folder's history is unchanged
+-- no job was found, `Why` holds, and the folder's history is unchanged
 pub record IsNotAsked (words : List Text) (old new : HostView) (Why : Type 0) : Type 0 where
   pub why : Why
   pub at_most : AsksAtMost words old.input new.input
   pub unasked : new.history ≡ old.history
 
--- the changes of the folder and of standard input while a job's sources were opened, read and
--- closed. `now` is the folder's history after that. If the job writes a file, the history before
--- includes the look at this file
+-- the changes to the folder and to standard input while a job's sources were opened, read and
+-- closed. `now` is the folder's history after the closing. If the job writes a file, the history
+-- before includes the look at this file
 abbrev pub reading : HostView → HostView → JobView → Bytes → List Event → Asking
 reading old new job rest now =
     asking (with_look_at (stored_by job) old.history) now rest new.input
 
 -- the program ended after the job's sources were opened, read and closed, or after a file couldn't
--- be opened. `Holds` is true of the changes that this made to the folder and to standard input
+-- be opened. `Holds` is true of the changes to the folder and to standard input by that time
 abbrev pub EndsReading : HostView → HostView → (Asking → JobView → Type 0)
     → JobView → Bytes → Type 0
 EndsReading old new Holds job rest = Holds (reading old new job rest new.history) job
 
--- how a file is replaced: its draft is made from the first look of this run
+-- how a job replaces its file: the draft is made from the first look of this run
 abbrev pub from_first_look : Bool → HostView → Drafting
 from_first_look names_bytes old = drafting (length old.history) names_bytes
 
--- the changes of the output device and of the folder after this history
+-- the changes to the output device during the run, and the changes to the folder since this history
 abbrev pub writing : HostView → HostView → List Event → Written
 writing old new before = written old.output new.output before new.history
 
@@ -99,7 +99,8 @@ abbrev pub WantsMemory : Bool → HostView → HostView → JobView → Bytes �
 WantsMemory names_bytes old new job rest = EndsReading old new WantsToRead job rest
     ⊎ HasRead old new (WantsToWrite (from_first_look names_bytes old)) job rest
 
--- says why the program ended with this fault before anything was written
+-- the reason for which the program ended with this fault before anything was written. For example,
+-- with the fault `Usage`, neither the words nor standard input named a job
 abbrev pub IsWhy : List Text → Bool → HostView → HostView → Fault → Type 0
 IsWhy words names_bytes old new (Job job.Usage) =
     IsNotAsked words old new (AskForNone words old.input)
@@ -155,7 +156,7 @@ pub record Performs (words : List Text) (names_bytes : Bool) (old new : HostView
   pub tells : Tells ending (faults_of old) (faults_of new)
   pub counted : IsCounted status (failures_of old) (failures_of new)
 
--- if there are words, the status is 2 (usage) if and only if they name no job
+-- if there are words, the status is 2 (usage) if and only if the words name no job
 abbrev pub IsUsageStatus : List Text → ℕ → Type 0
 IsUsageStatus words status = words ≢ [] → (status ≡ 2) ↔ NameNoJob words
 

@@ -52,8 +52,8 @@ pub record MayStoreOutput (by : Drafting) (written : Written) (prepared : Prepar
   pub is : IsOutputText (output_of prepared.job.task) prepared.read text
   pub history : IsUnplaced by.names_bytes name by.look text written.before written.now
 
--- the job's output was written whole. If the job prints, the output device gained the output, which
--- isn't a docker of a day that the horizon refuses. If the job writes a file, a draft of the output
+-- the job's output was written whole. If the job prints, the output device gained the output, and
+-- the output isn't a docker of a refused day. If the job writes a file, a draft of the output
 -- replaced the file. Nothing else changed
 abbrev pub WritesTo : Option Text → Drafting → Written → PreparedView → Type 0
 WritesTo None by written prepared =
@@ -93,8 +93,7 @@ WritesPart by written prepared = WritesPartTo (stored_by prepared.job) by writte
 abbrev pub WantsToWrite : Drafting → Written → PreparedView → Type 0
 WantsToWrite by written prepared = WantsToWriteTo (stored_by prepared.job) by written prepared
 
--- the job would print a docker of a day that the horizon refuses, and the folder's history is
--- unchanged
+-- the job would print a docker of a refused day, and the folder's history is unchanged
 abbrev pub RefusesDay : Written → PreparedView → Type 0
 RefusesDay written prepared = IsRefused prepared × (written.now ≡ written.before)
 

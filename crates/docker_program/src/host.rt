@@ -12,14 +12,14 @@ use std::env;
 use std::io::ErrorKind;
 use std::process::ExitCode;
 
-/// Runs the program with the words, the standard streams and the files that the system gives it.
-/// Returns its exit status.
+/// Runs the program with the words, the standard streams and the files that the system gives the
+/// program. Returns the exit status.
 pub fn run(rt: &HostRuntime) -> ExitCode {
     let _standard = hold_standard(rt);
     ExitCode::from(run_own_words(rt))
 }
 
-/// Runs the program with these words instead of the words that the system gives it.
+/// Runs the program with these words instead of the words that the system gives the program.
 pub fn run_words(rt: &HostRuntime, words: &[&str]) -> u8
     ensures usage { IsUsageStatus (texts words.now) result }
     ensures status { result ≤ 4 }
@@ -39,8 +39,8 @@ fn real_host(rt: &HostRuntime) -> Host<InputDevice, RealFolder, OutputDevice, Ou
     }
 }
 
-/// Runs the program with the words that the system gives it. Reports a fault if the words can't be
-/// read.
+/// Runs the program with the words that the system gives the program. Reports a fault if the words
+/// can't be read.
 fn run_own_words(rt: &HostRuntime) -> u8 {
     match own_words(rt).and_then(|words| run_strings(rt, words.as_slice())) {
         Ok(status) => status,

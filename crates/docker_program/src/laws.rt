@@ -1,5 +1,6 @@
 //! Laws that hold for each command, and for each list of versions of STATE files. Each law is the
-//! contract of a function that does nothing. It holds for all values that its clauses name.
+//! contract of a function that does nothing. The law holds for all values that the function's
+//! clauses name.
 ghost use Rattle.std.specs.Prelude.{◌≡◌, ◌≢◌, ℕ, List, Some};
 ghost use Rattle.docker_model.specs.state.StateText.{dks_2};
 ghost use Rattle.docker_model.specs.state.Summary.{HaveDistinctMoments};
@@ -23,8 +24,8 @@ pub fn commands_store_or_print()
 
 /// Suppose that STATE held the text of the summary of some files under a horizon. Suppose also that
 /// the command took a file, or merged the text of such a summary. If the command stores a text,
-/// this is the text of the summary of all these files, under the greatest horizon. If it prints, it
-/// prints the docker of that summary, or the list of its files.
+/// this is the text of the summary of all these files, under the greatest horizon. If the command
+/// prints, it prints the docker of that summary, or the list of its files.
 pub fn commands_keep_summaries()
     ensures stored { (run : Run) (job : JobView) (read : SourcesRead) (text : List ℕ)
         (known : Known) → Stores run job read text → Knows job.task read.first read.second known
@@ -38,10 +39,10 @@ pub fn commands_keep_summaries()
 {}
 
 /// Each version of a STATE file is the text of the summary of what the version knows. The list of
-/// versions determines what each version knows: it says how each was made, and from which earlier
-/// versions of any office. So versions that know the same files under the same horizon are equal,
-/// byte for byte. Each docker printed from a version is the docker of the summary of what that
-/// version knows.
+/// versions determines what each version knows: the list records how each version was made, and
+/// from which earlier versions of any office. So versions that know the same files under the same
+/// horizon are equal, byte for byte. Each docker printed from a version is the docker of the
+/// summary of what that version knows.
 pub fn versions_are_summaries()
     ensures summary { (versions : List Version) (number : ℕ) (text : List ℕ) (known : Known)
         → AreVersions versions → IsVersion versions number text known
@@ -57,8 +58,8 @@ pub fn versions_are_summaries()
 {}
 
 /// Texts that know the same files under the same horizon are equal, byte for byte. Two offices that
-/// know the same files print equal dockers, for each timing point and each day that neither horizon
-/// refuses.
+/// know the same files print equal dockers, for each timing point and each day that is refused
+/// under neither horizon.
 pub fn known_files_fix_texts()
     ensures text { (one two : Known) (text other : List ℕ) → IsKnownText dks_2 one text
         → IsKnownText dks_2 two other → AreOneKnowledge one two → text ≡ other }

@@ -1,4 +1,4 @@
-//! The sources of a job, as its words name them.
+//! The sources that the words of a job name.
 
 /// The word that names standard input.
 pub(crate) const STDIN: &str = "stdin";

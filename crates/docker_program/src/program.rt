@@ -34,8 +34,8 @@ fn do_job<S: Source, D: Folder, K: Sink, L: Sink>(
     let looked = look_at_stored(&job, &mut host.folder);
     let prepared = read_sources(alloc, &job, &mut host.input, &mut host.folder)?;
     let done = write_output(looked, &prepared, &mut host.folder, &mut host.output);
-    // The program ends here. What it has read isn't freed piece by piece, because the system takes
-    // back all its memory at once.
+    // The program ends here. What the program has read isn't freed piece by piece, because the
+    // system takes back all its memory at once.
     mem::forget(prepared);
     Ok(done?)
 }

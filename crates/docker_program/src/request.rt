@@ -8,7 +8,8 @@ use cif_line::Source;
 use docker_cmd::{Job, JobFault, job, job_line};
 use std::alloc::Global;
 
-/// Returns the job that the words name. Without words, the first line of standard input names it.
+/// Returns the job that the words name. Without words, the first line of standard input names the
+/// job.
 pub(crate) fn requested_job<S: Source>(
     alloc: Global,
     words: &[&str],

@@ -42,7 +42,7 @@ pub fn check_on_a_shelf(alloc: Global, extract: &[u8]) -> Option<Vec<u8>>
 }
 
 /// Adds the text of a STATE file and an extract to a new shelf, runs `take` on the shelf, and
-/// returns the shelf. The shelf's history has the text that was stored. A draft holds at most
+/// returns the shelf. The shelf's history records the text that was stored. A draft holds at most
 /// `room` bytes. Returns `None` if the status isn't 0, or if memory ran out.
 pub fn take_on_a_shelf(alloc: Global, state: &[u8], extract: &[u8], room: usize) -> Option<Shelf>
     ensures { IfSome result (λ shelf. IsTaken state.now extract.now shelf.events) }

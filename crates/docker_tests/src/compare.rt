@@ -9,12 +9,12 @@ pub(crate) fn same<T: PartialEq + Debug + Drop>(rt: &impl Abort, got: T, wanted:
     assert_eq!(rt; got, wanted);
 }
 
-/// Asserts that two values are equal. The message of a failure has this name.
+/// Asserts that two values are equal. The failure message contains this name.
 pub(crate) fn same_in<T: PartialEq + Debug + Drop>(rt: &impl Abort, name: &str, got: T, wanted: T) {
     assert_eq!(rt; got, wanted, "{name}");
 }
 
-/// Asserts that two values are equal. The message of a failure has these words.
+/// Asserts that two values are equal. The failure message contains these words.
 pub(crate) fn same_of<T: PartialEq + Debug + Drop>(
     rt: &impl Abort,
     words: &[&str],

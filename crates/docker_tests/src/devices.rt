@@ -45,24 +45,24 @@ fn a_sink_that_fails_once(rt: HostRuntime) {
     sends(&rt, alloc, &office, 312, Ok(()), text.as_slice());
 }
 
-/// Returns the result when an office takes a file. The source gives one byte per read, and only the
-/// read with this number fails.
+/// Returns the result when an office takes a file. The source returns one byte per read, and only
+/// the read with this number fails.
 fn taken(office: &mut Office, text: &[u8], read: u64) -> Result<(), OfficeFault>
     requires { 0 < read }
 {
     office.take(&mut Fuse::new(Bytes::new(text, 1), read), 1000)
 }
 
-/// Returns the result when an office receives a state. The source gives one byte per read, and only
-/// the read with this number fails.
+/// Returns the result when an office receives a state. The source returns one byte per read, and
+/// only the read with this number fails.
 fn received(office: &mut Office, text: &[u8], read: u64) -> Result<(), OfficeFault>
     requires { 0 < read }
 {
     office.receive(&mut Fuse::new(Bytes::new(text, 1), read), 1000)
 }
 
-/// Returns the result when an office reloads a state. The source gives one byte per read, and only
-/// the read with this number fails.
+/// Returns the result when an office reloads a state. The source returns one byte per read, and
+/// only the read with this number fails.
 fn reloaded(office: &mut Office, text: &[u8], read: u64) -> Result<(), OfficeFault>
     requires { 0 < read }
 {
@@ -140,8 +140,8 @@ fn fills_by_print(rt: &impl Abort, alloc: Global, office: &Office) {
     same(rt, kept.bytes(), FRONT);
 }
 
-/// Asserts that printing to a sink with room for 70 bytes fails for an office for Ashfeld, and that
-/// the sink is then full.
+/// Asserts that an office for Ashfeld fails to print to a sink with room for 70 bytes, and that the
+/// sink is then full.
 fn fills_at_place(rt: &impl Abort, alloc: Global, office: &Office) {
     let (place, day) = (place_of(rt, "ASHFELD"), day_of(rt, "2024-06-10"));
     let office = at_place(rt, alloc, office, place, day);
@@ -151,16 +151,16 @@ fn fills_at_place(rt: &impl Abort, alloc: Global, office: &Office) {
     same(rt, kept.bytes(), FRONT);
 }
 
-/// Asserts that listing files to a sink with room for 10 bytes fails, and that the sink is then
-/// full.
+/// Asserts that an office fails to write its list of files to a sink with room for 10 bytes, and
+/// that the sink is then full.
 fn fills_by_files(rt: &impl Abort, alloc: Global, office: &Office) {
     let mut kept = Kept::new(alloc, 10).expect(rt, "room");
     same(rt, office.files(&mut kept), Err(OfficeFault::Sink));
     same(rt, kept.bytes(), b"2024-06-09".as_slice());
 }
 
-/// Asserts that listing files to a sink with room for 10 bytes fails for an office with only a
-/// ledger, and that the sink is then full.
+/// Asserts that an office with only a ledger fails to write its list of files to a sink with room
+/// for 10 bytes, and that the sink is then full.
 fn fills_by_ledger(rt: &impl Abort, alloc: Global, office: &Office) {
     let ledger = ledger_of(rt, alloc, office);
     let mut kept = Kept::new(alloc, 10).expect(rt, "room");

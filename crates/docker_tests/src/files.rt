@@ -33,7 +33,7 @@ pub(crate) const EVENING: File = &[HD, BS, LO_2355, LT_0005, ZZ];
 /// The morning train, in a full extract.
 pub(crate) const FULL: File = &[HD_FULL, BS, LO, LT, ZZ];
 
-/// A revision of the morning train, a day later.
+/// A file of 10 June that revises the morning train to leave five minutes later.
 pub(crate) const REVISION: File = &[HD_10B, BS_REVISED, LO_0905, LT_0935, ZZ];
 
 /// An update of 5 June: it deletes C10003 and puts C10001.
@@ -51,13 +51,13 @@ pub(crate) const NINTH_OPEN: File = &[HD_9C, BS, LO_1100, LT_1130];
 /// A file that deletes C10001.
 pub(crate) const DELETION: File = &[HD_9B, BS_DELETED, ZZ];
 
-/// C10001, in a file of the day before its deletion.
+/// A file of 8 June that puts C10001. `DELETION` deletes this train on 9 June.
 pub(crate) const EIGHTH: File = &[HD_8A, BS, LO, LT, ZZ];
 
 /// A new timing point.
 pub(crate) const PLACE: File = &[HD, TI, ZZ];
 
-/// A new code for that timing point, a day later.
+/// A file of 10 June that gives this timing point a new code.
 pub(crate) const RENAMED: File = &[HD_10B, TA, ZZ];
 
 /// A file with a train, its overlay on two days, its cancellation on a third day, and then these
@@ -91,7 +91,7 @@ pub(crate) const NIGHT: File = &[HD, BS_NIGHT, LO_2355, LI_0000, LI_0010, LT_002
 /// A train that runs past two midnights.
 pub(crate) const TWO_NIGHTS: File = &[HD, BS_NIGHT, LO_2355, LI_0010, LI_COLWELL_0005, LT_0006, ZZ];
 
-/// A train that runs past three midnights, which no schedule may do.
+/// A train that runs past three midnights. No schedule may do that.
 pub(crate) const THREE_NIGHTS: File = &[
     HD,
     BS_NIGHT,
@@ -128,16 +128,16 @@ pub(crate) const IDENTITY: File = &[
     ZZ,
 ];
 
-/// The morning train until a later day, leaving ten minutes earlier.
+/// A file in which the morning train runs until a later day and leaves ten minutes earlier.
 pub(crate) const LONGER: File = &[HD, BS_LONGER, LO_0850, LT, ZZ];
 
-/// The morning train, leaving five minutes later.
+/// A file in which the morning train leaves five minutes later.
 pub(crate) const LATER: File = &[HD, BS, LO_0905, LT, ZZ];
 
-/// The deletion of the morning train, in a file with the same header.
+/// A file that deletes the morning train. It has the same header as the morning train's file.
 pub(crate) const DELETED: File = &[HD, BS_DELETED, ZZ];
 
-/// The morning train until the end of July, in a file of 8 June.
+/// A file of 8 June in which the morning train runs until the end of July.
 pub(crate) const JULY: File = &[HD_8A, BS_JULY, LO, LT, ZZ];
 
 /// A train that leaves Ashfeld half a minute past 09:00, without a public time.
@@ -164,16 +164,16 @@ macro_rules! two_trains {
     };
 }
 
-/// A train to Colwell, whose next working starts on the next day.
+/// A train to Colwell. Its next working starts on the next day.
 pub(crate) const NEXT_DAY: File = two_trains!(BS_C40001, AA_N);
 
-/// A train to Colwell, whose next working starts on the same day.
+/// A train to Colwell. Its next working starts on the same day.
 pub(crate) const SAME_DAY: File = two_trains!(BS_C40001, AA_S);
 
 /// A train to Colwell and its next working. The association has a space as its date indicator.
 pub(crate) const NO_INDICATOR: File = two_trains!(BS_C40001, AA_BLANK);
 
-/// A train to Colwell, whose next working starts on the day before.
+/// A train to Colwell. Its next working starts on the day before.
 pub(crate) const DAY_BEFORE: File = two_trains!(BS_C40001, AA_P);
 
 /// A train to Colwell and its next working. The association has an unknown date indicator.
@@ -185,7 +185,7 @@ pub(crate) const UNKNOWN_CATEGORY: File = two_trains!(BS_C40001, AA_OTHER);
 /// A train to Colwell and its next working, on the last day of the calendar.
 pub(crate) const LAST_DAY: File = two_trains!(BS_C40001_LAST, AA_LAST);
 
-/// A train to Colwell, whose next working is cancelled.
+/// A train to Colwell. Its next working is cancelled.
 pub(crate) const PARTNER_CANCELLED: File = two_trains!(BS_C40001, AA_N, BS_C40002_CANCELLED);
 
 /// A train to Colwell that is cancelled, and its next working.
@@ -201,7 +201,7 @@ pub(crate) const DELETED_AT_NO_TIME: File = &[HD, BS_DELETED, LO_2400, LT, ZZ];
 /// An update of the year 2000, without changes.
 pub(crate) const EARLY: File = &[HD_EARLY, ZZ];
 
-/// A train on Wednesdays without a last day.
+/// A train that runs on Wednesdays, by a schedule without a last day.
 pub(crate) const NO_END: File = &[HD, BS_WEDNESDAYS, LO, LT, ZZ];
 
 /// An amendment of a timing point that leaves its code unchanged.

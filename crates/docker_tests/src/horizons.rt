@@ -15,8 +15,7 @@ fn set(rt: &impl Abort, office: &mut Office, date: &str) {
 }
 
 /// A row: a horizon to set, the size of the state's text after the horizon is set, a day that is
-/// refused, and the day after it. The last column is the docker of this later day, which has no
-/// lines.
+/// refused, and the day after it. The last column is the docker of this later day. It has no lines.
 type Row = (
     &'static str,
     usize,
@@ -52,7 +51,7 @@ END
     ),
 ];
 
-/// The docker of Ashfeld on 24 June, which has no lines.
+/// The docker of Ashfeld on 24 June. It has no lines.
 const NONE_ON_24_JUNE: &str = "\
 DOCKER ASHFELD 2024-06-24                               
 END                                                     

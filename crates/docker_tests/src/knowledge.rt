@@ -236,7 +236,7 @@ impl Knowledge {
         }
     }
 
-    /// Updates the knowledge after an event that was done.
+    /// Updates the knowledge after an event that was carried out.
     fn follow_done(&mut self, rt: &impl Abort, step: &Step) {
         let known = self.offices.get_mut(step.office()).expect(rt, "an office");
         match step {

@@ -37,7 +37,7 @@ pub(crate) fn office_of(rt: &impl Abort, alloc: Global, files: &[File]) -> Offic
     office
 }
 
-/// Has an office receive the state of another office, which has taken this file.
+/// Has an office receive the state of another office that has taken this file.
 fn receive_of(rt: &impl Abort, alloc: Global, office: &mut Office, file: File) {
     let mut other = Office::new(alloc);
     take(rt, alloc, &mut other, file);
@@ -106,7 +106,7 @@ pub(crate) fn day_of(rt: &impl Abort, date: &str) -> Day {
 }
 
 /// Asserts that an office prints this docker for a place and a day. Also asserts that an office for
-/// only this place and day prints it.
+/// only this place and day prints the same docker.
 pub(crate) fn prints(
     rt: &impl Abort,
     alloc: Global,
@@ -152,7 +152,7 @@ fn prints_there(rt: &impl Abort, alloc: Global, office: &PlaceOffice, date: &str
 }
 
 /// Asserts that an office refuses to print a docker of Ashfeld on a day. Also asserts that an
-/// office for only this place and day refuses to print it.
+/// office for only this place and day refuses to print this docker.
 pub(crate) fn refuses_day(rt: &impl Abort, alloc: Global, office: &Office, date: &str) {
     let place = place_of(rt, "ASHFELD");
     let day = day_of(rt, date);

@@ -9,7 +9,7 @@ use std::alloc::Global;
 use std::fmt::Display;
 use std::process::Abort;
 
-/// Asserts the text that a value prints.
+/// Asserts how a value is printed.
 fn prints<T: Display + Drop>(rt: &impl Abort, alloc: Global, value: T, wanted: &str) {
     let text = format!(in alloc; "{value}").expect(rt, "the text");
     same(rt, text.as_str(), wanted);

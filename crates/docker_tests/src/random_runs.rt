@@ -16,7 +16,7 @@ use std::process::Abort;
 /// The number of events of a run.
 const STEPS: usize = 16;
 
-/// The first day that may be a horizon, 10 June 2024, and the number of such days.
+/// The first day that may be a horizon, 10 June 2024, and the number of days that may be a horizon.
 const FIRST_HORIZON: usize = 23537;
 
 const HORIZONS: usize = 16;
@@ -243,7 +243,7 @@ fn text_of_office(rt: &impl Abort, alloc: Global, office: &Office) -> Kept {
     kept
 }
 
-/// Asserts that the text of each office is the text of the state of what it knows.
+/// Asserts that the text of each office is the text of the state of what the office knows.
 fn offices_are_of_known(
     rt: &impl Abort,
     alloc: Global,
@@ -259,7 +259,7 @@ fn offices_are_of_known(
     }
 }
 
-/// Asserts that the text of each message is the text of the state of what it knows.
+/// Asserts that the text of each message is the text of the state of what the message knows.
 fn messages_are_of_known(
     rt: &impl Abort,
     alloc: Global,

@@ -1,4 +1,4 @@
-//! Tests of files that an office refuses, which leaves its state unchanged.
+//! Tests of files that an office refuses. A refusal leaves the office's state unchanged.
 
 use crate::compare::same;
 use crate::files::*;

@@ -1,4 +1,4 @@
-//! Tests of states that an office refuses, which leaves its own state unchanged.
+//! Tests of states that an office refuses. A refusal leaves the office's own state unchanged.
 
 use crate::compare::same;
 use crate::files::*;
@@ -26,7 +26,7 @@ const NEWER: &[Ask] = &[Ask::Receive, Ask::Reload, Ask::Place, Ask::Ledger];
 const OLDER: &[Ask] = &[Ask::Migrate];
 
 /// Returns the result when an office reads a text of at most `limit` bytes in this way. The source
-/// gives at most 9 bytes per read.
+/// returns at most 9 bytes per read.
 fn read_in(
     rt: &impl Abort,
     alloc: Global,
@@ -258,7 +258,7 @@ const CUT: &[(usize, u64)] = &[
     (310, 41),
 ];
 
-/// The same as `CUT`, for the older format.
+/// Like `CUT`, for a text in the older format.
 const OLD_CUT: &[(usize, u64)] = &[
     (0, 0),
     (3, 0),

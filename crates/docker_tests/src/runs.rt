@@ -15,7 +15,7 @@ use std::alloc::Global;
 use std::process::Abort;
 use test_records::printed::{ASHFELD_0900, NONE_ON_18_JUNE};
 
-/// Returns the event that an office takes this text, which may have as many records as any file.
+/// Returns the event that an office takes this text. The text may have as many records as any file.
 fn take(office: usize, text: &[u8]) -> Event<'_>
     ensures { HasGoodLimit (event_meant result) }
 {
@@ -225,7 +225,7 @@ fn two_offices_and_a_horizon(rt: HostRuntime) {
 }
 
 /// Returns the end of a run of two offices. The first office sends its state and then sets a
-/// horizon. After that its message is delivered to the second office.
+/// horizon. After that the first office's message is delivered to the second office.
 fn delivery_left(rt: &impl Abort, alloc: Global) -> Exchange {
     let text = text_of(rt, alloc, MORNING);
     let day = day_of(rt, "2024-06-15");

@@ -28,8 +28,8 @@ pub(crate) const ITEM: &[u8] = b"\x5b\xf0\x04\xecDFROC1AUDFROC1Z";
 
 const ITEM_FULL: &[u8] = b"\x5b\xf0\x04\xecDFROC1AFDFROC1Z";
 
-/// The ledger items of other files. Each name has the day in June and the last letter of the file's
-/// reference.
+/// The ledger items of other files. The name of each constant has the day in June and the last
+/// letter of the file's reference.
 const ITEM_10B: &[u8] = b"\x5b\xf1\x04\xecDFROC1BUDFROC1A";
 
 pub(crate) const ITEM_5A: &[u8] = b"\x5b\xec\x04\xecDFROC1AUDFROC1Z";
@@ -42,7 +42,8 @@ const ITEM_9B: &[u8] = b"\x5b\xf0\x04\xecDFROC1BUDFROC1A";
 
 const ITEM_9C: &[u8] = b"\x5b\xf0\x04\xecDFROC1CUDFROC1B";
 
-/// The entry of C10001 in the update of 9 June, without its op: from record 2, and from record 5.
+/// The entry of C10001 in the update of 9 June, without its op. `ENTRY` is for a schedule at record
+/// 2 of the file, and `ENTRY_FIFTH` for a schedule at record 5.
 pub(crate) const ENTRY: &[u8] = b"\x03C10001\x5b\xf1P\x5b\xf0\x04\xecDFROC1A\0\0\0\x02";
 
 const ENTRY_FIFTH: &[u8] = b"\x03C10001\x5b\xf1P\x5b\xf0\x04\xecDFROC1A\0\0\0\x05";
@@ -101,7 +102,7 @@ pub(crate) const EMPTY_STATE: Parts = &[MARK, NONE, NONE];
 /// The state that knows the morning train: 311 bytes.
 pub(crate) const MORNING_STATE: Parts = train_after!(MARK, ONE, ITEM, ONE);
 
-/// The state that knows the morning train, in the older format: 309 bytes.
+/// The state that knows the morning train, as a text in the older format: 309 bytes.
 pub(crate) const OLD_STATE: Parts = train_after!(OLD_MARK, ONE, ITEM, ONE);
 
 /// The state that knows the morning train, under a horizon after its last day: 67 bytes.

@@ -113,7 +113,7 @@ fn files_of_states(rt: HostRuntime) {
 }
 
 /// Asserts that an office has the state of the morning train after it has taken this text from a
-/// source that gives at most `step` bytes per read.
+/// source that returns at most `step` bytes per read.
 fn is_taken(rt: &impl Abort, alloc: Global, text: &[u8], step: usize)
     requires { 0 < step }
 {

@@ -76,8 +76,8 @@ fn finish<F: Folder>(
     folder.complete(made).map_err(|_| OpenFault::Failed)
 }
 
-/// Writes this text to a draft, which replaces the named file. The draft is refused if the file was
-/// replaced after the look `seen`.
+/// Writes this text to a draft, and replaces the named file with the draft. The draft is refused if
+/// the file was replaced after the look `seen`.
 pub(crate) fn store<F: Folder>(
     rt: &impl Abort,
     folder: &mut F,

@@ -1,4 +1,4 @@
--- The taker takes each piece after the pieces before it.
+-- The taker takes the pieces in the order in which they were read.
 use Rattle.std.proofs.Common.{Ok, Err, ◌≡◌, ◌+◌, ◌<◌, ◌++◌, length, take, refl, ap, arith, ◌∙◌, subst}
 use Rattle.std.proofs.lemmas.List.{length-take-le}
 use Rattle.cif_device.specs.Device.{IsEnd}

@@ -3,7 +3,7 @@ use Rattle.std.specs.Prelude.{IsUtf8}
 use Rattle.docker_desk.specs.Requests.{without_spaces}
 use Rattle.docker_desk.proofs.words.without_spaces.Given as goal
 
--- without leading spaces, the rest of the text equals the whole text
+-- the rest of the text and the whole text are equal once their leading spaces are removed
 abbrev pub invariant-loop-piece : goal.invariant-loop-piece
 invariant-loop-piece l = record {
   same : without_spaces l.rest ≡ without_spaces l.fn.text;
