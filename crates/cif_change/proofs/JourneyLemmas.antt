@@ -40,7 +40,7 @@ some_is x y same = cc
 
 -- ---- the end of a schedule
 
--- if some lines may begin a schedule, they are a whole schedule if and only if a schedule may end at the stage after them
+-- lines that may begin a schedule are a whole schedule if and only if a schedule may end at the stage after them
 whole_iff : (lines : Lines) (stage : Stage) → stage_of lines ≡ Some stage → IsSchedule lines ↔ (may_end stage lines ≡ true)
 whole_iff lines stage at = (
   λ is.
@@ -201,7 +201,7 @@ next_cause journey line next led =
 pub iff_along : (P : Type 0) (a b : Bool) → a ≡ b → P ↔ (b ≡ true) → P ↔ (a ≡ true)
 iff_along P a b same iff = (λ p. same ∙ iff.0 p, λ test. iff.1 (sym same ∙ test))
 
--- a line that is no kind of record is refused with the cause `Kind`, whatever lines come before
+-- a line that doesn't begin with the identity of a kind of record is refused with the cause `Kind`, whichever lines precede it
 pub unknown_kind : (journey : JourneyState) (lines : Lines) (line : List ℕ) → HasLines journey lines → IsRecord line → kind_of line ≡ None
     → IsScheduleFault lines line fault.bad_kind
 unknown_kind journey lines line has is none = refused_by journey lines line fault.bad_kind has is (nowhere journey.stage) (cause journey.stage)
@@ -409,7 +409,7 @@ pub deletion_read : (journey : JourneyState) (lines : Lines) (line : List ℕ) (
 deletion_read journey lines line next has is led deletion =
     let on = leads_on journey.stage (kind_of line) next led in deletion_goes_on journey lines line on.here next has is on.at deletion on.after
 
--- Says that these are the times of the line, and that these are the count of midnights and the last time after the line.
+-- Says that a line has these times and that, after the line, `more` is the number of midnights that the schedule has passed and `later` is its last time.
 pub record IsTimed (journey : JourneyState) (line : List ℕ) (first second third : Option ℕ) (more : ℕ) (later : Option ℕ) : Type 0 where
   pub times : map (λ (time : Occasion × ℕ). time.1) (times_of line) ≡ time_list first ++ time_list second ++ time_list third
   pub falls : more ≡ journey.falls + falls_after journey.last (time_list first ++ time_list second ++ time_list third)

@@ -4,7 +4,7 @@ use Rattle.docker_model.specs.records.Record.{kind_of, columns, is_location}
 use Rattle.docker_model.specs.file.Change.{Key, association_key, schedule_key, association_body, schedule_body}
 use Rattle.docker_model.specs.state.Op.{Op, put_with}
 
--- the location records (LO, LI, LT) among some lines
+-- the location records (LO, LI, LT) in a list of lines
 abbrev pub location_lines : List (List ℕ) → List (List ℕ)
 location_lines lines = filter (λ line. is_location (kind_of line)) lines
 

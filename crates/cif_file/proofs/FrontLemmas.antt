@@ -105,7 +105,7 @@ some_lines (basic ∷ others) stage at = omega arith
 
 -- ---- a schedule that is complete
 
--- if some lines may begin a schedule, they are a whole schedule if and only if a schedule may end at the stage after them
+-- lines that may begin a schedule are a whole schedule if and only if a schedule may end at the stage after them
 whole_iff : (lines : Lines) (stage : Stage) → stage_of lines ≡ Some stage → IsSchedule lines ↔ (may_end stage lines ≡ true)
 whole_iff lines stage at = (
   λ is.
@@ -356,7 +356,7 @@ header_followed keeps front opened line records before =
     let size = ap (λ (l : Lines). length l) before.whole ∙ length-append before.before before.lines in
     before.header_is ∙ sym (header_stays records (line ∷ []) (omega arith))
 
--- if a keeper with some lines of a schedule adds a line, it has the same lines followed by the new one
+-- if a keeper that has received lines of a schedule adds one more line, it then has these lines followed by the new line
 pub added_to : {K : Type 0} (keeps : Keeps K) (old new : K) (lines : Lines) (line : List ℕ) (made : List Change) → 0 < length lines
     → AddsLine keeps old line new → keeps old lines made → keeps new (lines ++ line ∷ []) made
 added_to keeps old new [] line made some added kept = absurd (omega arith)
@@ -392,7 +392,7 @@ line_added keeps old new opened line records before inside same_header place add
           });
     }
 
--- the reader can take a line that ends the schedule, and makes the schedule's change
+-- the reader can take a line that ends the schedule, and then makes the schedule's change
 pub line_closed : {K : Type 0} (keeps : Keeps K) (old new : Front K) (opened : Opened) (line : List ℕ) (records : Lines)
     → StandsBefore keeps old opened line records
     → is_over_by (progress_meant opened.progress).stage ≡ true

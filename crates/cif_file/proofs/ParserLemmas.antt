@@ -230,7 +230,7 @@ kept_long keeps old limit text more fault reading plain many next =
     (fault_at_long limit (text ++ more) next.place (ap place_at told ∙ next.at) (omega arith)
     (above 81 (length (open_line (text ++ more))) (λ few. many (omega arith)))))
 
--- ---- a fault stays the fault
+-- ---- more text doesn't change a fault
 
 -- a fault of a text is a fault of any longer text that begins with it
 pub told_stays : (limit : ℕ) (text more : List ℕ) (fault : FileFault) → IsFaultReported limit text fault → IsFaultReported limit (text ++ more) fault
@@ -308,7 +308,7 @@ told_refused limit text fault told = by (cause_meant fault.cause) told
 
 -- ---- a line that isn't a record
 
--- a line that isn't a record and is above the limit is refused for the limit
+-- a line that isn't a record is refused with the cause `TooMany` if it is beyond the limit
 pub refused_over : {K : Type 0} (keeps : Keeps K) (records : Records K) (limit : ℕ) (taken : Lines) (cause : Option model.FileCause) (fault : FileFault)
     → HasCounted keeps records limit taken
     → fault.number ≡ records.next
@@ -394,7 +394,7 @@ empty_is old none = by old.partial.items (eqb-true (length old.partial.items) 0 
     by [] h = refl
     by (byte ∷ bytes) h = absurd (omega arith)
 
--- if the parser keeps some bytes, a line is open
+-- if the parser holds bytes of a line that hasn't ended, the text ends in an open line
 pub some_is_open : {K : Type 0} (keeps : Keeps K) (old : FileReading K) (limit : ℕ) (text : List ℕ) → IsReading keeps old limit text
     → false ≡ (length old.partial.items == 0)
     → 0 < length (open_line text)

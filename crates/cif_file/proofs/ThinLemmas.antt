@@ -102,7 +102,7 @@ module _ (place : List ℕ) (day : ℕ) (old new : Thinned) (whole : Change) whe
     known = has.known;
   })
 
-  -- a change that is cut to a deletion can be dropped if no change of its key was kept
+  -- a change whose thin form is a deletion can be dropped if no change to its key was kept
   pub deletion_dropped : (key : Key) → new ≡ old → has_key old.keys key ≡ false → whole.key ≡ key_meant key → thin_act place day whole.act ≡ delete
       → Thins place day old whole new
   deletion_dropped key same none named deletes all has = subst (λ (t : Thinned). HasThinned place day t (all ++ whole ∷ [])) (sym same) (record {
@@ -139,7 +139,7 @@ module _ (place : List ℕ) (day : ℕ) (opened : Opened) (near : Bool) where
     act_put : (progress_meant opened.progress).deletion ≡ false → (change_opened opened (basic ∷ others)).act ≡ put (schedule_body renewed)
     act_put stays = λ i. cond (stays i) delete (put (schedule_body renewed))
 
-  -- the change of a schedule that is a deletion, or doesn't run near the day, is cut to a deletion
+  -- the thin form of a schedule's change is a deletion if the schedule is deleted or doesn't run near the day
   pub opened_deletes : (lines : Lines) → HasLines (progress_meant opened.progress) lines → IsSchedule lines → IsNearBy day lines near
       → ((progress_meant opened.progress).deletion ≡ true) ⊎ (near ≡ false) → thin_act place day (change_opened opened lines).act ≡ delete
   opened_deletes lines read whole is (inl deletion) = deletes_itself lines deletion
@@ -152,7 +152,7 @@ module _ (place : List ℕ) (day : ℕ) (opened : Opened) (near : Bool) where
           ap (thin_act place day) (act_put basic others is h)
           ∙ act_far place day (renewed basic others is) (near_renewed basic others is (sym read.deletion_is ∙ h) ∙ far)
 
-  -- the change of a schedule that isn't a deletion and runs near the day is cut to the lines that the place needs
+  -- if a schedule isn't deleted and runs near the day, the thin form of its change puts only the lines that the place needs
   pub opened_puts : (lines : Lines) → HasLines (progress_meant opened.progress) lines → IsSchedule lines → IsNearBy day lines near
       → (progress_meant opened.progress).deletion ≡ false → near ≡ true
       → thin_act place day (change_opened opened lines).act ≡ put (schedule_body (lines_for place (with_new_first lines)))

@@ -19,7 +19,7 @@ Lines = List (List ℕ)
 abbrev pub Keeps : Type 0 → Type 1
 Keeps K = K → Lines → List Change → Type 0
 
--- some lines, with the transaction of the first set to N
+-- a list of lines, with the transaction of its first line set to N
 abbrev pub with_new_first : Lines → Lines
 with_new_first [] = []
 with_new_first (basic ∷ others) = as_new basic ∷ others

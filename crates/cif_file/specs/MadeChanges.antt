@@ -30,8 +30,8 @@ file_of_parts parts = record {
   changes_made = map change_meant parts.changes.items;
 }
 
--- Says that these are the parts of a file that was read and, if there are notes, that they are
--- right for its changes.
+-- Says that these are the parts of a file that was read and that the notes, if there are any, are
+-- right for the file's changes.
 pub record ArePartsOfFile (parts : FileParts) : Type 0 where
   pub read : IsRead (file_of_parts parts)
   pub noted : AreNotesOf (map change_meant parts.changes.items) parts.notes

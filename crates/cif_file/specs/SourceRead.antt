@@ -68,8 +68,8 @@ pub record ReadsNoFurther (most limit : ℕ) (old new : Option (List ℕ)) : Typ
   pub at_once : length piece ≤ most
   pub read : Reads old (before ++ piece) new
 
--- Says that memory ran out at a record that is complete only with the last piece. No record up to
--- it is at fault, and the piece has at most this many bytes.
+-- Says that memory ran out at a record that is complete only with the last piece, that no record up
+-- to this one is at fault, and that the last piece has at most `most` bytes.
 pub record WantsRecord (most limit : ℕ) (old new : Option (List ℕ)) : Type 0 where
   pub before : List ℕ
   pub piece : List ℕ

@@ -100,7 +100,7 @@ fn count_amended(view: &TiplocRecord<'_>) -> u64
     }
 }
 
-/// The new code of a TIPLOC amendment. None if the record keeps the old code.
+/// The new code of a TIPLOC amendment. Returns `None` if the record keeps the old code.
 fn other_code(view: &TiplocRecord<'_>) -> Option<Tiploc>
     requires { HasKind tiploc_amend view.now }
     ensures { MatchOption result (keeps_code view.now ≡ true)

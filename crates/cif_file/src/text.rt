@@ -25,7 +25,8 @@ fn line_feed(text: &[u8]) -> Option<usize>
     text.iter().position(|byte| *byte == b'\n')
 }
 
-/// The bytes before the first line feed, and the bytes after it. None if there is no line feed.
+/// The bytes before the first line feed, and the bytes after it. Returns `None` if there is no line
+/// feed.
 pub(crate) fn split_line(text: &[u8]) -> Option<(&[u8], &[u8])>
     ensures { MatchOption result (HasNoFeed text.now)
         (λ parts. IsCut text.now parts.0.now parts.1.now) }
@@ -35,7 +36,7 @@ pub(crate) fn split_line(text: &[u8]) -> Option<(&[u8], &[u8])>
 }
 
 /// The bytes after the line end with which a text begins: a line feed, or a carriage return and a
-/// line feed. None if the text doesn't begin with a line end.
+/// line feed. Returns `None` if the text doesn't begin with a line end.
 fn after_line_end(text: &[u8]) -> Option<&[u8]>
     ensures { MatchOption result ((rest : List ℕ) → ¬ BeginsWithEnd text.now rest)
         (λ rest. BeginsWithEnd text.now rest.now) }
@@ -47,8 +48,8 @@ fn after_line_end(text: &[u8]) -> Option<&[u8]>
     }
 }
 
-/// The first 80 bytes of a text, and the bytes after the line end that follows them. None if no
-/// line end follows the first 80 bytes. No search is needed.
+/// The first 80 bytes of a text, and the bytes after the line end that follows them. Returns `None`
+/// if no line end follows the first 80 bytes. No search is needed.
 pub(crate) fn split_eighty(text: &[u8]) -> Option<(&[u8], &[u8])>
     ensures { MatchOption result
         ((line rest : List ℕ) → ¬ BeginsWithEighty text.now line rest)

@@ -28,7 +28,7 @@ impl Model for Line {
     ghost inverse = { λ bytes. record { bytes = bytes } };
 }
 
-/// Why some bytes aren't a line. The length is checked first.
+/// Why bytes aren't a line. The length is checked first.
 #[derive(Clone, Copy, PartialEq, Eq, Debug, Error)]
 pub enum LineFault {
     /// The number of bytes isn't 80.

@@ -65,7 +65,8 @@ impl<'a> Origin<'a> {
         self.departure
     }
 
-    /// The public departure, a whole minute: columns 16 to 19. None if it is blank or `0000`.
+    /// The public departure, a whole minute: columns 16 to 19. Returns `None` if it is blank or
+    /// `0000`.
     pub fn public_departure(&self) -> Option<Time>
         ensures value { result ≡ public_half_minutes (columns 16 19 self.now) }
         ensures shown { shown_public (columns 16 19 self.now) ≡ public_text result }

@@ -44,7 +44,8 @@ impl Tiploc {
         Some(Tiploc { bytes })
     }
 
-    /// The TIPLOC in a field. None if the first byte is a space or any byte isn't printable.
+    /// The TIPLOC in a field. Returns `None` if the first byte is a space or any byte isn't
+    /// printable.
     pub fn from_field(field: &[u8; 7]) -> Option<Tiploc>
         ensures some { IsSome result ↔ IsTiploc field.now }
         ensures value { IfSome result (λ tiploc. tiploc ≡ field.now) }

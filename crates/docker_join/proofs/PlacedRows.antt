@@ -50,7 +50,7 @@ module _ {E : Type 0} (picked : E → E → E) where
   out_first Equal a b less equal greater behind = refl
   out_first Greater a b less equal greater behind = refl
 
-  -- if some rows of the second table are below all rows of the first, the walk begins with these rows
+  -- if the first rows of the second table are below all rows of the first table, the walk begins with them
   lower_first : (x b y : List (Key × E)) → AllBelow b x → walk picked x (b ++ y) ≡ b ++ walk picked x y
   lower_first x [] y below = refl
   lower_first [] (b ∷ others) y below = refl
@@ -96,7 +96,7 @@ module _ {E : Type 0} where
   first_below [] ys up = tt
   first_below (x ∷ xs) ys up = (all_behind (IsBelow row_cmp x) xs ys up.0, first_below xs ys up.1)
 
-  -- if some rows are below a row, and other rows are above it, the former are below the latter
+  -- if all rows of one list are below a row, and all rows of another list are above it, each row of the first list is below each row of the second
   below_higher : (lows highs : List (Key × E)) (row : Key × E) → AllBelow lows (row ∷ []) → Above row highs → AllBelow lows highs
   below_higher [] highs row below above = tt
   below_higher (low ∷ lows) highs row below above = (above_lower low row highs below.0.0 above, below_higher lows highs row below.1 above)
@@ -130,7 +130,7 @@ module _ {E : Type 0} where
       (ap (λ n. drop n (front ++ back)) at ∙ drop-append_seam front back, ap (λ n. take n (front ++ back)) at ∙ take-append_seam front back)
 
 module _ {E : Type 0} (picked : E → E → E) where
-  -- the walk over some rows and a single lower row is the lower row, followed by these rows
+  -- the walk over a table and a single row below all rows of the table is this row, followed by the table
   walk_row : (rows : List (Key × E)) (row : Key × E) → Above row rows → walk picked rows (row ∷ []) ≡ row ∷ rows
   walk_row rows row above = lower_first picked rows (row ∷ []) [] (above, tt) ∙ ap (λ rest. row ∷ rest) (walk_none picked rows)
 

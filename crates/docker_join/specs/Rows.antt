@@ -27,8 +27,8 @@ picked_value picked None other = other
 picked_value picked (Some value) None = Some value
 picked_value picked (Some value) (Some other) = Some (picked value other)
 
--- Says that some rows are the join of two tables: they ascend, and at each key they have the joined
--- values of the two.
+-- Says that a list of rows is the join of two tables: the rows ascend, and the value at each key is
+-- the join of the two tables' values there.
 pub record IsJoinOfRows {E : Type 0} (picked : E → E → E) (first second joined : List (Key × E)) : Type 0 where
   pub ascends : AreAscending joined
   pub values : (key : model.Key) → value_at joined key ≡ picked_value picked (value_at first key) (value_at second key)

@@ -79,7 +79,7 @@ one_floor item = by (item.indicator == 70) (eqb_tells item.indicator 70)
     )
     by b (inr update) = (None, λ other among is_full. update.1 (subst (λ (i : stamps.LedgerItem). IsFull i) (sym (only item other among)) is_full), tt)
 
--- if the bodies that some changes put consist of records, so do the bodies of the rows that the changes make
+-- if the bodies that changes put consist of records, so do the bodies in the rows that the changes make
 pub made_records : (all : List model.Change) → HaveRecords all → (stamp : FileStamp) (made : List (Key × Entry))
     → map row_meant made ≡ map (made_by stamp) all → All (λ (row : Key × Entry). HasRecords (op_meant row.1.op)) made
 made_records all have stamp made made_is = all_members (λ (row : Key × Entry). HasRecords (op_meant row.1.op)) made (λ row among.
@@ -110,7 +110,7 @@ pub made_stamped : (item : LedgerItem) (stamp : code.FileStamp) → file_stamp_m
     → map row_meant made ≡ map (made_by (item_meant item).stamp) all
 made_stamped item stamp same all made made_is = made_is ∙ ap (λ (s : FileStamp). map (made_by s) all) same
 
--- the state with one ledger item, and with the greatest entries of some changes, is the state that the changes make
+-- the state with one ledger item, and with the greatest entry that the changes make for each key, is the state that the changes make
 pub made_state : (item : stamps.LedgerItem) (all : List model.Change) (ledger : List LedgerItem) (made rows : List (Key × Entry))
     → map item_meant ledger ≡ item ∷ [] → map row_meant made ≡ map (made_by item.stamp) all → AreAscending rows
     → ((key : model.Key) (entry : ops.Entry) → Contains (map row_meant rows) (key, entry) ↔ IsGreatestAmong (map row_meant made) key entry)

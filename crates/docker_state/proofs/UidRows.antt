@@ -272,8 +272,7 @@ module _ (state : State) (valid : IsValid state) (uid : List ℕ) (rows piece : 
       (Contains-append_left (map row_meant is.before ++ map row_meant piece) (map row_meant is.behind) pair
       (Contains-append_right (map row_meant is.before) (map row_meant piece) pair among))
 
-  -- if comparing some rows with the UID's schedules gives this order, comparing the converted rows
-  -- gives it too
+  -- if each row of a list compares with the UID's schedules in this order, so does each converted row
   stands : (order : Ordering) (some : List (Key × Entry)) → AreTo order uid some → (pair : model.Key × ops.Entry) → Contains (map row_meant some) pair
       → to_uid pair.0 uid ≡ order
   stands order some all pair among =

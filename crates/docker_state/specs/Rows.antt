@@ -39,7 +39,7 @@ Made = (Key × Entry) × ℕ
 abbrev pub rows_in : List Made → List (Key × Entry)
 rows_in made = map (λ (m : Made). m.0) made
 
--- the numbers of the rows
+-- the number of each row, without the row
 abbrev pub numbers_in : List Made → List ℕ
 numbers_in made = map (λ (m : Made). m.1) made
 

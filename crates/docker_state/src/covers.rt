@@ -14,7 +14,7 @@ use crate::state::State;
 use cif_file::Key;
 use docker_join::{Entry, FileStamp};
 
-/// Whether each file of a ledger is below a floor. False if there is no floor.
+/// Whether each file of a ledger is below a floor. Returns false if there is no floor.
 fn are_below(ledger: &[LedgerItem], floor: &Option<FileStamp>) -> bool
     requires { IsStrictlyAscending ledger_item_cmp (map item_meant ledger.now) }
     ensures { IsTrue result → (item : _) → Contains (map item_meant ledger.now) item

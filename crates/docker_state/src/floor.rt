@@ -10,7 +10,7 @@ ghost use Rattle.docker_state.specs.Meaning.{floor_meant, item_meant};
 use crate::item::LedgerItem;
 use docker_join::{FileStamp, Pick};
 
-/// The first ledger item of a full extract. None if there is no full extract.
+/// The first ledger item of a full extract. Returns `None` if there is no full extract.
 fn first_full(items: &[LedgerItem]) -> Option<&LedgerItem>
     ensures { option_copied result ≡ find (λ item. (item_meant item).indicator == 70) items.now }
 {
@@ -18,7 +18,7 @@ fn first_full(items: &[LedgerItem]) -> Option<&LedgerItem>
 }
 
 /// The floor of a ledger: the stamp of its first full extract. This is the newest, since a ledger
-/// has no items below its floor. None if there is no full extract.
+/// has no items below its floor. Returns `None` if there is no full extract.
 pub(crate) fn floor_of(items: &[LedgerItem]) -> Option<FileStamp>
     requires { IsLedger (map item_meant items.now) }
     ensures { IsFloor (map item_meant items.now) (floor_meant result) }
@@ -43,7 +43,7 @@ pub(crate) fn common_floor(first: Option<FileStamp>, second: Option<FileStamp>) 
 }
 
 /// Whether a floor keeps the file with this stamp and the file's entries: the stamp isn't below the
-/// floor. True if there is no floor.
+/// floor. Returns true if there is no floor.
 pub(crate) fn is_kept(floor: &Option<FileStamp>, stamp: &FileStamp) -> bool
     ensures { IsTrue result ↔ IsKept (floor_meant floor.now) (file_stamp_meant stamp.now) }
 {

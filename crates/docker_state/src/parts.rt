@@ -109,7 +109,7 @@ impl Parts {
         self.entries.as_slice()
     }
 
-    /// The key of the last entry that was added. None if no entry was added.
+    /// The key of the last entry that was added. Returns `None` if no entry was added.
     pub fn last(&self) -> Option<&Key>
         ensures { option_map key_meant (option_copied result) ≡ last_key self.now.entries }
     {

@@ -242,7 +242,7 @@ impl State {
     }
 
     /// The horizon: a day number, counted from 0 for 1960-01-01. No live entry ends before that
-    /// day. 0 if no horizon was set.
+    /// day. Returns 0 if no horizon was set.
     pub fn horizon(&self) -> u16
         ensures horizon { result ≡ self.now.horizon }
         ensures day { IsDay result }
@@ -300,8 +300,8 @@ impl State {
         self.entries.as_slice()
     }
 
-    /// The entry of a key. None if the state doesn't have the key. The key is found by binary
-    /// search.
+    /// The entry of a key. Returns `None` if the state doesn't have the key. The key is found by
+    /// binary search.
     pub fn get(&self, key: &Key) -> Option<&Entry>
         ensures entry { option_map entry_meant (option_copied result)
             ≡ entry_at self.now (key_meant key.now) }
@@ -391,7 +391,7 @@ impl State {
     }
 
     /// The index of the rows of the join with another state, if both have one. It is made before
-    /// any row is moved. `Memory` if the allocator refuses.
+    /// any row is moved. Returns `Memory` if the allocator refuses.
     fn index_of_join(&self, alloc: Global, other: &State) -> Result<Option<Index>, Memory>
         ensures { IfOk result (λ index. (joined : states.State) → IsJoin self.now other.now joined
             → IsIndexIfAny joined.entries index) }
@@ -517,7 +517,8 @@ impl State {
         })
     }
 
-    /// The file stamp of the newest full extract among the known files. None if there is none.
+    /// The file stamp of the newest full extract among the known files. Returns `None` if there is
+    /// none.
     pub fn floor(&self) -> Option<FileStamp>
         ensures { IsFloor self.now.ledger (option_map file_stamp_meant result) }
     {

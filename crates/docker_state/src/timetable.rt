@@ -84,7 +84,7 @@ impl<'a> Timetable<'a> {
         self.state.horizon()
     }
 
-    /// The body of a timing point. None if it isn't live. Timing points always count.
+    /// The body of a timing point. Returns `None` if it isn't live. Timing points always count.
     pub fn tiploc(&self, tiploc: &Tiploc) -> Option<&'a Body>
         ensures body { option_map body_meant (option_copied result)
             ≡ live_in self.now (tiploc_key tiploc.now) }
@@ -125,7 +125,7 @@ impl<'a> Timetable<'a> {
     }
 }
 
-/// The body that an op puts. None if the op isn't a put.
+/// The body that an op puts. Returns `None` if the op isn't a put.
 fn put_in(op: &Op) -> Option<&Body>
     ensures { option_map body_meant (option_copied result) ≡ body_of (op_meant op.entry.now) }
 {

@@ -21,7 +21,7 @@ use Rattle.state_index.proofs.RowPlaces.{call_back}
 none_some : {A : Type 0} (a : A) → None ≡ Some a → ⊥
 none_some a h = cc
 
--- some postings of one place have exactly as many spots as there are postings
+-- if all postings in a list are of one place, they have as many spots as the list has postings
 pub as_many_spots : (names : List (List ℕ)) (rank : ℕ) (place : List ℕ) → slice_get names rank ≡ Some place → (piece : List Posting)
     → ((posting : Posting) → Contains piece posting → posting.place ≡ rank) → length (spots_in names piece) ≡ length piece
 as_many_spots names rank place at [] here = refl

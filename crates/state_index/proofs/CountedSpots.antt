@@ -20,7 +20,7 @@ use Rattle.state_index.proofs.Positions.{Keyed}
 abbrev pub Pair : Type 0
 Pair = Key × Op
 
--- the sum of a count over some keys and ops, such as how many places each has
+-- the sum of a count over a list of keys with their ops. For example, the count is the number of places of a key and its op
 abbrev pub total : (Key → Op → ℕ) → List Pair → ℕ
 total count [] = 0
 total count (pair ∷ pairs) = count pair.0 pair.1 + total count pairs
@@ -50,8 +50,7 @@ cut_at (first ∷ pairs) pair among = by (cut_at pairs pair) (Contains-cons firs
     by rest (inl same) = ([], pairs, (λ i. same i ∷ pairs))
     by rest (inr inside) = let found = rest inside in (first ∷ found.0, found.1, (λ i. first ∷ found.2 i))
 
--- if rows with different keys are all among some keys with ops, a count's total over the rows is at
--- most its total over these keys and ops
+-- if no two rows have the same key, and a list has the key and the op of each row, the total of a count over the rows is at most its total over the list
 fewer : (count : Key → Op → ℕ) (rows : List Keyed) → AreAscending rows → (pairs : List Pair) →
     ((row : Keyed) → Contains rows row → Contains {X = Pair} pairs (row.0, row.1.op))
     → total count (pairs_of rows) ≤ total count pairs
@@ -118,7 +117,7 @@ links_of_rows rows =
     let three = length-map {B = Pair} rows (λ (row : Keyed). (row.0, row.1.op)) in
     omega arith
 
--- the rows that some changes make have at most as many calls as the changes
+-- the rows that changes make have at most as many calls as the changes have
 pub places_of_changes : (rows : List Keyed) (changes : List model.Change) → AreAscending rows → AreMadeBy changes rows
     → length (spots_of call_places rows) ≤ total (λ key op. length (call_places key op)) (changed changes)
 places_of_changes rows changes up made =
@@ -139,7 +138,7 @@ ones : (pairs : List Pair) → total (λ key op. 1) pairs ≡ length pairs
 ones [] = refl
 ones (pair ∷ pairs) = let rest = ones pairs in omega arith
 
--- some changes make at most as many rows as there are changes
+-- changes make at most as many rows as there are changes
 pub rows_of_changes : (rows : List Keyed) (changes : List model.Change) → AreAscending rows → AreMadeBy changes rows → length rows ≤ length changes
 rows_of_changes rows changes up made =
     let few = fewer (λ key op. 1) rows up (changed changes) made in

@@ -1,4 +1,5 @@
--- The spots of a state's rows determine the indexes of its live table. The rows of a place's spots are exactly the rows that call or are linked there.
+-- The spots of a state's rows determine the indexes of its live table. The rows at a place's spots are exactly the schedules that call there and the
+-- associations that are linked there.
 use Rattle.std.proofs.Common.{◌≡◌, ℕ, List, [], ◌∷◌, ◌++◌, map, refl, ap, sym, ◌∙◌, subst, Some, None, Contains}
 use Rattle.std.specs.Prelude.{Option, slice_get, option_and_then}
 use Rattle.std.specs.List.{filter_map, cons_option}
@@ -149,7 +150,7 @@ module _ {K : Type 0} (wrap : K → Key) (row_of : List ℕ → Key → Option (
   cut rows before piece behind =
       filter_map-append (row_at rows) (before ++ piece) behind ∙ (λ i. filter_map-append (row_at rows) before piece i ++ filter_map (row_at rows) behind)
 
--- the rows of some spots are live
+-- each row found by a spot is live
 live_at_spots : (state : State) → AreAscending state.entries → (spots : List Spot) (key : Key) (body : Body)
     → Contains (rows_at_spots state.entries spots) (key, body) → live_table state key ≡ Some body
 live_at_spots state up spots key body among = by (slice_get state.entries found.0.at) refl found.2

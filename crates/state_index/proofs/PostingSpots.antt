@@ -127,7 +127,7 @@ same_spots names postings others same spot among =
     let found = chosen_from (posting_spot names) postings spot among in
     chosen_to (posting_spot names) others found.0 spot (same found.0 found.1) found.2
 
--- if postings have the spots of some rows, sorting them and removing repeats gives the postings of these rows
+-- if postings have the spots of the rows, sorting the postings and removing repeated ones gives the rows' postings
 pub postings_made : (places : Places) (rows : List Keyed) (names : List (List ℕ)) (made postings : List Posting) → IsStrictlyAscending bytes_cmp names
     → spots_in names made ≡ spots_of places rows → IsStrictlyAscending posting_cmp postings
     → ((posting : Posting) → Contains postings posting ↔ Contains made posting)

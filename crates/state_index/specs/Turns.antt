@@ -1,4 +1,4 @@
--- The walk over the rows of two tables, key by key, and where each row is in the join.
+-- A walk over the rows of two tables, key by key. It gives the index of each row in the join.
 use Rattle.std.specs.Prelude.{ℕ, ◌+◌, Bool, true, false, ◌&&◌, not, if◌then◌else◌, List, [], ◌∷◌, map, Option, Some, None}
 use Rattle.std.specs.declared.cmp.Ordering.{Ordering}
 use Rattle.std.specs.declared.cmp.Ordering.TheVariants.{Less, Equal, Greater}
@@ -82,8 +82,8 @@ after floor at entry = if is_kept floor (entry_meant entry).stamp.file then 1 + 
 abbrev pub wins : Entry → Entry → Bool
 wins one other = is_lt (entry_cmp (entry_meant other) (entry_meant one))
 
--- for each row of the first table in some turns, its index in the join, if the join has `at` rows
--- before these turns
+-- for each row of the first table in a list of turns, the row's index in the join, if the join has
+-- `at` rows before these turns
 abbrev pub first_moves : Option FileStamp → ℕ → ℕ → List AtKey → List (Option ℕ)
 first_moves floor horizon at [] = []
 first_moves floor horizon at (in_first one ∷ turns) = goes floor horizon at one.1 ∷ first_moves floor horizon (after floor at one.1) turns

@@ -1,4 +1,4 @@
-//! Finds where each row of two tables is in their join.
+//! Finds the index that each row of two tables has in their join.
 ghost use Rattle.std.specs.Prelude.{◌≡◌, ◌+◌, ◌<◌, ◌≤◌, ◌^◌, List, [], ◌∷◌, ◌++◌, vec_len, vec_capacity, length, map, IfOk};
 ghost use Rattle.docker_model.specs.file.Change as model;
 ghost use Rattle.docker_model.specs.state.Op as ops;
@@ -141,8 +141,8 @@ fn wins(one: &Entry, other: &Entry) -> bool
     other < one
 }
 
-/// The index that a winning entry gets in the join, if `at` rows come before it. None if the floor
-/// doesn't keep the entry, or if it isn't live once the horizon is applied.
+/// The index that a winning entry gets in the join, if `at` rows come before it. Returns `None` if
+/// the floor doesn't keep the entry, or if it isn't live once the horizon is applied.
 fn index_of(entry: &Entry, floor: &Option<FileStamp>, horizon: u16, at: u32) -> Option<u32>
     ensures { result ≡ goes (floor_meant floor.now) horizon at entry.now }
 {

@@ -1,4 +1,4 @@
--- Which of the given entries are staged. Committing the staged entries results in the join.
+-- Lemmas on staging the given entries. Committing the staged entries results in the join.
 use Rattle.std.proofs.Common.{◌≡◌, ℕ, ◌-◌, List, [], ◌∷◌, ◌++◌, length, refl, ap, sym, ◌∙◌, subst, inl, inr, arith, length-append, All, Some, None}
 use Rattle.std.specs.Prelude.{Option, slice_get}
 use Rattle.docker_model.specs.file.Change.{Key}

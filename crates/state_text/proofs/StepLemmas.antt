@@ -1,4 +1,4 @@
--- How the parts that were read grow by a ledger item or a line.
+-- Lemmas on reading one more ledger item, or one more line, of a state's text.
 use Rattle.std.proofs.Common.{◌≡◌, ℕ, ◌+◌, ◌-◌, ◌<◌, ◌≤◌, ◌^◌, List, [], ◌∷◌, ◌++◌, length, ap, sym, ◌∙◌, subst, arith, length-append, Ok, Err}
 use Rattle.std.specs.Prelude.{Result, IfOk, IfErr}
 use Rattle.docker_model.specs.file.Change.{ScheduleKey, schedule_key, schedule_body}

@@ -162,7 +162,7 @@ impl<R: Receiver> Receiving<R> {
         self.count
     }
 
-    /// The key of the last entry that was given. `None` if none was given.
+    /// The key of the last entry that was given. Returns `None` if none was given.
     pub(crate) fn last(&self) -> Option<&Key>
         requires { IsReceiving R.own self.now }
         ensures { option_map key_meant (option_copied result)

@@ -52,6 +52,6 @@ pub const ZZ: &[u8] =
 pub const HD_EARLY: &[u8] =
     b"HDTPS.UDFROC1.PD2406090101000307DFROC1ADFROC1ZUA                                ";
 
-/// A trailer that is a character too short.
+/// A trailer that is one character too short.
 pub const ZZ_SHORT: &[u8] =
     b"ZZ                                                                             ";
