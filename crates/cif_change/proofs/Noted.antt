@@ -228,7 +228,7 @@ one_pushed names old new place number pushed is =
 
 -- ---- noting one place after another
 
--- a list that keeps the elements of another list begins with that list
+-- if a list has each element of another list at the same index, it begins with that other list
 keeps_front : (xs ys : List ℕ) → Keeps xs ys → ys ≡ xs ++ drop (length xs) ys
 keeps_front [] ys keeps = refl
 keeps_front (x ∷ xs) [] keeps = absurd (none_some x (keeps 0 x refl))

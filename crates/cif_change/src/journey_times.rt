@@ -36,9 +36,10 @@ impl Clock {
         }
     }
 
-    /// The clock after one more time, or the same clock for None. A time below the last one means
-    /// that midnight has been passed. There is no branch on whether there is a time: calls and
-    /// passes follow each other so irregularly that the processor couldn't predict such a branch.
+    /// The clock after one more time, or the unchanged clock for `None`. A time below the last one
+    /// means that midnight has been passed. There is no branch on whether there is a time: calls
+    /// and passes follow each other so irregularly that the processor couldn't predict such a
+    /// branch.
     fn then(self, time: Option<Time>) -> Clock
         requires { self.falls < 255 }
         ensures falls { result.falls ≡ self.falls + falls_after self.last (time_list time) }

@@ -706,12 +706,12 @@ bad_line keeps wants front opened records line (Some cause) has at is follow tol
 
 -- ---- results that are `Ok` or `Err`
 
--- if two facts are promised for an `Ok` result, so is whatever follows from both
+-- if two facts hold whenever the result is `Ok`, so does whatever follows from both facts
 pub on_ok : {A E P Q R : Type 0} (answer : Result A E) → OnOk answer P → OnOk answer Q → (P → Q → R) → OnOk answer R
 on_ok (Ok value) p q both = both p q
 on_ok (Err error) p q both = p
 
--- if a fact is promised for an `Ok` result, so is whatever follows from it
+-- if a fact holds whenever the result is `Ok`, so does whatever follows from this fact
 pub on_ok_one : {A E P R : Type 0} (answer : Result A E) → OnOk answer P → (P → R) → OnOk answer R
 on_ok_one (Ok value) p one = one p
 on_ok_one (Err error) p one = p

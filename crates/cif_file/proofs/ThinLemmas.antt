@@ -167,7 +167,7 @@ pub matters_here : (place : List ℕ) {day : ℕ} (change : Change) {thinned : T
     → may_matter thinned.place change.key ≡ true → may_matter place change.key ≡ true
 matters_here place change has matters = ap (λ p. may_matter p change.key) (sym has.place_is) ∙ matters
 
--- a change that is cut to a deletion can be kept as a deletion with the same number and key
+-- a change whose thin form is a deletion can be kept as a deletion with the same number and key
 pub deletion_kept : (place : List ℕ) (day : ℕ) (whole : Change) (number : ℕ) (key : Key) → whole.number ≡ number → whole.key ≡ key_meant key
     → thin_act place day whole.act ≡ delete → thin_change place day whole ≡ record { number = number; key = key_meant key; act = delete }
 deletion_kept place day whole number key numbered named deletes = λ i. record { number = numbered i; key = named i; act = deletes i }
@@ -201,7 +201,7 @@ neither true b h = absurd cc
 neither false false h = absurd cc
 neither false true h = (refl, refl)
 
--- the change that is kept for a schedule near the day is the schedule's change cut to what the place and the day need
+-- if a schedule runs near the day, the change that is kept for it is the thin form of the schedule's change
 pub opened_kept : (place : List ℕ) (day : ℕ) (opened : Opened) (near : Bool) (lines : Lines) → HasLines (progress_meant opened.progress) lines
     → IsSchedule lines → IsNearBy day lines near → (progress_meant opened.progress).deletion ≡ false → near ≡ true
     → (thinned : Thinned) → thinned.place ≡ place → (renewed : Lines) → renewed ≡ with_new_first lines

@@ -62,6 +62,6 @@ AddsSingle keeps old number line new =
 abbrev pub KeepsAll : FileSoFar → Lines → List Change → Type 0
 KeepsAll kept lines changes = (kept.lines.items ≡ with_new_first lines) × HasMade kept.made changes
 
--- Says that a `Tally` has the number of these changes, as long as it fits in 64 bits.
+-- Says that a `Tally` has the number of these changes, if this number fits in 64 bits.
 abbrev pub CountsChanges : Tally → Lines → List Change → Type 0
 CountsChanges tally lines made = length made < 18_446_744_073_709_551_616 → tally.changes ≡ length made

@@ -12,7 +12,7 @@ use Rattle.cif_file.specs.FileRead.{FileRead, IsRead}
 abbrev pub AreNotesOf : List Change → Option Notes → Type 0
 AreNotesOf changes notes = IfSome notes (HasNoted (items_put changes))
 
--- Says that a `Made` has exactly these changes and, if there are notes, that they are right for the
+-- Says that a `Made` has exactly these changes and that its notes, if it has any, are right for the
 -- changes.
 pub record HasMade (made : Made) (changes : List Change) : Type 0 where
   pub changes_are : map change_meant made.changes.items ≡ changes

@@ -96,8 +96,8 @@ FaultsNext keeps wants state line fault = (limit : ℕ) (records : Lines) → Ha
 abbrev pub EndsCounted : {K : Type 0} → Keeps K → Records K → Ended K → Type 0
 EndsCounted keeps state ended = (limit : ℕ) (records : Lines) → HasCounted keeps state limit records → IsFile records × IsEnded keeps records ended
 
--- Says that the records that the reader has taken aren't a file, and that the result is their
--- fault.
+-- Says that the records that the reader has taken aren't a file, and that the fault is their
+-- missing trailer.
 abbrev pub EndsUnended : {K : Type 0} → Keeps K → Records K → FileFault → Type 0
 EndsUnended keeps state fault = (limit : ℕ) (records : Lines) → HasCounted keeps state limit records → IsNoEndOf records fault
 

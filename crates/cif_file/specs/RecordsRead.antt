@@ -78,9 +78,9 @@ pub record IsNoNext (records : Lines) (line : List ℕ) (cause : fault.FileCause
 abbrev pub GoesOnWith : Lines → List ℕ → Type 0
 GoesOnWith records line = (next : law.Place) × IsPlaceOf (records ++ line ∷ []) next
 
--- Says why the line that follows these records was refused. Without a cause, memory ran out:
--- `wants` allows it, and some file begins with the records and the line. Any other cause says why
--- no file begins with them.
+-- Says why the line that follows these records was refused. `None` means that memory ran out: then
+-- `wants` holds, and some file begins with the records and the line. A cause says why no file
+-- begins with them.
 abbrev pub IsNoNextCause : Type 0 → Lines → List ℕ → Option fault.FileCause → Type 0
 IsNoNextCause wants records line None = wants × GoesOnWith records line
 IsNoNextCause wants records line (Some cause) = IsNoNext records line cause

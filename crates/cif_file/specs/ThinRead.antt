@@ -31,8 +31,8 @@ thin_of_parts place day all parts = record {
   kept = map change_meant parts.changes.items;
 }
 
--- Says that these are the parts of a thin file and, if there are notes, that they are right for the
--- kept changes.
+-- Says that these are the parts of a thin file and that the notes, if there are any, are right for
+-- the kept changes.
 pub record AreThinParts (place : List ℕ) (day : ℕ) (all : List Change) (parts : FileParts) : Type 0 where
   pub read : IsThinRead (thin_of_parts place day all parts)
   pub noted : AreNotesOf (map change_meant parts.changes.items) parts.notes

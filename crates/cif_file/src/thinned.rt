@@ -108,8 +108,8 @@ impl Thinned {
         })
     }
 
-    /// Receives the change of a schedule with these lines. Unless it is a deletion, `near` says
-    /// whether it runs near the day.
+    /// Receives the change of a schedule with these lines. `near` says whether the schedule runs
+    /// near the day, and has no meaning for a deletion.
     pub(crate) fn add_opened(
         &mut self,
         opened: Opened,

@@ -195,7 +195,7 @@ summary_of_made item all lines state item_is all_is is =
     file_summary lines state
     (subst (λ (i : stamps.LedgerItem). IsMadeState i (changes lines) state) item_is (subst (λ (a : List model.Change). IsMadeState item a state) all_is is))
 
--- any state made by a ledger item and changes that are equal to a file's is valid
+-- a state is valid if it is made by a ledger item and changes that are equal to those a file gives
 pub valid_of_made : (item : stamps.LedgerItem) (all : List model.Change) (lines : List (List ℕ)) → item ≡ ledger_item_of lines → all ≡ changes lines
     → IsFile lines → length lines ≤ most_records → MakeValid item all
 valid_of_made item all lines item_is all_is is_file few state is =

@@ -137,8 +137,8 @@ impl State {
     }
 
     /// The state that the kept changes of a file make, for the docker of one place on one day. For
-    /// that place and day it has the same docker as the state of the whole file. It must not be
-    /// used for anything else. If memory runs out, the kept changes are dropped.
+    /// that place and day, this state has the same docker as the state of the whole file. It must
+    /// not be used for anything else. If memory runs out, the kept changes are dropped.
     pub fn of_thin(alloc: Global, file: ThinFile) -> Result<State, Memory>
         ensures { (records : List (List ℕ)) → IsOfRecords file.file records
             → IfOk result (IsStateOfChanges records file.kept) }
@@ -348,9 +348,9 @@ impl State {
         }
     }
 
-    /// How many live schedules call at a TIPLOC, in an LO, LI or LT record. Each counts once. In an
-    /// index these schedules are adjacent, so no schedule is read. Without an index, all rows are
-    /// read.
+    /// How many live schedules call at a TIPLOC, which means that an LO, LI or LT record names it.
+    /// Each schedule counts once. An index has the postings of a place next to each other, so with
+    /// an index no schedule is read. Without an index, all rows are read.
     pub fn count_calling(&self, tiploc: &Tiploc) -> usize
         ensures { IsCallingCount (live_table self.now) tiploc.now result }
     {
@@ -390,8 +390,8 @@ impl State {
         Live::of(rows_of_uid(self.entries.as_slice(), uid, near))
     }
 
-    /// The index of the rows of the join with another state, if both have one. It is made before
-    /// any row is moved. Returns `Memory` if the allocator refuses.
+    /// The index of the join with another state, if both states have an index. The new index is
+    /// made before any row is moved. Returns `Memory` if the allocator refuses.
     fn index_of_join(&self, alloc: Global, other: &State) -> Result<Option<Index>, Memory>
         ensures { IfOk result (λ index. (joined : states.State) → IsJoin self.now other.now joined
             → IsIndexIfAny joined.entries index) }
@@ -402,7 +402,7 @@ impl State {
         }
     }
 
-    /// The index of the rows of the join with another state, from the indexes of both.
+    /// The index of the join with another state, made from the indexes of both states.
     fn joined_index(
         &self,
         alloc: Global,

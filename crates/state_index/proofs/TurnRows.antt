@@ -94,7 +94,7 @@ all_level : (ys : List Row) → AllByRecursion IsLevel (map in_second ys)
 all_level [] = tt
 all_level (y ∷ ys) = (tt, all_level ys)
 
--- the rows of the first table in all turns are the first table
+-- the first table's rows in all turns, taken together, are the first table
 pub firsts_are : (xs ys : List Row) → firsts (turns_of xs ys) ≡ xs
 firsts_are [] ys = no_firsts ys
 firsts_are (x ∷ xs) ys = firsts_from x xs (turns_of xs) (firsts_are xs) ys

@@ -12,7 +12,7 @@ body_head (tiploc_body bytes) = bytes
 body_head (association_body line) = line
 body_head (schedule_body lines) = to_be_bytes w32 (length lines)
 
--- the bytes of an op with its body. For a schedule's body, only the count of its lines
+-- the bytes of an op, followed by its body. For a schedule, only the number of its lines follows
 abbrev pub op_head : Op → List ℕ
 op_head deleted = 0 ∷ []
 op_head lapsed = 2 ∷ []

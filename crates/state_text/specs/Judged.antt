@@ -33,8 +33,8 @@ pub record MayFollow (ledger : List stamps.LedgerItem) (item : stamps.LedgerItem
   pub above : IsAboveItems ledger item
   pub keeps_floor : ¬ RaisesFloor ledger item
 
--- says that this ledger item is bad for this cause. `None` means out of memory, which is never such
--- a cause
+-- says that this ledger item is bad for this cause. `None` means that memory ran out, which never
+-- makes an item bad
 abbrev pub IsItemCause : List stamps.LedgerItem → stamps.LedgerItem → Option fault.StateCause → Type 0
 IsItemCause ledger item None = ⊥
 IsItemCause ledger item (Some cause) = IsBadItem ledger item cause

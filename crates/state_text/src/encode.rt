@@ -129,7 +129,7 @@ pub(crate) fn add_entry_head(buffer: &mut Buffer, row: &(Key, Entry))
     add_op(buffer, &row.1.op);
 }
 
-/// The lines of a schedule that an op puts. Any other op has none.
+/// The lines of the schedule that an op puts, or no lines for any other op.
 pub(crate) fn lines_of(op: &Op) -> &[Line]
     ensures { result.now ≡ op_lines (op_meant op.now) }
 {
