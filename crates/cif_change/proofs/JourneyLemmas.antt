@@ -1,4 +1,4 @@
--- What the reader of a schedule remembers of the lines it has taken, and why it accepts or refuses the next line.
+-- Lemmas on what the reader of a schedule remembers of the lines it has taken, and why it accepts or refuses the next line.
 use Rattle.std.proofs.Common.{◌≡◌, ℕ, ◌+◌, ◌≤◌, ◌<◌, Bool, true, false, cond, List, [], ◌∷◌, ◌++◌, map}
 use Rattle.std.proofs.Common.{subst, refl, ap, sym, ◌∙◌, Some, None, arith, append-nil, append_assoc}
 use Rattle.std.specs.Prelude.{Option, IsTrue, ◌↔◌, ◌||◌, ◌&&◌, nat_le, is_some, is_none, IsOk, OnOk, IfErr, Result, Ok, Err}
@@ -455,7 +455,7 @@ sound_read journey lines line next first second third more later has is led kept
 
 -- ---- the result of taking a line
 
--- what is promised for an `Ok` result holds if the result is `Ok`
+-- if a fact holds whenever the result is `Ok`, and the result is `Ok`, the fact holds
 pub of_ok : {A E P : Type 0} (answer : Result A E) → OnOk answer P → IsOk answer → P
 of_ok (Ok value) holds is = holds
 of_ok (Err cause) holds is = absurd (false≢true is)

@@ -347,7 +347,7 @@ change_noted notes made change op is has =
     (sym (map-append {B = Item} (λ (c : model.Change). (c.key, op_of c.act)) made (change ∷ [])))
     (subst (λ (o : Op). HasNoted (items_put made ++ (change.key, o) ∷ []) notes) (sym is) has)
 
--- ---- notes of some of the rows
+-- ---- notes of picked rows
 
 piece_at : (names : List (List ℕ)) (numbers : List ℕ) (items : List Item) (pieces : List Piece) → AreNoted names numbers items pieces → (n : ℕ) (item : Item)
     → slice_get items n ≡ Some item → IsNoted names numbers item (get_or pieces n no_piece)

@@ -1,7 +1,7 @@
 -- Lemmas on results that are `Ok` or `Err`.
 use Rattle.std.specs.Prelude.{Result, Ok, Err, IsOk, OnOk, IfErr}
 
--- if a result is `Ok`, what is promised for an `Ok` result holds
+-- if a fact holds whenever the result is `Ok`, and the result is `Ok`, the fact holds
 pub at_ok : {A E P : Type 0} (answer : Result A E) → OnOk answer P → IsOk answer → P
 at_ok (Ok value) told ok = told
 at_ok (Err error) told ok = absurd cc

@@ -1,4 +1,4 @@
--- What the reader returns at the end of a file: the file with its changes, or its counts.
+-- Lemmas on what the reader returns at the end of a file: the file with its changes, or its counts.
 use Rattle.std.proofs.Common.{◌≡◌, ℕ, ◌+◌, ◌*◌, ◌≤◌, Bool, true, false, List, [], ◌∷◌, length, Some, None, refl, sym, subst, arith, length-append}
 use Rattle.std.proofs.lemmas.List.{length-map}
 use Rattle.std.specs.Prelude.{Option}

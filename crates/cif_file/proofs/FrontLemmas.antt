@@ -1,4 +1,4 @@
--- What the reader of a file's records holds after taking a record, and why it refuses a record.
+-- Lemmas on what the reader of a file's records holds after taking a record, and why it refuses a record.
 use Rattle.std.proofs.Common.{◌≡◌, ℕ, ◌+◌, ◌<◌, inl, inr, Bool, true, false, cond, List, [], ◌∷◌, ◌++◌, length, map, subst}
 use Rattle.std.proofs.Common.{refl, ap, sym, ◌∙◌, Some, None, arith, append-nil, append_assoc, length-append, take}
 use Rattle.std.specs.Prelude.{Option, IsTrue, ◌↔◌, ◌&&◌, is_some, is_none, option_map, slice_index_or, OnOk, Result, Ok, Err}
@@ -57,7 +57,7 @@ numbered : (n : ℕ) (line : List ℕ) (following others : Lines) → schedule_r
     → changes_of_record n line following ≡ changes_of_record n line others
 numbered n line following others same = ap (map (as_change n)) (acts_alike (kind_of line) line following others same)
 
--- whether a line is of a kind that comes within a schedule; any other line ends the schedule before it
+-- whether a line is of a kind that comes within a schedule. A line of any other kind ends the schedule that is being read
 abbrev follows : List ℕ → Bool
 follows line = follows_basic (kind_of line)
 
@@ -284,7 +284,7 @@ over_of_closed keeps old new opened records has place whole same_header closed =
 
 -- ---- taking a further line of a schedule
 
--- Says that the stage is in the same schedule as before, with this line after its earlier lines.
+-- Says that the stage is in the same schedule as before, and that this line was added to the schedule's lines.
 pub record IsFollowed (opened : Opened) (line : List ℕ) (stage : FileStage) : Type 0 where
   pub later : Opened
   pub place : stage ≡ InSchedule later

@@ -1,4 +1,4 @@
--- Why the changes that are kept are enough for the docker of one place on one day.
+-- Lemmas on why the changes that are kept are enough for the docker of one place on one day.
 use Rattle.std.proofs.Common.{◌≡◌, ℕ, ◌∙◌, inl, inr, Bool, true, false, cond, List, [], ◌∷◌, ◌++◌}
 use Rattle.std.proofs.Common.{length, subst, refl, ap, sym, Some, None, arith, append_assoc}
 use Rattle.std.specs.Prelude.{Option, Contains, ◌⊎◌, ◌||◌, not}

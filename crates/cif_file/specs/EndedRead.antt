@@ -1,4 +1,4 @@
--- What the reader returns for a CIF file that was read to its trailer.
+-- Defines what the reader returns for a CIF file that was read to its trailer.
 use Rattle.std.specs.Prelude.{◌≡◌, ℕ, List, [], length, slice_index_or}
 use Rattle.docker_model.specs.file.Change.{changes}
 use Rattle.cif_file.specs.declared.ended.Ended.{Ended}

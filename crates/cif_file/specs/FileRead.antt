@@ -1,4 +1,4 @@
--- What a reader returns for a CIF file.
+-- Defines what a reader returns for a CIF file.
 use Rattle.std.specs.Prelude.{◌≡◌, ℕ, ◌≤◌, List, [], length, slice_index_or}
 use Rattle.docker_model.specs.file.Change.{Change, changes}
 use Rattle.docker_model.specs.file.File.{IsFile, most_records}

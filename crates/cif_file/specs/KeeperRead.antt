@@ -1,4 +1,4 @@
--- What a keeper holds after each of its calls.
+-- Defines what a keeper holds after each of its calls.
 use Rattle.std.specs.Prelude.{◌≡◌, ℕ, ◌<◌, List, [], ◌∷◌, ◌++◌, length, if◌then◌else◌}
 use Rattle.docker_model.specs.records.Field.{as_new}
 use Rattle.docker_model.specs.file.File.{IsSchedule}

@@ -1,4 +1,4 @@
--- What a parser of a CIF file has taken, and what its faults mean.
+-- Defines what a parser of a CIF file has taken, and what its faults mean.
 use Rattle.std.specs.Prelude.{◌≡◌, ℕ, ◌+◌, ◌<◌, ◌≤◌, ◌⊎◌, List, [], ◌∷◌, ◌++◌, length, take, Option, Some, None, nat_le}
 use Rattle.std.proofs.Common.{cond}
 use Rattle.docker_model.specs.file.Text.{lines_of}
@@ -42,8 +42,8 @@ pub record IsCauseNext (limit : ℕ) (records : Lines) (line : List ℕ) (cause 
   pub here : (limit ≤ length records) ⊎ (next_place place line ≡ None)
   pub is : cause_of limit (length records) place line ≡ cause
 
--- Says why the reader refused the line that follows these records. Without a cause, memory ran out:
--- `wants` allows it, and some file within the limit begins with these records and the line.
+-- Says why the reader refused the line that follows these records. `None` means that memory ran
+-- out: then `wants` holds, and some file within the limit begins with these records and the line.
 abbrev pub IsCauseAfter : Type 0 → ℕ → Lines → List ℕ → Option model.FileCause → Type 0
 IsCauseAfter wants limit records line None = wants × (length records < limit) × GoesOnWith records line
 IsCauseAfter wants limit records line (Some cause) = IsCauseNext limit records line cause
@@ -190,8 +190,8 @@ HasFailed parser fault = parser.fault ≡ Some fault
 abbrev pub HasNotFailed : ParserState → Type 0
 HasNotFailed parser = (fault : FileFault) → ¬ HasFailed parser fault
 
--- Says that the record at fault isn't complete in any text that the parser may have taken before.
--- If memory ran out, `wants` allows it.
+-- Says that the record at fault isn't complete in any text that the parser may have taken before,
+-- and that the cause is `Memory` only if `wants` holds.
 abbrev pub IsLater : {K : Type 0} → Keeps K → Type 0 → FileReading K → FileFault → Type 0
 IsLater keeps wants reading fault =
     (limit : ℕ) (text : List ℕ) → IsReading keeps reading limit text → (sure_lines text < fault.number) × (fault.cause ≡ Memory → wants)

@@ -1,4 +1,4 @@
--- What a source's text is, if it was read as a CIF file.
+-- Defines which text a source held, and what reading this text as a CIF file returned.
 use Rattle.std.specs.Prelude.{◌≡◌, ℕ, ◌<◌, ◌≤◌, ◌⊎◌, List, [], ◌++◌, length, Option, Some, None, ⊤}
 use Rattle.docker_model.specs.file.Text.{lines_of}
 use Rattle.docker_model.specs.file.FaultSoFar.{IsFaultSoFar, sure_lines}

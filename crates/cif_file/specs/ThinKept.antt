@@ -1,4 +1,4 @@
--- What a reader keeps of a file's changes for the docker of one place on one day.
+-- Defines what a reader keeps of a file's changes for the docker of one place on one day.
 use Rattle.std.specs.Prelude.{◌≡◌, ℕ, Bool, true, false, ⊤, List, [], ◌∷◌, ◌++◌, Contains}
 use Rattle.std.specs.Ordering.{on}
 use Rattle.std.specs.BTreeSet as set

@@ -1,5 +1,5 @@
--- What a reader returns for a CIF file if it kept only what the docker of one place on one day
--- needs.
+-- Defines what a reader returns for a CIF file if it kept only what the docker of one place on one
+-- day needs.
 use Rattle.std.specs.Prelude.{ℕ, List, map}
 use Rattle.docker_model.specs.file.Change.{Change}
 use Rattle.docker_laws.specs.Thinning.{IsThinning}

@@ -1,4 +1,4 @@
-//! Which lines of a schedule the docker of one place needs.
+//! Finds the lines of a schedule that the docker of one place needs.
 ghost use Rattle.std.specs.Prelude.{◌≡◌, ◌&&◌, IfOk};
 ghost use Rattle.docker_model.specs.file.Journey.{calls_at};
 ghost use Rattle.docker_model.specs.records.Record.{kind_of, columns, is_location};

@@ -30,12 +30,12 @@ pub(crate) enum Single<'a> {
 pub(crate) struct SingleChanges {
     /// The deletion of a TIPLOC's old code, if an amendment gives it another code.
     pub first: Option<Change>,
-    /// The other change, which every such record makes.
+    /// The change that each record of these kinds makes. It comes last.
     pub last: Change,
 }
 
-/// The changes that the record makes. A thin file keeps such a change either unchanged or not at
-/// all.
+/// The changes that the record makes. A thin file keeps each of them unchanged, or doesn't keep it
+/// at all.
 pub(crate) fn changes_of(number: u32, single: &Single<'_>) -> SingleChanges
     requires { HasKind (kind_of_single single.now) (line_of_single single.now) }
     ensures changes { listed result ≡ changes_of_record number (line_of_single single.now) [] }

@@ -1,4 +1,4 @@
--- What a view requires of its line.
+-- Defines what a view requires of its line.
 use Rattle.std.specs.Prelude.{◌≡◌, ◌⊎◌, ℕ, List, Option, Some, None, option_map, find, not, true, if◌then◌else◌}
 use Rattle.docker_model.specs.records.Record.{Kind, tiploc_insert, tiploc_amend, tiploc_delete, HasKind, columns}
 use Rattle.docker_model.specs.records.Clock.{is_blank}

@@ -83,7 +83,7 @@ impl Day {
         }
     }
 
-    /// Reads a day from a text YYYY-MM-DD, as `iso` writes it. None for any other text.
+    /// Reads a day from a text YYYY-MM-DD, as `iso` writes it. Returns `None` for any other text.
     pub fn from_iso(text: &str) -> Option<Day>
         ensures value { IfSome result (λ day. text.now ≡ day_text day) }
         ensures read { (day : ℕ) → day ≤ last_day → text.now ≡ day_text day → result ≡ Some day }

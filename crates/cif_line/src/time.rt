@@ -41,7 +41,7 @@ impl Time {
     }
 
     /// Reads a scheduled time: HHMM from `0000` to `2359`, then `H` for half a minute or a space.
-    /// None for any other field, including a blank one.
+    /// Returns `None` for any other field, including a blank one.
     pub fn from_field(field: &[u8; 5]) -> Option<Time>
         ensures some { IsSome result ↔ IsTrue (is_present_time field.now) }
         ensures value { IfSome result (λ time. time ≡ half_minutes field.now) }

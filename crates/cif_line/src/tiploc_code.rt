@@ -29,7 +29,7 @@ impl Model for Tiploc {
 
 impl Tiploc {
     /// Makes a TIPLOC from a text of one to seven bytes, each printable and not a space. Pads it
-    /// with spaces to seven bytes. None for any other text.
+    /// with spaces to seven bytes. Returns `None` for any other text.
     pub fn from_text(text: &str) -> Option<Tiploc>
         ensures some { IsSome result ↔ IsTiplocText text.now }
         ensures value { IfSome result (λ tiploc.

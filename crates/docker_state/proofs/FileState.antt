@@ -91,7 +91,7 @@ made_records all have stamp made made_is = all_members (λ (row : Key × Entry).
 pub file_records : (file : List (List ℕ)) → IsFile file → length file ≤ most_records → HaveRecords (changes file)
 file_records file is_file few change among = op_records change.key (op_of change.act) (file_change file is_file few change among).good.1
 
--- the bodies that the changes kept of a file put consist of records
+-- if changes were kept for a thin file, the bodies that they put consist of records
 pub thin_records : (place : List ℕ) (day : ℕ) (file : List (List ℕ)) → IsFile file → length file ≤ most_records → (all kept : List model.Change)
     → all ≡ changes file → IsThinning place day all kept → HaveRecords kept
 thin_records place day file is_file few all kept all_are thinning change among =
@@ -195,7 +195,7 @@ summary_of_made item all lines state item_is all_is is =
     file_summary lines state
     (subst (λ (i : stamps.LedgerItem). IsMadeState i (changes lines) state) item_is (subst (λ (a : List model.Change). IsMadeState item a state) all_is is))
 
--- a state is valid if it is made by a ledger item and changes that are equal to those a file gives
+-- a state is valid if the ledger item and the changes of a file make it
 pub valid_of_made : (item : stamps.LedgerItem) (all : List model.Change) (lines : List (List ℕ)) → item ≡ ledger_item_of lines → all ≡ changes lines
     → IsFile lines → length lines ≤ most_records → MakeValid item all
 valid_of_made item all lines item_is all_is is_file few state is =

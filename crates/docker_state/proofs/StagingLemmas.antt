@@ -1,4 +1,4 @@
--- What staging one more entry does, and when a commit has nothing to do.
+-- Lemmas on what staging one more entry does, and when a commit has nothing to do.
 use Rattle.std.proofs.Common.{◌≡◌, List, [], ◌∷◌, ◌++◌, refl, sym, ◌∙◌, subst, inl, inr, ◌⊎◌, Contains, Some, None, All, eqb-true, arith}
 use Rattle.std.specs.Prelude.{Option, ◌↔◌, IsTrue, Bool, true, false, length, ◌==◌}
 use Rattle.std.specs.declared.cmp.Ordering.{Ordering}

@@ -34,7 +34,7 @@ use Rattle.docker_state.proofs.LiveTable.{PutThere, from_live, to_live, live_has
 
 -- ---- a monotone test passes for the first rows and fails for all rows after them
 
--- Says that a test of a comparison is monotone: it fails for greater, and if it passes for equal, it passes for less.
+-- Says that a test of a comparison is monotone: it fails for `Greater`, and if it passes for `Equal`, it also passes for `Less`.
 abbrev GoesDown : (Ordering → Bool) → Type 0
 GoesDown test = (test Greater ≡ false) × (test Equal ≡ true → test Less ≡ true)
 

@@ -335,9 +335,10 @@ impl State {
         Live::of(self.entries.as_slice())
     }
 
-    /// The live schedules that call at a TIPLOC, in an LO, LI or LT record. Each is returned once,
-    /// with its lines, in the order of the keys. They are found by binary search in the index, and
-    /// nothing is allocated. A state without an index finds them by a walk over all rows.
+    /// The live schedules that call at a TIPLOC, which means that an LO, LI or LT record names it.
+    /// Each schedule is returned once, with its lines, in the order of the keys. The schedules are
+    /// found by binary search in the index, and nothing is allocated. A state without an index
+    /// finds them by a walk over all rows.
     pub fn calling(&self, tiploc: &Tiploc) -> PlaceRows<'_>
         ensures { AreCalling (live_table self.now) tiploc.now result }
     {

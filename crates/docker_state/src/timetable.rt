@@ -96,8 +96,8 @@ impl<'a> Timetable<'a> {
         }
     }
 
-    /// The schedules that count and call at a TIPLOC, in an LO, LI or LT record. Each is returned
-    /// once, with its lines, in the order of the keys.
+    /// The schedules that count and call at a TIPLOC, which means that an LO, LI or LT record names
+    /// it. Each schedule is returned once, with its lines, in the order of the keys.
     pub fn calling(&self, tiploc: &Tiploc) -> TimetableRows<'a>
         ensures rows { AreCalling (live_in self.now) tiploc.now result }
         ensures good { IsOfGoodRows (live_in self.now) }

@@ -79,7 +79,7 @@ fn check_header(rt: &impl Abort, file: &CifFile) {
     same(rt, header.extract(), Extract::Update);
 }
 
-/// The lines of the schedule that an act puts. None for a deletion or another body.
+/// The lines of the schedule that an act puts. Returns `None` for a deletion or another body.
 fn lines_of(act: &Act) -> Option<&Lines> {
     match act {
         Act::Put(Body::Schedule(lines)) => Some(lines),

@@ -88,7 +88,7 @@ fewer count (row ∷ rows) up pairs among = by (fewer count rows up.1) (cut_at p
             place next inside (Contains-append_cases front ((row.0, row.1.op) ∷ back) (next.0, next.1.op)
             (subst (λ (zs : List Pair). Contains zs (next.0, next.1.op)) whole (among next (cons-Contains row rows next inside))))
 
--- an association has one location, and any other row none
+-- a row is linked at one place at most
 few_links : (key : Key) (op : Op) → length (link_places key op) ≤ 1
 few_links (association_key key) (put_with (association_body line)) = omega arith
 few_links (association_key key) (put_with (tiploc_body bytes)) = omega arith

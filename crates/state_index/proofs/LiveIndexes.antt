@@ -107,12 +107,11 @@ module _ {K : Type 0} (wrap : K → Key) (row_of : List ℕ → Key → Option (
               (λ i. ordering_then ((places ∙ at) i) (cmp c.1 d.1))
               ∙ below c.1 d.1 (sym (λ i. key_cmp (from_a.3 i) (from_b.3 i)) ∙ keys)
 
-  -- Says that the row of a spot is put and has a key of the right kind.
+  -- Says that the row of a spot puts a body and has a key of the index's kind.
   abbrev IsSeen : List Keyed → Spot → Type 0
   IsSeen rows spot = (row : Keyed) × (k : K) × (body : Body) × (slice_get rows spot.at ≡ Some row) × (row.0 ≡ wrap k) × (row.1.op ≡ put_with body)
 
-  -- if the row of each spot is put and has a key of the right kind, the index has the keys of these
-  -- rows
+  -- if the row of each spot puts a body and has a key of the index's kind, the index has the keys of these rows
   same_keys : (rows : List Keyed) (piece : List Spot) → ((spot : Spot) → Contains piece spot → IsSeen rows spot)
       → map (λ (row : Row). row.0) (rows_at_spots rows piece) ≡ map (λ (row : IndexRow). wrap row.1) (filter_map (row_at rows) piece)
   same_keys rows [] seen = refl

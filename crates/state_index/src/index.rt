@@ -34,8 +34,9 @@ use std::alloc::Global;
 pub struct Index {
     /// The TIPLOCs that the rows name, in ascending order and without duplicates.
     pub places: Vec<[u8; 7]>,
-    /// One posting for each live schedule and each place at which it calls, in an LO, LI or LT
-    /// record. Postings ascend by place and then by row, and none is repeated.
+    /// One posting for each live schedule and each place at which it calls. A schedule calls at the
+    /// places of its LO, LI and LT records. Postings ascend by place and then by row, and none is
+    /// repeated.
     pub calls: Vec<Posting>,
     /// One posting for each live association, at its location. Postings ascend by place and then by
     /// row, and none is repeated.

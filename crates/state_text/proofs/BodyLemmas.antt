@@ -1,4 +1,4 @@
--- How the bodies of associations and the first lines of schedules are judged.
+-- Lemmas on how the bodies of associations and the first lines of schedules are judged.
 use Rattle.std.proofs.Common.{◌≡◌, ℕ, List, sym, subst, Bool, true, false, ◌∙◌}
 use Rattle.std.specs.Prelude.{IsTrue, ◌↔◌}
 use Rattle.docker_model.specs.records.Record.{IsRecord, HasKind, association, basic_schedule, columns}

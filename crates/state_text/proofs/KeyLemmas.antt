@@ -1,4 +1,4 @@
--- How keys are judged.
+-- Lemmas on how keys are judged.
 use Rattle.std.proofs.Common.{◌≡◌, ◌-◌, length, refl, ap, sym, ◌∙◌, subst, Bool, true, Some, None}
 use Rattle.std.specs.Prelude.{Option, slice_get, option_map, IsTrue, ◌↔◌}
 use Rattle.std.specs.Ordering.{is_lt, is_eq}

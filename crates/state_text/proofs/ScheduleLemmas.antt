@@ -1,4 +1,4 @@
--- How the lines of a schedule are judged.
+-- Lemmas on how the lines of a schedule are judged.
 use Rattle.std.proofs.Common.{◌≡◌, ◌∙◌, ℕ, List, [], ◌∷◌, ◌++◌, length, refl, ap, sym, subst, inl, inr, ◌⊎◌, Some}
 use Rattle.std.proofs.Common.{None, ◌+◌, ◌<◌, ◌≤◌, Bool, true, false, arith, length-append}
 use Rattle.std.specs.Prelude.{Option, IsTrue, ◌↔◌, slice_index_or}

@@ -45,7 +45,8 @@ abbrev pub IsJudgedItem : List stamps.LedgerItem → stamps.LedgerItem → Resul
 IsJudgedItem ledger item (Ok told) = (item_meant told ≡ item) × MayFollow ledger item
 IsJudgedItem ledger item (Err cause) = IsItemCause ledger item (cause_meant cause)
 
--- says that this key is bad for this cause. `None` means out of memory, which is never such a cause
+-- says that this key is bad for this cause. `None` means that memory ran out, which never makes a
+-- key bad
 abbrev pub IsKeyCause : State → model.Key → Option fault.StateCause → Type 0
 IsKeyCause state key None = ⊥
 IsKeyCause state key (Some cause) = IsBadKey state key cause
@@ -66,8 +67,8 @@ pub record IsOfKey (horizon : ℕ) (key : model.ScheduleKey) (line : List ℕ) :
   pub key_is : schedule_named line ≡ schedule_key key
   pub stays : horizon ≤ readable_end (columns 16 21 line)
 
--- says that the line may begin a schedule with this key: it is a basic schedule with good fields,
--- the transaction `N` and this key. It doesn't end before the horizon
+-- says that the line may begin a schedule with this key: the line is a basic schedule with good
+-- fields, the transaction `N` and this key, and it doesn't end before the horizon
 pub record IsFirstOf (horizon : ℕ) (key : model.ScheduleKey) (line : List ℕ) : Type 0 where
   pub kind : HasKind basic_schedule line
   pub fields : HasGoodFields line

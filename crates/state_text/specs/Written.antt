@@ -1,4 +1,4 @@
--- What a sink has taken when bytes are written through a buffer.
+-- Defines what a sink has taken when bytes are written through a buffer.
 use Rattle.std.specs.Prelude.{◌≡◌, ℕ, ◌+◌, List, ◌++◌, length, Option, Result, Ok, Err}
 use Rattle.std.specs.List.{flat_map}
 use Rattle.std.specs.Int.{w64, to_be_bytes}

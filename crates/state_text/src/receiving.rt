@@ -1,5 +1,5 @@
-//! What a state has received from another state's text. Only the entries that the state will take
-//! over are staged.
+//! Receives the parts of another state's text. Only the entries that the state will take over are
+//! staged.
 ghost use Rattle.std.specs.Prelude.{◌≡◌, ◌+◌, ◌-◌, ◌^◌, ◌<◌, ℕ, [], ◌∷◌, ◌++◌, length, map, IsOk, IsErr, IsSome, None};
 ghost use Rattle.std.specs.Option.{option_copied, option_map};
 ghost use Rattle.docker_model.specs.state.State.{IsLedger, IsOpOf, IsValid, IsJoin};
