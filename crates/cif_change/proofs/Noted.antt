@@ -20,7 +20,7 @@ none_some a h = cc
 some_is : {A : Type 0} (a b : A) → Some a ≡ Some b → a ≡ b
 some_is a b h = cc
 
--- ---- what stays right
+-- ---- the notes of earlier rows stay right
 
 -- appending an element to a list keeps the other elements at their indexes
 pub pushed_keeps : {A : Type 0} (xs : List A) (x : A) (ys : List A) → ys ≡ xs ++ x ∷ [] → Keeps xs ys
@@ -160,7 +160,7 @@ no_calls (schedule_key key) lapsed never = (refl, refl)
 no_calls (association_key key) lapsed never = (refl, refl)
 no_calls (tiploc_key code) lapsed never = (refl, refl)
 
--- a row whose key isn't put has a piece without numbers, so no number has to be added for the row
+-- if a row's op isn't a put, the row's piece has no numbers, and no number has to be added for the row
 none_next : (names : List (List ℕ)) (numbers : List ℕ) (key : Key) (op : Op) → body_of op ≡ None → IsNext names numbers numbers (key, op) no_piece
 none_next names numbers key op none =
     let nowhere = no_calls key op (λ body put. none_some body (sym none ∙ ap body_of put)) in

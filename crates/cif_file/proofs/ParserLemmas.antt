@@ -323,7 +323,8 @@ refused_over keeps records limit taken cause fault counted number over told = re
       λ i. cond (sym (le-leb limit (length taken) most) i) (Some too_many) (cond (is_after_end counted.has.place) (Some after_trailer) cause));
 }
 
--- a line within the limit that isn't a record is refused with the cause `After` if it follows the trailer, and otherwise with its own cause
+-- a line within the limit that isn't a record is refused with the cause `After` if it follows the trailer, and otherwise with the cause for which it isn't a
+-- record
 pub refused_within : {K : Type 0} (keeps : Keeps K) (records : Records K) (limit : ℕ) (taken : Lines) (cause : Option model.FileCause) (fault : FileFault)
     (ended : Bool) → HasCounted keeps records limit taken
     → fault.number ≡ records.next → records.next ≤ records.limit

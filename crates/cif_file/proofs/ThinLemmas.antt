@@ -117,7 +117,7 @@ module _ (place : List ℕ) (day : ℕ) (old new : Thinned) (whole : Change) whe
       unknown : (kept : List Change) → HasKeysOf old.keys kept → HasNoChangeOf whole.key kept
       unknown kept known change among is = let bad = known change among key (sym named ∙ sym is) in let both : true ≡ false = sym bad ∙ none in cc
 
--- cutting a change that is never cut leaves it unchanged
+-- if thinning never alters what a change does, the thin form of the change is the change itself
 pub never_thin_change : (place : List ℕ) (day : ℕ) (change : Change) → IsNeverThin change → thin_change place day change ≡ change
 never_thin_change place day change never = λ i. record { number = change.number; key = change.key; act = never place day i }
 

@@ -49,8 +49,8 @@ impl Time {
         TimeField::read(field).time()
     }
 
-    /// Reads a scheduled time that may be blank. `Some(None)` for a blank field; None for a field
-    /// that is neither blank nor a time.
+    /// Reads a scheduled time that may be blank. Returns `Some(None)` for a blank field, and `None`
+    /// for a field that is neither blank nor a time.
     #[tactic(auto, using(crate::proofs::Times::scheduled_times))]
     pub fn scheduled(field: &[u8; 5]) -> Option<Option<Time>>
         ensures some { is_some result ≡ is_scheduled_time field.now }

@@ -175,7 +175,7 @@ module _ {E : Type 0} (picked : E → E → E) where
   joined_is rows front back rest m is size =
       ap (λ xs. joined_with picked m xs rest) is ∙ (λ i. walk picked ((parts front back m size).0 i) rest ++ (parts front back m size).1 i)
 
-  -- what is proved of the walk holds of the join, since the join of two tables is unique
+  -- if `WalksOn` holds, so does `IsPlaced`, since the join of two tables is unique
   placed_of : (old : List (Key × E)) (left : ℕ) (row : Key × E) (new : List (Key × E)) (later : ℕ) → WalksOn picked old left row new later
       → IsPlaced picked old left row new later
   placed_of old left row new later on = record {

@@ -23,7 +23,7 @@ module _ {X P : Type 0} (R : P → X → Bool → P → Type 0) (test : X → Bo
       step true h rest = (λ i. x ∷ rest i) ∙ (λ i. cond (h i) (x ∷ filter test xs) (filter test xs))
       step false h rest = rest ∙ (λ i. cond (h i) (x ∷ filter test xs) (filter test xs))
 
-  -- a filter that returns each element for which its test is true equals the library's `filter` of this test
+  -- the library's filter leaves exactly the elements that pass the test
   pub kept_by : (xs ys : List X) → IsFiltered R p xs ys → ys ≡ filter test xs
   kept_by xs ys is = is.4 ∙ told is.0 xs p is.1 refl is.2 is.3
 

@@ -142,7 +142,7 @@ module _ (first second joined : List (Key × Entry)) (up_first : AreAscending fi
   some_right None w = (w, refl)
   some_right (Some v) w = (higher v w, refl)
 
-  -- if one of the tables has an entry of a key, the join has one
+  -- if one of the tables has an entry of a key, so does the join
   pub joined_has : (key : model.Key) (entry : ops.Entry) → Contains Both (key, entry) → (m : ops.Entry) × Contains (map row_meant joined) (key, m)
   joined_has key entry among = by (Contains-append_cases (map row_meant first) (map row_meant second) (key, entry) among)
     where

@@ -109,7 +109,7 @@ module _ (uid : List ℕ) (rows : List (Key × Entry)) (up : AreAscending rows) 
   pub begins_after : (0 < first) → ((d : Key × Entry) → is_before uid (get_or rows (first - 1) d) ≡ true) → IsBeginning uid rows first
   begins_after above before = (λ k d low high. parted_before uid rows up k (first - 1) d (omega arith) (omega arith) (before d), rest_behind)
 
--- if no row is after the UID's schedules, they end at the end of all rows
+-- if no row is after the UID's schedules, these schedules end at the end of all rows
 pub walk_of_all : (uid : List ℕ) (rows : List (Key × Entry)) → position (λ row. not (is_up_to uid row)) rows ≡ None
     → length rows ≡ position_or_len (λ row. not (is_up_to uid row)) rows
 walk_of_all uid rows none =

@@ -14,11 +14,11 @@ use Rattle.state_index.specs.Spots.{IsIndexOf}
 use Rattle.docker_state.specs.declared.item.LedgerItem.{LedgerItem}
 use Rattle.docker_state.specs.Meaning.{row_meant, state_meant}
 
--- Says that this is the index of these rows, or that there is none.
+-- Says that this is the index of these rows, or that there is no index.
 abbrev pub IsIndexIfAny : List (model.Key × ops.Entry) → Option Index → Type 0
 IsIndexIfAny rows index = IfSome index (IsIndexOf rows)
 
--- Says that these are the notes of these rows, or that there are none.
+-- Says that these are the notes of these rows, or that there are no notes.
 abbrev pub HasNotedIfAny : List Item → Option Notes → Type 0
 HasNotedIfAny items notes = IfSome notes (HasNoted items)
 

@@ -1,4 +1,4 @@
--- Rows have at most as many spots as the rows or changes that were noted for them.
+-- Lemmas that bound the number of spots of rows by counts over the rows, or over the changes that make the rows.
 use Rattle.std.proofs.Common.{◌≡◌, ℕ, ◌+◌, ◌≤◌, List, [], ◌∷◌, ◌++◌, map, length, refl, ap, sym, ◌∙◌, subst, inl, inr, ◌⊎◌, Contains, arith}
 use Rattle.std.specs.declared.cmp.Ordering.TheVariants.{Less, Equal}
 use Rattle.std.specs.Ordering.{on}

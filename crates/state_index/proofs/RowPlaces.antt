@@ -71,7 +71,7 @@ call_forth schedule lines place calls =
     (map-Contains (columns 3 9) (filter (λ line. is_location (kind_of line)) lines) calls.line
     (filter_forth (λ line. is_location (kind_of line)) lines calls.line calls.among (location_forth calls.line calls.kind)))
 
--- Says that a row is an association that is put and links two trains at this place.
+-- Says that a row puts an association whose location is this place.
 abbrev pub IsThere : Key → Op → List ℕ → Type 0
 IsThere key op place = (association : AssociationKey) × (line : List ℕ) × (key ≡ association_key association) × (op ≡ put_with (association_body line)) ×
     (association.location ≡ place)

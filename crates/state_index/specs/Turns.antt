@@ -26,7 +26,7 @@ turn_meant (turn.First one) = in_first one.now
 turn_meant (turn.Second other) = in_second other.now
 turn_meant (turn.Both one other) = in_both one.now other.now
 
--- the rows of the first table in some turns
+-- the rows of the first table in a list of turns
 abbrev pub firsts : List AtKey → List (Key × Entry)
 firsts [] = []
 firsts (in_first one ∷ turns) = one ∷ firsts turns

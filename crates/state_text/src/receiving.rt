@@ -35,8 +35,9 @@ impl Receiver for Brand {
 }
 
 /// A state that receives another state's text. Before the first entry, `items` contains the ledger
-/// items received. The first entry begins the staging, which then contains them. `last` is the last
-/// key and `count` the number of all entries given, whether staged or not.
+/// items received. The first entry begins the staging, and from then on the staging contains the
+/// ledger items. `last` is the key of the last entry given, and `count` is the number of all
+/// entries given, whether staged or not.
 #[derive(Drop)]
 pub(crate) struct Receiving<R> {
     alloc: Global,
