@@ -36,7 +36,8 @@ if_asked false false numbers = numbers
 abbrev pub numbers_of : Bool → List ℕ → Piece → List ℕ
 numbers_of links numbers piece = if_asked piece.is_link links (take piece.count (drop piece.from numbers))
 
--- Says that the numbers in a piece are the numbers of the places where the row calls or is linked.
+-- Says that the numbers in a piece are the numbers of the places where the row's schedule calls or
+-- its association is linked.
 pub record IsNoted (names : List (List ℕ)) (numbers : List ℕ) (item : Item) (piece : Piece) : Type 0 where
   pub calls : AreRanks names (call_places item.0 item.1) (numbers_of false numbers piece)
   pub links : AreRanks names (link_places item.0 item.1) (numbers_of true numbers piece)

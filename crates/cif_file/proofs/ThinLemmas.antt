@@ -76,7 +76,7 @@ none_thinned place day thinned there dated made = record {
 }
 
 module _ (place : List ℕ) (day : ℕ) (old new : Thinned) (whole : Change) where
-  -- a change whose key may matter can be cut to what the place and the day need, and then kept
+  -- a change whose key may matter can be kept in its thin form
   pub thin_kept : (change : code.Change) → new.place ≡ old.place → new.day ≡ old.day → HasOneMore old.keys change.key new.keys
       → Makes old.made (change_meant change ∷ []) new.made → may_matter place whole.key ≡ true → thin_change place day whole ≡ change_meant change
       → Thins place day old whole new
@@ -124,7 +124,7 @@ never_thin_change place day change never = λ i. record { number = change.number
 -- ---- the change of a schedule
 
 module _ (place : List ℕ) (day : ℕ) (opened : Opened) (near : Bool) where
-  -- the change of a schedule that is a deletion is cut to a deletion
+  -- if a schedule is a deletion, the thin form of its change is a deletion
   deletes_itself : (lines : Lines) → (progress_meant opened.progress).deletion ≡ true → thin_act place day (change_opened opened lines).act ≡ delete
   deletes_itself lines deletion = λ i. thin_act place day (cond (deletion i) delete (put (schedule_body (with_new_first lines))))
 

@@ -61,8 +61,9 @@ pub record IsLongNext (limit : ℕ) (records : Lines) (fault : FileFault) : Type
   pub at : IsPlaceOf records place
   pub cause : cause_meant fault.cause ≡ Some (cause_of_long limit (length records) place)
 
--- the cause for a line that isn't a record: `too_many` if it is above the limit, otherwise
--- `after_trailer` if it comes after the trailer, and otherwise the line's own cause
+-- the cause for a line that isn't a record: `too_many` if the line is beyond the limit, otherwise
+-- `after_trailer` if it comes after the trailer, and otherwise the cause for which it isn't a
+-- record
 abbrev pub refusal : ℕ → ℕ → law.Place → Option model.FileCause → Option model.FileCause
 refusal limit count place cause = cond (nat_le limit count) (Some too_many) (cond (is_after_end place) (Some after_trailer) cause)
 

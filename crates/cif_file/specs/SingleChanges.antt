@@ -19,6 +19,6 @@ listed changes = listed_after changes.first (change_meant changes.last)
 abbrev pub IsNeverThin : Change → Type 0
 IsNeverThin change = (place : List ℕ) (day : ℕ) → thin_act place day change.act ≡ change.act
 
--- Says that neither of the changes is ever cut.
+-- Says that thinning never alters what either change does.
 abbrev pub AreNeverThin : SingleChanges → Type 0
 AreNeverThin changes = IfSome changes.first (λ first. IsNeverThin (change_meant first)) × IsNeverThin (change_meant changes.last)

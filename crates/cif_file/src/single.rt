@@ -59,8 +59,8 @@ fn by_itself(change: Change) -> SingleChanges
     }
 }
 
-/// The changes of a TIPLOC amendment. If it gives the TIPLOC another code, first the old code is
-/// deleted, and then the new code is put.
+/// The changes of a TIPLOC amendment. If the amendment gives the TIPLOC another code, first the old
+/// code is deleted, and then the new code is put.
 fn changes_amended(number: u32, view: &TiplocRecord<'_>) -> SingleChanges
     requires { HasKind tiploc_amend view.now }
     ensures changes { listed result ≡ changes_of_record number view.now [] }

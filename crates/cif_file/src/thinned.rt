@@ -48,8 +48,7 @@ impl Thinned {
         self.day
     }
 
-    /// Appends a change that is to be kept, already cut to what the docker needs, and adds its key
-    /// to the set.
+    /// Appends a change that is to be kept, in its thin form, and adds its key to the set.
     fn keep(&mut self, change: Change) -> Result<(), AllocError>
         ensures { OnOk result ((place : List ℕ) (day : ℕ) (whole : model.Change)
             → may_matter place whole.key ≡ true
@@ -62,8 +61,8 @@ impl Thinned {
         }
     }
 
-    /// Keeps a TIPLOC's or an association's change if its key may matter at the place, and
-    /// otherwise drops it. Such a change is never cut.
+    /// Keeps a TIPLOC's or an association's change, without altering it, if its key may matter at
+    /// the place. Drops the change otherwise.
     fn add(&mut self, change: Change) -> Result<(), AllocError>
         ensures { OnOk result (IsNeverThin (change_meant change)
             → (place : List ℕ) (day : ℕ) → Thins place day self.old (change_meant change) self.new) }

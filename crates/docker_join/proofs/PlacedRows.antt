@@ -141,7 +141,7 @@ module _ {E : Type 0} (picked : E → E → E) where
       walk_split picked a r rest (row ∷ []) below (below_higher rest r row rest_below above)
       ∙ ap (λ out. walk picked a rest ++ out) (walk_row r row above)
 
-  -- if a row of the second table is its last, and the first table has the row's key, the walk has the pick of both just before the greater rows
+  -- if the first table has the key of the second table's last row, the walk has the pick of both rows just before the greater rows
   level_out : (b r rest : List (Key × E)) (own row : Key × E) → row_cmp own row ≡ Equal → AllBelow b (own ∷ []) → Above own r → AllBelow rest (row ∷ [])
       → walk picked (b ++ (own ∷ r)) (rest ++ row ∷ []) ≡ walk picked b rest ++ ((own.0, picked own.1 row.1) ∷ r)
   level_out b r rest own row level below above rest_below =
@@ -302,7 +302,7 @@ module _ {E : Type 0} (picked : E → E → E) (old : List (Key × E)) (n left r
       ∙ ap (λ k. get_or old k row) (let plain : n - run + 0 ≡ n - run = omega arith in plain) in
       ap (λ x. row_cmp x row) first ∙ above_is (row_cmp (get_or old (n - run) row) row) (is_run.above row (let from = run_size in omega arith)))
 
-  -- after the move, the last row that remains is the row before the moved ones
+  -- after the move, the last row that remains is the row before the moved rows
   last_at : (d : Key × E) → 0 < later → get_or a (later - 1) d ≡ get_or old (n - (run + 1)) d
   last_at d some =
       let run_in = is_run.within in

@@ -155,7 +155,7 @@ module _ {E : Type 0} where
           let whole : there.0 ≡ row = (λ i. (same_key there.0.0 row.0 there.2 i, there.3 i)) in
           subst (Contains y) whole there.1
 
--- Says that a value is valid, or that there is none.
+-- Says that a value is valid, or that there is no value.
 abbrev IsValidValue : {E : Type 0} → (E → Type 0) → Option E → Type 0
 IsValidValue valid None = ⊤
 IsValidValue valid (Some value) = valid value

@@ -320,7 +320,7 @@ impl State {
         entry_near(self.entries.as_slice(), key, near)
     }
 
-    /// The live table: the keys that are put, each with its body, in the order of the keys.
+    /// The live table: each live key with its body, in the order of the keys.
     pub fn live(&self) -> Live<'_>
         ensures rows { result ≡ live_rows self.now.entries }
         ensures table { (key : model.Key) (body : model.Body)
@@ -518,8 +518,8 @@ impl State {
         })
     }
 
-    /// The file stamp of the newest full extract among the known files. Returns `None` if there is
-    /// none.
+    /// The file stamp of the newest full extract among the known files. Returns `None` if no full
+    /// extract is known.
     pub fn floor(&self) -> Option<FileStamp>
         ensures { IsFloor self.now.ledger (option_map file_stamp_meant result) }
     {

@@ -123,8 +123,8 @@ fn read_fault(fault: Option<FileFault>) -> Option<ReadFault> {
     }
 }
 
-/// Asserts that a text has this fault, or none, read whole, in pieces of several lengths, and by
-/// `judge_file`. After a fault, a parser must return it again at every call.
+/// Asserts that a text has this fault, or no fault. The text is read whole, in pieces of several
+/// lengths, and by `judge_file`. After a fault, a parser must return the same fault at every call.
 fn check_fault(rt: &impl Abort, alloc: Global, text: &[u8], wanted: Option<FileFault>, name: &str) {
     let whole = read_pieces(alloc, &[text], 1000).err();
     same_in(rt, name, whole, wanted);

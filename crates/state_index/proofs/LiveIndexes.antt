@@ -34,13 +34,13 @@ put_of deleted body is = absurd (none_some body is)
 put_of lapsed body is = absurd (none_some body is)
 put_of (put_with other) body is = ap put_with (some_is other body is)
 
--- a row that is put is live in the state
+-- if a row's op is a put, its key is live in the state, with the body that is put
 put_is_live : (state : State) → AreAscending state.entries → (at : ℕ) (row : Keyed) (body : Body) → slice_get state.entries at ≡ Some row
     → row.1.op ≡ put_with body → live_table state row.0 ≡ Some body
 put_is_live state up at row body is put =
     ap (option_and_then (λ (entry : Entry). body_of entry.op)) ((entry_at_iff state up row.0 row.1).1 (at_member state.entries at row is)) ∙ ap body_of put
 
--- a key that is live in the state is the key of a row that is put
+-- a key that is live in the state is the key of a row whose op is a put
 live_is_put : (state : State) → AreAscending state.entries → (key : Key) (body : Body) → live_table state key ≡ Some body
     → (at : ℕ) × (entry : Entry) × (slice_get state.entries at ≡ Some (key, entry)) × (entry.op ≡ put_with body)
 live_is_put state up key body live = by (entry_at state key) refl live

@@ -1,4 +1,4 @@
--- Postings, moved to the indexes that their places and rows have in a join.
+-- Lemmas on moving postings to the indexes that their places and rows have in a join.
 use Rattle.std.proofs.Common.{◌≡◌, ℕ, suc, ◌≤◌, List, [], ◌∷◌, length, refl, ap, sym, ◌∙◌, subst, inl, inr, ◌⊎◌, Some, None, Contains, arith}
 use Rattle.std.specs.Prelude.{Option, ◌↔◌, slice_get, option_map, option_and_then}
 use Rattle.std.specs.List.{filter_map, cons_option}

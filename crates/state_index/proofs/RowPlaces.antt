@@ -43,7 +43,7 @@ location_forth line (inl is) = ap is_location is
 location_forth line (inr (inl is)) = ap is_location is
 location_forth line (inr (inr is)) = ap is_location is
 
--- Says that a row is a schedule that is put and calls at this place.
+-- Says that a row puts a schedule that calls at this place.
 abbrev pub Calls : Key → Op → List ℕ → Type 0
 Calls key op place = (schedule : ScheduleKey) × (lines : List (List ℕ)) × (key ≡ schedule_key schedule) × (op ≡ put_with (schedule_body lines))
     × CallsAt place lines

@@ -11,8 +11,8 @@ use Rattle.state_index.specs.declared.posting.Posting.{Posting}
 use Rattle.state_index.specs.PostingOrder.{posting_cmp}
 use Rattle.state_index.specs.declared.index.Index.{Index}
 
--- a function from a row's key and op to the places where the row calls, or to the places where it
--- is linked
+-- a function that gives, for the key and the op of a row, the places where the row's schedule
+-- calls, or the place where its association is linked
 abbrev pub Places : Type 0
 Places = Key → Op → List (List ℕ)
 

@@ -33,7 +33,7 @@ firsts (in_first one ∷ turns) = one ∷ firsts turns
 firsts (in_second other ∷ turns) = firsts turns
 firsts (in_both one other ∷ turns) = one ∷ firsts turns
 
--- the rows of the second table in some turns
+-- the rows of the second table in a list of turns
 abbrev pub seconds : List AtKey → List (Key × Entry)
 seconds [] = []
 seconds (in_first one ∷ turns) = seconds turns
@@ -92,8 +92,8 @@ first_moves floor horizon at (in_both one other ∷ turns) =
     if wins one.1 other.1 then goes floor horizon at one.1 ∷ first_moves floor horizon (after floor at one.1) turns
     else None ∷ first_moves floor horizon (after floor at other.1) turns
 
--- for each row of the second table in some turns, its index in the join, if the join has `at` rows
--- before these turns
+-- for each row of the second table in a list of turns, the row's index in the join, if the join has
+-- `at` rows before these turns
 abbrev pub second_moves : Option FileStamp → ℕ → ℕ → List AtKey → List (Option ℕ)
 second_moves floor horizon at [] = []
 second_moves floor horizon at (in_first one ∷ turns) = second_moves floor horizon (after floor at one.1) turns

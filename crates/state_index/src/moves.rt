@@ -39,9 +39,10 @@ impl Moves {
         Ok(Moves { first, second })
     }
 
-    /// Finds where the rows of two tables are in their join, from which the floor removes older
-    /// entries and in which entries lapse under the horizon. The horizon is a day number, counted
-    /// from 0 for 1960-01-01. There must be room for the moves of all rows. Allocates nothing.
+    /// Finds the index that each row of two tables has in their join. The join lacks the entries
+    /// that the floor doesn't keep, and entries in it lapse under the horizon. The horizon is a day
+    /// number, counted from 0 for 1960-01-01. There must be room for the moves of all rows.
+    /// Allocates nothing.
     pub fn of_tables(
         self,
         first: &[(Key, Entry)],

@@ -10,8 +10,7 @@ use Rattle.docker_model.specs.state.Stamp.{IsFloor}
 use Rattle.docker_model.specs.state.State.{State, IsGoodEntry, AreAscending, AreEntries}
 use Rattle.docker_state.specs.Staging.{Staging, IsAboveStaged, IsOffered}
 
--- Says that these entries can be offered in their order. Each is good with the received items,
--- their keys ascend, and all keys are above the staged ones.
+-- Says that these entries can be offered in their order. Each is good with the received items, their keys ascend, and all keys are above the staged keys.
 pub record CanBeOffered (staging : Staging) (entries : List (Key × Entry)) : Type 0 where
   pub good : AllByRecursion (IsGoodEntry staging.items) entries
   pub above : AllByRecursion (λ (entry : Key × Entry). IsAboveStaged staging.staged entry.0) entries

@@ -80,8 +80,7 @@ fn add_schedule_key(buffer: &mut Buffer, key: &ScheduleKey)
     put(buffer, &[key.stp.letter()]);
 }
 
-/// Appends a key's tag and the key. The buffer needs room for an association's key, which is the
-/// longest.
+/// Appends a key's tag and the key. The buffer needs room for the longest key, an association's.
 fn add_key(buffer: &mut Buffer, key: &Key)
     requires { array_vec_len buffer.old + (TAG + ASSOC_KEY) ≤ ROOM }
     ensures items { buffer.new.items ≡ buffer.old.items ++ key_text (key_meant key.now) }

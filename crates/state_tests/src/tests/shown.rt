@@ -1,4 +1,4 @@
-//! Shows a state as lines of text, which the tests compare with the expected ones.
+//! Shows a state as lines of text, which the tests compare with the expected lines.
 
 use cif_file::{Body, Key};
 use cif_line::Line;
