@@ -58,7 +58,7 @@ part_kept (suc f) n [] ys keeps within = absurd (omega arith)
 part_kept (suc f) n (x ∷ xs) [] keeps within = absurd (none_some x (keeps 0 x refl))
 part_kept (suc f) n (x ∷ xs) (y ∷ ys) keeps within = part_kept f n xs ys (λ i z is. keeps (suc i) z is) (omega arith)
 
--- numbers that are indexes of places in a list are indexes of the same places in a list that keeps its elements
+-- numbers that are indexes of places in a list are indexes of the same places in any list that keeps the elements of the first list at their indexes
 pub ranks_kept : (old new : List (List ℕ)) → Keeps old new → (places : List (List ℕ)) (numbers : List ℕ) → AreRanks old places numbers
     → AreRanks new places numbers
 ranks_kept old new keeps [] [] are = refl

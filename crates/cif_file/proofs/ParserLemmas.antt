@@ -541,7 +541,7 @@ pub read_at_fault : (parser : ParserState) (limit : ℕ) (text : List ℕ) (faul
     → HasRead parser limit text
 read_at_fault parser limit text fault at told = subst (IsReadingOrFault parser.reading limit text) (sym at) told
 
--- any text that may have been fed to a parser that has returned a fault has this fault
+-- if a parser has returned a fault, any text that it may have been fed has this fault
 pub fault_at_read : (parser : ParserState) (limit : ℕ) (text : List ℕ) (fault : FileFault) → parser.fault ≡ Some fault → HasRead parser limit text
     → IsFaultReported limit text fault
 fault_at_read parser limit text fault at has = subst (IsReadingOrFault parser.reading limit text) at has

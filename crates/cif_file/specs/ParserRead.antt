@@ -140,8 +140,8 @@ IsCauseSoFar limit text number (Some cause) = IsFaultSoFar limit text (record { 
 abbrev pub IsFaultReported : ℕ → List ℕ → FileFault → Type 0
 IsFaultReported limit text fault = IsCauseSoFar limit text fault.number (cause_meant fault.cause)
 
--- Says that a whole text's fault is at the record with this number and has this cause. Without a
--- cause, memory ran out at that record, and no record up to it is at fault.
+-- Says that a whole text's fault is at the record with this number and has this cause. `None` means
+-- that memory ran out at that record and that no record up to that record is at fault.
 abbrev pub IsCauseOf : ℕ → List ℕ → ℕ → Option model.FileCause → Type 0
 IsCauseOf limit text number None = WantsMemoryAt limit (lines_of text) number
 IsCauseOf limit text number (Some cause) = IsFileFault limit text (record { number = number; cause = cause })

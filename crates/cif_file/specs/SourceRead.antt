@@ -47,7 +47,7 @@ pub record ReadsEnded {K : Type 0} (keeps : Keeps K) (limit : ℕ) (left : Optio
   pub held : Held left text
   pub of_text : IsEndedText keeps limit text ended
 
--- Says that this is the text's fault, and that its cause isn't that memory ran out.
+-- Says that this is the text's fault, and that its cause isn't out of memory.
 pub record IsFaultOf (limit : ℕ) (text : List ℕ) (fault : FileFault) : Type 0 where
   pub cause : FileCause
   pub cause_is : cause_meant fault.cause ≡ Some cause
@@ -93,6 +93,7 @@ abbrev pub WantsMemoryBy : Type 0 → ℕ → ℕ → Option (List ℕ) → Opti
 WantsMemoryBy wants most limit old new = Reads old [] new ⊎ (wants × (WantsRecord most limit old new ⊎ WantsLast limit old))
 
 -- Says that memory ran out before a byte was read, or at a record. No record up to that record is
--- at fault. It is complete only with the last piece, or it is the last record of the text.
+-- at fault. The record at which memory ran out is complete only with the last piece, or is the last
+-- record of the text.
 abbrev pub WantsMemory : ℕ → ℕ → Option (List ℕ) → Option (List ℕ) → Type 0
 WantsMemory most limit old new = Reads old [] new ⊎ WantsRecord most limit old new ⊎ WantsLast limit old

@@ -134,7 +134,7 @@ module _ {E : Type 0} (picked : E → E → E) where
   walk_row : (rows : List (Key × E)) (row : Key × E) → Above row rows → walk picked rows (row ∷ []) ≡ row ∷ rows
   walk_row rows row above = lower_first picked rows (row ∷ []) [] (above, tt) ∙ ap (λ rest. row ∷ rest) (walk_none picked rows)
 
-  -- if a row of the second table is its last, and the first table doesn't have the row's key, the walk has the row just before the greater rows
+  -- if the first table doesn't have the key of the second table's last row, the walk has this row just before the greater rows
   none_out : (a r rest : List (Key × E)) (row : Key × E) → AllBelow a (row ∷ []) → Above row r → AllBelow rest (row ∷ [])
       → walk picked (a ++ r) (rest ++ row ∷ []) ≡ walk picked a rest ++ (row ∷ r)
   none_out a r rest row below above rest_below =

@@ -188,7 +188,7 @@ pub item_is_of : (head line : List ℕ) (item : stamps.LedgerItem) (lines : List
     → ((file : List (List ℕ)) → head ≡ first_record file → item ≡ ledger_item_of file) → item ≡ ledger_item_of lines
 item_is_of head line item lines same first_line told = told lines (same ∙ first_line ∙ first_is lines)
 
--- a state made by a ledger item and changes that are equal to a file's is the summary of the file
+-- the state that the ledger item and the changes of a file make is the file's summary
 pub summary_of_made : (item : stamps.LedgerItem) (all : List model.Change) (lines : List (List ℕ)) (state : State) → item ≡ ledger_item_of lines
     → all ≡ changes lines → IsMadeState item all state → IsSummary (lines ∷ []) 0 state
 summary_of_made item all lines state item_is all_is is =

@@ -128,7 +128,7 @@ walk_of_all uid rows none =
 pub walk_within : (uid : List ℕ) (rows : List (Key × Entry)) (end : ℕ) → end ≡ position_or_len (λ row. not (is_up_to uid row)) rows → end ≤ length rows
 walk_within uid rows end end_is = subst (λ n. n ≤ length rows) (sym end_is) (prefix_len-le-length (λ row. not (not (is_up_to uid row))) rows)
 
--- the rows below this index are at or before the UID's schedules, and the others are after them
+-- the rows below this index are the UID's schedules or come before them, and all other rows come after the UID's schedules
 pub walk_parts : (uid : List ℕ) (rows : List (Key × Entry)) (end : ℕ) → AreAscending rows → end ≡ position_or_len (λ row. not (is_up_to uid row)) rows
     → IsPartitionPoint (λ row. is_up_to uid row ≡ true) (λ row. is_up_to uid row ≡ false) rows end
 walk_parts uid rows end up end_is = (front, back)

@@ -150,8 +150,8 @@ impl State {
         }
     }
 
-    /// The state that changes of the file with this ledger item make. If memory runs out, the parts
-    /// are returned unchanged.
+    /// The state that the changes in these parts make, for the file with this ledger item. If
+    /// memory runs out, the parts are returned unchanged.
     fn of_changes(alloc: Global, item: LedgerItem, parts: FileParts) -> Result<State, FileParts>
         requires records { HaveRecords (map change_meant parts.changes.items) }
         requires noted { AreNotesOf (map change_meant parts.changes.items) parts.notes }
