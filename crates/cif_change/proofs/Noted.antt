@@ -45,7 +45,7 @@ keeps_len [] ys keeps = omega arith
 keeps_len (x ∷ xs) [] keeps = absurd (none_some x (keeps 0 x refl))
 keeps_len (x ∷ xs) (y ∷ ys) keeps = let rest = keeps_len xs ys (λ i z is. keeps (suc i) z is) in omega arith
 
--- a part of a list is the same part of any list that keeps its elements
+-- a part of a list is the same part of any list that keeps the first list's elements at their indexes
 part_kept : (f n : ℕ) (xs ys : List ℕ) → Keeps xs ys → f + n ≤ length xs → take n (drop f ys) ≡ take n (drop f xs)
 part_kept zero zero xs ys keeps within = refl
 part_kept zero (suc n) [] ys keeps within = absurd (omega arith)
@@ -357,7 +357,7 @@ piece_at names numbers (first ∷ items) (piece ∷ pieces) are zero item is =
     subst (λ (i : Item). IsNoted names numbers i piece) (some_is first item is) are.0
 piece_at names numbers (first ∷ items) (piece ∷ pieces) are (suc n) item is = piece_at names numbers items pieces are.1 n item is
 
--- the pieces at some indexes are the notes of the rows at these indexes
+-- the pieces at given indexes are the notes of the rows at these indexes
 pub picked_noted : (names : List (List ℕ)) (numbers : List ℕ) (items : List Item) (pieces : List Piece) → AreNoted names numbers items pieces → (order : List ℕ)
     (picked : List Item) → ArePicked items order picked → AreNoted names numbers picked (map (λ n. get_or pieces n no_piece) order)
 picked_noted names numbers items pieces are [] [] is = tt

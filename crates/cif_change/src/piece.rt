@@ -40,7 +40,7 @@ impl Piece {
     }
 }
 
-/// The numbers from index `from` on. No numbers if `from` is past the end.
+/// The numbers from index `from` on, or no numbers if `from` is past the end.
 fn behind(numbers: &[u32], from: usize) -> &[u32]
     ensures { result.now ≡ drop from numbers.entry.now }
 {

@@ -534,7 +534,7 @@ fault_of_front before text front behind fault cut tells = λ limit told is.
     subst (λ t. IsFaultReported limit t fault) (append_assoc told front behind ∙ ap (λ l. told ++ l) (sym cut))
     (told_stays limit (told ++ front) behind fault (tells limit told is))
 
--- ---- a parser that has returned a fault, or hasn't
+-- ---- a parser before and after it has returned a fault
 
 -- a parser that has returned a fault may have been fed any text that has this fault
 pub read_at_fault : (parser : ParserState) (limit : ℕ) (text : List ℕ) (fault : FileFault) → parser.fault ≡ Some fault → IsFaultReported limit text fault

@@ -130,8 +130,8 @@ pub record WantsMemoryAt (limit : ℕ) (records : Lines) (number : ℕ) : Type 0
   pub sound : BeginsFile (take number records)
 
 -- Says that the first fault among a text's complete lines is at the record with this number and has
--- this cause. Without a cause, memory ran out at that record, which is complete, and no record up
--- to it is at fault.
+-- this cause. `None` means that memory ran out at that record, which is complete, and that no
+-- record up to that record is at fault.
 abbrev pub IsCauseSoFar : ℕ → List ℕ → ℕ → Option model.FileCause → Type 0
 IsCauseSoFar limit text number None = WantsMemoryAt limit (complete_lines text) number
 IsCauseSoFar limit text number (Some cause) = IsFaultSoFar limit text (record { number = number; cause = cause })

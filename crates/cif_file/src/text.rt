@@ -7,7 +7,7 @@ ghost use Rattle.std.specs.Str.Lines.{strip_carriage_return};
 /// How many bytes a record has without its line end.
 const RECORD: usize = 80;
 
-/// The line without a carriage return at its end. At most one is removed.
+/// The line without a carriage return at its end. At most one carriage return is removed.
 pub(crate) fn without_return(piece: &[u8]) -> &[u8]
     ensures line { result.now ≡ strip_carriage_return piece.now }
 {
@@ -17,7 +17,7 @@ pub(crate) fn without_return(piece: &[u8]) -> &[u8]
     }
 }
 
-/// The index of the first line feed. The search goes byte by byte.
+/// The index of the first line feed. The search tests one byte after another.
 fn line_feed(text: &[u8]) -> Option<usize>
     ensures place { result ≡ position (λ byte. byte == 10) text.now }
     ensures within { IfSome result (λ at. at < length text.now) }

@@ -99,7 +99,7 @@ impl Day {
         }
     }
 
-    /// The day with this number. None above 36524.
+    /// The day with this number. Returns `None` above 36524.
     pub fn from_number(number: u16) -> Option<Day>
         ensures { SomeIff result (number ≤ last_day) number }
     {

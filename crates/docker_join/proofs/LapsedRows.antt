@@ -1,4 +1,4 @@
--- Applying a horizon to rows one by one, from the first to the last.
+-- Lemmas on applying a horizon to rows one by one, from the first to the last.
 use Rattle.std.proofs.Common.{◌≡◌, ℕ, ◌+◌, ◌<◌, ◌≤◌, List, [], ◌∷◌, ◌++◌, map, length, get_or, take, drop, set, ap, sym, ◌∙◌, subst, append_assoc, arith}
 use Rattle.std.specs.declared.cmp.Ordering.{Ordering}
 use Rattle.std.proofs.lemmas.List.{map-append, drop_more, take_more_set, drop-set-lt, take_all, drop_all, append-nil}

@@ -1,4 +1,4 @@
--- Setting a horizon on a state: either its rows lapse under the day, or the day isn't after the horizon and nothing changes.
+-- Lemmas on setting a horizon on a state. Either rows lapse under the new day, or the day isn't after the present horizon and nothing changes.
 use Rattle.std.proofs.Common.{◌≡◌, ℕ, ◌≤◌, List, map, ap, sym, ◌∙◌, subst}
 use Rattle.std.proofs.Math.Nat.{max-eq_left, max-eq_right}
 use Rattle.docker_model.specs.state.Lapse.{HasNotToLapse, lapse_entries}

@@ -96,7 +96,7 @@ alone x v inside = by (Contains-cons x [] v inside)
     by (inl same) = same
     by (inr none) = absurd (nil-Contains v none)
 
--- of two sorted rows with one key, the later one's entry isn't less
+-- of two sorted rows with the same key, the later row's entry isn't less
 of_one_key : (a b : Key × Entry) → IsAtMost by_entry a b → row_cmp a b ≡ Equal → IsAtMost entry_cmp (entry_meant a.1) (entry_meant b.1)
 of_one_key a b low tied = by (later_key a b low)
   where
@@ -110,7 +110,7 @@ lasts_among rows z last =
     below_by_recursion (Contains rows) (last_rows rows) z
     (lasts_all (Contains rows) rows (recursion_from_All (Contains rows) rows (all_members (Contains rows) rows (λ x among. among)))) last
 
--- of all sorted rows with one key, the last has the greatest entry
+-- of all sorted rows with the same key, the last row has the greatest entry
 pub lasts_top : (rows : List (Key × Entry)) → AreSorted rows → (z : Key × Entry) → Contains (last_rows rows) z → (w : Key × Entry) → Contains rows w
     → row_cmp w z ≡ Equal
     → IsAtMost entry_cmp (entry_meant w.1) (entry_meant z.1)

@@ -99,7 +99,7 @@ pub firsts_are : (xs ys : List Row) → firsts (turns_of xs ys) ≡ xs
 firsts_are [] ys = no_firsts ys
 firsts_are (x ∷ xs) ys = firsts_from x xs (turns_of xs) (firsts_are xs) ys
 
--- the rows of the second table in all turns are the second table
+-- the second table's rows in all turns, taken together, are the second table
 pub seconds_are : (xs ys : List Row) → seconds (turns_of xs ys) ≡ ys
 seconds_are [] ys = all_seconds ys
 seconds_are (x ∷ xs) ys = seconds_from x xs (turns_of xs) (seconds_are xs) ys

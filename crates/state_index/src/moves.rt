@@ -13,8 +13,8 @@ use cif_change::{Key, Memory};
 use docker_join::{Entry, FileStamp, Op};
 use std::alloc::Global;
 
-/// The index in the join of each row of two tables. None if the other table's entry at the key
-/// wins, if the floor doesn't keep the entry, or if the entry isn't live once the horizon is
+/// The index in the join of each row of two tables. It is `None` if the other table's entry at the
+/// key wins, if the floor doesn't keep the entry, or if the entry isn't live once the horizon is
 /// applied.
 #[derive(Debug, Drop)]
 pub struct Moves {

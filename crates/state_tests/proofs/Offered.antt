@@ -1,4 +1,4 @@
--- Offering the entries of a valid state one by one, in their order.
+-- Lemmas on offering the entries of a valid state one by one, in their order.
 use Rattle.std.proofs.Common.{◌≡◌, List, [], ◌∷◌, ◌++◌, ◌<◌, length, sym, subst, ◌⊎◌, inl, inr, arith}
 use Rattle.std.specs.Prelude.{Contains}
 use Rattle.std.specs.List.{AllByRecursion}
