@@ -105,7 +105,7 @@ in_all : (pieces : List Piece) (piece : Piece) → numbers_in (pieces ++ piece �
 in_all [] piece = omega arith
 in_all (other ∷ pieces) piece = let rest = in_all pieces piece in omega arith
 
--- if the new notes are the old notes with one more piece, and the next row is noted in this piece, the new notes are of the old rows followed by this row
+-- let the new notes be the old notes with one more piece, in which the next row is noted. Then the new notes are of the old rows followed by this row
 pub row_noted : (old new : Notes) (item : Item) (piece : Piece) → Keeps old.names.list.items new.names.list.items → Keeps old.numbers.items new.numbers.items
     → IsNext new.names.list.items old.numbers.items new.numbers.items item piece → new.pieces.items ≡ old.pieces.items ++ piece ∷ []
     → (items : List Item) → HasNoted items old → HasNoted (items ++ item ∷ []) new

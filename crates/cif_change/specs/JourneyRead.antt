@@ -94,7 +94,7 @@ is_over_by _ = false
 
 -- ---- what the reader does with a line
 
--- Says that the new progress is the old one with one more line taken.
+-- Says that the new progress is the old progress with one more line taken.
 abbrev pub Advances : Progress → List ℕ → Progress → Type 0
 Advances old line new =
     (lines : List (List ℕ)) → HasLines (progress_meant old) lines → HasLines (progress_meant new) (lines ++ line ∷ [])

@@ -323,8 +323,7 @@ refused_over keeps records limit taken cause fault counted number over told = re
       λ i. cond (sym (le-leb limit (length taken) most) i) (Some too_many) (cond (is_after_end counted.has.place) (Some after_trailer) cause));
 }
 
--- a line within the limit that isn't a record is refused with the cause `After` if it follows the trailer, and otherwise with the cause for which it isn't a
--- record
+-- a line within the limit that isn't a record is refused for the trailer if it follows the trailer, and otherwise for not being a record
 pub refused_within : {K : Type 0} (keeps : Keeps K) (records : Records K) (limit : ℕ) (taken : Lines) (cause : Option model.FileCause) (fault : FileFault)
     (ended : Bool) → HasCounted keeps records limit taken
     → fault.number ≡ records.next → records.next ≤ records.limit
@@ -577,7 +576,7 @@ wants_of : (wants : Type 0) (limit : ℕ) (records : Lines) (line : List ℕ) (f
     → fault.cause ≡ Memory → wants
 wants_of wants limit records line fault next memory = (subst (λ cause. IsCauseAfter wants limit records line (cause_meant cause)) memory next.cause).0
 
--- a fault that the definitions know isn't `Memory`
+-- a fault whose cause the definitions have doesn't have the cause `Memory`
 no_want : (wants : Type 0) (fault : FileFault) (cause : model.FileCause) → cause_meant fault.cause ≡ Some cause → fault.cause ≡ Memory → wants
 no_want wants fault cause told memory = let bad : ◌≡◌ {A = Option model.FileCause} None (Some cause) = sym (ap cause_meant memory) ∙ told in absurd cc
 
@@ -599,7 +598,7 @@ later_long keeps wants reading fault told = λ limit text is.
 later_front : (text more : List ℕ) (fault : FileFault) → sure_lines (text ++ more) < fault.number → sure_lines text < fault.number
 later_front text more fault later = let grown = sure_lines_grow text more in omega arith
 
--- a fault after all complete lines that were read is after those that were read earlier
+-- a fault that comes after all complete lines that were read comes after all complete lines that were read earlier
 pub later_piece : {K : Type 0} (keeps : Keeps K) (wants : Type 0) (old new : FileReading K) (front : List ℕ) (fault : FileFault)
     → GoesOn (IsReading keeps old) front (IsReading keeps new) → IsLater keeps wants new fault
     → IsLater keeps wants old fault

@@ -37,7 +37,7 @@ Lines = List (List ℕ)
 abbrev cmp : Key → Key → Ordering
 cmp = on key_meant key_cmp
 
--- Says that the new set is the old one with one key added.
+-- Says that the new set is the old set with one key added.
 abbrev pub HasOneMore : BTreeSet Key → Key → BTreeSet Key → Type 0
 HasOneMore old key new = set.Updates cmp old new key true
 

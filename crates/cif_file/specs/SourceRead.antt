@@ -68,8 +68,8 @@ pub record ReadsNoFurther (most limit : ℕ) (old new : Option (List ℕ)) : Typ
   pub at_once : length piece ≤ most
   pub read : Reads old (before ++ piece) new
 
--- Says that memory ran out at a record that is complete only with the last piece, that no record up
--- to this one is at fault, and that the last piece has at most `most` bytes.
+-- Says that memory ran out at a record that is complete only with the last piece, and that no
+-- record up to that record is at fault. The last piece has at most `most` bytes.
 pub record WantsRecord (most limit : ℕ) (old new : Option (List ℕ)) : Type 0 where
   pub before : List ℕ
   pub piece : List ℕ
@@ -87,8 +87,8 @@ pub record WantsLast (limit : ℕ) (left : Option (List ℕ)) : Type 0 where
   pub wanting : WantsMemoryAt limit (lines_of text) (length (lines_of text))
 
 -- Says that memory ran out before a byte was read or, if `wants` holds, at a record. No record up
--- to that record is at fault. It is complete only with the last piece, or it is the last record of
--- the text.
+-- to that record is at fault. The record at which memory ran out is complete only with the last
+-- piece, or is the last record of the text.
 abbrev pub WantsMemoryBy : Type 0 → ℕ → ℕ → Option (List ℕ) → Option (List ℕ) → Type 0
 WantsMemoryBy wants most limit old new = Reads old [] new ⊎ (wants × (WantsRecord most limit old new ⊎ WantsLast limit old))
 

@@ -111,7 +111,7 @@ module _ {E : Type 0} where
       value_behind row rows key (λ tied. let turned = key_total.antisymm key (key_meant row.0) in let below = above.0 in cc)
       ∙ value_above key rows above.1
 
-  -- in ascending rows, the value at the key of any row is that row's
+  -- in ascending rows, the value at the key of any row is that row's value
   pub value_of : (rows : List (Key × E)) (row : Key × E) → AreAscending rows → Contains rows row → value_at rows (key_meant row.0) ≡ Some row.1
   value_of [] row up among = absurd (nil-Contains row among)
   value_of (first ∷ rows) row up among = by (value_of rows row up.1) (Contains-cons first rows row among)

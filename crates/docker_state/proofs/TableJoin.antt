@@ -133,7 +133,7 @@ module _ (first second joined : List (Key × Entry)) (up_first : AreAscending fi
       let there = value_in joined is.ascends key entry among in
       subst (IsGreatestAmong Both key) there.2 (up key (value_at first key) (value_at second key) refl refl there.0 (sym (is.values key) ∙ there.1))
 
-  -- if the first table has a value at a key, the join has one
+  -- if the first table has a value at a key, so does the join
   some_left : (v : Entry) (b : Option Entry) → (m : Entry) × (picked_value higher (Some v) b ≡ Some m)
   some_left v None = (v, refl)
   some_left v (Some w) = (higher v w, refl)

@@ -1,4 +1,4 @@
--- The rows of a UID's schedules follow each other. The live ones among them are the UID's live schedules.
+-- The rows of a UID's schedules follow each other. The live rows among them are the UID's live schedules.
 use Rattle.std.proofs.Common.{◌≡◌, ℕ, zero, suc, ◌-◌, ◌<◌, ◌≤◌, List, [], ◌∷◌, ◌++◌, map, take, drop, length, get_or}
 use Rattle.std.proofs.Common.{refl, ap, sym, ◌∙◌, subst, inl, inr, ◌⊎◌, Bool, true, false, not, cond, nat_lt, Contains, Some, None, arith}
 use Rattle.std.specs.List.{AllByRecursion, AllPairs, position, position_or_len}
@@ -236,7 +236,7 @@ of_uid_is (tiploc_key code) uid tied = absurd (let bad : Less ≡ Equal = tied i
 of_uid_is (association_key key) uid tied = absurd (let bad : Less ≡ Equal = tied in cc)
 of_uid_is (schedule_key key) uid tied = (key, refl, exact_bytes key.uid uid tied)
 
--- a body that belongs under a schedule's key is a schedule's
+-- a body that belongs under a schedule's key is a schedule's body
 schedule_of : (key : ScheduleKey) (body : Body) → IsOpOf (schedule_key key) (put_with body) → (lines : List (List ℕ)) × (body ≡ schedule_body lines)
 schedule_of key (tiploc_body bytes) good = absurd good
 schedule_of key (association_body line) good = absurd good

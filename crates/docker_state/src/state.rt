@@ -167,7 +167,7 @@ impl State {
         }
     }
 
-    /// The state, without an index, that changes of the file with this ledger item make.
+    /// The state, without an index, that these changes make, for the file with this ledger item.
     fn of_plain_changes(
         alloc: Global,
         item: LedgerItem,

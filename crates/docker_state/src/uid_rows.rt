@@ -50,8 +50,8 @@ fn is_of_uid_at(rows: &[(Key, Entry)], uid: &Uid, at: usize) -> bool
     }
 }
 
-/// The index of the UID's first schedule, found by a walk back from the given row, which is one of
-/// its schedules.
+/// The index of the UID's first schedule. A walk back from the given row, which is one of the UID's
+/// schedules, finds it.
 fn first_back(rows: &[(Key, Entry)], uid: &Uid, from: usize) -> usize
     requires up { AreAscending rows.now }
     requires here { is_of_uid_at uid.now rows.now from ≡ true }

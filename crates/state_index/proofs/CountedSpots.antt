@@ -50,7 +50,8 @@ cut_at (first ∷ pairs) pair among = by (cut_at pairs pair) (Contains-cons firs
     by rest (inl same) = ([], pairs, (λ i. same i ∷ pairs))
     by rest (inr inside) = let found = rest inside in (first ∷ found.0, found.1, (λ i. first ∷ found.2 i))
 
--- if no two rows have the same key, and a list has the key and the op of each row, the total of a count over the rows is at most its total over the list
+-- suppose that no two rows have the same key, and that a list has each row's key and op. Then the total of a count over the rows is at most its total over the
+-- list
 fewer : (count : Key → Op → ℕ) (rows : List Keyed) → AreAscending rows → (pairs : List Pair) →
     ((row : Keyed) → Contains rows row → Contains {X = Pair} pairs (row.0, row.1.op))
     → total count (pairs_of rows) ≤ total count pairs

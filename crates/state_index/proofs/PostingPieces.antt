@@ -62,7 +62,7 @@ below_at (posting ∷ postings) (suc i) (suc j) d up before within = below_at po
 abbrev by_place : ℕ → Posting → Ordering
 by_place place posting = nat_cmp posting.place place
 
--- Says that a test of a comparison is monotone: it fails for greater, and if it passes for equal, it passes for less.
+-- Says that a test of a comparison is monotone: it fails for `Greater`, and if it passes for `Equal`, it also passes for `Less`.
 abbrev GoesDown : (Ordering → Bool) → Type 0
 GoesDown test = (test Greater ≡ false) × (test Equal ≡ true → test Less ≡ true)
 

@@ -10,8 +10,8 @@ use Rattle.state_index.specs.declared.posting.Posting.{Posting}
 abbrev pub posting_of : List ℕ → ℕ → ℕ → Posting
 posting_of ranks at number = record { place = get_or ranks number 0; at = at }
 
--- the index of the last row whose piece was taken, given how many rows there are and the pieces
--- that remain
+-- the index of the last row whose piece was taken, given the number of rows and the remaining
+-- pieces
 abbrev pub row_before : ℕ → List Piece → ℕ
 row_before rows left = rows - length left - 1
 

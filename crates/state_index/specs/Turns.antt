@@ -68,8 +68,8 @@ is_put deleted = false
 is_put lapsed = false
 is_put (put_with body) = true
 
--- the index that a winning entry gets in the join, if `at` rows come before the entry; none if the
--- floor doesn't keep the entry, or if the entry isn't live once the horizon is applied
+-- the index that a winning entry gets in the join, if `at` rows come before the entry. It is none
+-- if the floor doesn't keep the entry, or if the entry isn't live once the horizon is applied
 abbrev pub goes : Option FileStamp → ℕ → ℕ → Entry → Option ℕ
 goes floor horizon at entry =
     if is_kept floor (entry_meant entry).stamp.file && is_put (lapse horizon (entry_meant entry).op) then Some at else None

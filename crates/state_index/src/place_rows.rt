@@ -158,8 +158,8 @@ fn is_up_to(posting: &Posting, rank: usize) -> bool
     (posting.place as usize).cmp(&rank).is_le()
 }
 
-/// The postings of one place among ascending postings, found by binary search. None are found if
-/// the place isn't in the list of places.
+/// The postings of one place among ascending postings, found by binary search. No postings are
+/// found if the place isn't in the list of places.
 pub(crate) fn postings_at<'a>(
     places: &[[u8; 7]],
     postings: &'a [Posting],

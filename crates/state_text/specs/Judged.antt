@@ -67,7 +67,7 @@ pub record IsOfKey (horizon : ℕ) (key : model.ScheduleKey) (line : List ℕ) :
   pub key_is : schedule_named line ≡ schedule_key key
   pub stays : horizon ≤ readable_end (columns 16 21 line)
 
--- says that the line may begin a schedule with this key: the line is a basic schedule with good
+-- says that the line may begin a schedule with this key. The line is a basic schedule with good
 -- fields, the transaction `N` and this key, and it doesn't end before the horizon
 pub record IsFirstOf (horizon : ℕ) (key : model.ScheduleKey) (line : List ℕ) : Type 0 where
   pub kind : HasKind basic_schedule line
