@@ -135,8 +135,8 @@ judged_ok answer journey lines line has is iff = (
     from None h begins = absurd ((fault_by journey lines line has is h).here begins)
     from (Some next) h begins = iff.1 (λ i. is_some (h i))
 
--- suppose a result is `Ok` if and only if there is a stage after the line, and that otherwise its error is the cause of `cause_by`. Then this error is the
--- cause for which no schedule continues with the line
+-- suppose a result is `Ok` if and only if there is a stage after the line, and that otherwise its error is the cause that `cause_by` gives. Then this error is
+-- the cause for which no schedule continues with the line
 pub judged_err : {A : Type 0} (answer : Result A FileCause) (journey : JourneyState) (lines : Lines) (line : List ℕ) (told : fault.FileCause)
     → HasLines journey lines → IsRecord line
     → IsOk answer ↔ (is_some (next_by journey.stage lines line) ≡ true) → told ≡ cause_by journey.stage line
@@ -252,7 +252,7 @@ falls_in_turn (Some last) None rest = omega arith
 falls_in_turn None (Some time) rest = omega arith
 falls_in_turn (Some last) (Some time) rest = omega arith
 
--- after three optional times, the last time is the last of those that are present, or the earlier last time if none is present
+-- after three optional times, the last time is the last of the times that are present, or the earlier last time if none is present
 pub last_in_turn : (last first second third : Option ℕ) → later_or third (later_or second (later_or first last)) ≡ later_or
     (last_of (time_list first ++ time_list second ++ time_list third)) last
 last_in_turn last None None None = refl

@@ -166,7 +166,7 @@ none_next names numbers key op none =
     let nowhere = no_calls key op (λ body put. none_some body (sym none ∙ ap body_of put)) in
     nothing_next names numbers (key, op) nowhere.0 nowhere.1
 
--- after appending a piece without numbers, a row whose key isn't put is noted
+-- after a piece without numbers is appended, a row whose op isn't a put is noted
 pub none_row : (old new : Notes) (piece : Piece) → old.names.list.items ≡ new.names.list.items → old.numbers.items ≡ new.numbers.items → piece ≡ no_piece
     → new.pieces.items ≡ old.pieces.items ++ piece ∷ [] → (items : List Item) (key : Key) (op : Op) → body_of op ≡ None → HasNoted items old
     → HasNoted (items ++ (key, op) ∷ []) new
@@ -320,7 +320,7 @@ none_before all notes none =
       whole = ap (λ (items : List Item). items ++ all) front;
     }
 
--- after noting the first of the remaining rows, the notes are of all rows before those that still remain
+-- after noting the first of the remaining rows, the notes are of all rows before the rows that still remain
 pub one_noted : (all rest behind : List Item) (item : Item) (old new : Notes) → rest ≡ item ∷ behind
     → ((items : List Item) → HasNoted items old → HasNoted (items ++ item ∷ []) new) → AreNotedBefore all rest old → AreNotedBefore all behind new
 one_noted all rest behind item old new rest_is noted before =

@@ -23,9 +23,9 @@ stage_meant AfterDetails = after_details
 stage_meant InJourney = in_journey
 stage_meant AfterJourney = after_journey
 
--- What the reader remembers: its stage, how often the schedule has passed midnight, and the last
--- time. It also remembers whether the schedule is a deletion, and whether it may end without a
--- journey.
+-- What the reader remembers: the stage, how often the schedule has passed midnight, and the last
+-- time. The reader also remembers whether the schedule is a deletion, and whether the schedule may
+-- end without a journey.
 pub record JourneyState : Type 0 where
   pub stage : Option place.Stage
   pub deletion : Bool

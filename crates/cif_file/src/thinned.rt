@@ -90,7 +90,7 @@ impl Thinned {
     }
 
     /// Receives a change after which the docker needs nothing of the schedule's key. If an earlier
-    /// change of this key was kept, a deletion is kept. Otherwise nothing is kept.
+    /// change to this key was kept, a deletion is kept. Otherwise nothing is kept.
     fn delete(&mut self, number: u32, key: Key) -> Result<(), AllocError>
         ensures { OnOk result ((place : List ℕ) (day : ℕ) (whole : model.Change)
             → whole.number ≡ number → whole.key ≡ key_meant key

@@ -50,7 +50,7 @@ from_far (x ∷ xs) far = (
   from_far xs (λ i j d before within. far (suc i) (suc j) d (omega arith) (omega arith)),
 )
 
--- in a list that is sorted by the library's definition, no row is greater than a later one
+-- in a list that is sorted by the library's definition, no row is greater than a later row
 pub rows_sorted : (xs : List (Key × Entry)) → IsSorted by_entry xs → AreSorted xs
 rows_sorted xs up = from_far xs
     (λ i j d before within. sorted_far (λ x y. is_lt (by_entry x y)) (ranks_by by_entry_total (λ m. m)) xs up i j d (omega arith) within)

@@ -68,7 +68,7 @@ impl Model for State {
 
 impl State {
     /// Makes a state from a horizon, ledger items, rows and, if there is one, the index of these
-    /// rows. Together they must be a valid state. 0 means that there is no horizon.
+    /// rows. Together they must be a valid state. The horizon 0 means that no horizon was set.
     pub(crate) fn of_rows(
         horizon: u16,
         ledger: Vec<LedgerItem>,

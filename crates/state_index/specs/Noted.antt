@@ -15,7 +15,7 @@ posting_of ranks at number = record { place = get_or ranks number 0; at = at }
 abbrev pub row_before : ℕ → List Piece → ℕ
 row_before rows left = rows - length left - 1
 
--- the postings of the rows whose pieces remain, given how many rows there are
+-- the postings of the rows whose pieces remain, given the number of rows
 abbrev pub noted_postings : Bool → List ℕ → List ℕ → ℕ → List Piece → List Posting
 noted_postings links ranks numbers rows [] = []
 noted_postings links ranks numbers rows (piece ∷ pieces) =

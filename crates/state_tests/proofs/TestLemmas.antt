@@ -1,5 +1,4 @@
--- Adding the parts of a state with one ledger item and one entry: first the item, and then the
--- entry.
+-- Lemmas on adding the parts of a state with one ledger item and one entry: first the item, and then the entry.
 use Rattle.std.proofs.Common.{◌≡◌, List, [], ◌∷◌, ◌++◌, map, length, get_or, ap, sym, ◌∙◌, subst, arith}
 use Rattle.docker_model.specs.state.Stamp as stamps
 use Rattle.docker_model.specs.state.State.{State, IsLedger, IsValid, IsGoodEntry}

@@ -85,7 +85,7 @@ module _ {S A E : Type 0} (taken : S → Told) (failures : S → ℕ) where
   flush_gives old new held holds (Err failed) part empty =
       (subst (λ xs. TakesPart (taken old) xs (taken new)) (sym (append-nil held)) part.0, part.1)
 
-  -- if a piece was gathered and the next one is written, the concatenation of both is written
+  -- if a piece was gathered and the next piece is written, the concatenation of both is written
   pub then_gives : (old mid new : S) (b p d q h : List ℕ) (result : Result A E) → Gathers (taken old) b p (taken mid) d
       → failures mid ≡ failures old → Gives taken failures mid d q result new h → Gives taken failures old b (p ++ q) result new h
   then_gives old mid new b p d q h (Ok done) first same second =

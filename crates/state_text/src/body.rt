@@ -127,7 +127,7 @@ pub(crate) fn is_first_of(key: &ScheduleKey, horizon: u16, line: &Line) -> bool
     stays(line, SCHEDULE_END_AT, horizon)
 }
 
-/// Whether a line has the transaction `N` and this schedule key, with a first day that can be read.
+/// Whether a line has the transaction `N`, this schedule key, and a first day that can be read.
 fn is_new_schedule(key: &ScheduleKey, line: &Line) -> bool
     ensures { IsTrue result ↔ (HasNewTransaction line.now
         × IsTrue (is_date (columns 10 15 line.now))
