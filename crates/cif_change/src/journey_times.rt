@@ -36,7 +36,7 @@ impl Clock {
         }
     }
 
-    /// The clock after one more time, or the unchanged clock for `None`. A time below the last one
+    /// The clock after one more time, or the unchanged clock for `None`. A time below the last time
     /// means that midnight has been passed. There is no branch on whether there is a time: calls
     /// and passes follow each other so irregularly that the processor couldn't predict such a
     /// branch.
@@ -64,7 +64,7 @@ impl Clock {
     }
 }
 
-/// Whether both times are given and the next one is below the last one, which means that midnight
+/// Whether both times are given and the next time is below the last time, which means that midnight
 /// has been passed.
 fn is_fall(last: &Option<Time>, next: &Option<Time>) -> bool
     ensures { falls_after last.now (time_list next.now) ≡ (if result then 1 else 0) }

@@ -90,7 +90,7 @@ changes_anew records line stops =
 
 -- ---- lists of records
 
--- adding records after the first one doesn't change the header
+-- adding records after the first record doesn't change the header
 header_stays : (records more : Lines) → 0 < length records → header_of (records ++ more) ≡ header_of records
 header_stays [] more some = absurd (omega arith)
 header_stays (first ∷ records) more some = refl

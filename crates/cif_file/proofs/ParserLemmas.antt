@@ -629,7 +629,7 @@ pub last_open : {K : Type 0} (keeps : Keeps K) (wants : Type 0) (reading : FileR
 last_open keeps wants reading line fault some told =
     λ _ limit text is. (told limit (complete_lines text) is.counted).number ∙ sym (length_at_end text (some_is_open keeps reading limit text is some))
 
--- a fault after all complete lines that the parser has read is after those that it was fed
+-- a fault that comes after all complete lines that the parser has read comes after all complete lines that it was fed
 pub names_later : (parser : ParserState) (reading : FileReading FileSoFar) (fault : FileFault) → parser.fault ≡ None → parser.reading ≡ reading
     → IsLater KeepsAll ⊤ reading fault
     → NamesLater parser fault

@@ -18,7 +18,7 @@ module _ (left right : List LedgerItem) where
       by (inl here) = one item here full
       by (inr here) = other item here full
 
-  -- if only the first ledger has a full extract, the floor of both is the first one's
+  -- if only the first ledger has a full extract, the floor of both ledgers together is the floor of the first
   pub left_full : (stamp : stamps.FileStamp) → IsGreatestFull left stamp → HasNoFull right → IsGreatestFull (left ++ right) stamp
   left_full stamp one other = record {
     full = one.full;

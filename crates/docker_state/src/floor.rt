@@ -29,7 +29,7 @@ pub(crate) fn floor_of(items: &[LedgerItem]) -> Option<FileStamp>
     }
 }
 
-/// The floor of two ledgers together, given the floor of each: the greater one.
+/// The floor of two ledgers together, given the floor of each: the greater of the two floors.
 pub(crate) fn common_floor(first: Option<FileStamp>, second: Option<FileStamp>) -> Option<FileStamp>
     ensures { (left right : _) → IsFloor left (floor_meant first)
         → IsFloor right (floor_meant second) → IsFloor (left ++ right) (floor_meant result) }

@@ -87,7 +87,7 @@ fn is_kept_item(floor: &Option<FileStamp>, item: &LedgerItem) -> bool
     is_kept(floor, &item.stamp())
 }
 
-/// Whether a ledger has all of these items, apart from those that the floor doesn't keep.
+/// Whether a ledger has all of these items, apart from the items that the floor doesn't keep.
 pub(crate) fn has_kept_items(
     ledger: &[LedgerItem],
     items: &[LedgerItem],

@@ -196,9 +196,9 @@ impl State {
         Ok(State::of_rows(0, ledger, rows, None))
     }
 
-    /// The state, with its index, that changes of the file with this ledger item make. If there are
-    /// more than 4,294,967,295 changes or places, which are numbered in 32 bits, the parts are also
-    /// returned.
+    /// The state, with its index, that these changes make, for the file with this ledger item. If
+    /// memory runs out, the parts are returned unchanged. They are also returned if there are more
+    /// than 4,294,967,295 changes or places, which are numbered in 32 bits.
     fn of_noted_changes(
         alloc: Global,
         item: LedgerItem,
@@ -459,7 +459,7 @@ impl State {
     }
 
     /// The join of any two states. The rows of the shorter table are placed among the rows of the
-    /// longer one.
+    /// longer table.
     fn join_into_longer(self, alloc: Global, other: State) -> Result<State, (State, State)>
         ensures ok { IfOk result (IsJoin self other) }
         ensures err { IfErr result (λ both. (both.0 ≡ self) × (both.1 ≡ other)) }

@@ -104,7 +104,7 @@ behind_ascends (posting ∷ postings) (suc n) up = behind_ascends postings n up.
 abbrev pub is_before : ℕ → Posting → Bool
 is_before place posting = is_lt (nat_cmp posting.place place)
 
--- whether the index of a posting's place is a given index or a lower one
+-- whether the index of a posting's place is at most a given index
 abbrev pub is_up_to : ℕ → Posting → Bool
 is_up_to place posting = is_le (nat_cmp posting.place place)
 

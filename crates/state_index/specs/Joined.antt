@@ -77,7 +77,8 @@ pub record AreMoves (first second joined : List (model.Key × ops.Entry)) (moves
   pub calls : HasMovedSpots call_places first second joined moves
   pub links : HasMovedSpots link_places first second joined moves
 
--- Says that there is no move yet, and room for the moves of this many rows of each table.
+-- Says that there is no move yet, and that there is room for the moves of this many rows of each
+-- table.
 pub record HasRows (first second : ℕ) (moves : Moves) : Type 0 where
   pub first_none : moves.first.items ≡ []
   pub first_empty : vec_len moves.first ≡ 0

@@ -39,7 +39,7 @@ one_line_more state key [] line are first begin = let told = first refl in (reco
 one_line_more state key (basic ∷ lines) line (inl none) first begin = cc
 one_line_more state key (basic ∷ lines) line (inr are) first begin = (record { begin = begin; new = are.0.new; key_is = are.0.key_is }, are.1)
 
--- if no line follows the next one, the next line is the last of `count`
+-- if no line follows the next line, the next line is the last of `count`
 pub no_more : (more : Bool) (n count : ℕ) → (IsTrue more ↔ (n + 1 < count)) → n < count → more ≡ false → n + 1 ≡ count
 no_more more n count tells few none = by (cases_lt (n + 1) count)
   where
@@ -64,7 +64,7 @@ begin_up_to count lines line more tells begin (inl is) = record
     { begin = begin; complete = λ all. let size = length-append lines (line ∷ []) in let below = tells.0 is in absurd (omega arith) }
 begin_up_to count lines line more tells begin (inr whole) = record { begin = begin; complete = λ all. whole }
 
--- if more lines follow, a line may come next if some schedule begins with the lines and this one
+-- if more lines follow, a line may come next if some schedule begins with the lines followed by this line
 pub more_up_to : (count : ℕ) (lines : Lines) (line : List ℕ) → length lines + 1 < count → BeginsSchedule (lines ++ line ∷ [])
     → BeginUpTo count (lines ++ line ∷ [])
 more_up_to count lines line more begin = record { begin = begin; complete = λ all. let size = length-append lines (line ∷ []) in absurd (omega arith) }

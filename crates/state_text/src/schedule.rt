@@ -125,7 +125,7 @@ impl Gathered {
     }
 
     /// Returns the lines in memory of just their size. They are copied only if the buffer's memory
-    /// is larger than that.
+    /// is larger than the lines need.
     pub(crate) fn take_body(&mut self, alloc: Global) -> Result<Lines, AllocError>
         ensures { IfOk result (λ lines. lines ≡ self.old) }
     {

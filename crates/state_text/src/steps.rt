@@ -350,7 +350,7 @@ fn after_last_line<K: Keeper>(
 }
 
 /// Reads the next part and returns the stage after it, or why it can't be read. A line must be the
-/// last line of its schedule: `judged_inner_line` reads the lines before the last one.
+/// last line of its schedule: `judged_inner_line` reads the lines before the last.
 pub fn step<K: Keeper>(
     alloc: Global,
     format: Format,

@@ -1,5 +1,5 @@
-//! Indexes of rows: which rows call or are linked at which places, which postings a lapse removes,
-//! and what the index of a join contains.
+//! Indexes of rows: which schedules call and which associations are linked at which places, which
+//! postings a lapse removes, and what the index of a join contains.
 
 use super::compare::same;
 use cif_file::{AssocKey, Body, Key, Lines, ScheduleKey};
