@@ -4,7 +4,7 @@ use Rattle.docker_model.specs.file.Change.{Change, changes}
 use Rattle.docker_model.specs.file.File.{IsFile, most_records}
 
 -- a CIF file that was read: the line of its header, the number of its records, and the changes that
--- they make
+-- the records make
 pub record FileRead : Type 0 where
   pub header_line : List ℕ
   pub record_count : ℕ

@@ -32,7 +32,7 @@ change_renewed opened lines = record {
   act = if (progress_meant opened.progress).deletion then delete else put (schedule_body lines);
 }
 
--- the change of a schedule with these lines, as they are in the file
+-- the change of a schedule whose lines in the file are these lines
 abbrev pub change_opened : Opened → Lines → Change
 change_opened opened lines = change_renewed opened (with_new_first lines)
 

@@ -136,7 +136,7 @@ abbrev pub IsCauseSoFar : ℕ → List ℕ → ℕ → Option model.FileCause �
 IsCauseSoFar limit text number None = WantsMemoryAt limit (complete_lines text) number
 IsCauseSoFar limit text number (Some cause) = IsFaultSoFar limit text (record { number = number; cause = cause })
 
--- Like `IsCauseSoFar`, for a fault as the code returns it.
+-- Like `IsCauseSoFar`, but for a fault in the code's type.
 abbrev pub IsFaultReported : ℕ → List ℕ → FileFault → Type 0
 IsFaultReported limit text fault = IsCauseSoFar limit text fault.number (cause_meant fault.cause)
 
@@ -146,7 +146,7 @@ abbrev pub IsCauseOf : ℕ → List ℕ → ℕ → Option model.FileCause → T
 IsCauseOf limit text number None = WantsMemoryAt limit (lines_of text) number
 IsCauseOf limit text number (Some cause) = IsFileFault limit text (record { number = number; cause = cause })
 
--- Like `IsCauseOf`, for a fault as the code returns it.
+-- Like `IsCauseOf`, but for a fault in the code's type.
 abbrev pub IsRefused : ℕ → List ℕ → FileFault → Type 0
 IsRefused limit text fault = IsCauseOf limit text fault.number (cause_meant fault.cause)
 
@@ -161,11 +161,12 @@ abbrev pub IsReadingOrFault : FileReading FileSoFar → ℕ → List ℕ → Opt
 IsReadingOrFault reading limit text None = IsReading KeepsAll reading limit text
 IsReadingOrFault reading limit text (Some fault) = IsFaultReported limit text fault
 
--- Says that the parser may have been fed this text, under this limit on records.
+-- Says that the parser may have this limit on records and may have been fed this text.
 abbrev pub HasRead : ParserState → ℕ → List ℕ → Type 0
 HasRead parser limit text = IsReadingOrFault parser.reading limit text parser.fault
 
--- Says that the parser may have been fed some text, under some limit on records.
+-- Says that, for some limit and some text, the parser may have this limit on records and may have
+-- been fed this text.
 pub record WasFed (parser : ParserState) : Type 0 where
   pub limit : ℕ
   pub text : List ℕ

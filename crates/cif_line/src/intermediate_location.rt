@@ -45,7 +45,8 @@ impl<'a> Model for Call<'a> {
 impl<'a> Call<'a> {
     ghost use Rattle.cif_line.specs.CallRead.{AreTimesOf};
 
-    /// Makes a view of a line whose fields have already been checked, with its scheduled times.
+    /// Makes a view of a line whose fields have already been checked. `times` are the line's
+    /// scheduled times.
     pub(crate) fn of(line: &'a Line, times: CallTimes) -> Call<'a>
         requires good { IsGood intermediate_location line.now }
         requires times { AreTimesOf line.now times }

@@ -35,7 +35,8 @@ impl<'a> Model for Origin<'a> {
 
 #[tactic(auto, using(crate::proofs::GoodFields::origin_fields))]
 impl<'a> Origin<'a> {
-    /// Makes a view of a line whose fields have already been checked, with its scheduled departure.
+    /// Makes a view of a line whose fields have already been checked. `departure` is the line's
+    /// scheduled departure.
     pub(crate) fn of(line: &'a Line, departure: Time) -> Origin<'a>
         requires good { IsGood origin_location line.now }
         requires time { departure ≡ half_minutes (columns 11 15 line.now) }

@@ -222,7 +222,7 @@ fn good_end_time(line: &Line) -> Option<Time>
     }
 }
 
-/// The first column of the leftmost bad field in an origin or a terminus, for a line that has a bad
+/// The first column of the leftmost bad field in an origin or a terminus. The line must have a bad
 /// field.
 #[cold]
 fn end_fault(line: &Line) -> u8
@@ -270,8 +270,8 @@ fn good_call_times(line: &Line) -> Option<CallTimes>
     })
 }
 
-/// The first column of the leftmost bad field in an intermediate location, for a line that has a
-/// bad field.
+/// The first column of the leftmost bad field in an intermediate location. The line must have a bad
+/// field.
 #[cold]
 fn call_fault(line: &Line) -> u8
     requires bad { ¬ (bad_field_of intermediate_location line.now ≡ None) }

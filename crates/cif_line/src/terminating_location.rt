@@ -35,7 +35,8 @@ impl<'a> Model for Terminus<'a> {
 
 #[tactic(auto, using(crate::proofs::GoodFields::terminus_fields))]
 impl<'a> Terminus<'a> {
-    /// Makes a view of a line whose fields have already been checked, with its scheduled arrival.
+    /// Makes a view of a line whose fields have already been checked. `arrival` is the line's
+    /// scheduled arrival.
     pub(crate) fn of(line: &'a Line, arrival: Time) -> Terminus<'a>
         requires good { IsGood terminating_location line.now }
         requires time { arrival ≡ half_minutes (columns 11 15 line.now) }

@@ -203,7 +203,7 @@ valid_of_made item all lines item_is all_is is_file few state is =
     (subst (λ (i : stamps.LedgerItem). IsMadeState i (changes lines) state) item_is (subst (λ (a : List model.Change). IsMadeState item a state) all_is is))
     is_file few
 
--- the state that the kept changes of a file make is a state of these changes, as `IsStateOfChanges` says
+-- the state that the kept changes of a file make satisfies `IsStateOfChanges`
 pub kept_state : (item : stamps.LedgerItem) (kept : List model.Change) (lines : List (List ℕ)) (state : State) → item ≡ ledger_item_of lines
     → IsMadeState item kept state → IsStateOfChanges lines kept state
 kept_state item kept lines state item_is is =

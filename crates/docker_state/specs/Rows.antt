@@ -57,7 +57,7 @@ abbrev pub last_made_or : Made → List Made → List Made → List Made
 last_made_or made [] rest = made ∷ rest
 last_made_or made (next ∷ more) rest = if is_made_of_key (Some next) (key_meant made.0.0) then rest else made ∷ rest
 
--- the last row of each run of rows with the same key, with its number
+-- for each run of rows with the same key, the last row with its number
 abbrev pub last_made : List Made → List Made
 last_made [] = []
 last_made (made ∷ more) = last_made_or made more (last_made more)

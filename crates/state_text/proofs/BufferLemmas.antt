@@ -1,4 +1,4 @@
--- Pieces that are written to a sink through a buffer, one after the other.
+-- Lemmas on pieces that are written, one after the other, to a sink through a buffer.
 use Rattle.std.proofs.Common.{◌≡◌, ℕ, suc, ◌+◌, ◌<◌, ◌≤◌, List, [], ◌∷◌, ◌++◌, length, take, drop, get_or, map, refl, ap, sym, ◌∙◌}
 use Rattle.std.proofs.Common.{subst, arith, append_assoc, append-nil, length-append, Some, None, Ok, Err, Result}
 use Rattle.std.specs.Prelude.{Option, IsErr, IsErrAnd, OnOk, OnErr}

@@ -126,7 +126,7 @@ fn endless_fails(
     same(rt, found, Some(ReadFault::File(fault)));
 }
 
-/// Like `endless_fails`, in pieces of several lengths.
+/// Like `endless_fails`, but reads the source in pieces of several lengths.
 fn check_endless(
     rt: &impl Abort,
     alloc: Global,
