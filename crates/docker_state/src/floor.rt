@@ -17,8 +17,9 @@ fn first_full(items: &[LedgerItem]) -> Option<&LedgerItem>
     items.iter().find(|item| item.is_full())
 }
 
-/// The floor of a ledger: the stamp of its first full extract. This is the newest, since a ledger
-/// has no items below its floor. Returns `None` if there is no full extract.
+/// The floor of a ledger: the stamp of its first full extract. This extract is the newest full
+/// extract, since a ledger has no items below its floor. Returns `None` if there is no full
+/// extract.
 pub(crate) fn floor_of(items: &[LedgerItem]) -> Option<FileStamp>
     requires { IsLedger (map item_meant items.now) }
     ensures { IsFloor (map item_meant items.now) (floor_meant result) }

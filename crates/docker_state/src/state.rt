@@ -44,7 +44,7 @@ use std::marker::Model;
 
 /// The state of a set of files, from the newest full extract on: the ledger of the known files, and
 /// the greatest entry of each key. A state is always valid. Its rows may have an index by place.
-/// Without one, the rows at a place are found by a walk over all rows.
+/// Without an index, the rows at a place are found by a walk over all rows.
 #[derive(Debug, Drop)]
 pub struct State {
     horizon: u16,

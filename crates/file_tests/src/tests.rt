@@ -96,7 +96,7 @@ fn check_lines(rt: &impl Abort, act: &Act) {
     same(rt, lines.as_slice(), wanted.as_slice());
 }
 
-/// Reads a text in pieces of `step` bytes. Returns its fault, or None.
+/// Reads a text in pieces of `step` bytes. Returns the text's fault, or `None` if it has none.
 fn fault_by(alloc: Global, text: &[u8], step: usize) -> Option<FileFault>
     requires { 0 < step }
 {
@@ -109,7 +109,8 @@ fn fault_by(alloc: Global, text: &[u8], step: usize) -> Option<FileFault>
     parser.finish().err()
 }
 
-/// Checks a text from a source with `judge_file`. Returns why the text is refused, or None.
+/// Checks a text from a source with `judge_file`. Returns why the text is refused, or `None` if it
+/// is accepted.
 fn judged_fault(alloc: Global, text: &[u8]) -> Option<ReadFault> {
     let mut source = Bytes::new(text, 7);
     judge_file(alloc, &mut source, 1000).err()
@@ -226,7 +227,7 @@ fn changes_stand_at(rt: &impl Abort, alloc: Global, records: &[&[u8]], numbers: 
     }
 }
 
-/// A change that deletes this key, made by the second record.
+/// The change with which the second record deletes this key.
 fn deletion(key: &Key) -> Change {
     Change {
         number: 2,
@@ -235,7 +236,7 @@ fn deletion(key: &Key) -> Change {
     }
 }
 
-/// A change that puts this body at a timing point, made by the second record.
+/// The change with which the second record puts this body at a timing point.
 fn put(key: &Key, body: [u8; 63]) -> Change {
     Change {
         number: 2,

@@ -1,4 +1,4 @@
-//! Joins records to the text of a file.
+//! Joins records into the text of a file.
 ghost use Rattle.std.specs.Prelude.{◌≡◌, ◌++◌, IfOk};
 ghost use Rattle.std.specs.List.{flat_map};
 
