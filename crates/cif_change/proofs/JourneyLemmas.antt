@@ -331,7 +331,7 @@ sound_goes_on journey lines line stage next more later has is at kept after fiel
       last_is = λ _. last ∙ (λ i. later_or (last_of (times_along (line ∷ []))) (has.last_is kept i)) ∙ sym (last_time_step lines line);
     }
 
--- the midnights passed by three optional times are the sum of the counts for each time in turn
+-- the number of midnights passed by three optional times is the sum of the counts for each time in turn
 pub falls_of_three : (falls : ℕ) (last first second third : Option ℕ)
     → ((falls + falls_after last (time_list first)) + falls_after (later_or first last) (time_list second)) + falls_after
     (later_or second (later_or first last)) (time_list third)

@@ -1,5 +1,5 @@
-//! Readers of records. A reader returns a view of the line if its checked fields are good.
-//! Otherwise it returns the first column of the leftmost bad field.
+//! Readers of records. A reader returns a view of the line if the line's checked fields are good.
+//! Otherwise the reader returns the first column of the leftmost bad field.
 ghost use Rattle.std.specs.Prelude.{◌≡◌, ◌↔◌, IsOk, IfOk, IfErr, IsSome, IfSome, Some, None};
 ghost use Rattle.docker_model.specs.records.Clock.{half_minutes};
 ghost use Rattle.docker_model.specs.records.Record.{HasKind, columns, header, association, basic_schedule, origin_location};

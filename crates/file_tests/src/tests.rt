@@ -448,8 +448,8 @@ fn memory_fault_from(
     }
 }
 
-/// Ends the input. Returns the file, or None if memory ran out: earlier, as `wanting` says, or now,
-/// at the record with this number. Asserts that `finish` returns this fault.
+/// Ends the input. Returns the file, or `None` if memory ran out. Asserts that the fault is
+/// `wanting` if memory ran out earlier, and otherwise out of memory at the record with this number.
 fn file_at_end(
     rt: &impl Abort,
     parser: FileParser,
@@ -469,9 +469,10 @@ fn file_at_end(
     }
 }
 
-/// Feeds a parser these records one by one, with line feeds between them. Returns the file, or None
-/// if memory runs out. Asserts that this is reported at the line feed of the record that needed the
-/// memory, or at the end for the last record, and again by each later call.
+/// Feeds a parser these records one by one, with line feeds between them. Returns the file, or
+/// `None` if memory runs out. Asserts that running out of memory is reported at the line feed of
+/// the record that needed the memory, or at the end for the last record, and again by each later
+/// call.
 fn file_or_out_of_memory(
     rt: &impl Abort,
     alloc: Global,

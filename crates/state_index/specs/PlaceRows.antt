@@ -1,4 +1,4 @@
--- The live rows of spots and postings.
+-- The live rows at the indexes that spots and postings give.
 use Rattle.std.specs.Prelude.{◌≡◌, ℕ, Bool, false, List, ◌++◌, map, Contains, Option, Some, None, slice_get, option_and_then}
 use Rattle.std.specs.List.{filter_map}
 use Rattle.std.specs.Option.{is_some}
