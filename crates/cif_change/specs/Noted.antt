@@ -50,7 +50,7 @@ AreNoted names numbers [] (piece ∷ pieces) = ⊥
 AreNoted names numbers (item ∷ items) [] = ⊥
 AreNoted names numbers (item ∷ items) (piece ∷ pieces) = IsNoted names numbers item piece × AreNoted names numbers items pieces
 
--- how many numbers some pieces have in total
+-- how many numbers a list of pieces has in total
 abbrev pub numbers_in : List Piece → ℕ
 numbers_in [] = 0
 numbers_in (piece ∷ pieces) = piece.count + numbers_in pieces

@@ -520,7 +520,7 @@ no_place (in_schedule stage lines) line =
     ∙ none_of (may_end stage lines) None refl
 no_place after_end line = refl
 
--- a record of no kind may not come next
+-- a line that doesn't begin with the identity of a kind of record may not come next
 pub no_kind : {K : Type 0} (keeps : Keeps K) (front : Front K) (records : Lines) (line : List ℕ) → HasRecords keeps front records → ¬ IsFile records
     → IsRecord line → kind_of line ≡ None
     → IsNoNext records line bad_kind

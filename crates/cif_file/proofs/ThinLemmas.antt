@@ -33,7 +33,7 @@ use Rattle.cif_file.specs.ThinKept.{has_key, HasKeysOf, HasThinned, Thins, Thins
 abbrev Lines : Type 0
 Lines = List (List ℕ)
 
--- the order of keys, for keys of the code
+-- the definitions' order of keys, applied to keys of the code
 abbrev cmp : Key → Key → Ordering
 cmp = on key_meant key_cmp
 

@@ -49,7 +49,7 @@ pub(crate) fn changes_of(number: u32, single: &Single<'_>) -> SingleChanges
     }
 }
 
-/// The changes of a record that makes only one.
+/// The changes of a record that makes only one change.
 fn by_itself(change: Change) -> SingleChanges
     ensures { result ≡ record { first = None; last = change } }
 {

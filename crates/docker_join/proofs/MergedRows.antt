@@ -82,7 +82,7 @@ module _ {E : Type 0} (picked : E → E → E) where
   walk_ascends [] ys up_x up_y = up_y
   walk_ascends (x ∷ xs) ys up_x up_y = from_ascends x xs up_x (λ zs up. walk_ascends xs zs up_x.1 up) ys up_y
 
-  -- the values of two tables at a key, joined
+  -- the joined value of two tables at a key
   abbrev Both : List (Key × E) → List (Key × E) → model.Key → Option E
   Both xs ys key = picked_value picked (value_at xs key) (value_at ys key)
 

@@ -128,7 +128,7 @@ impl State {
         ensures err { IfErr result (λ back. back ≡ file) }
     {
         let item = item_of(&file.header());
-        // Called for its contract: the file was read.
+        // Called for its contract, which says that the file was read.
         let _records = file.records();
         match State::of_changes(alloc, item, file.into_parts()) {
             Ok(state) => Ok(state),

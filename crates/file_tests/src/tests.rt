@@ -471,8 +471,8 @@ fn file_at_end(
 
 /// Feeds a parser these records one by one, with line feeds between them. Returns the file, or
 /// `None` if memory runs out. Asserts that running out of memory is reported at the line feed of
-/// the record that needed the memory, or at the end for the last record, and again by each later
-/// call.
+/// the record that needed the memory, or at the end for the last record. Each later call must
+/// report it again.
 fn file_or_out_of_memory(
     rt: &impl Abort,
     alloc: Global,

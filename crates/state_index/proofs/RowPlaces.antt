@@ -89,7 +89,7 @@ pub link_forth : (key : AssociationKey) (line : List ℕ) (place : List ℕ) →
     → Contains (link_places (association_key key) (put_with (association_body line))) place
 link_forth key line place here = single-Contains key.location place here
 
--- a row whose op isn't a put calls nowhere
+-- a row whose op isn't a put has no calls
 pub no_calls : (key : Key) (op : Op) → is_put op ≡ false → call_places key op ≡ []
 no_calls (schedule_key key) deleted none = refl
 no_calls (schedule_key key) lapsed none = refl

@@ -21,7 +21,7 @@ use Rattle.state_index.specs.Turns.{turns_from, turns_of, wins, goes, after, fir
 abbrev pub Row : Type 0
 Row = Key × Entry
 
--- the greater of two entries, which wins
+-- the greater of two entries, which is the winner
 abbrev pub picked : Entry → Entry → Entry
 picked = ord_max (on entry_meant entry_cmp)
 
