@@ -75,7 +75,8 @@ fn is_fall(last: &Option<Time>, next: &Option<Time>) -> bool
     }
 }
 
-/// The scheduled times of any line after the basic schedule. The error is its leftmost bad field.
+/// The scheduled times of any line after the basic schedule. The error is the line's leftmost bad
+/// field.
 pub(crate) fn times_at(kind: Kind, line: &Line) -> Result<LineTimes, FieldFault>
     requires kind { HasKind (meaning kind) line.now }
     requires follows { follows_basic (Some (meaning kind)) ≡ true }
@@ -110,8 +111,8 @@ fn origin_times(line: &Line) -> Result<LineTimes, FieldFault>
     })
 }
 
-/// The times of an intermediate location: its arrival, pass and departure, each only if it is
-/// given. The error is the leftmost bad field.
+/// The times of an intermediate location: its arrival, pass and departure. A time that isn't given
+/// is left out. The error is the leftmost bad field.
 fn call_times(line: &Line) -> Result<LineTimes, FieldFault>
     requires kind { HasKind intermediate_location line.now }
     ensures ok { IsOk result ↔ HasGoodFields line.now }

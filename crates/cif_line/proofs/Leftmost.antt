@@ -20,8 +20,7 @@ by_kind : (kind : Kind) (line : List ℕ) → HasKind kind line → leftmost_bad
 unfolding first_bad
 by_kind kind line is = ap (λ k. first_bad line (fields_of k line)) is
 
--- if one field is bad, and all fields before it in the list are good, the first bad field is this
--- one
+-- if one field is bad, and all fields before it in the list are good, this field is the first bad field
 pub behind_good : (line : List ℕ) (before : List CheckedField) (field : CheckedField) (after : List CheckedField)
     → AllByRecursion (IsGoodIn line) before → field.is_good (columns field.first field.last line) ≡ false
     → first_bad line (before ++ field ∷ after) ≡ Some field.first

@@ -236,7 +236,7 @@ module _ {E : Type 0} (valid : E → Type 0) (picked : E → E → E) (laws : Ar
         (valid_at b (key_meant row.0) good_b))),
   )
 
-  -- the join of valid tables is commutative: it doesn't depend on their order
+  -- the join of valid tables is commutative: it doesn't depend on the order of the tables
   pub joins_commute : (a b c : List (Key × E)) → AreValidRows valid a → AreValidRows valid b → IsJoinOfRows picked a b c → IsJoinOfRows picked b a c
   joins_commute a b c good_a good_b is = record {
     ascends = is.ascends;
