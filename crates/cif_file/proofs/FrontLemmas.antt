@@ -298,7 +298,7 @@ followed opened line BetweenUnits gone = absurd gone
 followed opened line (InSchedule later) gone = record { later = later; place = refl; number = gone.0; named = gone.1; read = gone.2 }
 followed opened line AfterEnd gone = absurd gone
 
--- a line with which the schedule can continue follows directly after the lines already taken
+-- a line with which the schedule can continue may come directly after the lines already taken
 pub stands_before : {K : Type 0} (keeps : Keeps K) (front new : Front K) (opened : Opened) (records : Lines) (line : List ℕ) → HasRecords keeps front records
     → front.stage ≡ InSchedule opened → new.header ≡ front.header → new.keeper ≡ front.keeper → IsRecord line
     → follows_basic (kind_of line) ≡ true → (after : IsFollowed opened line new.stage)

@@ -1,4 +1,5 @@
--- Lemmas on why the changes that are kept are enough for the docker of one place on one day.
+-- Lemmas on why the changes that are kept are enough for the docker of one place on one day. The thin form of a change (`thin_change`) has only what this
+-- docker needs.
 use Rattle.std.proofs.Common.{◌≡◌, ℕ, ◌∙◌, inl, inr, Bool, true, false, cond, List, [], ◌∷◌, ◌++◌}
 use Rattle.std.proofs.Common.{length, subst, refl, ap, sym, Some, None, arith, append_assoc}
 use Rattle.std.specs.Prelude.{Option, Contains, ◌⊎◌, ◌||◌, not}
@@ -139,7 +140,7 @@ module _ (place : List ℕ) (day : ℕ) (opened : Opened) (near : Bool) where
     act_put : (progress_meant opened.progress).deletion ≡ false → (change_opened opened (basic ∷ others)).act ≡ put (schedule_body renewed)
     act_put stays = λ i. cond (stays i) delete (put (schedule_body renewed))
 
-  -- the thin form of a schedule's change is a deletion if the schedule is deleted or doesn't run near the day
+  -- the thin form of a schedule's change is a deletion if the schedule is a deletion or doesn't run near the day
   pub opened_deletes : (lines : Lines) → HasLines (progress_meant opened.progress) lines → IsSchedule lines → IsNearBy day lines near
       → ((progress_meant opened.progress).deletion ≡ true) ⊎ (near ≡ false) → thin_act place day (change_opened opened lines).act ≡ delete
   opened_deletes lines read whole is (inl deletion) = deletes_itself lines deletion
@@ -152,7 +153,7 @@ module _ (place : List ℕ) (day : ℕ) (opened : Opened) (near : Bool) where
           ap (thin_act place day) (act_put basic others is h)
           ∙ act_far place day (renewed basic others is) (near_renewed basic others is (sym read.deletion_is ∙ h) ∙ far)
 
-  -- if a schedule isn't deleted and runs near the day, the thin form of its change puts only the lines that the place needs
+  -- if a schedule isn't a deletion and runs near the day, the thin form of its change puts only the lines that the place needs
   pub opened_puts : (lines : Lines) → HasLines (progress_meant opened.progress) lines → IsSchedule lines → IsNearBy day lines near
       → (progress_meant opened.progress).deletion ≡ false → near ≡ true
       → thin_act place day (change_opened opened lines).act ≡ put (schedule_body (lines_for place (with_new_first lines)))

@@ -48,7 +48,8 @@ impl Thinned {
         self.day
     }
 
-    /// Appends a change that is to be kept, in its thin form, and adds its key to the set.
+    /// Appends a change that is to be kept, and adds its key to the set. The change already has
+    /// only what the docker needs.
     fn keep(&mut self, change: Change) -> Result<(), AllocError>
         ensures { OnOk result ((place : List ℕ) (day : ℕ) (whole : model.Change)
             → may_matter place whole.key ≡ true

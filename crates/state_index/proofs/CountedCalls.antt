@@ -38,7 +38,7 @@ as_many_spots names rank place at (posting ∷ piece) here =
 abbrev IsSeen : List Keyed → Spot → Type 0
 IsSeen rows spot = (row : Row) × (live_at rows spot ≡ Some row)
 
--- if the row of each spot is live, the spots have as many live rows as there are spots
+-- if the row of each spot is live, there are as many live rows for the spots as there are spots
 as_many_rows : (rows : List Keyed) (piece : List Spot) → ((spot : Spot) → Contains piece spot → IsSeen rows spot)
     → length (rows_at_spots rows piece) ≡ length piece
 as_many_rows rows [] seen = refl

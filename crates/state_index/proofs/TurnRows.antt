@@ -1,4 +1,4 @@
--- The turns of a walk over two tables: which rows they have, which rows win, and where the winning rows are in the join.
+-- Lemmas on the turns of a walk over two tables: which rows they have, which rows win, and where the winning rows are in the join.
 use Rattle.std.proofs.Common.{◌≡◌, ℕ, suc, ◌+◌, ◌≤◌, List, [], ◌∷◌, map, length, refl, ap, Bool, true, false, cond, None, arith}
 use Rattle.std.specs.Prelude.{Option, ⊤}
 use Rattle.std.specs.List.{AllByRecursion}
