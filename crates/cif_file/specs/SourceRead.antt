@@ -47,7 +47,7 @@ pub record ReadsEnded {K : Type 0} (keeps : Keeps K) (limit : ℕ) (left : Optio
   pub held : Held left text
   pub of_text : IsEndedText keeps limit text ended
 
--- Says that this is the text's fault, and that its cause isn't out of memory.
+-- Says that this is a fault of the text, with a cause other than `Memory`.
 pub record IsFaultOf (limit : ℕ) (text : List ℕ) (fault : FileFault) : Type 0 where
   pub cause : FileCause
   pub cause_is : cause_meant fault.cause ≡ Some cause

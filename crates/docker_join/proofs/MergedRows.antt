@@ -20,7 +20,7 @@ row_out picked Less x y less equal greater = x ∷ less
 row_out picked Equal x y less equal greater = (x.0, picked x.1 y.1) ∷ equal
 row_out picked Greater x y less equal greater = y ∷ greater
 
--- the walk over a second table and the first table from row `x` on, made of the walk over the rows after `x`
+-- the walk over a second table and over the rows of the first table from `x` on. `rest` is the walk over the rows of the first table after `x`
 abbrev pub walk_from : {E : Type 0} → (E → E → E) → Key × E → (List (Key × E) → List (Key × E)) → List (Key × E) → List (Key × E)
 walk_from picked x rest [] = x ∷ rest []
 walk_from picked x rest (y ∷ ys) = row_out picked (row_cmp x y) x y (rest (y ∷ ys)) (rest ys) (walk_from picked x rest ys)

@@ -1,6 +1,6 @@
 -- The steps of joining two tables: rows are placed from the greatest key to the smallest. The rows
--- of the first table are in a ring buffer (`VecDeque`). Its first rows are the placed rows, and its
--- last rows are still to be placed.
+-- of the first table are in a ring buffer (`VecDeque`). The buffer's first rows are the placed
+-- rows, and its last rows are still to be placed.
 use Rattle.std.specs.Prelude.{◌≡◌, ℕ, ◌+◌, ◌-◌, ◌<◌, ◌≤◌, Bool, true, false, List, Option, Some, None, [], ◌∷◌, ◌++◌, length, take, drop, slice_index_or}
 use Rattle.std.specs.declared.cmp.Ordering.TheVariants.{Equal}
 use Rattle.std.specs.Ordering.{is_eq, is_gt}

@@ -89,7 +89,7 @@ module _ {E : Type 0} where
   row_total : IsTotalOrder (row_cmp {E = E})
   row_total = on_total (λ (row : Key × E). key_meant row.0) key_total
 
-  -- at the key of the first row, the value is the first row's
+  -- at the key of the first row, the value is the first row's value
   pub value_here : (row : Key × E) (rows : List (Key × E)) (key : model.Key) → key_cmp (key_meant row.0) key ≡ Equal → value_at (row ∷ rows) key ≡ Some row.1
   value_here row rows key tied =
       λ i. option_map (λ (r : Key × E). r.1) (cond (is_eq (tied i)) (Some row) (find (λ (r : Key × E). is_eq (key_cmp (key_meant r.0) key)) rows))

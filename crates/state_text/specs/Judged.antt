@@ -40,7 +40,7 @@ IsItemCause ledger item None = ⊥
 IsItemCause ledger item (Some cause) = IsBadItem ledger item cause
 
 -- says what the result of judging a ledger item means. `Ok` gives the item, which may come next.
--- `Err` gives the cause why the item may not come next
+-- `Err` gives the cause for which the item may not come next
 abbrev pub IsJudgedItem : List stamps.LedgerItem → stamps.LedgerItem → Result LedgerItem StateCause → Type 0
 IsJudgedItem ledger item (Ok told) = (item_meant told ≡ item) × MayFollow ledger item
 IsJudgedItem ledger item (Err cause) = IsItemCause ledger item (cause_meant cause)
@@ -52,7 +52,7 @@ IsKeyCause state key None = ⊥
 IsKeyCause state key (Some cause) = IsBadKey state key cause
 
 -- says what the result of judging a key means. `Ok` gives the key, which may come next. `Err` gives
--- the cause why the key may not come next
+-- the cause for which the key may not come next
 abbrev pub IsJudgedKey : State → model.Key → Result Key StateCause → Type 0
 IsJudgedKey state key (Ok told) = (key_meant told ≡ key) × IsGoodKey key × IsAboveEntries state key
 IsJudgedKey state key (Err cause) = IsKeyCause state key (cause_meant cause)
