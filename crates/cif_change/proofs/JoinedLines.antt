@@ -1,4 +1,4 @@
--- Comparing lists of lines by their joined bytes. Equal lines at the front can be skipped.
+-- Lemmas on comparing lists of lines by their joined bytes. Equal lines at the front can be skipped.
 use Rattle.std.proofs.Common.{◌≡◌, ℕ, List, [], ◌∷◌, ◌++◌, refl, ap, sym, ◌∙◌}
 use Rattle.std.specs.List.{concat}
 use Rattle.std.specs.Ordering.{ordering_then}

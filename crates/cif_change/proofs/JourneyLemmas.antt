@@ -1,4 +1,4 @@
--- What the reader of a schedule remembers of the lines it has taken, and why it accepts or refuses the next line.
+-- Lemmas on what the reader of a schedule remembers of the lines it has taken, and why it accepts or refuses the next line.
 use Rattle.std.proofs.Common.{◌≡◌, ℕ, ◌+◌, ◌≤◌, ◌<◌, Bool, true, false, cond, List, [], ◌∷◌, ◌++◌, map}
 use Rattle.std.proofs.Common.{subst, refl, ap, sym, ◌∙◌, Some, None, arith, append-nil, append_assoc}
 use Rattle.std.specs.Prelude.{Option, IsTrue, ◌↔◌, ◌||◌, ◌&&◌, nat_le, is_some, is_none, IsOk, OnOk, IfErr, Result, Ok, Err}
@@ -40,7 +40,7 @@ some_is x y same = cc
 
 -- ---- the end of a schedule
 
--- if some lines may begin a schedule, they are a whole schedule if and only if a schedule may end at the stage after them
+-- lines that may begin a schedule are a whole schedule if and only if a schedule may end at the stage after them
 whole_iff : (lines : Lines) (stage : Stage) → stage_of lines ≡ Some stage → IsSchedule lines ↔ (may_end stage lines ≡ true)
 whole_iff lines stage at = (
   λ is.
@@ -135,8 +135,8 @@ judged_ok answer journey lines line has is iff = (
     from None h begins = absurd ((fault_by journey lines line has is h).here begins)
     from (Some next) h begins = iff.1 (λ i. is_some (h i))
 
--- suppose a result is `Ok` if and only if there is a stage after the line, and that otherwise its error is the cause of `cause_by`. Then this error is the
--- cause for which no schedule continues with the line
+-- suppose a result is `Ok` if and only if there is a stage after the line, and that otherwise its error is the cause that `cause_by` gives. Then this error is
+-- the cause for which no schedule continues with the line
 pub judged_err : {A : Type 0} (answer : Result A FileCause) (journey : JourneyState) (lines : Lines) (line : List ℕ) (told : fault.FileCause)
     → HasLines journey lines → IsRecord line
     → IsOk answer ↔ (is_some (next_by journey.stage lines line) ≡ true) → told ≡ cause_by journey.stage line
@@ -201,7 +201,7 @@ next_cause journey line next led =
 pub iff_along : (P : Type 0) (a b : Bool) → a ≡ b → P ↔ (b ≡ true) → P ↔ (a ≡ true)
 iff_along P a b same iff = (λ p. same ∙ iff.0 p, λ test. iff.1 (sym same ∙ test))
 
--- a line that is no kind of record is refused with the cause `Kind`, whatever lines come before
+-- a line that doesn't begin with the identity of a kind of record is refused with the cause `Kind`, whichever lines precede it
 pub unknown_kind : (journey : JourneyState) (lines : Lines) (line : List ℕ) → HasLines journey lines → IsRecord line → kind_of line ≡ None
     → IsScheduleFault lines line fault.bad_kind
 unknown_kind journey lines line has is none = refused_by journey lines line fault.bad_kind has is (nowhere journey.stage) (cause journey.stage)
@@ -252,7 +252,7 @@ falls_in_turn (Some last) None rest = omega arith
 falls_in_turn None (Some time) rest = omega arith
 falls_in_turn (Some last) (Some time) rest = omega arith
 
--- after three optional times, the last time is the last of those that are present, or the earlier last time if none is present
+-- after three optional times, the last time is the last of the times that are present, or the earlier last time if none is present
 pub last_in_turn : (last first second third : Option ℕ) → later_or third (later_or second (later_or first last)) ≡ later_or
     (last_of (time_list first ++ time_list second ++ time_list third)) last
 last_in_turn last None None None = refl
@@ -331,7 +331,7 @@ sound_goes_on journey lines line stage next more later has is at kept after fiel
       last_is = λ _. last ∙ (λ i. later_or (last_of (times_along (line ∷ []))) (has.last_is kept i)) ∙ sym (last_time_step lines line);
     }
 
--- the midnights passed by three optional times are the sum of the counts for each time in turn
+-- the number of midnights passed by three optional times is the sum of the counts for each time in turn
 pub falls_of_three : (falls : ℕ) (last first second third : Option ℕ)
     → ((falls + falls_after last (time_list first)) + falls_after (later_or first last) (time_list second)) + falls_after
     (later_or second (later_or first last)) (time_list third)
@@ -384,7 +384,7 @@ call_times line first second third is one two three =
 pub first_line_is : (line : List ℕ) → IsRecord line → HasKind basic_schedule line → HasGoodFields line → is_first_line line ≡ true
 first_line_is line is kind fields = (first_line_iff_test line).0 (record { is = is; kind = kind; fields = fields })
 
--- after a basic schedule the reader remembers its stage and flags, no midnight and no last time
+-- after a basic schedule, the reader remembers the stage, the flags of the record, no midnight and no last time
 pub basic_read : (line : List ℕ) (journey : JourneyState) → is_first_line line ≡ true → journey.stage ≡ Some after_basic
     → journey.deletion ≡ is_deletion line → journey.lacking ≡ may_lack line
     → journey.falls ≡ 0 → journey.last ≡ None → HasLines journey (line ∷ [])
@@ -409,7 +409,7 @@ pub deletion_read : (journey : JourneyState) (lines : Lines) (line : List ℕ) (
 deletion_read journey lines line next has is led deletion =
     let on = leads_on journey.stage (kind_of line) next led in deletion_goes_on journey lines line on.here next has is on.at deletion on.after
 
--- Says that these are the times of the line, and that these are the count of midnights and the last time after the line.
+-- Says that a line has these times and that, after the line, `more` is the number of midnights that the schedule has passed and `later` is its last time.
 pub record IsTimed (journey : JourneyState) (line : List ℕ) (first second third : Option ℕ) (more : ℕ) (later : Option ℕ) : Type 0 where
   pub times : map (λ (time : Occasion × ℕ). time.1) (times_of line) ≡ time_list first ++ time_list second ++ time_list third
   pub falls : more ≡ journey.falls + falls_after journey.last (time_list first ++ time_list second ++ time_list third)
@@ -455,12 +455,12 @@ sound_read journey lines line next first second third more later has is led kept
 
 -- ---- the result of taking a line
 
--- what is promised for an `Ok` result holds if the result is `Ok`
+-- if a fact holds whenever the result is `Ok`, and the result is `Ok`, the fact holds
 pub of_ok : {A E P : Type 0} (answer : Result A E) → OnOk answer P → IsOk answer → P
 of_ok (Ok value) holds is = holds
 of_ok (Err cause) holds is = absurd (false≢true is)
 
--- a cause that is right whatever lines the reader may have taken satisfies `FaultsLine`
+-- a cause that is right whichever lines the reader may have taken satisfies `FaultsLine`
 pub faults_line : {A : Type 0} (answer : Result A FileCause) (journey : JourneyState) (line : List ℕ)
     → ((lines : Lines) → HasLines journey lines → IfErr answer (λ cause. IsScheduleCause lines line (cause_meant cause)))
     → IfErr answer (FaultsLine journey line)

@@ -20,7 +20,7 @@ none_some a h = cc
 some_is : {A : Type 0} (a b : A) → Some a ≡ Some b → a ≡ b
 some_is a b h = cc
 
--- ---- what stays right
+-- ---- the notes of earlier rows stay right
 
 -- appending an element to a list keeps the other elements at their indexes
 pub pushed_keeps : {A : Type 0} (xs : List A) (x : A) (ys : List A) → ys ≡ xs ++ x ∷ [] → Keeps xs ys
@@ -45,7 +45,7 @@ keeps_len [] ys keeps = omega arith
 keeps_len (x ∷ xs) [] keeps = absurd (none_some x (keeps 0 x refl))
 keeps_len (x ∷ xs) (y ∷ ys) keeps = let rest = keeps_len xs ys (λ i z is. keeps (suc i) z is) in omega arith
 
--- a part of a list is the same part of any list that keeps its elements
+-- a part of a list is the same part of any list that keeps the first list's elements at their indexes
 part_kept : (f n : ℕ) (xs ys : List ℕ) → Keeps xs ys → f + n ≤ length xs → take n (drop f ys) ≡ take n (drop f xs)
 part_kept zero zero xs ys keeps within = refl
 part_kept zero (suc n) [] ys keeps within = absurd (omega arith)
@@ -58,7 +58,7 @@ part_kept (suc f) n [] ys keeps within = absurd (omega arith)
 part_kept (suc f) n (x ∷ xs) [] keeps within = absurd (none_some x (keeps 0 x refl))
 part_kept (suc f) n (x ∷ xs) (y ∷ ys) keeps within = part_kept f n xs ys (λ i z is. keeps (suc i) z is) (omega arith)
 
--- numbers that are indexes of places in a list are indexes of the same places in a list that keeps its elements
+-- numbers that are indexes of places in a list are indexes of the same places in any list that keeps the elements of the first list at their indexes
 pub ranks_kept : (old new : List (List ℕ)) → Keeps old new → (places : List (List ℕ)) (numbers : List ℕ) → AreRanks old places numbers
     → AreRanks new places numbers
 ranks_kept old new keeps [] [] are = refl
@@ -105,7 +105,7 @@ in_all : (pieces : List Piece) (piece : Piece) → numbers_in (pieces ++ piece �
 in_all [] piece = omega arith
 in_all (other ∷ pieces) piece = let rest = in_all pieces piece in omega arith
 
--- if the new notes are the old ones with one more piece, in which the next row is noted, they are the notes of the old rows and this one
+-- let the new notes be the old notes with one more piece, in which the next row is noted. Then the new notes are of the old rows followed by this row
 pub row_noted : (old new : Notes) (item : Item) (piece : Piece) → Keeps old.names.list.items new.names.list.items → Keeps old.numbers.items new.numbers.items
     → IsNext new.names.list.items old.numbers.items new.numbers.items item piece → new.pieces.items ≡ old.pieces.items ++ piece ∷ []
     → (items : List Item) → HasNoted items old → HasNoted (items ++ item ∷ []) new
@@ -160,13 +160,13 @@ no_calls (schedule_key key) lapsed never = (refl, refl)
 no_calls (association_key key) lapsed never = (refl, refl)
 no_calls (tiploc_key code) lapsed never = (refl, refl)
 
--- a row whose key isn't put has a piece without numbers, so no number has to be added for the row
+-- if a row's op isn't a put, the row's piece has no numbers, and no number has to be added for the row
 none_next : (names : List (List ℕ)) (numbers : List ℕ) (key : Key) (op : Op) → body_of op ≡ None → IsNext names numbers numbers (key, op) no_piece
 none_next names numbers key op none =
     let nowhere = no_calls key op (λ body put. none_some body (sym none ∙ ap body_of put)) in
     nothing_next names numbers (key, op) nowhere.0 nowhere.1
 
--- after appending a piece without numbers, a row whose key isn't put is noted
+-- after a piece without numbers is appended, a row whose op isn't a put is noted
 pub none_row : (old new : Notes) (piece : Piece) → old.names.list.items ≡ new.names.list.items → old.numbers.items ≡ new.numbers.items → piece ≡ no_piece
     → new.pieces.items ≡ old.pieces.items ++ piece ∷ [] → (items : List Item) (key : Key) (op : Op) → body_of op ≡ None → HasNoted items old
     → HasNoted (items ++ (key, op) ∷ []) new
@@ -228,7 +228,7 @@ one_pushed names old new place number pushed is =
 
 -- ---- noting one place after another
 
--- a list that keeps the elements of another list begins with that list
+-- if a list has each element of another list at the same index, it begins with that other list
 keeps_front : (xs ys : List ℕ) → Keeps xs ys → ys ≡ xs ++ drop (length xs) ys
 keeps_front [] ys keeps = refl
 keeps_front (x ∷ xs) [] keeps = absurd (none_some x (keeps 0 x refl))
@@ -320,7 +320,7 @@ none_before all notes none =
       whole = ap (λ (items : List Item). items ++ all) front;
     }
 
--- after noting the first of the remaining rows, the notes are of all rows before those that still remain
+-- after noting the first of the remaining rows, the notes are of all rows before the rows that still remain
 pub one_noted : (all rest behind : List Item) (item : Item) (old new : Notes) → rest ≡ item ∷ behind
     → ((items : List Item) → HasNoted items old → HasNoted (items ++ item ∷ []) new) → AreNotedBefore all rest old → AreNotedBefore all behind new
 one_noted all rest behind item old new rest_is noted before =
@@ -347,7 +347,7 @@ change_noted notes made change op is has =
     (sym (map-append {B = Item} (λ (c : model.Change). (c.key, op_of c.act)) made (change ∷ [])))
     (subst (λ (o : Op). HasNoted (items_put made ++ (change.key, o) ∷ []) notes) (sym is) has)
 
--- ---- notes of some of the rows
+-- ---- notes of picked rows
 
 piece_at : (names : List (List ℕ)) (numbers : List ℕ) (items : List Item) (pieces : List Piece) → AreNoted names numbers items pieces → (n : ℕ) (item : Item)
     → slice_get items n ≡ Some item → IsNoted names numbers item (get_or pieces n no_piece)
@@ -357,7 +357,7 @@ piece_at names numbers (first ∷ items) (piece ∷ pieces) are zero item is =
     subst (λ (i : Item). IsNoted names numbers i piece) (some_is first item is) are.0
 piece_at names numbers (first ∷ items) (piece ∷ pieces) are (suc n) item is = piece_at names numbers items pieces are.1 n item is
 
--- the pieces at some indexes are the notes of the rows at these indexes
+-- the pieces at given indexes are the notes of the rows at these indexes
 pub picked_noted : (names : List (List ℕ)) (numbers : List ℕ) (items : List Item) (pieces : List Piece) → AreNoted names numbers items pieces → (order : List ℕ)
     (picked : List Item) → ArePicked items order picked → AreNoted names numbers picked (map (λ n. get_or pieces n no_piece) order)
 picked_noted names numbers items pieces are [] [] is = tt

@@ -1,4 +1,4 @@
--- Packing the seven bytes of a place into one number loses nothing: two places are equal if and only if their numbers are.
+-- Packing the seven bytes of a place into one number loses nothing: two places are equal if and only if their numbers are equal.
 use Rattle.std.proofs.Common.{◌≡◌, ◌<◌, ◌+◌, ◌++◌, [], ◌∷◌, ℕ, List, suc, zero, length, get_or, subst, sym, refl, ap, ◌∙◌}
 use Rattle.std.specs.Int.{from_le_bytes, to_le_bytes, w64}
 use Rattle.std.proofs.lemmas.Nat.{le_bytes_8}

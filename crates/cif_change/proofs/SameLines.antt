@@ -1,4 +1,4 @@
--- Two lines are equal if and only if their five blocks of sixteen bytes are. A block is compared with one lane for each byte.
+-- Two lines are equal if and only if their five blocks of sixteen bytes are equal. A block is compared with one lane for each byte.
 use Rattle.std.proofs.Common.{◌≡◌, ℕ, ◌+◌, ◌*◌, ◌%◌, ◌^◌, ◌≤◌, nat_eq, Bool, true, false, cond, not, ◌&&◌, List}
 use Rattle.std.proofs.Common.{[], ◌∷◌, ◌++◌, map, length, take, drop, w8, refl, sym, ap, subst, ◌∙◌, arith}
 use Rattle.std.specs.Prelude.{◌↔◌, IsTrue}

@@ -1,4 +1,4 @@
--- What the reader of a schedule remembers, and how it relates to the lines it has taken.
+-- Defines what the reader of a schedule remembers of the lines that it has taken.
 use Rattle.std.specs.Prelude.{◌≡◌, ◌↔◌, ℕ, Bool, option_map, true, false, List, [], Option, None, Some, ◌∷◌, ◌++◌, map}
 use Rattle.docker_model.specs.file.File.{first_record, BeginsSchedule, IsSchedule}
 use Rattle.docker_model.specs.records.Field.{is_deletion}
@@ -23,9 +23,9 @@ stage_meant AfterDetails = after_details
 stage_meant InJourney = in_journey
 stage_meant AfterJourney = after_journey
 
--- What the reader remembers: its stage, how often the schedule has passed midnight, and the last
--- time. It also remembers whether the schedule is a deletion, and whether it may end without a
--- journey.
+-- What the reader remembers: the stage, how often the schedule has passed midnight, and the last
+-- time. The reader also remembers whether the schedule is a deletion, and whether the schedule may
+-- end without a journey.
 pub record JourneyState : Type 0 where
   pub stage : Option place.Stage
   pub deletion : Bool
@@ -44,8 +44,8 @@ pub record HasLines (journey : JourneyState) (lines : List (List ℕ)) : Type 0 
   pub falls_are : journey.deletion ≡ false → journey.falls ≡ midnights lines
   pub last_is : journey.deletion ≡ false → journey.last ≡ last_of (times_along lines)
 
--- Says that no schedule continues the earlier lines with this line, and that this is the cause.
--- Being out of memory is never such a cause.
+-- Says that no schedule begins with the earlier lines followed by this line, and that this is the
+-- cause. `None` means that memory ran out, which is never the cause.
 abbrev pub IsScheduleCause : List (List ℕ) → List ℕ → Option fault.FileCause → Type 0
 IsScheduleCause earlier line None = ⊥
 IsScheduleCause earlier line (Some cause) = IsScheduleFault earlier line cause
@@ -94,7 +94,7 @@ is_over_by _ = false
 
 -- ---- what the reader does with a line
 
--- Says that the new progress is the old one with one more line taken.
+-- Says that the new progress is the old progress with one more line taken.
 abbrev pub Advances : Progress → List ℕ → Progress → Type 0
 Advances old line new =
     (lines : List (List ℕ)) → HasLines (progress_meant old) lines → HasLines (progress_meant new) (lines ++ line ∷ [])

@@ -4,16 +4,18 @@ use Rattle.docker_model.specs.records.Record.{kind_of, columns, is_location}
 use Rattle.docker_model.specs.file.Change.{Key, association_key, schedule_key, association_body, schedule_body}
 use Rattle.docker_model.specs.state.Op.{Op, put_with}
 
--- the location records (LO, LI, LT) among some lines
+-- the location records (LO, LI, LT) in a list of lines
 abbrev pub location_lines : List (List ℕ) → List (List ℕ)
 location_lines lines = filter (λ line. is_location (kind_of line)) lines
 
--- the TIPLOCs at which a schedule that is put calls, in order; an empty list for any other row
+-- for a row that puts a schedule, the TIPLOCs at which the schedule calls, in order; an empty list
+-- for any other row
 abbrev pub call_places : Key → Op → List (List ℕ)
 call_places (schedule_key key) (put_with (schedule_body lines)) = map (columns 3 9) (location_lines lines)
 call_places _ _ = []
 
--- the TIPLOC of an association that is put, as a list of one; an empty list for any other row
+-- for a row that puts an association, the list with only the association's TIPLOC; an empty list
+-- for any other row
 abbrev pub link_places : Key → Op → List (List ℕ)
 link_places (association_key key) (put_with (association_body line)) = key.location ∷ []
 link_places _ _ = []

@@ -16,7 +16,7 @@ Item = Key × Op
 abbrev pub items_of : List (Key × Entry) → List Item
 items_of rows = map (λ (row : Key × Entry). (row.0, row.1.op)) rows
 
--- the keys of some changes, each with the op that the change leaves at its key
+-- the key of each change in a list, with the op that the change leaves at this key
 abbrev pub items_put : List model.Change → List Item
 items_put changes = map (λ (change : model.Change). (change.key, op_of change.act)) changes
 
@@ -36,7 +36,8 @@ if_asked false false numbers = numbers
 abbrev pub numbers_of : Bool → List ℕ → Piece → List ℕ
 numbers_of links numbers piece = if_asked piece.is_link links (take piece.count (drop piece.from numbers))
 
--- Says that the numbers in a piece are the numbers of the places where the row calls or is linked.
+-- Says that the numbers in a piece are the numbers of the places where the row's schedule calls or
+-- its association is linked.
 pub record IsNoted (names : List (List ℕ)) (numbers : List ℕ) (item : Item) (piece : Piece) : Type 0 where
   pub calls : AreRanks names (call_places item.0 item.1) (numbers_of false numbers piece)
   pub links : AreRanks names (link_places item.0 item.1) (numbers_of true numbers piece)
@@ -49,7 +50,7 @@ AreNoted names numbers [] (piece ∷ pieces) = ⊥
 AreNoted names numbers (item ∷ items) [] = ⊥
 AreNoted names numbers (item ∷ items) (piece ∷ pieces) = IsNoted names numbers item piece × AreNoted names numbers items pieces
 
--- how many numbers some pieces have in total
+-- how many numbers a list of pieces has in total
 abbrev pub numbers_in : List Piece → ℕ
 numbers_in [] = 0
 numbers_in (piece ∷ pieces) = piece.count + numbers_in pieces

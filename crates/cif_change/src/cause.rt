@@ -56,7 +56,7 @@ impl FileCause {
         }
     }
 
-    /// The column, from 1, for a bad byte or a bad field. None for any other cause.
+    /// The column, from 1, for a bad byte or a bad field. Returns `None` for any other cause.
     pub fn column(&self) -> Option<u8>
         ensures { result ≡ cause_column self.now }
     {

@@ -36,9 +36,10 @@ impl Clock {
         }
     }
 
-    /// The clock after one more time, or the same clock for None. A time below the last one means
-    /// that midnight has been passed. There is no branch on whether there is a time: calls and
-    /// passes follow each other so irregularly that the processor couldn't predict such a branch.
+    /// The clock after one more time, or the unchanged clock for `None`. A time below the last time
+    /// means that midnight has been passed. There is no branch on whether there is a time: calls
+    /// and passes follow each other so irregularly that the processor couldn't predict such a
+    /// branch.
     fn then(self, time: Option<Time>) -> Clock
         requires { self.falls < 255 }
         ensures falls { result.falls ≡ self.falls + falls_after self.last (time_list time) }
@@ -63,7 +64,7 @@ impl Clock {
     }
 }
 
-/// Whether both times are given and the next one is below the last one, which means that midnight
+/// Whether both times are given and the next time is below the last time, which means that midnight
 /// has been passed.
 fn is_fall(last: &Option<Time>, next: &Option<Time>) -> bool
     ensures { falls_after last.now (time_list next.now) ≡ (if result then 1 else 0) }
@@ -74,7 +75,8 @@ fn is_fall(last: &Option<Time>, next: &Option<Time>) -> bool
     }
 }
 
-/// The scheduled times of any line after the basic schedule. The error is its leftmost bad field.
+/// The scheduled times of any line after the basic schedule. The error is the line's leftmost bad
+/// field.
 pub(crate) fn times_at(kind: Kind, line: &Line) -> Result<LineTimes, FieldFault>
     requires kind { HasKind (meaning kind) line.now }
     requires follows { follows_basic (Some (meaning kind)) ≡ true }
@@ -109,8 +111,8 @@ fn origin_times(line: &Line) -> Result<LineTimes, FieldFault>
     })
 }
 
-/// The times of an intermediate location: its arrival, pass and departure, each only if it is
-/// given. The error is the leftmost bad field.
+/// The times of an intermediate location: its arrival, pass and departure. A time that isn't given
+/// is left out. The error is the leftmost bad field.
 fn call_times(line: &Line) -> Result<LineTimes, FieldFault>
     requires kind { HasKind intermediate_location line.now }
     ensures ok { IsOk result ↔ HasGoodFields line.now }

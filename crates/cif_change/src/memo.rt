@@ -11,9 +11,9 @@ const SLOTS: usize = 65_536;
 /// The number of consecutive slots in which the index of a place may be.
 const NEAR: usize = 8;
 
-/// Remembers the index at which places were last found in a list. It is only a shortcut and may
-/// forget a place. A place's first slot is a hash of its bytes. Since another place's index may be
-/// in that slot, the place at the remembered index is always compared.
+/// Remembers the index at which places were last found in a list. A memo is only a shortcut and may
+/// forget a place. The first slot of a place is a hash of the place's bytes. Another place's index
+/// may be in that slot, so the place at the remembered index is always compared.
 #[derive(Debug, Drop)]
 pub(crate) struct Memo {
     slots: Vec<u32>,

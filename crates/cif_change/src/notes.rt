@@ -79,8 +79,8 @@ impl Notes {
         Ok(())
     }
 
-    /// Notes the next row, whose key is deleted or lapsed, so that it names no place. Returns
-    /// `Memory` if the allocator refuses; the row isn't noted then.
+    /// Notes the next row, which names no place because its key is deleted or lapsed. If the
+    /// allocator refuses, returns `Memory` and doesn't note the row.
     pub fn note_none(&mut self) -> Result<(), Memory>
         ensures ok { IsOk result → (items : List Item) (key : model.Key) (op : ops.Op)
             → body_of op ≡ None → HasNoted items self.old

@@ -27,8 +27,8 @@ impl Piece {
         }
     }
 
-    /// The row's numbers if they are of the kind that the caller wants: links or calls. Otherwise
-    /// no numbers.
+    /// The row's numbers if they are of the kind that the caller wants, links or calls, and
+    /// otherwise no numbers.
     pub fn numbers<'a>(&self, numbers: &'a [u32], links: bool) -> &'a [u32]
         ensures { result.now ≡ numbers_of links numbers.entry.now self.now }
     {
@@ -40,7 +40,7 @@ impl Piece {
     }
 }
 
-/// The numbers from index `from` on. No numbers if `from` is past the end.
+/// The numbers from index `from` on, or no numbers if `from` is past the end.
 fn behind(numbers: &[u32], from: usize) -> &[u32]
     ensures { result.now ≡ drop from numbers.entry.now }
 {

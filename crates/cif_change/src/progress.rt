@@ -1,4 +1,4 @@
-//! What the reader of a schedule's lines remembers from one line to the next.
+//! Defines `Progress`: what the reader of a schedule's lines remembers from one line to the next.
 ghost use Rattle.std.specs.Prelude.{◌≡◌, ◌≤◌, true, None};
 
 use crate::journey_times::Clock;

@@ -21,7 +21,8 @@ pub(crate) enum ScheduleStage {
 }
 
 impl ScheduleStage {
-    /// The stage after a record of this kind. None if a record of this kind can't come next.
+    /// The stage after a record of this kind. Returns `None` if a record of this kind can't come
+    /// next.
     pub(crate) fn after(self, kind: Kind) -> Option<ScheduleStage>
         ensures stage { option_map stage_meant result ≡
             stage_after (stage_meant self) (Some (meaning kind)) }

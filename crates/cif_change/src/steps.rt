@@ -1,4 +1,4 @@
-//! What the reader of a schedule does with each line.
+//! Takes the lines of a schedule, one after another, or refuses them.
 ghost use Rattle.std.specs.Prelude.{◌≡◌, ◌==◌, ℕ, ◌↔◌, IsTrue, IsOk, IsErr, IfOk, IfErr, OnOk, Some, true, List, [], ◌∷◌};
 ghost use Rattle.docker_model.specs.records.Record.{HasKind, IsRecord, basic_schedule, column};
 ghost use Rattle.docker_model.specs.records.Field.{is_deletion};

@@ -1,12 +1,12 @@
 -- Lemmas on results that are `Ok` or `Err`.
 use Rattle.std.specs.Prelude.{Result, Ok, Err, IsOk, OnOk, IfErr}
 
--- if a result is `Ok`, what is promised for an `Ok` result holds
+-- if a fact holds whenever the result is `Ok`, and the result is `Ok`, the fact holds
 pub at_ok : {A E P : Type 0} (answer : Result A E) → OnOk answer P → IsOk answer → P
 at_ok (Ok value) told ok = told
 at_ok (Err error) told ok = absurd cc
 
--- if one property of errors implies a second one, and the error of a result has the first, it has the second
+-- if one property of errors implies a second property, and the error of a result has the first property, the error also has the second
 pub if_err_by : {A E : Type 0} {P Q : E → Type 0} (answer : Result A E) → ((error : E) → P error → Q error) → IfErr answer P → IfErr answer Q
 if_err_by (Ok value) by told = told
 if_err_by (Err error) by told = by error told

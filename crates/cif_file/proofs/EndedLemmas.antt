@@ -1,4 +1,4 @@
--- What the reader returns at the end of a file: the file with its changes, or its counts.
+-- Lemmas on what the reader returns at the end of a file: the file with its changes, or its counts.
 use Rattle.std.proofs.Common.{◌≡◌, ℕ, ◌+◌, ◌*◌, ◌≤◌, Bool, true, false, List, [], ◌∷◌, length, Some, None, refl, sym, subst, arith, length-append}
 use Rattle.std.proofs.lemmas.List.{length-map}
 use Rattle.std.specs.Prelude.{Option}
@@ -34,7 +34,7 @@ few_acts _ line following = omega arith
 as_change : ℕ → Key × Act → Change
 as_change n act = record { number = n; key = act.0; act = act.1 }
 
--- some records make at most twice as many changes as there are records
+-- records make at most twice as many changes as there are records
 few_changes : (n : ℕ) (records : List (List ℕ)) → length (changes_from n records) ≤ 2 * length records
 unfolding as_change
 few_changes n [] = omega arith
@@ -54,7 +54,7 @@ of_file limit text ended is = record {
   of_records = record { header_is = is.of_records.header_is; count_is = is.of_records.count_is; changes_are = is.of_records.kept.1.changes_are };
 }
 
--- the file that the reader returns was read from some records
+-- the file that the reader returns was read from the records of a CIF file with at most `most_records` records
 is_read : (limit : ℕ) (text : List ℕ) (ended : Ended FileSoFar) → limit ≤ most_records → IsEndedText KeepsAll limit text ended → IsRead (file_ended ended)
 unfolding of_file
 is_read limit text ended few is =

@@ -1,4 +1,4 @@
--- What the reader of a file's records holds after taking a record, and why it refuses a record.
+-- Lemmas on what the reader of a file's records holds after taking a record, and why it refuses a record.
 use Rattle.std.proofs.Common.{◌≡◌, ℕ, ◌+◌, ◌<◌, inl, inr, Bool, true, false, cond, List, [], ◌∷◌, ◌++◌, length, map, subst}
 use Rattle.std.proofs.Common.{refl, ap, sym, ◌∙◌, Some, None, arith, append-nil, append_assoc, length-append, take}
 use Rattle.std.specs.Prelude.{Option, IsTrue, ◌↔◌, ◌&&◌, is_some, is_none, option_map, slice_index_or, OnOk, Result, Ok, Err}
@@ -57,7 +57,7 @@ numbered : (n : ℕ) (line : List ℕ) (following others : Lines) → schedule_r
     → changes_of_record n line following ≡ changes_of_record n line others
 numbered n line following others same = ap (map (as_change n)) (acts_alike (kind_of line) line following others same)
 
--- whether a line is of a kind that comes within a schedule; any other line ends the schedule before it
+-- whether a line is of a kind that comes within a schedule. A line of any other kind ends the schedule that is being read
 abbrev follows : List ℕ → Bool
 follows line = follows_basic (kind_of line)
 
@@ -90,7 +90,7 @@ changes_anew records line stops =
 
 -- ---- lists of records
 
--- adding records after the first one doesn't change the header
+-- adding records after the first record doesn't change the header
 header_stays : (records more : Lines) → 0 < length records → header_of (records ++ more) ≡ header_of records
 header_stays [] more some = absurd (omega arith)
 header_stays (first ∷ records) more some = refl
@@ -105,7 +105,7 @@ some_lines (basic ∷ others) stage at = omega arith
 
 -- ---- a schedule that is complete
 
--- if some lines may begin a schedule, they are a whole schedule if and only if a schedule may end at the stage after them
+-- lines that may begin a schedule are a whole schedule if and only if a schedule may end at the stage after them
 whole_iff : (lines : Lines) (stage : Stage) → stage_of lines ≡ Some stage → IsSchedule lines ↔ (may_end stage lines ≡ true)
 whole_iff lines stage at = (
   λ is.
@@ -284,7 +284,7 @@ over_of_closed keeps old new opened records has place whole same_header closed =
 
 -- ---- taking a further line of a schedule
 
--- Says that the stage is in the same schedule as before, with this line after its earlier lines.
+-- Says that the stage is in the same schedule as before, and that this line was added to the schedule's lines.
 pub record IsFollowed (opened : Opened) (line : List ℕ) (stage : FileStage) : Type 0 where
   pub later : Opened
   pub place : stage ≡ InSchedule later
@@ -298,7 +298,7 @@ followed opened line BetweenUnits gone = absurd gone
 followed opened line (InSchedule later) gone = record { later = later; place = refl; number = gone.0; named = gone.1; read = gone.2 }
 followed opened line AfterEnd gone = absurd gone
 
--- a line with which the schedule can continue follows directly after the lines already taken
+-- a line with which the schedule can continue may come directly after the lines already taken
 pub stands_before : {K : Type 0} (keeps : Keeps K) (front new : Front K) (opened : Opened) (records : Lines) (line : List ℕ) → HasRecords keeps front records
     → front.stage ≡ InSchedule opened → new.header ≡ front.header → new.keeper ≡ front.keeper → IsRecord line
     → follows_basic (kind_of line) ≡ true → (after : IsFollowed opened line new.stage)
@@ -356,7 +356,7 @@ header_followed keeps front opened line records before =
     let size = ap (λ (l : Lines). length l) before.whole ∙ length-append before.before before.lines in
     before.header_is ∙ sym (header_stays records (line ∷ []) (omega arith))
 
--- if a keeper with some lines of a schedule adds a line, it has the same lines followed by the new one
+-- if a keeper that has received lines of a schedule adds one more line, it then has these lines followed by the new line
 pub added_to : {K : Type 0} (keeps : Keeps K) (old new : K) (lines : Lines) (line : List ℕ) (made : List Change) → 0 < length lines
     → AddsLine keeps old line new → keeps old lines made → keeps new (lines ++ line ∷ []) made
 added_to keeps old new [] line made some added kept = absurd (omega arith)
@@ -392,7 +392,7 @@ line_added keeps old new opened line records before inside same_header place add
           });
     }
 
--- the reader can take a line that ends the schedule, and makes the schedule's change
+-- the reader can take a line that ends the schedule, and then makes the schedule's change
 pub line_closed : {K : Type 0} (keeps : Keeps K) (old new : Front K) (opened : Opened) (line : List ℕ) (records : Lines)
     → StandsBefore keeps old opened line records
     → is_over_by (progress_meant opened.progress).stage ≡ true
@@ -520,7 +520,7 @@ no_place (in_schedule stage lines) line =
     ∙ none_of (may_end stage lines) None refl
 no_place after_end line = refl
 
--- a record of no kind may not come next
+-- a line that doesn't begin with the identity of a kind of record may not come next
 pub no_kind : {K : Type 0} (keeps : Keeps K) (front : Front K) (records : Lines) (line : List ℕ) → HasRecords keeps front records → ¬ IsFile records
     → IsRecord line → kind_of line ≡ None
     → IsNoNext records line bad_kind
@@ -706,12 +706,12 @@ bad_line keeps wants front opened records line (Some cause) has at is follow tol
 
 -- ---- results that are `Ok` or `Err`
 
--- if two facts are promised for an `Ok` result, so is whatever follows from both
+-- if two facts hold whenever the result is `Ok`, so does whatever follows from both facts
 pub on_ok : {A E P Q R : Type 0} (answer : Result A E) → OnOk answer P → OnOk answer Q → (P → Q → R) → OnOk answer R
 on_ok (Ok value) p q both = both p q
 on_ok (Err error) p q both = p
 
--- if a fact is promised for an `Ok` result, so is whatever follows from it
+-- if a fact holds whenever the result is `Ok`, so does whatever follows from this fact
 pub on_ok_one : {A E P R : Type 0} (answer : Result A E) → OnOk answer P → (P → R) → OnOk answer R
 on_ok_one (Ok value) p one = one p
 on_ok_one (Err error) p one = p

@@ -1,4 +1,4 @@
--- Which lines a parser has taken after each piece, and which faults it returns.
+-- Lemmas on which lines a parser has taken after each piece, and which faults it returns.
 use Rattle.std.proofs.Common.{◌≡◌, ℕ, ◌+◌, ◌-◌, ◌≤◌, ◌<◌, inl, inr, Bool, true, false, cond, List, [], ◌∷◌, ◌++◌, length, subst, refl, ap, sym}
 use Rattle.std.proofs.Common.{◌∙◌, Some, None, arith, append_assoc, append-nil, length-append, eqb-true, take, drop, get_or, suc, drop-cons}
 use Rattle.std.specs.Prelude.{⊤, Option, ◌↔◌, ◌==◌, ◌&&◌, nat_le, position, nat_lt}
@@ -230,7 +230,7 @@ kept_long keeps old limit text more fault reading plain many next =
     (fault_at_long limit (text ++ more) next.place (ap place_at told ∙ next.at) (omega arith)
     (above 81 (length (open_line (text ++ more))) (λ few. many (omega arith)))))
 
--- ---- a fault stays the fault
+-- ---- more text doesn't change a fault
 
 -- a fault of a text is a fault of any longer text that begins with it
 pub told_stays : (limit : ℕ) (text more : List ℕ) (fault : FileFault) → IsFaultReported limit text fault → IsFaultReported limit (text ++ more) fault
@@ -308,7 +308,7 @@ told_refused limit text fault told = by (cause_meant fault.cause) told
 
 -- ---- a line that isn't a record
 
--- a line that isn't a record and is above the limit is refused for the limit
+-- a line that isn't a record is refused with the cause `TooMany` if it is beyond the limit
 pub refused_over : {K : Type 0} (keeps : Keeps K) (records : Records K) (limit : ℕ) (taken : Lines) (cause : Option model.FileCause) (fault : FileFault)
     → HasCounted keeps records limit taken
     → fault.number ≡ records.next
@@ -323,7 +323,7 @@ refused_over keeps records limit taken cause fault counted number over told = re
       λ i. cond (sym (le-leb limit (length taken) most) i) (Some too_many) (cond (is_after_end counted.has.place) (Some after_trailer) cause));
 }
 
--- a line within the limit that isn't a record is refused for being after the trailer, or otherwise for its own cause
+-- a line within the limit that isn't a record is refused for the trailer if it follows the trailer, and otherwise for not being a record
 pub refused_within : {K : Type 0} (keeps : Keeps K) (records : Records K) (limit : ℕ) (taken : Lines) (cause : Option model.FileCause) (fault : FileFault)
     (ended : Bool) → HasCounted keeps records limit taken
     → fault.number ≡ records.next → records.next ≤ records.limit
@@ -394,7 +394,7 @@ empty_is old none = by old.partial.items (eqb-true (length old.partial.items) 0 
     by [] h = refl
     by (byte ∷ bytes) h = absurd (omega arith)
 
--- if the parser keeps some bytes, a line is open
+-- if the parser holds bytes of a line that hasn't ended, the text ends in an open line
 pub some_is_open : {K : Type 0} (keeps : Keeps K) (old : FileReading K) (limit : ℕ) (text : List ℕ) → IsReading keeps old limit text
     → false ≡ (length old.partial.items == 0)
     → 0 < length (open_line text)
@@ -533,14 +533,14 @@ fault_of_front before text front behind fault cut tells = λ limit told is.
     subst (λ t. IsFaultReported limit t fault) (append_assoc told front behind ∙ ap (λ l. told ++ l) (sym cut))
     (told_stays limit (told ++ front) behind fault (tells limit told is))
 
--- ---- a parser that has returned a fault, or hasn't
+-- ---- a parser before and after it has returned a fault
 
 -- a parser that has returned a fault may have been fed any text that has this fault
 pub read_at_fault : (parser : ParserState) (limit : ℕ) (text : List ℕ) (fault : FileFault) → parser.fault ≡ Some fault → IsFaultReported limit text fault
     → HasRead parser limit text
 read_at_fault parser limit text fault at told = subst (IsReadingOrFault parser.reading limit text) (sym at) told
 
--- any text that may have been fed to a parser that has returned a fault has this fault
+-- if a parser has returned a fault, any text that it may have been fed has this fault
 pub fault_at_read : (parser : ParserState) (limit : ℕ) (text : List ℕ) (fault : FileFault) → parser.fault ≡ Some fault → HasRead parser limit text
     → IsFaultReported limit text fault
 fault_at_read parser limit text fault at has = subst (IsReadingOrFault parser.reading limit text) at has
@@ -571,12 +571,12 @@ later_than : {K : Type 0} (keeps : Keeps K) (reading : FileReading K) (limit : �
     → sure_lines text < fault.number
 later_than keeps reading limit text fault is number = let same = sure_lines_short text is.short in omega arith
 
--- a fault has the cause `Memory` only if `wants` allows it
+-- a fault has the cause `Memory` only if `wants` holds
 wants_of : (wants : Type 0) (limit : ℕ) (records : Lines) (line : List ℕ) (fault : FileFault) → IsFaultNext wants limit records line fault
     → fault.cause ≡ Memory → wants
 wants_of wants limit records line fault next memory = (subst (λ cause. IsCauseAfter wants limit records line (cause_meant cause)) memory next.cause).0
 
--- a fault that the definitions know isn't `Memory`
+-- a fault whose cause the definitions have doesn't have the cause `Memory`
 no_want : (wants : Type 0) (fault : FileFault) (cause : model.FileCause) → cause_meant fault.cause ≡ Some cause → fault.cause ≡ Memory → wants
 no_want wants fault cause told memory = let bad : ◌≡◌ {A = Option model.FileCause} None (Some cause) = sym (ap cause_meant memory) ∙ told in absurd cc
 
@@ -598,7 +598,7 @@ later_long keeps wants reading fault told = λ limit text is.
 later_front : (text more : List ℕ) (fault : FileFault) → sure_lines (text ++ more) < fault.number → sure_lines text < fault.number
 later_front text more fault later = let grown = sure_lines_grow text more in omega arith
 
--- a fault after all complete lines that were read is after those that were read earlier
+-- a fault that comes after all complete lines that were read comes after all complete lines that were read earlier
 pub later_piece : {K : Type 0} (keeps : Keeps K) (wants : Type 0) (old new : FileReading K) (front : List ℕ) (fault : FileFault)
     → GoesOn (IsReading keeps old) front (IsReading keeps new) → IsLater keeps wants new fault
     → IsLater keeps wants old fault
@@ -629,7 +629,7 @@ pub last_open : {K : Type 0} (keeps : Keeps K) (wants : Type 0) (reading : FileR
 last_open keeps wants reading line fault some told =
     λ _ limit text is. (told limit (complete_lines text) is.counted).number ∙ sym (length_at_end text (some_is_open keeps reading limit text is some))
 
--- a fault after all complete lines that the parser has read is after those that it was fed
+-- a fault that comes after all complete lines that the parser has read comes after all complete lines that it was fed
 pub names_later : (parser : ParserState) (reading : FileReading FileSoFar) (fault : FileFault) → parser.fault ≡ None → parser.reading ≡ reading
     → IsLater KeepsAll ⊤ reading fault
     → NamesLater parser fault

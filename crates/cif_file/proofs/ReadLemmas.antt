@@ -238,7 +238,7 @@ wants_any wants limit old new fault told is = by (told (same_fault fault read.Me
     by (inl unread_yet) = inl unread_yet
     by (inr wanting) = inr wanting.1
 
--- if the keeper can't run out of memory, memory ran out before the first byte was read
+-- if the keeper can't run out of memory, reading returns `Memory` only before it has read a byte
 pub wants_none : {A B : Type 0} (limit : ℕ) (old new : Option (List ℕ)) (fault : ReadFault)
     → (◌≡◌ {A = Result A ReadFault} (Err fault) (Err read.Memory) → WantsMemoryBy ⊥ 65536 limit old new)
     → ◌≡◌ {A = Result B ReadFault} (Err fault) (Err read.Memory) → Reads old [] new

@@ -1,4 +1,4 @@
--- What the reader returns at the end of a file if it kept only what a place and a day need.
+-- Lemmas on what the reader returns at the end of a file if it kept only what a place and a day need.
 use Rattle.std.proofs.Common.{◌≡◌, ℕ, ◌∙◌, ◌≤◌, List, subst, sym, arith}
 use Rattle.std.specs.Prelude.{Option}
 use Rattle.docker_model.specs.file.File.{most_records}

@@ -1,4 +1,5 @@
--- Why the changes that are kept are enough for the docker of one place on one day.
+-- Lemmas on why the changes that are kept are enough for the docker of one place on one day. The thin form of a change (`thin_change`) has only what this
+-- docker needs.
 use Rattle.std.proofs.Common.{◌≡◌, ℕ, ◌∙◌, inl, inr, Bool, true, false, cond, List, [], ◌∷◌, ◌++◌}
 use Rattle.std.proofs.Common.{length, subst, refl, ap, sym, Some, None, arith, append_assoc}
 use Rattle.std.specs.Prelude.{Option, Contains, ◌⊎◌, ◌||◌, not}
@@ -33,11 +34,11 @@ use Rattle.cif_file.specs.ThinKept.{has_key, HasKeysOf, HasThinned, Thins, Thins
 abbrev Lines : Type 0
 Lines = List (List ℕ)
 
--- the order of keys, for keys of the code
+-- the definitions' order of keys, applied to keys of the code
 abbrev cmp : Key → Key → Ordering
 cmp = on key_meant key_cmp
 
--- Says that the new set is the old one with one key added.
+-- Says that the new set is the old set with one key added.
 abbrev pub HasOneMore : BTreeSet Key → Key → BTreeSet Key → Type 0
 HasOneMore old key new = set.Updates cmp old new key true
 
@@ -76,7 +77,7 @@ none_thinned place day thinned there dated made = record {
 }
 
 module _ (place : List ℕ) (day : ℕ) (old new : Thinned) (whole : Change) where
-  -- a change whose key may matter can be cut to what the place and the day need, and then kept
+  -- a change whose key may matter can be kept in its thin form
   pub thin_kept : (change : code.Change) → new.place ≡ old.place → new.day ≡ old.day → HasOneMore old.keys change.key new.keys
       → Makes old.made (change_meant change ∷ []) new.made → may_matter place whole.key ≡ true → thin_change place day whole ≡ change_meant change
       → Thins place day old whole new
@@ -102,7 +103,7 @@ module _ (place : List ℕ) (day : ℕ) (old new : Thinned) (whole : Change) whe
     known = has.known;
   })
 
-  -- a change that is cut to a deletion can be dropped if no change of its key was kept
+  -- a change whose thin form is a deletion can be dropped if no change to its key was kept
   pub deletion_dropped : (key : Key) → new ≡ old → has_key old.keys key ≡ false → whole.key ≡ key_meant key → thin_act place day whole.act ≡ delete
       → Thins place day old whole new
   deletion_dropped key same none named deletes all has = subst (λ (t : Thinned). HasThinned place day t (all ++ whole ∷ [])) (sym same) (record {
@@ -117,14 +118,14 @@ module _ (place : List ℕ) (day : ℕ) (old new : Thinned) (whole : Change) whe
       unknown : (kept : List Change) → HasKeysOf old.keys kept → HasNoChangeOf whole.key kept
       unknown kept known change among is = let bad = known change among key (sym named ∙ sym is) in let both : true ≡ false = sym bad ∙ none in cc
 
--- cutting a change that is never cut leaves it unchanged
+-- if thinning never alters what a change does, the thin form of the change is the change itself
 pub never_thin_change : (place : List ℕ) (day : ℕ) (change : Change) → IsNeverThin change → thin_change place day change ≡ change
 never_thin_change place day change never = λ i. record { number = change.number; key = change.key; act = never place day i }
 
 -- ---- the change of a schedule
 
 module _ (place : List ℕ) (day : ℕ) (opened : Opened) (near : Bool) where
-  -- the change of a schedule that is a deletion is cut to a deletion
+  -- if a schedule is a deletion, the thin form of its change is a deletion
   deletes_itself : (lines : Lines) → (progress_meant opened.progress).deletion ≡ true → thin_act place day (change_opened opened lines).act ≡ delete
   deletes_itself lines deletion = λ i. thin_act place day (cond (deletion i) delete (put (schedule_body (with_new_first lines))))
 
@@ -139,7 +140,7 @@ module _ (place : List ℕ) (day : ℕ) (opened : Opened) (near : Bool) where
     act_put : (progress_meant opened.progress).deletion ≡ false → (change_opened opened (basic ∷ others)).act ≡ put (schedule_body renewed)
     act_put stays = λ i. cond (stays i) delete (put (schedule_body renewed))
 
-  -- the change of a schedule that is a deletion, or doesn't run near the day, is cut to a deletion
+  -- the thin form of a schedule's change is a deletion if the schedule is a deletion or doesn't run near the day
   pub opened_deletes : (lines : Lines) → HasLines (progress_meant opened.progress) lines → IsSchedule lines → IsNearBy day lines near
       → ((progress_meant opened.progress).deletion ≡ true) ⊎ (near ≡ false) → thin_act place day (change_opened opened lines).act ≡ delete
   opened_deletes lines read whole is (inl deletion) = deletes_itself lines deletion
@@ -152,7 +153,7 @@ module _ (place : List ℕ) (day : ℕ) (opened : Opened) (near : Bool) where
           ap (thin_act place day) (act_put basic others is h)
           ∙ act_far place day (renewed basic others is) (near_renewed basic others is (sym read.deletion_is ∙ h) ∙ far)
 
-  -- the change of a schedule that isn't a deletion and runs near the day is cut to the lines that the place needs
+  -- if a schedule isn't a deletion and runs near the day, the thin form of its change puts only the lines that the place needs
   pub opened_puts : (lines : Lines) → HasLines (progress_meant opened.progress) lines → IsSchedule lines → IsNearBy day lines near
       → (progress_meant opened.progress).deletion ≡ false → near ≡ true
       → thin_act place day (change_opened opened lines).act ≡ put (schedule_body (lines_for place (with_new_first lines)))
@@ -167,7 +168,7 @@ pub matters_here : (place : List ℕ) {day : ℕ} (change : Change) {thinned : T
     → may_matter thinned.place change.key ≡ true → may_matter place change.key ≡ true
 matters_here place change has matters = ap (λ p. may_matter p change.key) (sym has.place_is) ∙ matters
 
--- a change that is cut to a deletion can be kept as a deletion with the same number and key
+-- a change whose thin form is a deletion can be kept as a deletion with the same number and key
 pub deletion_kept : (place : List ℕ) (day : ℕ) (whole : Change) (number : ℕ) (key : Key) → whole.number ≡ number → whole.key ≡ key_meant key
     → thin_act place day whole.act ≡ delete → thin_change place day whole ≡ record { number = number; key = key_meant key; act = delete }
 deletion_kept place day whole number key numbered named deletes = λ i. record { number = numbered i; key = named i; act = deletes i }
@@ -201,7 +202,7 @@ neither true b h = absurd cc
 neither false false h = absurd cc
 neither false true h = (refl, refl)
 
--- the change that is kept for a schedule near the day is the schedule's change cut to what the place and the day need
+-- if a schedule runs near the day, the change that is kept for it is the thin form of the schedule's change
 pub opened_kept : (place : List ℕ) (day : ℕ) (opened : Opened) (near : Bool) (lines : Lines) → HasLines (progress_meant opened.progress) lines
     → IsSchedule lines → IsNearBy day lines near → (progress_meant opened.progress).deletion ≡ false → near ≡ true
     → (thinned : Thinned) → thinned.place ≡ place → (renewed : Lines) → renewed ≡ with_new_first lines

@@ -1,4 +1,4 @@
--- Which unit a record begins, by its kind.
+-- Lemmas on which unit a record begins, by its kind.
 use Rattle.std.proofs.Common.{◌≡◌, List, ℕ, true, Some, ap, subst, sym}
 use Rattle.std.specs.Prelude.{is_some}
 use Rattle.docker_model.specs.records.Record.{HasKind, kind_of}

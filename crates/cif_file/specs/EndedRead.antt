@@ -1,4 +1,4 @@
--- What the reader returns for a CIF file that was read to its trailer.
+-- Defines what the reader returns for a CIF file that was read to its trailer.
 use Rattle.std.specs.Prelude.{◌≡◌, ℕ, List, [], length, slice_index_or}
 use Rattle.docker_model.specs.file.Change.{changes}
 use Rattle.cif_file.specs.declared.ended.Ended.{Ended}
@@ -12,7 +12,7 @@ use Rattle.cif_file.specs.FileRead.{FileRead, FileCounted}
 use Rattle.cif_file.specs.ThinRead.{ThinRead, thin_of_parts}
 
 -- Says that these are the header and the number of the records, and that the keeper has received
--- all their changes.
+-- all changes of the records.
 pub record IsEnded {K : Type 0} (keeps : Keeps K) (records : List (List ℕ)) (ended : Ended K) : Type 0 where
   pub header_is : ended.header ≡ slice_index_or records 0 []
   pub count_is : ended.records ≡ length records

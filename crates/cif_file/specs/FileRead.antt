@@ -1,10 +1,10 @@
--- What a reader returns for a CIF file.
+-- Defines what a reader returns for a CIF file.
 use Rattle.std.specs.Prelude.{◌≡◌, ℕ, ◌≤◌, List, [], length, slice_index_or}
 use Rattle.docker_model.specs.file.Change.{Change, changes}
 use Rattle.docker_model.specs.file.File.{IsFile, most_records}
 
 -- a CIF file that was read: the line of its header, the number of its records, and the changes that
--- they make
+-- the records make
 pub record FileRead : Type 0 where
   pub header_line : List ℕ
   pub record_count : ℕ
@@ -16,8 +16,8 @@ pub record IsOfRecords (file : FileRead) (records : List (List ℕ)) : Type 0 wh
   pub count_is : file.record_count ≡ length records
   pub changes_are : file.changes_made ≡ changes records
 
--- Says that the file was read from some records. These are a CIF file, and there are at most
--- `most_records` of them.
+-- Says that the file was read from the records of a CIF file, and that there are at most
+-- `most_records` of these records.
 pub record IsRead (file : FileRead) : Type 0 where
   pub records : List (List ℕ)
   pub of_records : IsOfRecords file records
@@ -37,8 +37,8 @@ pub record IsCountOfRecords (count : FileCounted) (records : List (List ℕ)) : 
   pub count_is : count.record_count ≡ length records
   pub changes_are : count.change_count ≡ length (changes records)
 
--- Says that these are the counts of some records. The records are a CIF file, and there are at most
--- `most_records` of them.
+-- Says that the header and the counts are right for the records of a CIF file, and that there are
+-- at most `most_records` of these records.
 pub record IsCounted (count : FileCounted) : Type 0 where
   pub records : List (List ℕ)
   pub of_records : IsCountOfRecords count records

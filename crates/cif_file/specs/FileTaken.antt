@@ -1,4 +1,4 @@
--- What a parser has taken of a source's text, and what a fault in the next piece means.
+-- Defines what a parser has taken of a source's text, and what a fault in the next piece means.
 use Rattle.std.specs.Prelude.{◌≡◌, ℕ, ◌^◌, ◌<◌, ◌≤◌, List, ◌++◌, length}
 use Rattle.std.proofs.Common.{arith}
 use Rattle.docker_model.specs.file.File.{most_records}
@@ -28,7 +28,7 @@ taken_is_bounded keeps reading limit text has =
     omega (arith, most, few)
 
 -- Says that this is the fault of a text followed by a piece, at a record that is complete only with
--- the piece. If memory ran out, `wants` allows it.
+-- the piece. Also says that the cause is `Memory` only if `wants` holds.
 pub record RefusesPiece (wants : Type 0) (limit : ℕ) (text piece : List ℕ) (fault : FileFault) : Type 0 where
   pub told : IsFaultReported limit (text ++ piece) fault
   pub later : sure_lines text < fault.number

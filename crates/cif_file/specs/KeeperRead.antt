@@ -1,4 +1,4 @@
--- What a keeper holds after each of its calls.
+-- Defines what a keeper holds after each of its calls.
 use Rattle.std.specs.Prelude.{◌≡◌, ℕ, ◌<◌, List, [], ◌∷◌, ◌++◌, length, if◌then◌else◌}
 use Rattle.docker_model.specs.records.Field.{as_new}
 use Rattle.docker_model.specs.file.File.{IsSchedule}
@@ -19,7 +19,7 @@ Lines = List (List ℕ)
 abbrev pub Keeps : Type 0 → Type 1
 Keeps K = K → Lines → List Change → Type 0
 
--- some lines, with the transaction of the first set to N
+-- a list of lines, with the transaction of its first line set to N
 abbrev pub with_new_first : Lines → Lines
 with_new_first [] = []
 with_new_first (basic ∷ others) = as_new basic ∷ others
@@ -32,7 +32,7 @@ change_renewed opened lines = record {
   act = if (progress_meant opened.progress).deletion then delete else put (schedule_body lines);
 }
 
--- the change of a schedule with these lines, as they are in the file
+-- the change of a schedule whose lines in the file are these lines
 abbrev pub change_opened : Opened → Lines → Change
 change_opened opened lines = change_renewed opened (with_new_first lines)
 
@@ -62,6 +62,6 @@ AddsSingle keeps old number line new =
 abbrev pub KeepsAll : FileSoFar → Lines → List Change → Type 0
 KeepsAll kept lines changes = (kept.lines.items ≡ with_new_first lines) × HasMade kept.made changes
 
--- Says that a `Tally` has the number of these changes, as long as it fits in 64 bits.
+-- Says that a `Tally` has the number of these changes, if this number fits in 64 bits.
 abbrev pub CountsChanges : Tally → Lines → List Change → Type 0
 CountsChanges tally lines made = length made < 18_446_744_073_709_551_616 → tally.changes ≡ length made

@@ -12,7 +12,7 @@ use Rattle.cif_file.specs.FileRead.{FileRead, IsRead}
 abbrev pub AreNotesOf : List Change → Option Notes → Type 0
 AreNotesOf changes notes = IfSome notes (HasNoted (items_put changes))
 
--- Says that a `Made` has exactly these changes and, if there are notes, that they are right for the
+-- Says that a `Made` has exactly these changes and that its notes, if it has any, are right for the
 -- changes.
 pub record HasMade (made : Made) (changes : List Change) : Type 0 where
   pub changes_are : map change_meant made.changes.items ≡ changes
@@ -30,8 +30,8 @@ file_of_parts parts = record {
   changes_made = map change_meant parts.changes.items;
 }
 
--- Says that these are the parts of a file that was read and, if there are notes, that they are
--- right for its changes.
+-- Says that these are the parts of a file that was read and that the notes, if there are any, are
+-- right for the file's changes.
 pub record ArePartsOfFile (parts : FileParts) : Type 0 where
   pub read : IsRead (file_of_parts parts)
   pub noted : AreNotesOf (map change_meant parts.changes.items) parts.notes

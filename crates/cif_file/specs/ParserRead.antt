@@ -1,4 +1,4 @@
--- What a parser of a CIF file has taken, and what its faults mean.
+-- Defines what a parser of a CIF file has taken, and what its faults mean.
 use Rattle.std.specs.Prelude.{◌≡◌, ℕ, ◌+◌, ◌<◌, ◌≤◌, ◌⊎◌, List, [], ◌∷◌, ◌++◌, length, take, Option, Some, None, nat_le}
 use Rattle.std.proofs.Common.{cond}
 use Rattle.docker_model.specs.file.Text.{lines_of}
@@ -42,8 +42,8 @@ pub record IsCauseNext (limit : ℕ) (records : Lines) (line : List ℕ) (cause 
   pub here : (limit ≤ length records) ⊎ (next_place place line ≡ None)
   pub is : cause_of limit (length records) place line ≡ cause
 
--- Says why the reader refused the line that follows these records. Without a cause, memory ran out:
--- `wants` allows it, and some file within the limit begins with these records and the line.
+-- Says why the reader refused the line that follows these records. `None` means that memory ran
+-- out: then `wants` holds, and some file within the limit begins with these records and the line.
 abbrev pub IsCauseAfter : Type 0 → ℕ → Lines → List ℕ → Option model.FileCause → Type 0
 IsCauseAfter wants limit records line None = wants × (length records < limit) × GoesOnWith records line
 IsCauseAfter wants limit records line (Some cause) = IsCauseNext limit records line cause
@@ -61,8 +61,9 @@ pub record IsLongNext (limit : ℕ) (records : Lines) (fault : FileFault) : Type
   pub at : IsPlaceOf records place
   pub cause : cause_meant fault.cause ≡ Some (cause_of_long limit (length records) place)
 
--- the cause for a line that isn't a record: `too_many` if it is above the limit, otherwise
--- `after_trailer` if it comes after the trailer, and otherwise the line's own cause
+-- the cause for a line that isn't a record: `too_many` if the line is beyond the limit, otherwise
+-- `after_trailer` if it comes after the trailer, and otherwise the cause for which it isn't a
+-- record
 abbrev pub refusal : ℕ → ℕ → law.Place → Option model.FileCause → Option model.FileCause
 refusal limit count place cause = cond (nat_le limit count) (Some too_many) (cond (is_after_end place) (Some after_trailer) cause)
 
@@ -79,7 +80,7 @@ abbrev pub IsNoEndOf : Lines → FileFault → Type 0
 IsNoEndOf records fault = (fault.number ≡ length records + 1) × (cause_meant fault.cause ≡ Some no_end) × (¬ IsFile records)
 
 -- Says that this is a right cause for refusing the line after any records that the reader may have
--- taken, if the limit allows one more.
+-- taken, if the limit allows one more record.
 abbrev pub RefusesWithin : {K : Type 0} → Keeps K → Type 0 → Front K → List ℕ → FileCause → Type 0
 RefusesWithin keeps wants front line cause =
     (limit : ℕ) (records : Lines) → HasRecords keeps front records → length records < limit → IsCauseAfter wants limit records line (cause_meant cause)
@@ -96,8 +97,8 @@ FaultsNext keeps wants state line fault = (limit : ℕ) (records : Lines) → Ha
 abbrev pub EndsCounted : {K : Type 0} → Keeps K → Records K → Ended K → Type 0
 EndsCounted keeps state ended = (limit : ℕ) (records : Lines) → HasCounted keeps state limit records → IsFile records × IsEnded keeps records ended
 
--- Says that the records that the reader has taken aren't a file, and that the result is their
--- fault.
+-- Says that the records that the reader has taken aren't a file, and that the fault is their
+-- missing trailer.
 abbrev pub EndsUnended : {K : Type 0} → Keeps K → Records K → FileFault → Type 0
 EndsUnended keeps state fault = (limit : ℕ) (records : Lines) → HasCounted keeps state limit records → IsNoEndOf records fault
 
@@ -129,23 +130,23 @@ pub record WantsMemoryAt (limit : ℕ) (records : Lines) (number : ℕ) : Type 0
   pub sound : BeginsFile (take number records)
 
 -- Says that the first fault among a text's complete lines is at the record with this number and has
--- this cause. Without a cause, memory ran out at that record, which is complete, and no record up
--- to it is at fault.
+-- this cause. `None` means that memory ran out at that record, which is complete, and that no
+-- record up to that record is at fault.
 abbrev pub IsCauseSoFar : ℕ → List ℕ → ℕ → Option model.FileCause → Type 0
 IsCauseSoFar limit text number None = WantsMemoryAt limit (complete_lines text) number
 IsCauseSoFar limit text number (Some cause) = IsFaultSoFar limit text (record { number = number; cause = cause })
 
--- Like `IsCauseSoFar`, for a fault as the code returns it.
+-- Like `IsCauseSoFar`, but for a fault in the code's type.
 abbrev pub IsFaultReported : ℕ → List ℕ → FileFault → Type 0
 IsFaultReported limit text fault = IsCauseSoFar limit text fault.number (cause_meant fault.cause)
 
--- Says that a whole text's fault is at the record with this number and has this cause. Without a
--- cause, memory ran out at that record, and no record up to it is at fault.
+-- Says that a whole text's fault is at the record with this number and has this cause. `None` means
+-- that memory ran out at that record and that no record up to that record is at fault.
 abbrev pub IsCauseOf : ℕ → List ℕ → ℕ → Option model.FileCause → Type 0
 IsCauseOf limit text number None = WantsMemoryAt limit (lines_of text) number
 IsCauseOf limit text number (Some cause) = IsFileFault limit text (record { number = number; cause = cause })
 
--- Like `IsCauseOf`, for a fault as the code returns it.
+-- Like `IsCauseOf`, but for a fault in the code's type.
 abbrev pub IsRefused : ℕ → List ℕ → FileFault → Type 0
 IsRefused limit text fault = IsCauseOf limit text fault.number (cause_meant fault.cause)
 
@@ -160,11 +161,12 @@ abbrev pub IsReadingOrFault : FileReading FileSoFar → ℕ → List ℕ → Opt
 IsReadingOrFault reading limit text None = IsReading KeepsAll reading limit text
 IsReadingOrFault reading limit text (Some fault) = IsFaultReported limit text fault
 
--- Says that the parser may have been fed this text, under this limit on records.
+-- Says that the parser may have this limit on records and may have been fed this text.
 abbrev pub HasRead : ParserState → ℕ → List ℕ → Type 0
 HasRead parser limit text = IsReadingOrFault parser.reading limit text parser.fault
 
--- Says that the parser may have been fed some text, under some limit on records.
+-- Says that, for some limit and some text, the parser may have this limit on records and may have
+-- been fed this text.
 pub record WasFed (parser : ParserState) : Type 0 where
   pub limit : ℕ
   pub text : List ℕ
@@ -190,8 +192,8 @@ HasFailed parser fault = parser.fault ≡ Some fault
 abbrev pub HasNotFailed : ParserState → Type 0
 HasNotFailed parser = (fault : FileFault) → ¬ HasFailed parser fault
 
--- Says that the record at fault isn't complete in any text that the parser may have taken before.
--- If memory ran out, `wants` allows it.
+-- Says that the record at fault isn't complete in any text that the parser may have taken before,
+-- and that the cause is `Memory` only if `wants` holds.
 abbrev pub IsLater : {K : Type 0} → Keeps K → Type 0 → FileReading K → FileFault → Type 0
 IsLater keeps wants reading fault =
     (limit : ℕ) (text : List ℕ) → IsReading keeps reading limit text → (sure_lines text < fault.number) × (fault.cause ≡ Memory → wants)

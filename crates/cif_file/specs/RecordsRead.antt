@@ -1,4 +1,4 @@
--- What the reader of a CIF file's records has taken, and what it does with the next record.
+-- Defines what the reader of a CIF file's records has taken, and what it does with the next record.
 use Rattle.std.specs.Prelude.{◌≡◌, ℕ, ◌+◌, ◌<◌, true, false, List, [], ◌∷◌, ◌++◌, length, Option, Some, None}
 use Rattle.docker_model.specs.records.Record.{IsRecord, kind_of}
 use Rattle.docker_model.specs.file.File.{first_record, follows_basic, IsFile, IsSchedule, BeginsSchedule}
@@ -22,7 +22,7 @@ use Rattle.cif_file.specs.KeeperRead.{Keeps}
 abbrev Lines : Type 0
 Lines = List (List ℕ)
 
--- the first of some records, which is the header; none if there are no records
+-- the first record of a list, which is the header; none if the list is empty
 abbrev pub header_of : Lines → Option (List ℕ)
 header_of [] = None
 header_of (first ∷ records) = Some first
@@ -78,9 +78,9 @@ pub record IsNoNext (records : Lines) (line : List ℕ) (cause : fault.FileCause
 abbrev pub GoesOnWith : Lines → List ℕ → Type 0
 GoesOnWith records line = (next : law.Place) × IsPlaceOf (records ++ line ∷ []) next
 
--- Says why the line that follows these records was refused. Without a cause, memory ran out:
--- `wants` allows it, and some file begins with the records and the line. Any other cause says why
--- no file begins with them.
+-- Says why the line that follows these records was refused. `None` means that memory ran out: then
+-- `wants` holds, and some file begins with the records and the line. A cause says why no file
+-- begins with them.
 abbrev pub IsNoNextCause : Type 0 → Lines → List ℕ → Option fault.FileCause → Type 0
 IsNoNextCause wants records line None = wants × GoesOnWith records line
 IsNoNextCause wants records line (Some cause) = IsNoNext records line cause
@@ -127,8 +127,8 @@ abbrev pub TakesNext : {K : Type 0} → Keeps K → Front K → ℕ → List ℕ
 TakesNext keeps old number line new =
     (records : Lines) → HasRecords keeps old records → number ≡ length records + 1 → HasRecords keeps new (records ++ line ∷ [])
 
--- Says that the reader has taken a line that begins a unit, after any whole units, if `number` is
--- right: one more than the number of records in these units.
+-- Says that the reader has taken a line that begins a unit, if it had taken whole units before and
+-- `number` is one more than the number of their records.
 abbrev pub BeginsAnew : {K : Type 0} → Keeps K → Front K → ℕ → List ℕ → Front K → Type 0
 BeginsAnew keeps old number line new =
     (records : Lines) → IsOver keeps old records → number ≡ length records + 1 → HasRecords keeps new (records ++ line ∷ [])

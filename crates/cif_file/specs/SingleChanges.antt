@@ -15,11 +15,10 @@ listed_after (Some first) last = change_meant first ∷ last ∷ []
 abbrev pub listed : SingleChanges → List Change
 listed changes = listed_after changes.first (change_meant changes.last)
 
--- Says that a change is never cut: whatever the place and the day, thinning doesn't alter what the
--- change does.
+-- Says that thinning never alters what a change does, whichever the place and the day.
 abbrev pub IsNeverThin : Change → Type 0
 IsNeverThin change = (place : List ℕ) (day : ℕ) → thin_act place day change.act ≡ change.act
 
--- Says that neither of the changes is ever cut.
+-- Says that thinning never alters what either change does.
 abbrev pub AreNeverThin : SingleChanges → Type 0
 AreNeverThin changes = IfSome changes.first (λ first. IsNeverThin (change_meant first)) × IsNeverThin (change_meant changes.last)

@@ -1,4 +1,4 @@
--- What a source's text is, if it was read as a CIF file.
+-- Defines which text a source held, and what reading this text as a CIF file returned.
 use Rattle.std.specs.Prelude.{◌≡◌, ℕ, ◌<◌, ◌≤◌, ◌⊎◌, List, [], ◌++◌, length, Option, Some, None, ⊤}
 use Rattle.docker_model.specs.file.Text.{lines_of}
 use Rattle.docker_model.specs.file.FaultSoFar.{IsFaultSoFar, sure_lines}
@@ -14,8 +14,8 @@ use Rattle.cif_file.specs.KeeperRead.{Keeps}
 use Rattle.cif_file.specs.ThinRead.{ThinRead}
 use Rattle.cif_file.specs.ParserRead.{IsOfFileText, IsCountOfFileText, IsEndedText, WantsMemoryAt}
 
--- Says that a source held this text. If contracts don't know the bytes of the source, as with an
--- endless one, the source may have held any text.
+-- Says that a source held this text. If contracts don't know the bytes of the source, for example
+-- because it is endless, the source may have held any text.
 abbrev pub Held : Option (List ℕ) → List ℕ → Type 0
 Held None text = ⊤
 Held (Some left) text = left ≡ text
@@ -47,7 +47,7 @@ pub record ReadsEnded {K : Type 0} (keeps : Keeps K) (limit : ℕ) (left : Optio
   pub held : Held left text
   pub of_text : IsEndedText keeps limit text ended
 
--- Says that this is the text's fault, and that its cause isn't that memory ran out.
+-- Says that this is a fault of the text, with a cause other than `Memory`.
 pub record IsFaultOf (limit : ℕ) (text : List ℕ) (fault : FileFault) : Type 0 where
   pub cause : FileCause
   pub cause_is : cause_meant fault.cause ≡ Some cause
@@ -68,8 +68,8 @@ pub record ReadsNoFurther (most limit : ℕ) (old new : Option (List ℕ)) : Typ
   pub at_once : length piece ≤ most
   pub read : Reads old (before ++ piece) new
 
--- Says that memory ran out at a record that is complete only with the last piece. No record up to
--- it is at fault, and the piece has at most this many bytes.
+-- Says that memory ran out at a record that is complete only with the last piece, and that no
+-- record up to that record is at fault. The last piece has at most `most` bytes.
 pub record WantsRecord (most limit : ℕ) (old new : Option (List ℕ)) : Type 0 where
   pub before : List ℕ
   pub piece : List ℕ
@@ -87,12 +87,13 @@ pub record WantsLast (limit : ℕ) (left : Option (List ℕ)) : Type 0 where
   pub wanting : WantsMemoryAt limit (lines_of text) (length (lines_of text))
 
 -- Says that memory ran out before a byte was read or, if `wants` holds, at a record. No record up
--- to that record is at fault. It is complete only with the last piece, or it is the last record of
--- the text.
+-- to that record is at fault. The record at which memory ran out is complete only with the last
+-- piece, or is the last record of the text.
 abbrev pub WantsMemoryBy : Type 0 → ℕ → ℕ → Option (List ℕ) → Option (List ℕ) → Type 0
 WantsMemoryBy wants most limit old new = Reads old [] new ⊎ (wants × (WantsRecord most limit old new ⊎ WantsLast limit old))
 
 -- Says that memory ran out before a byte was read, or at a record. No record up to that record is
--- at fault. It is complete only with the last piece, or it is the last record of the text.
+-- at fault. The record at which memory ran out is complete only with the last piece, or is the last
+-- record of the text.
 abbrev pub WantsMemory : ℕ → ℕ → Option (List ℕ) → Option (List ℕ) → Type 0
 WantsMemory most limit old new = Reads old [] new ⊎ WantsRecord most limit old new ⊎ WantsLast limit old

@@ -1,4 +1,4 @@
--- What a reader keeps of a file's changes for the docker of one place on one day.
+-- Defines what a reader keeps of a file's changes for the docker of one place on one day.
 use Rattle.std.specs.Prelude.{◌≡◌, ℕ, Bool, true, false, ⊤, List, [], ◌∷◌, ◌++◌, Contains}
 use Rattle.std.specs.Ordering.{on}
 use Rattle.std.specs.BTreeSet as set
@@ -48,7 +48,8 @@ ThinsAll place day old more new = (all : List Change) → HasThinned place day o
 abbrev pub Thins : List ℕ → ℕ → Thinned → Change → Thinned → Type 0
 Thins place day old change new = ThinsAll place day old (change ∷ []) new
 
--- Says that, unless the schedule is a deletion, the flag says whether it runs near the day.
+-- Says that a flag is true if and only if the schedule with these lines runs near the day. For a
+-- deletion the flag may have either value.
 abbrev pub IsNearBy : ℕ → Lines → Bool → Type 0
 IsNearBy day [] near = ⊤
 IsNearBy day (basic ∷ others) near = is_deletion basic ≡ false → near ≡ runs_near day basic

@@ -1,4 +1,4 @@
-//! Which lines of a schedule the docker of one place needs.
+//! Finds the lines of a schedule that the docker of one place needs.
 ghost use Rattle.std.specs.Prelude.{◌≡◌, ◌&&◌, IfOk};
 ghost use Rattle.docker_model.specs.file.Journey.{calls_at};
 ghost use Rattle.docker_model.specs.records.Record.{kind_of, columns, is_location};
@@ -11,7 +11,8 @@ use cif_change::{Key, Lines};
 use cif_line::{Kind, Line, Tiploc, kind};
 use std::alloc::{AllocError, Global};
 
-/// Whether a schedule with these lines calls at a place: an LO, LI or LT record has its TIPLOC.
+/// Whether a schedule with these lines calls at a place, which means that an LO, LI or LT record
+/// has the place's TIPLOC.
 pub fn calls_at(place: &Tiploc, lines: &[Line]) -> bool
     ensures { result ≡ calls_at place.now lines.now }
 {

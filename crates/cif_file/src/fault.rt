@@ -9,8 +9,8 @@ use std::fmt;
 /// Why a text isn't a CIF file, or that memory ran out: a record and a cause.
 #[derive(Clone, Copy, PartialEq, Eq, Debug)]
 pub struct FileFault {
-    /// The number of the record at fault, from 1. If memory ran out, the number of the record at
-    /// which it ran out.
+    /// The number, from 1, of the record at fault or, if memory ran out, of the record at which it
+    /// ran out.
     pub number: u32,
     /// What is wrong with this record.
     pub cause: FileCause,

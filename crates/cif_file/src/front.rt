@@ -26,7 +26,7 @@ pub(crate) enum FileStage {
     BeforeHeader,
     /// The header or a whole unit was read: another unit or the trailer may come next.
     BetweenUnits,
-    /// Some lines of this schedule were read, and it may continue.
+    /// At least one line of this schedule was read, and the schedule may continue.
     InSchedule(Opened),
     /// The trailer was read: nothing may come next.
     AfterEnd,
@@ -188,7 +188,7 @@ impl<K: Keeper> Front<K> {
         Ok(())
     }
 
-    /// Takes a record that follows some lines of a schedule.
+    /// Takes a record that follows a line of a schedule.
     fn take_after(
         &mut self,
         number: u32,

@@ -12,8 +12,8 @@ use cif_line::{PIECE, Source};
 use std::alloc::Global;
 
 /// Reads a source to its end, as [`read_file`](crate::read_file) does, and returns how many records
-/// and changes its file has. None of them are kept, so memory can run out only before the first
-/// byte is read.
+/// and changes its file has. No record or change is kept, so memory can run out only before the
+/// first byte is read.
 pub fn judge_file<S: Source>(
     alloc: Global,
     source: &mut S,

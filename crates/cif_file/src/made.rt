@@ -9,7 +9,7 @@ use crate::single::SingleChanges;
 use cif_change::{Change, Notes};
 use std::alloc::{AllocError, Global};
 
-/// Changes, in the order in which they were made. If places are noted, also the notes of the places
+/// Changes, in the order in which they were made, and, if places are noted, the notes of the places
 /// that the changes name.
 #[derive(Debug, Drop)]
 pub(crate) struct Made {
@@ -28,8 +28,8 @@ impl Made {
         }
     }
 
-    /// Appends a change. If places are noted, it notes the change's places at once, while its lines
-    /// are still in the cache.
+    /// Appends a change. If places are noted, the change's places are noted at once, while its
+    /// lines are still in the cache.
     pub(crate) fn push(&mut self, change: Change) -> Result<(), AllocError>
         ensures { OnOk result (Makes self.old (change_meant change ∷ []) self.new) }
     {

@@ -1,4 +1,4 @@
-//! Whether a schedule may count in a docker of a given day.
+//! Tests whether a schedule may count in a docker of a given day.
 ghost use Rattle.std.specs.Prelude.{◌≡◌, ◌&&◌, nat_le, false};
 ghost use Rattle.docker_model.specs.records.Record.{HasKind, basic_schedule};
 ghost use Rattle.docker_model.specs.records.Field.{HasGoodFields, is_deletion};

@@ -50,7 +50,8 @@ impl Opened {
         }
     }
 
-    /// Makes the change of the schedule: it puts these lines under its key, or deletes the key.
+    /// Makes the change of the schedule, which puts these lines under the schedule's key or deletes
+    /// this key.
     pub(crate) fn change(self, alloc: Global, lines: &[Line]) -> Result<Change, AllocError>
         ensures { IfOk result (λ change. change_meant change ≡ record {
           number = self.number;

@@ -10,6 +10,6 @@ pub struct FileParts {
     pub(crate) records: u32,
     /// The changes that the records make, in the order of the records.
     pub changes: Vec<Change>,
-    /// Notes of the places that the changes name. None if places weren't noted.
+    /// Notes of the places that the changes name, if places were noted.
     pub notes: Option<Notes>,
 }

@@ -184,8 +184,8 @@ fn ended_of<K: Keeper>(reading: FileReading<K>) -> Result<Ended<K>, ReadFault>
     }
 }
 
-/// Converts a fault of the file to a fault of reading a source: `Memory` if memory ran out, and
-/// otherwise `File`.
+/// Converts a fault of the file to a fault of reading a source: returns `Memory` if memory ran out,
+/// and otherwise `File`.
 fn fault_of(fault: FileFault) -> ReadFault
     ensures memory { fault.cause ≡ FileCause.Memory → result ≡ ReadFault.Memory }
     ensures file { fault.cause ≢ FileCause.Memory → result ≡ ReadFault.File fault }

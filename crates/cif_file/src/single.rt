@@ -30,12 +30,12 @@ pub(crate) enum Single<'a> {
 pub(crate) struct SingleChanges {
     /// The deletion of a TIPLOC's old code, if an amendment gives it another code.
     pub first: Option<Change>,
-    /// The other change, which every such record makes.
+    /// The change that each record of these kinds makes. It comes last.
     pub last: Change,
 }
 
-/// The changes that the record makes. A thin file keeps such a change either unchanged or not at
-/// all.
+/// The changes that the record makes. A thin file keeps each of them unchanged, or doesn't keep it
+/// at all.
 pub(crate) fn changes_of(number: u32, single: &Single<'_>) -> SingleChanges
     requires { HasKind (kind_of_single single.now) (line_of_single single.now) }
     ensures changes { listed result ≡ changes_of_record number (line_of_single single.now) [] }
@@ -49,7 +49,7 @@ pub(crate) fn changes_of(number: u32, single: &Single<'_>) -> SingleChanges
     }
 }
 
-/// The changes of a record that makes only one.
+/// The changes of a record that makes only one change.
 fn by_itself(change: Change) -> SingleChanges
     ensures { result ≡ record { first = None; last = change } }
 {
@@ -59,8 +59,8 @@ fn by_itself(change: Change) -> SingleChanges
     }
 }
 
-/// The changes of a TIPLOC amendment. If it gives the TIPLOC another code, first the old code is
-/// deleted, and then the new code is put.
+/// The changes of a TIPLOC amendment. If the amendment gives the TIPLOC another code, first the old
+/// code is deleted, and then the new code is put.
 fn changes_amended(number: u32, view: &TiplocRecord<'_>) -> SingleChanges
     requires { HasKind tiploc_amend view.now }
     ensures changes { listed result ≡ changes_of_record number view.now [] }
@@ -100,7 +100,7 @@ fn count_amended(view: &TiplocRecord<'_>) -> u64
     }
 }
 
-/// The new code of a TIPLOC amendment. None if the record keeps the old code.
+/// The new code of a TIPLOC amendment. Returns `None` if the record keeps the old code.
 fn other_code(view: &TiplocRecord<'_>) -> Option<Tiploc>
     requires { HasKind tiploc_amend view.now }
     ensures { MatchOption result (keeps_code view.now ≡ true)

@@ -48,8 +48,8 @@ impl Thinned {
         self.day
     }
 
-    /// Appends a change that is to be kept, already cut to what the docker needs, and adds its key
-    /// to the set.
+    /// Appends a change that is to be kept, and adds its key to the set. The change already has
+    /// only what the docker needs.
     fn keep(&mut self, change: Change) -> Result<(), AllocError>
         ensures { OnOk result ((place : List ℕ) (day : ℕ) (whole : model.Change)
             → may_matter place whole.key ≡ true
@@ -62,8 +62,8 @@ impl Thinned {
         }
     }
 
-    /// Keeps a TIPLOC's or an association's change if its key may matter at the place, and
-    /// otherwise drops it. Such a change is never cut.
+    /// Keeps a TIPLOC's or an association's change, without altering it, if its key may matter at
+    /// the place. Drops the change otherwise.
     fn add(&mut self, change: Change) -> Result<(), AllocError>
         ensures { OnOk result (IsNeverThin (change_meant change)
             → (place : List ℕ) (day : ℕ) → Thins place day self.old (change_meant change) self.new) }
@@ -91,7 +91,7 @@ impl Thinned {
     }
 
     /// Receives a change after which the docker needs nothing of the schedule's key. If an earlier
-    /// change of this key was kept, a deletion is kept. Otherwise nothing is kept.
+    /// change to this key was kept, a deletion is kept. Otherwise nothing is kept.
     fn delete(&mut self, number: u32, key: Key) -> Result<(), AllocError>
         ensures { OnOk result ((place : List ℕ) (day : ℕ) (whole : model.Change)
             → whole.number ≡ number → whole.key ≡ key_meant key
@@ -108,8 +108,8 @@ impl Thinned {
         })
     }
 
-    /// Receives the change of a schedule with these lines. Unless it is a deletion, `near` says
-    /// whether it runs near the day.
+    /// Receives the change of a schedule with these lines. `near` says whether the schedule runs
+    /// near the day, and has no meaning for a deletion.
     pub(crate) fn add_opened(
         &mut self,
         opened: Opened,

@@ -1,4 +1,4 @@
--- Each day number up to the last one is the number of exactly one day of the calendar.
+-- Each day number up to the last is the number of exactly one day of the calendar.
 use Rattle.std.proofs.Common.{◌≡◌, ℕ, ℤ, zero, suc, ◌+◌, ◌<◌, ◌≤◌, ◌⊎◌, refl, subst, pos, negsuc, ◌+ℤ◌, ◌<ℤ◌, arith, inl, inr}
 use Rattle.std.specs.Prelude.{unsigned_abs}
 use Rattle.std.proofs.lemmas.Bool.{cases_order}

@@ -15,13 +15,12 @@ use Rattle.cif_line.specs.View.{IsTiplocRecord}
 unfoldable pub first_bad : List ℕ → List CheckedField → Option ℕ
 first_bad line fields = option_map (λ (field : CheckedField). field.first) (find (λ field. not (field.is_good (columns field.first field.last line))) fields)
 
--- the leftmost bad field of a line is the first bad one among the checked fields of its kind
+-- the leftmost bad field of a line is the first bad field in the list of its kind's checked fields
 by_kind : (kind : Kind) (line : List ℕ) → HasKind kind line → leftmost_bad_field line ≡ first_bad line (checked_fields kind line)
 unfolding first_bad
 by_kind kind line is = ap (λ k. first_bad line (fields_of k line)) is
 
--- if one field is bad, and all fields before it in the list are good, the first bad field is this
--- one
+-- if one field is bad, and all fields before it in the list are good, this field is the first bad field
 pub behind_good : (line : List ℕ) (before : List CheckedField) (field : CheckedField) (after : List CheckedField)
     → AllByRecursion (IsGoodIn line) before → field.is_good (columns field.first field.last line) ≡ false
     → first_bad line (before ++ field ∷ after) ≡ Some field.first
@@ -59,7 +58,7 @@ basic_checked deletion =
     ∷ cond deletion [] (checked 16 21 is_end_date ∷ checked 22 28 is_days ∷ [])
     ++ checked 80 80 is_stp_indicator ∷ []
 
--- the leftmost bad field of a basic schedule is the first bad one of its checked fields
+-- the leftmost bad field of a basic schedule is the first bad field in the list of its checked fields
 of_basic : (line : List ℕ) (deletion : Bool) → HasKind basic_schedule line → is_deletion line ≡ deletion
     → leftmost_bad_field line ≡ first_bad line (basic_checked deletion)
 unfolding basic_checked
@@ -111,7 +110,7 @@ assoc_checked deletion =
     ∷ cond deletion [] (checked 22 27 is_end_date ∷ checked 28 34 is_days ∷ [])
     ++ checked 38 44 is_tiploc ∷ checked 80 80 is_stp_indicator ∷ []
 
--- the leftmost bad field of an association is the first bad one of its checked fields
+-- the leftmost bad field of an association is the first bad field in the list of its checked fields
 of_assoc : (line : List ℕ) (deletion : Bool) → HasKind association line → is_deletion line ≡ deletion
     → leftmost_bad_field line ≡ first_bad line (assoc_checked deletion)
 unfolding assoc_checked

@@ -1,4 +1,4 @@
--- What the code reads from the times of an intermediate location.
+-- Defines what the code reads from the times of an intermediate location.
 use Rattle.std.specs.Prelude.{◌≡◌, ℕ, List, if◌then◌else◌}
 use Rattle.docker_model.specs.records.Record.{columns}
 use Rattle.docker_model.specs.records.Clock.{is_present_time, half_minutes, scheduled_time}

@@ -1,4 +1,4 @@
--- What the reader of a record returns.
+-- Defines what the reader of a record returns.
 use Rattle.std.specs.Prelude.{◌≡◌, ◌↔◌, ℕ, List, Result, Some, IsOk, IfOk, IfErr}
 use Rattle.docker_model.specs.records.Field.{HasGoodFields, leftmost_bad_field}
 use Rattle.cif_line.specs.declared.check.FieldFault.{FieldFault}

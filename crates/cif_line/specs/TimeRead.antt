@@ -1,4 +1,4 @@
--- What the code reads from the field of a scheduled time, whether or not the field is good.
+-- Defines what the code reads from the field of a scheduled time, whether or not the field is good.
 use Rattle.std.specs.Prelude.{◌≡◌, ℕ, List, true}
 use Rattle.docker_model.specs.records.Clock.{is_blank, is_present_time, half_minutes}
 use Rattle.cif_line.specs.declared.time_field.TimeField.{TimeField}

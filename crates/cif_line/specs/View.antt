@@ -1,4 +1,4 @@
--- What a view requires of its line.
+-- Defines what a view requires of its line.
 use Rattle.std.specs.Prelude.{◌≡◌, ◌⊎◌, ℕ, List, Option, Some, None, option_map, find, not, true, if◌then◌else◌}
 use Rattle.docker_model.specs.records.Record.{Kind, tiploc_insert, tiploc_amend, tiploc_delete, HasKind, columns}
 use Rattle.docker_model.specs.records.Clock.{is_blank}
@@ -9,7 +9,7 @@ pub record IsGood (kind : Kind) (line : List ℕ) : Type 0 where
   pub has_kind : HasKind kind line
   pub good_fields : HasGoodFields line
 
--- the first column of the leftmost bad field, with the fields checked as in a record of this kind
+-- the first column of the leftmost bad field, if the line is checked as a record of this kind
 abbrev pub bad_field_of : Kind → List ℕ → Option ℕ
 bad_field_of kind line =
     option_map (λ (field : CheckedField). field.first)
@@ -19,7 +19,7 @@ bad_field_of kind line =
 abbrev pub IsTiplocRecord : List ℕ → Type 0
 IsTiplocRecord line = HasKind tiploc_insert line ⊎ HasKind tiploc_amend line ⊎ HasKind tiploc_delete line
 
--- Says that the checked fields of a TIPLOC record are good: its code and, in an amendment, its new
+-- Says that the checked fields of a TIPLOC record are good: the code and, in an amendment, the new
 -- code.
 pub record IsGoodTiploc (line : List ℕ) : Type 0 where
   pub code : is_tiploc (columns 3 9 line) ≡ true

@@ -81,7 +81,7 @@ impl<'a> Assoc<'a> {
     }
 
     /// The last of the base train's start days on which the association holds: columns 22 to 27.
-    /// None in a deletion.
+    /// Returns `None` for a deletion.
     pub fn end(&self) -> Option<Until>
         ensures { result ≡ unless_deleted self.now (end_number (columns 22 27 self.now)) }
     {
@@ -89,7 +89,7 @@ impl<'a> Assoc<'a> {
     }
 
     /// The weekdays on which the base train must start for the association to hold: columns 28 to
-    /// 34. None in a deletion.
+    /// 34. Returns `None` for a deletion.
     pub fn days(&self) -> Option<Days>
         ensures { result ≡ unless_deleted self.now (columns 28 34 self.now) }
     {

@@ -72,15 +72,16 @@ impl<'a> Basic<'a> {
         self.line.day(10)
     }
 
-    /// The runs-to date, the last day on which the schedule runs: columns 16 to 21. None in a
-    /// deletion.
+    /// The runs-to date, the last day on which the schedule runs: columns 16 to 21. Returns `None`
+    /// for a deletion.
     pub fn runs_to(&self) -> Option<Until>
         ensures { result ≡ unless_deleted self.now (end_number (columns 16 21 self.now)) }
     {
         self.line.end_unless_deleted(16)
     }
 
-    /// The days run, the weekdays on which the schedule runs: columns 22 to 28. None in a deletion.
+    /// The days run, the weekdays on which the schedule runs: columns 22 to 28. Returns `None` for
+    /// a deletion.
     pub fn days(&self) -> Option<Days>
         ensures { result ≡ unless_deleted self.now (columns 22 28 self.now) }
     {

@@ -37,8 +37,8 @@ impl Model for Day {
 
 impl Day {
     /// The day that six digits YYMMDD mean, as in a basic schedule (BS). Years 60 to 99 are 1960 to
-    /// 1999, and 00 to 59 are 2000 to 2059. None if a byte isn't a digit or the calendar has no
-    /// such day.
+    /// 1999, and 00 to 59 are 2000 to 2059. Returns `None` if a byte isn't a digit or the calendar
+    /// has no such day.
     pub fn from_yymmdd(field: &[u8; 6]) -> Option<Day>
         ensures some { IsSome result ↔ IsTrue (is_date field.now) }
         ensures value { IfSome result (λ day. day ≡ date_number field.now) }
@@ -61,7 +61,7 @@ impl Day {
     }
 
     /// The day that six digits DDMMYY mean, as in a header (HD). Years are as in `from_yymmdd`.
-    /// None if a byte isn't a digit or the calendar has no such day.
+    /// Returns `None` if a byte isn't a digit or the calendar has no such day.
     pub fn from_ddmmyy(field: &[u8; 6]) -> Option<Day>
         ensures some { IsSome result ↔ IsTrue (is_date_day_first field.now) }
         ensures value { IfSome result (λ day. day ≡ date_number_day_first field.now) }
@@ -83,7 +83,7 @@ impl Day {
         }
     }
 
-    /// Reads a day from a text YYYY-MM-DD, as `iso` writes it. None for any other text.
+    /// Reads a day from a text YYYY-MM-DD, as `iso` writes it. Returns `None` for any other text.
     pub fn from_iso(text: &str) -> Option<Day>
         ensures value { IfSome result (λ day. text.now ≡ day_text day) }
         ensures read { (day : ℕ) → day ≤ last_day → text.now ≡ day_text day → result ≡ Some day }
@@ -99,7 +99,7 @@ impl Day {
         }
     }
 
-    /// The day with this number. None above 36524.
+    /// The day with this number. Returns `None` above 36524.
     pub fn from_number(number: u16) -> Option<Day>
         ensures { SomeIff result (number ≤ last_day) number }
     {
@@ -148,8 +148,8 @@ impl Day {
         ((self.number + 4) % 7) as u8
     }
 
-    /// The day that is this many days later, or earlier if `days` is negative. None if the result
-    /// would be before 1960-01-01 or after 2059-12-31.
+    /// The day that is this many days later, or earlier if `days` is negative. Returns `None` if
+    /// the result would be before 1960-01-01 or after 2059-12-31.
     pub fn plus(&self, days: i32) -> Option<Day>
         ensures some { IsSome result ↔ IsBetween (pos 0) (pos last_day) (pos self.now +ℤ days) }
         ensures value { IfSome result (λ day. pos day ≡ pos self.now +ℤ days) }

@@ -26,8 +26,8 @@ impl Model for Days {
 }
 
 impl Days {
-    /// The weekdays whose flags are `1` in a field of seven flags. None if a byte is neither `0`
-    /// nor `1`.
+    /// The weekdays whose flags are `1` in a field of seven flags. Returns `None` if a byte is
+    /// neither `0` nor `1`.
     pub fn from_field(field: &[u8; 7]) -> Option<Days>
         ensures some { IsSome result ↔ IsTrue (is_days field.now) }
         ensures value { IfSome result (λ days. days ≡ field.now) }

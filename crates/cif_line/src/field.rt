@@ -42,7 +42,8 @@ impl Line {
         Time::from_present(self.field(first))
     }
 
-    /// The scheduled time in the five columns that begin at `first`. None if they are blank.
+    /// The scheduled time in the five columns that begin at `first`. Returns `None` if they are
+    /// blank.
     pub fn scheduled_time(&self, first: usize) -> Option<Time>
         requires from { 0 < first }
         requires within { first ≤ 76 }
@@ -52,8 +53,8 @@ impl Line {
         Time::from_scheduled(self.field(first))
     }
 
-    /// The public time, a whole minute, in the four columns that begin at `first`. None if they are
-    /// blank or `0000`.
+    /// The public time, a whole minute, in the four columns that begin at `first`. Returns `None`
+    /// if they are blank or `0000`.
     pub fn public_time(&self, first: usize) -> Option<Time>
         requires from { 0 < first }
         requires within { first ≤ 77 }
@@ -86,8 +87,8 @@ impl Line {
         Day::of_date(self.field(first))
     }
 
-    /// The end date in the six columns that begin at `first`. None if the transaction is a
-    /// deletion.
+    /// The end date in the six columns that begin at `first`. Returns `None` if the transaction is
+    /// a deletion.
     pub fn end_unless_deleted(&self, first: usize) -> Option<Until>
         requires from { 0 < first }
         requires within { first ≤ 75 }
@@ -101,8 +102,8 @@ impl Line {
         Some(Until::of_end_date(self.field(first)))
     }
 
-    /// The days run in the seven columns that begin at `first`. None if the transaction is a
-    /// deletion.
+    /// The days run in the seven columns that begin at `first`. Returns `None` if the transaction
+    /// is a deletion.
     pub fn days_unless_deleted(&self, first: usize) -> Option<Days>
         requires from { 0 < first }
         requires within { first ≤ 74 }

@@ -6,8 +6,8 @@ ghost use Rattle.cif_line.specs.Kind.{meaning};
 use crate::kind_of_record::Kind;
 use crate::line::Line;
 
-/// The kind of a record, by its identity in columns 1 and 2. None if no kind has that identity, for
-/// example `LN`.
+/// The kind of a record, by its identity in columns 1 and 2. Returns `None` if no kind has that
+/// identity, for example `LN`.
 pub fn kind(line: &Line) -> Option<Kind>
     ensures { option_map meaning result ≡ kind_of line.now }
 {

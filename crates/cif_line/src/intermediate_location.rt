@@ -45,7 +45,8 @@ impl<'a> Model for Call<'a> {
 impl<'a> Call<'a> {
     ghost use Rattle.cif_line.specs.CallRead.{AreTimesOf};
 
-    /// Makes a view of a line whose fields have already been checked, with its scheduled times.
+    /// Makes a view of a line whose fields have already been checked. `times` are the line's
+    /// scheduled times.
     pub(crate) fn of(line: &'a Line, times: CallTimes) -> Call<'a>
         requires good { IsGood intermediate_location line.now }
         requires times { AreTimesOf line.now times }
@@ -68,28 +69,29 @@ impl<'a> Call<'a> {
         self.line.column(10)
     }
 
-    /// The scheduled arrival in half minutes: columns 11 to 15. None if it is blank.
+    /// The scheduled arrival in half minutes: columns 11 to 15. Returns `None` if it is blank.
     pub fn arrival(&self) -> Option<Time>
         ensures { result ≡ scheduled_time (columns 11 15 self.now) }
     {
         self.times.arrival
     }
 
-    /// The scheduled departure in half minutes: columns 16 to 20. None if it is blank.
+    /// The scheduled departure in half minutes: columns 16 to 20. Returns `None` if it is blank.
     pub fn departure(&self) -> Option<Time>
         ensures { result ≡ scheduled_time (columns 16 20 self.now) }
     {
         self.times.departure
     }
 
-    /// The scheduled pass in half minutes: columns 21 to 25. None if it is blank.
+    /// The scheduled pass in half minutes: columns 21 to 25. Returns `None` if it is blank.
     pub fn pass(&self) -> Option<Time>
         ensures { result ≡ scheduled_time (columns 21 25 self.now) }
     {
         self.times.pass
     }
 
-    /// The public arrival, a whole minute: columns 26 to 29. None if it is blank or `0000`.
+    /// The public arrival, a whole minute: columns 26 to 29. Returns `None` if it is blank or
+    /// `0000`.
     pub fn public_arrival(&self) -> Option<Time>
         ensures value { result ≡ public_half_minutes (columns 26 29 self.now) }
         ensures shown { shown_public (columns 26 29 self.now) ≡ public_text result }
@@ -97,7 +99,8 @@ impl<'a> Call<'a> {
         self.line.public_time(26)
     }
 
-    /// The public departure, a whole minute: columns 30 to 33. None if it is blank or `0000`.
+    /// The public departure, a whole minute: columns 30 to 33. Returns `None` if it is blank or
+    /// `0000`.
     pub fn public_departure(&self) -> Option<Time>
         ensures value { result ≡ public_half_minutes (columns 30 33 self.now) }
         ensures shown { shown_public (columns 30 33 self.now) ≡ public_text result }

@@ -13,7 +13,7 @@ pub enum Extract {
 }
 
 impl Extract {
-    /// The kind of extract that `F` or `U` means. None for any other byte.
+    /// The kind of extract that `F` or `U` means. Returns `None` for any other byte.
     pub fn from_letter(letter: u8) -> Option<Extract>
         ensures some { IsSome result ↔ IsTrue (is_update_indicator (letter ∷ [])) }
         ensures value { IfSome result (λ extract. extract_letter extract ≡ letter) }
@@ -49,7 +49,7 @@ pub enum Transaction {
 }
 
 impl Transaction {
-    /// The transaction that `N`, `D` or `R` means. None for any other byte.
+    /// The transaction that `N`, `D` or `R` means. Returns `None` for any other byte.
     pub fn from_letter(letter: u8) -> Option<Transaction>
         ensures some { IsSome result ↔ IsTrue (is_transaction (letter ∷ [])) }
         ensures value { IfSome result (λ transaction. transaction_letter transaction ≡ letter) }
@@ -75,8 +75,8 @@ impl Transaction {
 }
 
 /// The STP (short term plan) indicator of a basic schedule (BS) or an association (AA). Indicators
-/// are ordered by letter. If several schedules of a train run on a day, the one with the lowest
-/// indicator is chosen. The same is true of associations between two trains.
+/// are ordered by letter. If several schedules of a train run on a day, the schedule with the
+/// lowest indicator is chosen. The same is true of associations between two trains.
 #[derive(Clone, Copy, PartialEq, Eq, PartialOrd, Ord, Debug)]
 pub enum Stp {
     /// C, a cancellation.
@@ -90,7 +90,7 @@ pub enum Stp {
 }
 
 impl Stp {
-    /// The STP indicator that `C`, `N`, `O` or `P` means. None for any other byte.
+    /// The STP indicator that `C`, `N`, `O` or `P` means. Returns `None` for any other byte.
     pub fn from_letter(letter: u8) -> Option<Stp>
         ensures some { IsSome result ↔ IsTrue (is_stp_letter letter) }
         ensures value { IfSome result (λ stp. stp_letter stp ≡ letter) }

@@ -28,7 +28,7 @@ impl Model for Line {
     ghost inverse = { λ bytes. record { bytes = bytes } };
 }
 
-/// Why some bytes aren't a line. The length is checked first.
+/// Why bytes aren't a line. The length is checked first.
 #[derive(Clone, Copy, PartialEq, Eq, Debug, Error)]
 pub enum LineFault {
     /// The number of bytes isn't 80.
@@ -115,8 +115,8 @@ fn first_bad_index(bytes: &[u8]) -> Option<usize>
     bytes.iter().position(|byte| !is_printable(*byte))
 }
 
-/// The column, from 1, of the leftmost byte that isn't printable, in a line that has such a byte.
-/// It is found byte by byte.
+/// The column, from 1, of the leftmost byte that isn't printable. The line must have a byte that
+/// isn't printable. The search tests one byte after another.
 #[tactic(auto, using(cif_laws::proofs::records::RecordTests::no_bad_byte))]
 fn bad_column(bytes: &[u8; 80]) -> u8
     requires { ¬ (AllPass is_printable bytes.now) }

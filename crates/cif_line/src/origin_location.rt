@@ -35,7 +35,8 @@ impl<'a> Model for Origin<'a> {
 
 #[tactic(auto, using(crate::proofs::GoodFields::origin_fields))]
 impl<'a> Origin<'a> {
-    /// Makes a view of a line whose fields have already been checked, with its scheduled departure.
+    /// Makes a view of a line whose fields have already been checked. `departure` is the line's
+    /// scheduled departure.
     pub(crate) fn of(line: &'a Line, departure: Time) -> Origin<'a>
         requires good { IsGood origin_location line.now }
         requires time { departure ≡ half_minutes (columns 11 15 line.now) }
@@ -65,7 +66,8 @@ impl<'a> Origin<'a> {
         self.departure
     }
 
-    /// The public departure, a whole minute: columns 16 to 19. None if it is blank or `0000`.
+    /// The public departure, a whole minute: columns 16 to 19. Returns `None` if it is blank or
+    /// `0000`.
     pub fn public_departure(&self) -> Option<Time>
         ensures value { result ≡ public_half_minutes (columns 16 19 self.now) }
         ensures shown { shown_public (columns 16 19 self.now) ≡ public_text result }

@@ -1,5 +1,5 @@
-//! Readers of records. A reader returns a view of the line if its checked fields are good.
-//! Otherwise it returns the first column of the leftmost bad field.
+//! Readers of records. A reader returns a view of the line if the line's checked fields are good.
+//! Otherwise the reader returns the first column of the leftmost bad field.
 ghost use Rattle.std.specs.Prelude.{◌≡◌, ◌↔◌, IsOk, IfOk, IfErr, IsSome, IfSome, Some, None};
 ghost use Rattle.docker_model.specs.records.Clock.{half_minutes};
 ghost use Rattle.docker_model.specs.records.Record.{HasKind, columns, header, association, basic_schedule, origin_location};
@@ -41,7 +41,7 @@ pub fn header(line: &Line) -> Result<Header<'_>, FieldFault>
     }
 }
 
-/// The first column of the leftmost bad field in a header. None if all are good.
+/// The first column of the leftmost bad field in a header. Returns `None` if all are good.
 fn header_fault(line: &Line) -> Option<u8>
     requires kind { HasKind header line.now }
     ensures { result ≡ leftmost_bad_field line.now }
@@ -71,7 +71,7 @@ pub fn tiploc(line: &Line) -> Result<TiplocRecord<'_>, FieldFault>
     }
 }
 
-/// The first column of the leftmost bad field in a TIPLOC record. None if all are good.
+/// The first column of the leftmost bad field in a TIPLOC record. Returns `None` if all are good.
 fn tiploc_fault(line: &Line) -> Option<u8>
     requires kind { IsTiplocRecord line.now }
     ensures { result ≡ leftmost_bad_field line.now }
@@ -98,8 +98,8 @@ pub fn assoc(line: &Line) -> Result<Assoc<'_>, FieldFault>
     }
 }
 
-/// The first column of the leftmost bad field in an association. None if all are good. In a
-/// deletion the end date and the days run aren't checked.
+/// The first column of the leftmost bad field in an association. Returns `None` if all are good. In
+/// a deletion the end date and the days run aren't checked.
 fn assoc_fault(line: &Line) -> Option<u8>
     requires kind { HasKind association line.now }
     ensures { result ≡ leftmost_bad_field line.now }
@@ -140,8 +140,8 @@ pub fn basic(line: &Line) -> Result<Basic<'_>, FieldFault>
     }
 }
 
-/// The first column of the leftmost bad field in a basic schedule. None if all are good. In a
-/// deletion the runs-to date and the days run aren't checked.
+/// The first column of the leftmost bad field in a basic schedule. Returns `None` if all are good.
+/// In a deletion the runs-to date and the days run aren't checked.
 fn basic_fault(line: &Line) -> Option<u8>
     requires kind { HasKind basic_schedule line.now }
     ensures { result ≡ leftmost_bad_field line.now }
@@ -207,8 +207,8 @@ fn end_time(line: &Line) -> Result<Time, u8>
     }
 }
 
-/// The scheduled time of an origin or a terminus. None if a checked field is bad. All fields are
-/// tested together, without a branch for each field.
+/// The scheduled time of an origin or a terminus. Returns `None` if a checked field is bad. All
+/// fields are tested together, without a branch for each field.
 fn good_end_time(line: &Line) -> Option<Time>
     ensures origin { IsSome result ↔ (bad_field_of origin_location line.now ≡ None) }
     ensures terminus { IsSome result ↔ (bad_field_of terminating_location line.now ≡ None) }
@@ -222,7 +222,7 @@ fn good_end_time(line: &Line) -> Option<Time>
     }
 }
 
-/// The first column of the leftmost bad field in an origin or a terminus, for a line that has a bad
+/// The first column of the leftmost bad field in an origin or a terminus. The line must have a bad
 /// field.
 #[cold]
 fn end_fault(line: &Line) -> u8
@@ -252,8 +252,8 @@ pub fn call(line: &Line) -> Result<Call<'_>, FieldFault>
     }
 }
 
-/// The scheduled times of an intermediate location. None if a checked field is bad. All fields are
-/// tested together, without a branch for each field.
+/// The scheduled times of an intermediate location. Returns `None` if a checked field is bad. All
+/// fields are tested together, without a branch for each field.
 fn good_call_times(line: &Line) -> Option<CallTimes>
     ensures some { IsSome result ↔ (bad_field_of intermediate_location line.now ≡ None) }
     ensures times { IfSome result (AreTimesOf line.now) }
@@ -270,8 +270,8 @@ fn good_call_times(line: &Line) -> Option<CallTimes>
     })
 }
 
-/// The first column of the leftmost bad field in an intermediate location, for a line that has a
-/// bad field.
+/// The first column of the leftmost bad field in an intermediate location. The line must have a bad
+/// field.
 #[cold]
 fn call_fault(line: &Line) -> u8
     requires bad { ¬ (bad_field_of intermediate_location line.now ≡ None) }

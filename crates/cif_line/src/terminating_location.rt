@@ -35,7 +35,8 @@ impl<'a> Model for Terminus<'a> {
 
 #[tactic(auto, using(crate::proofs::GoodFields::terminus_fields))]
 impl<'a> Terminus<'a> {
-    /// Makes a view of a line whose fields have already been checked, with its scheduled arrival.
+    /// Makes a view of a line whose fields have already been checked. `arrival` is the line's
+    /// scheduled arrival.
     pub(crate) fn of(line: &'a Line, arrival: Time) -> Terminus<'a>
         requires good { IsGood terminating_location line.now }
         requires time { arrival ≡ half_minutes (columns 11 15 line.now) }
@@ -65,7 +66,8 @@ impl<'a> Terminus<'a> {
         self.arrival
     }
 
-    /// The public arrival, a whole minute: columns 16 to 19. None if it is blank or `0000`.
+    /// The public arrival, a whole minute: columns 16 to 19. Returns `None` if it is blank or
+    /// `0000`.
     pub fn public_arrival(&self) -> Option<Time>
         ensures value { result ≡ public_half_minutes (columns 16 19 self.now) }
         ensures shown { shown_public (columns 16 19 self.now) ≡ public_text result }

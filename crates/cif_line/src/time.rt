@@ -28,7 +28,8 @@ impl Model for Time {
 }
 
 impl Time {
-    /// The time that is this many half minutes after midnight. None if the number is 2880 or more.
+    /// The time that is this many half minutes after midnight. Returns `None` if the number is 2880
+    /// or more.
     pub(crate) fn from_half_minutes(half_minutes: u16) -> Option<Time>
         ensures { result ≡ (if nat_lt half_minutes 2880 then Some half_minutes else None) }
     {
@@ -40,7 +41,7 @@ impl Time {
     }
 
     /// Reads a scheduled time: HHMM from `0000` to `2359`, then `H` for half a minute or a space.
-    /// None for any other field, including a blank one.
+    /// Returns `None` for any other field, including a blank one.
     pub fn from_field(field: &[u8; 5]) -> Option<Time>
         ensures some { IsSome result ↔ IsTrue (is_present_time field.now) }
         ensures value { IfSome result (λ time. time ≡ half_minutes field.now) }
@@ -48,8 +49,8 @@ impl Time {
         TimeField::read(field).time()
     }
 
-    /// Reads a scheduled time that may be blank. `Some(None)` for a blank field; None for a field
-    /// that is neither blank nor a time.
+    /// Reads a scheduled time that may be blank. Returns `Some(None)` for a blank field, and `None`
+    /// for a field that is neither blank nor a time.
     #[tactic(auto, using(crate::proofs::Times::scheduled_times))]
     pub fn scheduled(field: &[u8; 5]) -> Option<Option<Time>>
         ensures some { is_some result ≡ is_scheduled_time field.now }
@@ -63,7 +64,8 @@ impl Time {
         }
     }
 
-    /// The scheduled time in a field that is known to be blank or a time. None if it is blank.
+    /// The scheduled time in a field that is known to be blank or a time. Returns `None` if it is
+    /// blank.
     #[tactic(auto, using(crate::proofs::Times::scheduled_times))]
     pub(crate) fn from_scheduled(field: &[u8; 5]) -> Option<Time>
         requires good { is_scheduled_time field.now ≡ true }
@@ -87,8 +89,8 @@ impl Time {
         }
     }
 
-    /// The public time, a whole minute, in a field that is known to be HHMM or blank. None if it is
-    /// blank or `0000`.
+    /// The public time, a whole minute, in a field that is known to be HHMM or blank. Returns
+    /// `None` if it is blank or `0000`.
     pub(crate) fn from_public(field: &[u8; 4]) -> Option<Time>
         requires good { is_public_time field.now ≡ true }
         ensures value { result ≡ public_half_minutes field.now }
@@ -133,8 +135,8 @@ impl Time {
     }
 }
 
-/// The minute of the day, from 0 to 1439, in a field that begins with HHMM. None if the first four
-/// bytes aren't a time from `0000` to `2359`.
+/// The minute of the day, from 0 to 1439, in a field that begins with HHMM. Returns `None` if the
+/// first four bytes aren't a time from `0000` to `2359`.
 pub fn clock(field: &[u8]) -> Option<u16>
     requires { 4 ≤ length field.now }
     ensures some { IsSome result ↔ IsTrue (is_clock field.now) }

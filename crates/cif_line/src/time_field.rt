@@ -71,7 +71,7 @@ impl TimeField {
         self.is_blank | self.is_time
     }
 
-    /// The scheduled time. None if the field isn't a time.
+    /// The scheduled time. Returns `None` if the field isn't a time.
     #[inline(always)]
     pub(crate) fn time(self) -> Option<Time>
         ensures { result ≡ (if self.is_time then Some self.half_minutes else None) }

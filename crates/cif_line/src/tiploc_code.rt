@@ -29,7 +29,7 @@ impl Model for Tiploc {
 
 impl Tiploc {
     /// Makes a TIPLOC from a text of one to seven bytes, each printable and not a space. Pads it
-    /// with spaces to seven bytes. None for any other text.
+    /// with spaces to seven bytes. Returns `None` for any other text.
     pub fn from_text(text: &str) -> Option<Tiploc>
         ensures some { IsSome result ↔ IsTiplocText text.now }
         ensures value { IfSome result (λ tiploc.
@@ -44,7 +44,8 @@ impl Tiploc {
         Some(Tiploc { bytes })
     }
 
-    /// The TIPLOC in a field. None if the first byte is a space or any byte isn't printable.
+    /// The TIPLOC in a field. Returns `None` if the first byte is a space or any byte isn't
+    /// printable.
     pub fn from_field(field: &[u8; 7]) -> Option<Tiploc>
         ensures some { IsSome result ↔ IsTiploc field.now }
         ensures value { IfSome result (λ tiploc. tiploc ≡ field.now) }

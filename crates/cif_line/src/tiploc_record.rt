@@ -58,8 +58,8 @@ impl<'a> TiplocRecord<'a> {
         self.line.field(19)
     }
 
-    /// The new code in an amendment (TA): columns 73 to 79. None if these are blank or the record
-    /// isn't an amendment.
+    /// The new code in an amendment (TA): columns 73 to 79. Returns `None` if these are blank or
+    /// the record isn't an amendment.
     pub fn new_code(&self) -> Option<Tiploc>
         ensures { result ≡ new_code_of (kind_of self.now) self.now }
     {

@@ -25,7 +25,7 @@ impl Model for Uid {
 }
 
 impl Uid {
-    /// The UID in a field. None if a byte isn't printable.
+    /// The UID in a field. Returns `None` if a byte isn't printable.
     pub fn from_field(field: &[u8; 6]) -> Option<Uid>
         ensures some { IsSome result ↔ IsTextOfLength 6 field.now }
         ensures value { IfSome result (λ uid. uid ≡ field.now) }

@@ -1,4 +1,4 @@
--- Applying a horizon to rows one by one, from the first to the last.
+-- Lemmas on applying a horizon to rows one by one, from the first to the last.
 use Rattle.std.proofs.Common.{◌≡◌, ℕ, ◌+◌, ◌<◌, ◌≤◌, List, [], ◌∷◌, ◌++◌, map, length, get_or, take, drop, set, ap, sym, ◌∙◌, subst, append_assoc, arith}
 use Rattle.std.specs.declared.cmp.Ordering.{Ordering}
 use Rattle.std.proofs.lemmas.List.{map-append, drop_more, take_more_set, drop-set-lt, take_all, drop_all, append-nil}
@@ -44,7 +44,7 @@ all_lapsed horizon all rows i over same =
     sym (ap (map row_meant) (take_all i rows over)) ∙ sym (append-nil (map row_meant (take i rows)))
     ∙ sym (ap (λ xs. map row_meant (take i rows) ++ lapse_entries horizon (map row_meant xs)) (drop_all i rows over)) ∙ same
 
--- writing new rows over equally many old ones results in the new rows
+-- writing new rows over the same number of old rows results in the new rows
 pub written_back : (new old : List Row) (n : ℕ) → length new ≡ n → length old ≡ n → take n (new ++ drop (length new) old) ≡ new
 written_back new old n size same =
     ap (take n) (ap (λ xs. new ++ xs) (drop_all (length new) old (omega arith)) ∙ append-nil new) ∙ take_all n new (omega arith)

@@ -20,7 +20,7 @@ row_out picked Less x y less equal greater = x ∷ less
 row_out picked Equal x y less equal greater = (x.0, picked x.1 y.1) ∷ equal
 row_out picked Greater x y less equal greater = y ∷ greater
 
--- the walk over a second table and the first table from row `x` on, made of the walk over the rows after `x`
+-- the walk over a second table and over the rows of the first table from `x` on. `rest` is the walk over the rows of the first table after `x`
 abbrev pub walk_from : {E : Type 0} → (E → E → E) → Key × E → (List (Key × E) → List (Key × E)) → List (Key × E) → List (Key × E)
 walk_from picked x rest [] = x ∷ rest []
 walk_from picked x rest (y ∷ ys) = row_out picked (row_cmp x y) x y (rest (y ∷ ys)) (rest ys) (walk_from picked x rest ys)
@@ -82,7 +82,7 @@ module _ {E : Type 0} (picked : E → E → E) where
   walk_ascends [] ys up_x up_y = up_y
   walk_ascends (x ∷ xs) ys up_x up_y = from_ascends x xs up_x (λ zs up. walk_ascends xs zs up_x.1 up) ys up_y
 
-  -- the values of two tables at a key, joined
+  -- the joined value of two tables at a key
   abbrev Both : List (Key × E) → List (Key × E) → model.Key → Option E
   Both xs ys key = picked_value picked (value_at xs key) (value_at ys key)
 

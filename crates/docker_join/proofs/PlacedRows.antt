@@ -50,7 +50,7 @@ module _ {E : Type 0} (picked : E → E → E) where
   out_first Equal a b less equal greater behind = refl
   out_first Greater a b less equal greater behind = refl
 
-  -- if some rows of the second table are below all rows of the first, the walk begins with these rows
+  -- if the first rows of the second table are below all rows of the first table, the walk begins with them
   lower_first : (x b y : List (Key × E)) → AllBelow b x → walk picked x (b ++ y) ≡ b ++ walk picked x y
   lower_first x [] y below = refl
   lower_first [] (b ∷ others) y below = refl
@@ -96,7 +96,7 @@ module _ {E : Type 0} where
   first_below [] ys up = tt
   first_below (x ∷ xs) ys up = (all_behind (IsBelow row_cmp x) xs ys up.0, first_below xs ys up.1)
 
-  -- if some rows are below a row, and other rows are above it, the former are below the latter
+  -- if all rows of one list are below a row, and all rows of another are above it, each row of the first is below each row of the second
   below_higher : (lows highs : List (Key × E)) (row : Key × E) → AllBelow lows (row ∷ []) → Above row highs → AllBelow lows highs
   below_higher [] highs row below above = tt
   below_higher (low ∷ lows) highs row below above = (above_lower low row highs below.0.0 above, below_higher lows highs row below.1 above)
@@ -130,18 +130,18 @@ module _ {E : Type 0} where
       (ap (λ n. drop n (front ++ back)) at ∙ drop-append_seam front back, ap (λ n. take n (front ++ back)) at ∙ take-append_seam front back)
 
 module _ {E : Type 0} (picked : E → E → E) where
-  -- the walk over some rows and a single lower row is the lower row, followed by these rows
+  -- the walk over a table and a single row below all rows of the table is this row, followed by the table
   walk_row : (rows : List (Key × E)) (row : Key × E) → Above row rows → walk picked rows (row ∷ []) ≡ row ∷ rows
   walk_row rows row above = lower_first picked rows (row ∷ []) [] (above, tt) ∙ ap (λ rest. row ∷ rest) (walk_none picked rows)
 
-  -- if a row of the second table is its last, and the first table doesn't have the row's key, the walk has the row just before the greater rows
+  -- if the first table doesn't have the key of the second table's last row, the walk has this row just before the greater rows
   none_out : (a r rest : List (Key × E)) (row : Key × E) → AllBelow a (row ∷ []) → Above row r → AllBelow rest (row ∷ [])
       → walk picked (a ++ r) (rest ++ row ∷ []) ≡ walk picked a rest ++ (row ∷ r)
   none_out a r rest row below above rest_below =
       walk_split picked a r rest (row ∷ []) below (below_higher rest r row rest_below above)
       ∙ ap (λ out. walk picked a rest ++ out) (walk_row r row above)
 
-  -- if a row of the second table is its last, and the first table has the row's key, the walk has the pick of both just before the greater rows
+  -- if the first table has the key of the second table's last row, the walk has the pick of both rows just before the greater rows
   level_out : (b r rest : List (Key × E)) (own row : Key × E) → row_cmp own row ≡ Equal → AllBelow b (own ∷ []) → Above own r → AllBelow rest (row ∷ [])
       → walk picked (b ++ (own ∷ r)) (rest ++ row ∷ []) ≡ walk picked b rest ++ ((own.0, picked own.1 row.1) ∷ r)
   level_out b r rest own row level below above rest_below =
@@ -175,7 +175,7 @@ module _ {E : Type 0} (picked : E → E → E) where
   joined_is rows front back rest m is size =
       ap (λ xs. joined_with picked m xs rest) is ∙ (λ i. walk picked ((parts front back m size).0 i) rest ++ (parts front back m size).1 i)
 
-  -- what is proved of the walk holds of the join, since the join of two tables is unique
+  -- if `WalksOn` holds, so does `IsPlaced`, since the join of two tables is unique
   placed_of : (old : List (Key × E)) (left : ℕ) (row : Key × E) (new : List (Key × E)) (later : ℕ) → WalksOn picked old left row new later
       → IsPlaced picked old left row new later
   placed_of old left row new later on = record {
@@ -302,7 +302,7 @@ module _ {E : Type 0} (picked : E → E → E) (old : List (Key × E)) (n left r
       ∙ ap (λ k. get_or old k row) (let plain : n - run + 0 ≡ n - run = omega arith in plain) in
       ap (λ x. row_cmp x row) first ∙ above_is (row_cmp (get_or old (n - run) row) row) (is_run.above row (let from = run_size in omega arith)))
 
-  -- after the move, the last row that remains is the row before the moved ones
+  -- after the move, the last row that remains is the row before the moved rows
   last_at : (d : Key × E) → 0 < later → get_or a (later - 1) d ≡ get_or old (n - (run + 1)) d
   last_at d some =
       let run_in = is_run.within in

@@ -30,7 +30,7 @@ module _ {A : Type 0} (valid : A → Type 0) {cmp : A → A → Ordering} (total
       by (inl same) = subst (λ x. IsAtMost cmp x d) (sym same) over_a
       by (inr same) = subst (λ x. IsAtMost cmp x d) (sym same) over_b
 
-  -- the greater of two values is commutative: it doesn't depend on their order
+  -- taking the greater of two values is commutative: it doesn't depend on the order of the values
   pub greater_commutes : (a b c : A) → valid a → valid b → IsGreater cmp a b c → IsGreater cmp b a c
   greater_commutes a b c good_a good_b is = record { among = by is.among; first = is.second; second = is.first }
     where
@@ -38,7 +38,7 @@ module _ {A : Type 0} (valid : A → Type 0) {cmp : A → A → Ordering} (total
       by (inl same) = inr same
       by (inr same) = inl same
 
-  -- the greater of two values is idempotent: of a value and itself, it is this value
+  -- taking the greater of two values is idempotent: the greater of a value and itself is this value
   pub greater_itself : (a : A) → valid a → IsGreater cmp a a a
   greater_itself a good = record { among = inl refl; first = at_most_itself total a; second = at_most_itself total a }
 
@@ -48,8 +48,8 @@ module _ {A : Type 0} (valid : A → Type 0) {cmp : A → A → Ordering} (total
       exact c d (greater_closed a b c good_a good_b is_c) (greater_closed a b d good_a good_b is_d)
       (level total c d (greater_least a b c d is_c is_d.first is_d.second) (greater_least a b d c is_d is_c.first is_c.second))
 
-  -- the greater of two valid values is associative: the greatest of three is the same whichever two
-  -- are compared first
+  -- taking the greater of two valid values is associative: the greatest of three is the same
+  -- whichever two are compared first
   pub greater_associates : IsExact valid cmp → (a b c ab bc left right : A) → valid a → valid b → valid c
       → IsGreater cmp a b ab → IsGreater cmp ab c left → IsGreater cmp b c bc → IsGreater cmp a bc right → left ≡ right
   greater_associates exact a b c ab bc left right good_a good_b good_c is_ab is_left is_bc is_right =

@@ -1,6 +1,6 @@
 -- The steps of joining two tables: rows are placed from the greatest key to the smallest. The rows
--- of the first table are in a ring buffer (`VecDeque`). Its first rows are the placed rows, and its
--- last rows are still to be placed.
+-- of the first table are in a ring buffer (`VecDeque`). The buffer's first rows are the placed
+-- rows, and its last rows are still to be placed.
 use Rattle.std.specs.Prelude.{◌≡◌, ℕ, ◌+◌, ◌-◌, ◌<◌, ◌≤◌, Bool, true, false, List, Option, Some, None, [], ◌∷◌, ◌++◌, length, take, drop, slice_index_or}
 use Rattle.std.specs.declared.cmp.Ordering.TheVariants.{Equal}
 use Rattle.std.specs.Ordering.{is_eq, is_gt}
@@ -44,7 +44,7 @@ pub record IsJoinWith {E : Type 0} (picked : E → E → E) (first second : List
       → IsJoinOfRows picked first second (lower ++ take (length rows - left) rows)
 
 -- Says that a row of the second table was placed. If the placed rows were right before, they are
--- still right after this row moved from the remaining rows to the placed ones.
+-- still right after this row moved from the remaining rows to the placed rows.
 pub record IsPlaced {E : Type 0} (picked : E → E → E) (old : List (Key × E)) (left : ℕ) (row : Key × E) (new : List (Key × E)) (later : ℕ) : Type 0 where
   pub ascends : AreAscending (left_rows left old) → AreAscending (left_rows later new)
   pub joined : AreAscending (left_rows left old) → (first second rest : List (Key × E)) → AreAscending (rest ++ row ∷ [])

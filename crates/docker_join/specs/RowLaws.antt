@@ -89,7 +89,7 @@ module _ {E : Type 0} where
   row_total : IsTotalOrder (row_cmp {E = E})
   row_total = on_total (λ (row : Key × E). key_meant row.0) key_total
 
-  -- at the key of the first row, the value is the first row's
+  -- at the key of the first row, the value is the first row's value
   pub value_here : (row : Key × E) (rows : List (Key × E)) (key : model.Key) → key_cmp (key_meant row.0) key ≡ Equal → value_at (row ∷ rows) key ≡ Some row.1
   value_here row rows key tied =
       λ i. option_map (λ (r : Key × E). r.1) (cond (is_eq (tied i)) (Some row) (find (λ (r : Key × E). is_eq (key_cmp (key_meant r.0) key)) rows))
@@ -111,7 +111,7 @@ module _ {E : Type 0} where
       value_behind row rows key (λ tied. let turned = key_total.antisymm key (key_meant row.0) in let below = above.0 in cc)
       ∙ value_above key rows above.1
 
-  -- in ascending rows, the value at the key of any row is that row's
+  -- in ascending rows, the value at the key of any row is that row's value
   pub value_of : (rows : List (Key × E)) (row : Key × E) → AreAscending rows → Contains rows row → value_at rows (key_meant row.0) ≡ Some row.1
   value_of [] row up among = absurd (nil-Contains row among)
   value_of (first ∷ rows) row up among = by (value_of rows row up.1) (Contains-cons first rows row among)
@@ -155,7 +155,7 @@ module _ {E : Type 0} where
           let whole : there.0 ≡ row = (λ i. (same_key there.0.0 row.0 there.2 i, there.3 i)) in
           subst (Contains y) whole there.1
 
--- Says that a value is valid, or that there is none.
+-- Says that a value is valid, or that there is no value.
 abbrev IsValidValue : {E : Type 0} → (E → Type 0) → Option E → Type 0
 IsValidValue valid None = ⊤
 IsValidValue valid (Some value) = valid value
@@ -236,7 +236,7 @@ module _ {E : Type 0} (valid : E → Type 0) (picked : E → E → E) (laws : Ar
         (valid_at b (key_meant row.0) good_b))),
   )
 
-  -- the join of valid tables is commutative: it doesn't depend on their order
+  -- the join of valid tables is commutative: it doesn't depend on the order of the tables
   pub joins_commute : (a b c : List (Key × E)) → AreValidRows valid a → AreValidRows valid b → IsJoinOfRows picked a b c → IsJoinOfRows picked b a c
   joins_commute a b c good_a good_b is = record {
     ascends = is.ascends;

@@ -21,14 +21,14 @@ AreAscending rows = IsStrictlyAscending row_cmp rows
 abbrev pub value_at : {E : Type 0} → List (Key × E) → model.Key → Option E
 value_at rows key = option_map (λ row. row.1) (find (λ row. is_eq (key_cmp (key_meant row.0) key)) rows)
 
--- the values of two tables at a key, joined: the pick of both, or the only one, or none
+-- the joined value of two tables at a key: the pick of both values, or the only value, or none
 abbrev pub picked_value : {E : Type 0} → (E → E → E) → Option E → Option E → Option E
 picked_value picked None other = other
 picked_value picked (Some value) None = Some value
 picked_value picked (Some value) (Some other) = Some (picked value other)
 
--- Says that some rows are the join of two tables: they ascend, and at each key they have the joined
--- values of the two.
+-- Says that a list of rows is the join of two tables: the rows ascend, and the value at each key is
+-- the join of the two tables' values there.
 pub record IsJoinOfRows {E : Type 0} (picked : E → E → E) (first second joined : List (Key × E)) : Type 0 where
   pub ascends : AreAscending joined
   pub values : (key : model.Key) → value_at joined key ≡ picked_value picked (value_at first key) (value_at second key)

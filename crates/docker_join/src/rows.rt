@@ -101,7 +101,7 @@ fn is_level<E>(rows: &VecDeque<(Key, E)>, key: &Key) -> bool
     rows[rows.len() - 1].0.cmp(key).is_eq()
 }
 
-/// Whether a row has a key greater than this one. The row is given by its distance from the end of
+/// Whether a row has a key greater than this key. The row is given by its distance from the end of
 /// the ring, which is 1 for the last row.
 fn is_above<E>(rows: &VecDeque<(Key, E)>, back: usize, key: &Key) -> bool
     requires { (0 < back) × (back ≤ deque_len rows.now) }
@@ -111,9 +111,9 @@ fn is_above<E>(rows: &VecDeque<(Key, E)>, back: usize, key: &Key) -> bool
     rows[rows.len() - back].0.cmp(key).is_gt()
 }
 
-/// How many of the last `left` rows have keys greater than this one. Reads the last row first, and
-/// then each time a row twice as far from the end. Once a key isn't greater, a binary search finds
-/// the number.
+/// How many of the last `left` rows have keys greater than this key. Reads the last row first, and
+/// then each time a row twice as far from the end. Once a row's key isn't greater, a binary search
+/// finds the number.
 fn run_above<E>(rows: &VecDeque<(Key, E)>, left: usize, key: &Key) -> usize
     requires { left ≤ deque_len rows.now }
     ensures { IsRunAbove (key_meant key.now) rows.now.items (deque_len rows.now) left result }
@@ -127,7 +127,7 @@ fn run_above<E>(rows: &VecDeque<(Key, E)>, left: usize, key: &Key) -> usize
     run_between(rows, key, low, (high - 1).min(left))
 }
 
-/// How many of the last `high` rows have keys greater than this one, found by binary search. The
+/// How many of the last `high` rows have keys greater than this key, found by binary search. The
 /// last `low` rows are known to have greater keys.
 fn run_between<E>(rows: &VecDeque<(Key, E)>, key: &Key, mut low: usize, mut high: usize) -> usize
     requires order { low ≤ high }

@@ -96,7 +96,7 @@ impl<E> Table<E> {
         self.rows.is_empty()
     }
 
-    /// The value of a key. None if the table doesn't have the key.
+    /// The value of a key. Returns `None` if the table doesn't have the key.
     pub fn get(&self, key: &Key) -> Option<&E>
         ensures { option_copied result ≡ value_at self.now (key_meant key.now) }
     {

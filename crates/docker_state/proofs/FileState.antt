@@ -79,7 +79,7 @@ one_floor item = by (item.indicator == 70) (eqb_tells item.indicator 70)
     )
     by b (inr update) = (None, λ other among is_full. update.1 (subst (λ (i : stamps.LedgerItem). IsFull i) (sym (only item other among)) is_full), tt)
 
--- if the bodies that some changes put consist of records, so do the bodies of the rows that the changes make
+-- if the bodies that changes put consist of records, so do the bodies in the rows that the changes make
 pub made_records : (all : List model.Change) → HaveRecords all → (stamp : FileStamp) (made : List (Key × Entry))
     → map row_meant made ≡ map (made_by stamp) all → All (λ (row : Key × Entry). HasRecords (op_meant row.1.op)) made
 made_records all have stamp made made_is = all_members (λ (row : Key × Entry). HasRecords (op_meant row.1.op)) made (λ row among.
@@ -91,7 +91,7 @@ made_records all have stamp made made_is = all_members (λ (row : Key × Entry).
 pub file_records : (file : List (List ℕ)) → IsFile file → length file ≤ most_records → HaveRecords (changes file)
 file_records file is_file few change among = op_records change.key (op_of change.act) (file_change file is_file few change among).good.1
 
--- the bodies that the changes kept of a file put consist of records
+-- if changes were kept for a thin file, the bodies that they put consist of records
 pub thin_records : (place : List ℕ) (day : ℕ) (file : List (List ℕ)) → IsFile file → length file ≤ most_records → (all kept : List model.Change)
     → all ≡ changes file → IsThinning place day all kept → HaveRecords kept
 thin_records place day file is_file few all kept all_are thinning change among =
@@ -110,7 +110,7 @@ pub made_stamped : (item : LedgerItem) (stamp : code.FileStamp) → file_stamp_m
     → map row_meant made ≡ map (made_by (item_meant item).stamp) all
 made_stamped item stamp same all made made_is = made_is ∙ ap (λ (s : FileStamp). map (made_by s) all) same
 
--- the state with one ledger item, and with the greatest entries of some changes, is the state that the changes make
+-- the state with one ledger item, and with the greatest entry that the changes make for each key, is the state that the changes make
 pub made_state : (item : stamps.LedgerItem) (all : List model.Change) (ledger : List LedgerItem) (made rows : List (Key × Entry))
     → map item_meant ledger ≡ item ∷ [] → map row_meant made ≡ map (made_by item.stamp) all → AreAscending rows
     → ((key : model.Key) (entry : ops.Entry) → Contains (map row_meant rows) (key, entry) ↔ IsGreatestAmong (map row_meant made) key entry)
@@ -188,14 +188,14 @@ pub item_is_of : (head line : List ℕ) (item : stamps.LedgerItem) (lines : List
     → ((file : List (List ℕ)) → head ≡ first_record file → item ≡ ledger_item_of file) → item ≡ ledger_item_of lines
 item_is_of head line item lines same first_line told = told lines (same ∙ first_line ∙ first_is lines)
 
--- a state made by a ledger item and changes that are equal to a file's is the summary of the file
+-- the state that the ledger item and the changes of a file make is the file's summary
 pub summary_of_made : (item : stamps.LedgerItem) (all : List model.Change) (lines : List (List ℕ)) (state : State) → item ≡ ledger_item_of lines
     → all ≡ changes lines → IsMadeState item all state → IsSummary (lines ∷ []) 0 state
 summary_of_made item all lines state item_is all_is is =
     file_summary lines state
     (subst (λ (i : stamps.LedgerItem). IsMadeState i (changes lines) state) item_is (subst (λ (a : List model.Change). IsMadeState item a state) all_is is))
 
--- any state made by a ledger item and changes that are equal to a file's is valid
+-- a state is valid if the ledger item and the changes of a file make it
 pub valid_of_made : (item : stamps.LedgerItem) (all : List model.Change) (lines : List (List ℕ)) → item ≡ ledger_item_of lines → all ≡ changes lines
     → IsFile lines → length lines ≤ most_records → MakeValid item all
 valid_of_made item all lines item_is all_is is_file few state is =
@@ -203,7 +203,7 @@ valid_of_made item all lines item_is all_is is_file few state is =
     (subst (λ (i : stamps.LedgerItem). IsMadeState i (changes lines) state) item_is (subst (λ (a : List model.Change). IsMadeState item a state) all_is is))
     is_file few
 
--- the state that the kept changes of a file make is a state of these changes, as `IsStateOfChanges` says
+-- the state that the kept changes of a file make satisfies `IsStateOfChanges`
 pub kept_state : (item : stamps.LedgerItem) (kept : List model.Change) (lines : List (List ℕ)) (state : State) → item ≡ ledger_item_of lines
     → IsMadeState item kept state → IsStateOfChanges lines kept state
 kept_state item kept lines state item_is is =

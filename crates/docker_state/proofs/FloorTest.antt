@@ -1,4 +1,4 @@
--- Filtering a list by the test whether the floor keeps an element.
+-- Lemmas on filtering a list by the test whether the floor keeps an element.
 use Rattle.std.proofs.Common.{◌≡◌, arith, List, [], ◌∷◌, length, map, refl, ap, sym, ◌∙◌, subst, Contains, Bool, true, false, cond, Some, None}
 use Rattle.std.specs.Prelude.{filter, Option, ◌↔◌, IsTrue}
 use Rattle.std.specs.declared.cmp.Ordering.TheVariants.{Less, Equal, Greater}
@@ -23,7 +23,7 @@ module _ {X P : Type 0} (R : P → X → Bool → P → Type 0) (test : X → Bo
       step true h rest = (λ i. x ∷ rest i) ∙ (λ i. cond (h i) (x ∷ filter test xs) (filter test xs))
       step false h rest = rest ∙ (λ i. cond (h i) (x ∷ filter test xs) (filter test xs))
 
-  -- a filter with such a test leaves exactly the elements that pass the test
+  -- the library's filter leaves exactly the elements that pass the test
   pub kept_by : (xs ys : List X) → IsFiltered R p xs ys → ys ≡ filter test xs
   kept_by xs ys is = is.4 ∙ told is.0 xs p is.1 refl is.2 is.3
 
@@ -84,7 +84,7 @@ is_keeps (Some floor) stamp kept = by (file_stamp_cmp floor stamp) kept
     by Equal below = refl
     by Greater below = absurd (below refl)
 
--- a test that passes if and only if a stamp is kept is equal to this test
+-- if a test passes if and only if the floor keeps the stamp, the test equals `keeps floor stamp`
 pub says_kept : (floor : Option FileStamp) (stamp : FileStamp) (b : Bool) → IsTrue b ↔ IsKept floor stamp → b ≡ keeps floor stamp
 says_kept floor stamp true told = sym (is_keeps floor stamp (told.0 refl))
 says_kept floor stamp false told = by (keeps floor stamp) refl

@@ -18,7 +18,7 @@ module _ (left right : List LedgerItem) where
       by (inl here) = one item here full
       by (inr here) = other item here full
 
-  -- if only the first ledger has a full extract, the floor of both is the first one's
+  -- if only the first ledger has a full extract, the floor of both ledgers together is the floor of the first
   pub left_full : (stamp : stamps.FileStamp) → IsGreatestFull left stamp → HasNoFull right → IsGreatestFull (left ++ right) stamp
   left_full stamp one other = record {
     full = one.full;
@@ -32,7 +32,7 @@ module _ (left right : List LedgerItem) where
       by item full (inl here) = one.greatest item here full
       by item full (inr here) = absurd (other item here full)
 
-  -- if only the second ledger has a full extract, the floor of both is the second one's
+  -- if only the second ledger has a full extract, the floor of both ledgers together is the floor of the second
   pub right_full : (stamp : stamps.FileStamp) → HasNoFull left → IsGreatestFull right stamp → IsGreatestFull (left ++ right) stamp
   right_full stamp one other = record {
     full = other.full;
@@ -46,7 +46,7 @@ module _ (left right : List LedgerItem) where
       by item full (inl here) = absurd (one item here full)
       by item full (inr here) = other.greatest item here full
 
-  -- if each ledger has a full extract, the floor of both is the greater of their floors
+  -- if each ledger has a full extract, the floor of both ledgers together is the greater of their floors
   pub both_full : (first second greater : stamps.FileStamp) → IsGreatestFull left first → IsGreatestFull right second
       → IsGreater file_stamp_cmp first second greater
       → IsGreatestFull (left ++ right) greater

@@ -1,4 +1,4 @@
--- Setting a horizon on a state: either its rows lapse under the day, or the day isn't after the horizon and nothing changes.
+-- Lemmas on setting a horizon on a state. Either rows lapse under the new day, or the day isn't after the present horizon and nothing changes.
 use Rattle.std.proofs.Common.{◌≡◌, ℕ, ◌≤◌, List, map, ap, sym, ◌∙◌, subst}
 use Rattle.std.proofs.Math.Nat.{max-eq_left, max-eq_right}
 use Rattle.docker_model.specs.state.Lapse.{HasNotToLapse, lapse_entries}
@@ -29,7 +29,7 @@ module _ (own day : ℕ) (low : own ≤ day) (ledger : List LedgerItem) (rows af
   pub raised_valid : IsDay day → IsValid (state_meant own ledger rows) → IsValid (state_meant day ledger after)
   raised_valid within valid = subst IsValid (sym rows_raised) (raised_is_valid day (state_meant own ledger rows) within valid)
 
--- applying a horizon to rows that have already lapsed under a greater one or the same changes nothing
+-- applying a horizon to rows that have already lapsed under the same or a greater horizon changes nothing
 pub under_own : (own day : ℕ) → day ≤ own → (rows : List (Key × Entry)) → HaveLapsed own (map row_meant rows)
     → map row_meant rows ≡ lapse_entries (max own day) (map row_meant rows)
 under_own own day low rows have =

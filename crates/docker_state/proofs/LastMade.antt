@@ -123,7 +123,7 @@ item_last : (items : List Item) (item : Item) → slice_get (items ++ item ∷ [
 item_last [] item = refl
 item_last (first ∷ items) item = item_last items item
 
--- one more change appends its row to the rows of the earlier changes
+-- adding a change appends its row to the rows of the earlier changes
 pub row_more : (file : FileStamp) (changes : List model.Change) (change : model.Change) (made after : List Made) (m : Made)
     → after ≡ made ++ m ∷ [] → row_meant m.0 ≡ made_by file change → map row_meant (rows_in made) ≡ map (made_by file) changes
     → map row_meant (rows_in after) ≡ map (made_by file) (changes ++ change ∷ [])

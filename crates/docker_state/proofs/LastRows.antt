@@ -29,7 +29,7 @@ AreSorted rows = AllLater (IsAtMost by_entry) rows
 abbrev LaterKey : Key × Entry → Key × Entry → Type 0
 LaterKey a b = (row_cmp a b ≡ Less) ⊎ ((row_cmp a b ≡ Equal) × IsAtMost entry_cmp (entry_meant a.1) (entry_meant b.1))
 
--- of two sorted rows, the later one has a greater key, or the same key and an entry that isn't less
+-- of two sorted rows, the later row has a greater key, or the same key and an entry that isn't less
 pub later_key : (a b : Key × Entry) → IsAtMost by_entry a b → LaterKey a b
 later_key a b = by (row_cmp a b) refl
   where
@@ -83,7 +83,7 @@ lasts_ascend (row ∷ next ∷ rows) sorted = by (row_cmp next row) refl (lasts_
     by Less is rest = in_front (λ tied. cc) rest
     by Greater is rest = in_front (λ tied. cc) rest
 
--- if a sorted row and the next row have different keys, the first key is the lower one
+-- if a sorted row and the next row have different keys, the first row's key is lower
 front_below : (row next : Key × Entry) → ¬ (row_cmp next row ≡ Equal) → LaterKey row next → row_cmp row next ≡ Less
 front_below row next apart (inl below) = below
 front_below row next apart (inr same) = absurd (apart (key_total.antisymm (key_meant next.0) (key_meant row.0) ∙ ap ordering_reverse same.0))
@@ -96,7 +96,7 @@ alone x v inside = by (Contains-cons x [] v inside)
     by (inl same) = same
     by (inr none) = absurd (nil-Contains v none)
 
--- of two sorted rows with one key, the later one's entry isn't less
+-- of two sorted rows with the same key, the later row's entry isn't less
 of_one_key : (a b : Key × Entry) → IsAtMost by_entry a b → row_cmp a b ≡ Equal → IsAtMost entry_cmp (entry_meant a.1) (entry_meant b.1)
 of_one_key a b low tied = by (later_key a b low)
   where
@@ -110,7 +110,7 @@ lasts_among rows z last =
     below_by_recursion (Contains rows) (last_rows rows) z
     (lasts_all (Contains rows) rows (recursion_from_All (Contains rows) rows (all_members (Contains rows) rows (λ x among. among)))) last
 
--- of all sorted rows with one key, the last has the greatest entry
+-- of all sorted rows with the same key, the last row has the greatest entry
 pub lasts_top : (rows : List (Key × Entry)) → AreSorted rows → (z : Key × Entry) → Contains (last_rows rows) z → (w : Key × Entry) → Contains rows w
     → row_cmp w z ≡ Equal
     → IsAtMost entry_cmp (entry_meant w.1) (entry_meant z.1)

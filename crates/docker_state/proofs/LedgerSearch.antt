@@ -1,4 +1,4 @@
--- Whether a ledger has all items of a list, apart from those that a floor doesn't keep.
+-- Lemmas on the search that finds whether a ledger has all items of a list. The ledger may lack the items that the floor doesn't keep.
 use Rattle.std.proofs.Common.{◌≡◌, ◌+◌, ℕ, ◌<◌, ◌≤◌, List, map, Bool, true, length, get_or, ◌∙◌, subst, arith}
 use Rattle.std.specs.Prelude.{Option, ◌↔◌, IsTrue}
 use Rattle.std.specs.List.{AllWithin}

@@ -24,7 +24,7 @@ use Rattle.docker_state.specs.Rows.{is_of_key, last_rows, made_by}
 use Rattle.docker_state.proofs.LastRows.{by_entry, AreSorted, lasts_ascend}
 use Rattle.docker_state.proofs.GreatestRows.{by_entry_total, not_under, last_is_greatest, greatest_is_last}
 
--- one more change appends its row to the rows of the earlier changes
+-- adding a change appends its row to the rows of the earlier changes
 pub one_row_more : (file : FileStamp) (changes : List model.Change) (change : model.Change) (rows after : List (Key × Entry)) (row : Key × Entry)
     → after ≡ rows ++ row ∷ [] → row_meant row ≡ made_by file change → map row_meant rows ≡ map (made_by file) changes
     → map row_meant after ≡ map (made_by file) (changes ++ change ∷ [])
@@ -50,12 +50,12 @@ from_far (x ∷ xs) far = (
   from_far xs (λ i j d before within. far (suc i) (suc j) d (omega arith) (omega arith)),
 )
 
--- a list that is sorted, as the library defines it, has no row above a later one
+-- in a list that is sorted by the library's definition, no row is greater than a later row
 pub rows_sorted : (xs : List (Key × Entry)) → IsSorted by_entry xs → AreSorted xs
 rows_sorted xs up = from_far xs
     (λ i j d before within. sorted_far (λ x y. is_lt (by_entry x y)) (ranks_by by_entry_total (λ m. m)) xs up i j d (omega arith) within)
 
--- the greatest entry of a key among some rows is also the greatest among the same rows in another order
+-- the greatest entry of a key in one list of rows is also its greatest entry in any list with the same rows
 along : (xs ys : List (model.Key × ops.Entry)) → ((pair : model.Key × ops.Entry) → Contains xs pair → Contains ys pair)
     → ((pair : model.Key × ops.Entry) → Contains ys pair → Contains xs pair)
     → (key : model.Key) (entry : ops.Entry) → IsGreatestAmong xs key entry → IsGreatestAmong ys key entry

@@ -20,7 +20,7 @@ use Rattle.docker_state.specs.Live.{live_rows, put_before}
 use Rattle.docker_state.specs.PlaceRows.{is_call, is_link, is_here, row_here, rows_here}
 use Rattle.docker_state.proofs.LiveTable.{ascends, live_walks}
 
--- whether a row with its body is at the place
+-- whether a row is linked at the place, if `links` is true, or calls there otherwise
 abbrev passes : Bool → List ℕ → Row → Bool
 passes links place row = is_here links place row.0 row.1
 

@@ -1,4 +1,4 @@
--- What staging one more entry does, and when a commit has nothing to do.
+-- Lemmas on what staging one more entry does, and when a commit has nothing to do.
 use Rattle.std.proofs.Common.{◌≡◌, List, [], ◌∷◌, ◌++◌, refl, sym, ◌∙◌, subst, inl, inr, ◌⊎◌, Contains, Some, None, All, eqb-true, arith}
 use Rattle.std.specs.Prelude.{Option, ◌↔◌, IsTrue, Bool, true, false, length, ◌==◌}
 use Rattle.std.specs.declared.cmp.Ordering.{Ordering}
@@ -122,7 +122,7 @@ to_stage_tells own valid floor key entry mine is b tells =
       λ to. tells.1 (subst (λ (o : Option ops.Entry). IsKept floor entry.stamp.file × IsGreaterThan o entry) (sym is) (told.0 to)),
     )
 
--- if the floor keeps a received entry, it has to be staged if and only if our entry of its key is less
+-- if the floor keeps a received entry, the entry has to be staged if and only if our entry of its key is less
 pub below_tells : (Kept : Type 0) → Kept → (to : Ordering) (b : Bool) → b ≡ is_lt to → IsTrue b ↔ (Kept × (to ≡ Less))
 below_tells Kept kept Less b same = (λ _. (kept, refl), λ _. same)
 below_tells Kept kept Equal b same =

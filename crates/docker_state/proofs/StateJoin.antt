@@ -30,7 +30,7 @@ abbrev pub HasUnion : List LedgerItem → List LedgerItem → List LedgerItem �
 HasUnion union first second =
     (item : stamps.LedgerItem) → Contains (map item_meant union) item ↔ Contains (map item_meant first ++ map item_meant second) item
 
--- Says that some rows are exactly the rows of a table that the floor keeps.
+-- Says that the first list of rows has exactly the rows of the second list that the floor keeps.
 abbrev pub HasKeptRows : List (Key × Entry) → List (Key × Entry) → Option stamps.FileStamp → Type 0
 HasKeptRows rows joined floor =
     (row : Keyed) → Contains (map row_meant rows) row ↔ (Contains (map row_meant joined) row × IsKept floor row.1.stamp.file)

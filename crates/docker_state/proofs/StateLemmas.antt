@@ -1,4 +1,4 @@
--- Converting the fields of a state from the code's types to the definitions' types.
+-- Lemmas on converting the fields of a state from the code's types to the definitions' types.
 use Rattle.std.proofs.Common.{◌≡◌, ℕ, List, [], ◌∷◌, map, refl, ap, sym, ◌∙◌, subst, Bool, true, false, cond, Some, None, arith}
 use Rattle.std.specs.Prelude.{Option, find, option_and_then, ◌==◌}
 use Rattle.std.specs.Option.{option_map}

@@ -133,7 +133,7 @@ module _ (first second joined : List (Key × Entry)) (up_first : AreAscending fi
       let there = value_in joined is.ascends key entry among in
       subst (IsGreatestAmong Both key) there.2 (up key (value_at first key) (value_at second key) refl refl there.0 (sym (is.values key) ∙ there.1))
 
-  -- if the first table has a value at a key, the join has one
+  -- if the first table has a value at a key, so does the join
   some_left : (v : Entry) (b : Option Entry) → (m : Entry) × (picked_value higher (Some v) b ≡ Some m)
   some_left v None = (v, refl)
   some_left v (Some w) = (higher v w, refl)
@@ -142,7 +142,7 @@ module _ (first second joined : List (Key × Entry)) (up_first : AreAscending fi
   some_right None w = (w, refl)
   some_right (Some v) w = (higher v w, refl)
 
-  -- if one of the tables has an entry of a key, the join has one
+  -- if one of the tables has an entry of a key, so does the join
   pub joined_has : (key : model.Key) (entry : ops.Entry) → Contains Both (key, entry) → (m : ops.Entry) × Contains (map row_meant joined) (key, m)
   joined_has key entry among = by (Contains-append_cases (map row_meant first) (map row_meant second) (key, entry) among)
     where

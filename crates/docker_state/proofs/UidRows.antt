@@ -1,4 +1,4 @@
--- The rows of a UID's schedules follow each other. The live ones among them are the UID's live schedules.
+-- The rows of a UID's schedules follow each other. The live rows among them are the UID's live schedules.
 use Rattle.std.proofs.Common.{◌≡◌, ℕ, zero, suc, ◌-◌, ◌<◌, ◌≤◌, List, [], ◌∷◌, ◌++◌, map, take, drop, length, get_or}
 use Rattle.std.proofs.Common.{refl, ap, sym, ◌∙◌, subst, inl, inr, ◌⊎◌, Bool, true, false, not, cond, nat_lt, Contains, Some, None, arith}
 use Rattle.std.specs.List.{AllByRecursion, AllPairs, position, position_or_len}
@@ -34,7 +34,7 @@ use Rattle.docker_state.proofs.LiveTable.{PutThere, from_live, to_live, live_has
 
 -- ---- a monotone test passes for the first rows and fails for all rows after them
 
--- Says that a test of a comparison is monotone: it fails for greater, and if it passes for equal, it passes for less.
+-- Says that a test of a comparison is monotone: it fails for `Greater`, and if it passes for `Equal`, it also passes for `Less`.
 abbrev GoesDown : (Ordering → Bool) → Type 0
 GoesDown test = (test Greater ≡ false) × (test Equal ≡ true → test Less ≡ true)
 
@@ -105,11 +105,11 @@ module _ (uid : List ℕ) (rows : List (Key × Entry)) (up : AreAscending rows) 
   pub begins_at_front : first ≡ 0 → IsBeginning uid rows first
   begins_at_front zero_is = (λ k d low high. absurd (let none : k < 0 = subst (λ n. k < n) zero_is high in omega arith), rest_behind)
 
-  -- if the walk back ends after a row that is before the UID's schedules, these begin at the next row
+  -- if the walk back ends after a row that is before the UID's schedules, the schedules begin at the next row
   pub begins_after : (0 < first) → ((d : Key × Entry) → is_before uid (get_or rows (first - 1) d) ≡ true) → IsBeginning uid rows first
   begins_after above before = (λ k d low high. parted_before uid rows up k (first - 1) d (omega arith) (omega arith) (before d), rest_behind)
 
--- if no row is after the UID's schedules, they end at the end of all rows
+-- if no row is after the UID's schedules, these schedules end at the end of all rows
 pub walk_of_all : (uid : List ℕ) (rows : List (Key × Entry)) → position (λ row. not (is_up_to uid row)) rows ≡ None
     → length rows ≡ position_or_len (λ row. not (is_up_to uid row)) rows
 walk_of_all uid rows none =
@@ -128,7 +128,7 @@ walk_of_all uid rows none =
 pub walk_within : (uid : List ℕ) (rows : List (Key × Entry)) (end : ℕ) → end ≡ position_or_len (λ row. not (is_up_to uid row)) rows → end ≤ length rows
 walk_within uid rows end end_is = subst (λ n. n ≤ length rows) (sym end_is) (prefix_len-le-length (λ row. not (not (is_up_to uid row))) rows)
 
--- the rows below this index are at or before the UID's schedules, and the others are after them
+-- the rows below this index are the UID's schedules or come before them, and all other rows come after the UID's schedules
 pub walk_parts : (uid : List ℕ) (rows : List (Key × Entry)) (end : ℕ) → AreAscending rows → end ≡ position_or_len (λ row. not (is_up_to uid row)) rows
     → IsPartitionPoint (λ row. is_up_to uid row ≡ true) (λ row. is_up_to uid row ≡ false) rows end
 walk_parts uid rows end up end_is = (front, back)
@@ -236,7 +236,7 @@ of_uid_is (tiploc_key code) uid tied = absurd (let bad : Less ≡ Equal = tied i
 of_uid_is (association_key key) uid tied = absurd (let bad : Less ≡ Equal = tied in cc)
 of_uid_is (schedule_key key) uid tied = (key, refl, exact_bytes key.uid uid tied)
 
--- a body that belongs under a schedule's key is a schedule's
+-- a body that belongs under a schedule's key is a schedule's body
 schedule_of : (key : ScheduleKey) (body : Body) → IsOpOf (schedule_key key) (put_with body) → (lines : List (List ℕ)) × (body ≡ schedule_body lines)
 schedule_of key (tiploc_body bytes) good = absurd good
 schedule_of key (association_body line) good = absurd good
@@ -272,8 +272,7 @@ module _ (state : State) (valid : IsValid state) (uid : List ℕ) (rows piece : 
       (Contains-append_left (map row_meant is.before ++ map row_meant piece) (map row_meant is.behind) pair
       (Contains-append_right (map row_meant is.before) (map row_meant piece) pair among))
 
-  -- if comparing some rows with the UID's schedules gives this order, comparing the converted rows
-  -- gives it too
+  -- if each row of a list compares with the UID's schedules in this order, so does each converted row
   stands : (order : Ordering) (some : List (Key × Entry)) → AreTo order uid some → (pair : model.Key × ops.Entry) → Contains (map row_meant some) pair
       → to_uid pair.0 uid ≡ order
   stands order some all pair among =

@@ -14,11 +14,11 @@ use Rattle.state_index.specs.Spots.{IsIndexOf}
 use Rattle.docker_state.specs.declared.item.LedgerItem.{LedgerItem}
 use Rattle.docker_state.specs.Meaning.{row_meant, state_meant}
 
--- Says that this is the index of these rows, or that there is none.
+-- Says that this is the index of these rows, or that there is no index.
 abbrev pub IsIndexIfAny : List (model.Key × ops.Entry) → Option Index → Type 0
 IsIndexIfAny rows index = IfSome index (IsIndexOf rows)
 
--- Says that these are the notes of these rows, or that there are none.
+-- Says that these are the notes of these rows, or that there are no notes.
 abbrev pub HasNotedIfAny : List Item → Option Notes → Type 0
 HasNotedIfAny items notes = IfSome notes (HasNoted items)
 
@@ -32,7 +32,7 @@ abbrev pub ArePickedNotes : List ℕ → List (model.Key × ops.Entry) → Optio
 ArePickedNotes order rows notes = IfSome notes (λ noted. (items : List Item) × HasNoted items noted × ArePicked items order (items_of rows))
 
 -- Says that the state with this horizon, ledger and rows is valid, and that this is the index of
--- the rows, or that there is none.
+-- the rows or there is no index.
 pub record IsIndexed (horizon : ℕ) (ledger : List LedgerItem) (rows : List (Key × Entry)) (index : Option Index) : Type 0 where
   pub valid : IsValid (state_meant horizon ledger rows)
   pub indexed : IsIndexIfAny (map row_meant rows) index

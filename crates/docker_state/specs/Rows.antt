@@ -39,7 +39,7 @@ Made = (Key × Entry) × ℕ
 abbrev pub rows_in : List Made → List (Key × Entry)
 rows_in made = map (λ (m : Made). m.0) made
 
--- the numbers of the rows
+-- the number of each row, without the row
 abbrev pub numbers_in : List Made → List ℕ
 numbers_in made = map (λ (m : Made). m.1) made
 
@@ -57,7 +57,7 @@ abbrev pub last_made_or : Made → List Made → List Made → List Made
 last_made_or made [] rest = made ∷ rest
 last_made_or made (next ∷ more) rest = if is_made_of_key (Some next) (key_meant made.0.0) then rest else made ∷ rest
 
--- the last row of each run of rows with the same key, with its number
+-- for each run of rows with the same key, the last row with its number
 abbrev pub last_made : List Made → List Made
 last_made [] = []
 last_made (made ∷ more) = last_made_or made more (last_made more)

@@ -1,4 +1,4 @@
--- What a state has received from another state before the commit.
+-- Defines what a state has received from another state before the commit.
 use Rattle.std.specs.Prelude.{◌≡◌, List, ◌++◌, ◌∷◌, [], map, Option, Contains, ◌⊎◌}
 use Rattle.std.specs.declared.cmp.Ordering.TheVariants.{Less}
 use Rattle.docker_model.specs.file.Change as model

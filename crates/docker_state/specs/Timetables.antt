@@ -11,7 +11,7 @@ pub record Timetable : Type 0 where
   pub state : State
   pub permanent : Bool
 
--- whether an entry with this key counts: always, or only if it is permanent
+-- whether an entry with this key counts: always, or only if the key is permanent
 abbrev pub counts : Bool → model.Key → Bool
 counts false key = true
 counts true key = is_permanent key

@@ -38,8 +38,8 @@ abbrev pub AreTo : Ordering → List ℕ → List (Key × Entry) → Type 0
 AreTo order uid rows =
     (row : Key × Entry) → Contains rows row → to_uid (key_meant row.0) uid ≡ order
 
--- Says that a piece of the rows consists of exactly the UID's schedules: all rows before it are
--- below them, and all rows after it are above them.
+-- Says that a piece of the rows consists of exactly the UID's schedules. All rows before the piece
+-- are below these schedules, and all rows after the piece are above them.
 pub record IsPieceOfUid (uid : List ℕ) (rows piece : List (Key × Entry)) : Type 0 where
   pub before : List (Key × Entry)
   pub behind : List (Key × Entry)

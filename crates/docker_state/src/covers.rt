@@ -14,7 +14,7 @@ use crate::state::State;
 use cif_file::Key;
 use docker_join::{Entry, FileStamp};
 
-/// Whether each file of a ledger is below a floor. False if there is no floor.
+/// Whether each file of a ledger is below a floor. Returns false if there is no floor.
 fn are_below(ledger: &[LedgerItem], floor: &Option<FileStamp>) -> bool
     requires { IsStrictlyAscending ledger_item_cmp (map item_meant ledger.now) }
     ensures { IsTrue result → (item : _) → Contains (map item_meant ledger.now) item
@@ -54,8 +54,9 @@ fn brings_none(own: &State, other: &State, floor: &Option<FileStamp>) -> bool
 
 impl State {
     /// Whether the join with another state is this state under the greater of the two horizons.
-    /// True only if this state has each ledger item of the other, and for each of the other's
-    /// entries the same or a greater one. Items and entries below the floor of both don't count.
+    /// True only if this state has each ledger item of the other state and, for each entry of the
+    /// other state, the same or a greater entry. Items and entries below the floor of both states
+    /// don't count.
     pub(crate) fn covers(&self, other: &State) -> bool
         ensures { IsTrue result
             → IsJoin self.now other.now (raise_horizon other.now.horizon self.now) }

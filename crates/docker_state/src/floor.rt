@@ -1,5 +1,5 @@
-//! The floor: the file stamp of the newest full extract that a state knows. Anything older is
-//! dropped.
+//! The floor: the file stamp of the newest full extract that a state knows. Ledger items and
+//! entries with a lower file stamp are dropped.
 ghost use Rattle.std.specs.Prelude.{◌≡◌, ◌==◌, ◌↔◌, ◌++◌, map, find, IsTrue};
 ghost use Rattle.std.specs.Option.{option_copied};
 ghost use Rattle.docker_model.specs.state.Stamp.{IsFloor, IsKept};
@@ -10,15 +10,16 @@ ghost use Rattle.docker_state.specs.Meaning.{floor_meant, item_meant};
 use crate::item::LedgerItem;
 use docker_join::{FileStamp, Pick};
 
-/// The first ledger item of a full extract. None if there is no full extract.
+/// The first ledger item of a full extract. Returns `None` if there is no full extract.
 fn first_full(items: &[LedgerItem]) -> Option<&LedgerItem>
     ensures { option_copied result ≡ find (λ item. (item_meant item).indicator == 70) items.now }
 {
     items.iter().find(|item| item.is_full())
 }
 
-/// The floor of a ledger: the stamp of its first full extract. This is the newest, since a ledger
-/// has no items below its floor. None if there is no full extract.
+/// The floor of a ledger: the stamp of its first full extract. This extract is the newest full
+/// extract, since a ledger has no items below its floor. Returns `None` if there is no full
+/// extract.
 pub(crate) fn floor_of(items: &[LedgerItem]) -> Option<FileStamp>
     requires { IsLedger (map item_meant items.now) }
     ensures { IsFloor (map item_meant items.now) (floor_meant result) }
@@ -29,7 +30,7 @@ pub(crate) fn floor_of(items: &[LedgerItem]) -> Option<FileStamp>
     }
 }
 
-/// The floor of two ledgers together, given the floor of each: the greater one.
+/// The floor of two ledgers together, given the floor of each: the greater of the two floors.
 pub(crate) fn common_floor(first: Option<FileStamp>, second: Option<FileStamp>) -> Option<FileStamp>
     ensures { (left right : _) → IsFloor left (floor_meant first)
         → IsFloor right (floor_meant second) → IsFloor (left ++ right) (floor_meant result) }
@@ -43,7 +44,7 @@ pub(crate) fn common_floor(first: Option<FileStamp>, second: Option<FileStamp>) 
 }
 
 /// Whether a floor keeps the file with this stamp and the file's entries: the stamp isn't below the
-/// floor. True if there is no floor.
+/// floor. Returns true if there is no floor.
 pub(crate) fn is_kept(floor: &Option<FileStamp>, stamp: &FileStamp) -> bool
     ensures { IsTrue result ↔ IsKept (floor_meant floor.now) (file_stamp_meant stamp.now) }
 {

@@ -18,8 +18,8 @@ use docker_join::{Entry, Op};
 use state_index::{Index, Notes, Piece, Room, note_row, notes_of_rows};
 use std::alloc::Global;
 
-/// The index of rows, made from their notes. None if there are no notes. Returns `Memory` if the
-/// allocator refuses.
+/// The index of rows, made from their notes. Returns `None` if there are no notes. Returns `Memory`
+/// if the allocator refuses.
 pub(crate) fn index_of_notes(
     alloc: Global,
     notes: Option<Notes>,
@@ -37,7 +37,8 @@ pub(crate) fn index_of_notes(
     }
 }
 
-/// The index of rows. None if no index is wanted. Returns `Memory` if the allocator refuses.
+/// The index of rows. Returns `None` if no index is wanted. Returns `Memory` if the allocator
+/// refuses.
 pub(crate) fn index_if(
     alloc: Global,
     rows: &[(Key, Entry)],
@@ -66,8 +67,8 @@ pub(crate) fn note_if(notes: &mut Option<Notes>, key: &Key, op: &Op) -> Result<(
     }
 }
 
-/// Reserves room for the index of the rows that noted changes make, one for each key. None if
-/// changes aren't noted. Returns `Memory` if the allocator refuses.
+/// Reserves room for the index of the rows that noted changes make, one for each key. Returns
+/// `None` if changes aren't noted. Returns `Memory` if the allocator refuses.
 pub(crate) fn room_for_notes(alloc: Global, notes: &Option<Notes>) -> Result<Option<Room>, Memory>
     ensures { (changes : List model.Change) (rows : List (model.Key × ops.Entry))
         → AreNotesOf changes notes.now → AreAscending rows → AreMadeBy changes rows

@@ -13,7 +13,7 @@ use docker_join::FileStamp;
 use std::alloc::Global;
 use std::cmp::Ordering;
 
-/// An empty vector with room for the items of two ledgers. None if the allocator refuses.
+/// An empty vector with room for the items of two ledgers. Returns `None` if the allocator refuses.
 pub(crate) fn room_for(alloc: Global, first: usize, second: usize) -> Option<Vec<LedgerItem>>
     ensures empty { IfSome result (λ items. (items.items ≡ []) × (vec_len items ≡ 0)) }
     ensures room { IfSome result (λ items. first + second ≤ vec_capacity items) }
@@ -87,7 +87,7 @@ fn is_kept_item(floor: &Option<FileStamp>, item: &LedgerItem) -> bool
     is_kept(floor, &item.stamp())
 }
 
-/// Whether a ledger has all of these items, apart from those that the floor doesn't keep.
+/// Whether a ledger has all of these items, apart from the items that the floor doesn't keep.
 pub(crate) fn has_kept_items(
     ledger: &[LedgerItem],
     items: &[LedgerItem],

@@ -9,7 +9,7 @@ use cif_file::{Body, Key};
 use docker_join::{Entry, Op};
 use std::marker::Model;
 
-/// An iterator over the keys that are put, in ascending order. It returns each key with its body.
+/// An iterator over the live keys, in ascending order. It returns each key with its body.
 #[derive(Clone, Debug, Drop)]
 pub struct Live<'a> {
     rows: &'a [(Key, Entry)],

@@ -9,10 +9,10 @@ ghost use Rattle.docker_state.specs.Near.{IsAboveBefore, IsBelowAt};
 use cif_file::Key;
 use docker_join::Entry;
 
-/// The entry of a key. None if no row has the key. First reads the row at index `near` and the row
-/// before it. If neither has the key, and the key doesn't lie between the two rows, a binary search
-/// follows. At the end `near` is the index of the first row after the key. If keys are looked up in
-/// order, the next key is likely to be there.
+/// The entry of a key. Returns `None` if no row has the key. First reads the row at index `near`
+/// and the row before it. If neither has the key, and the key doesn't lie between the two rows, a
+/// binary search follows. At the end `near` is the index of the first row after the key. If keys
+/// are looked up in order, the next key is likely to be there.
 pub(crate) fn entry_near<'a>(
     rows: &'a [(Key, Entry)],
     key: &Key,

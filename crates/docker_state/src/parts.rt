@@ -43,7 +43,7 @@ impl Model for Parts {
 }
 
 impl Parts {
-    /// Begins without parts, for a state with an index.
+    /// Begins without parts. The state will have an index.
     pub fn new(alloc: Global) -> Parts
         ensures { result ≡ record { horizon = 0; ledger = []; entries = [] } }
     {
@@ -54,7 +54,7 @@ impl Parts {
         }
     }
 
-    /// Begins without parts, for a state without an index.
+    /// Begins without parts. The state will have no index.
     pub fn unindexed(alloc: Global) -> Parts
         ensures { result ≡ record { horizon = 0; ledger = []; entries = [] } }
     {
@@ -109,7 +109,7 @@ impl Parts {
         self.entries.as_slice()
     }
 
-    /// The key of the last entry that was added. None if no entry was added.
+    /// The key of the last entry that was added. Returns `None` if no entry was added.
     pub fn last(&self) -> Option<&Key>
         ensures { option_map key_meant (option_copied result) ≡ last_key self.now.entries }
     {

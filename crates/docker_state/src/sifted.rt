@@ -11,8 +11,8 @@ use cif_line::Tiploc;
 use docker_join::{Entry, Op};
 use std::marker::Model;
 
-/// Walks over all rows, and returns those that are live and call or are linked at a place, in key
-/// order: each row's index, key and body. No clause says that the index is right.
+/// Walks over all rows. Returns the live rows at a place, in key order, each as its index, key and
+/// body. No clause says that the index is right.
 #[derive(Clone, Debug, Drop)]
 pub(crate) struct SiftedRows<'a> {
     count: usize,

@@ -79,7 +79,7 @@ impl Staging {
     }
 
     /// The floor of the received ledger and the state's ledger together: the file stamp of the
-    /// newest full extract in either. None if neither has a full extract.
+    /// newest full extract in either. Returns `None` if neither has a full extract.
     pub fn floor(&self) -> Option<FileStamp>
         ensures { floor_meant result ≡ self.now.floor }
     {

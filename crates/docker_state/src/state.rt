@@ -44,7 +44,7 @@ use std::marker::Model;
 
 /// The state of a set of files, from the newest full extract on: the ledger of the known files, and
 /// the greatest entry of each key. A state is always valid. Its rows may have an index by place.
-/// Without one, the rows at a place are found by a walk over all rows.
+/// Without an index, the rows at a place are found by a walk over all rows.
 #[derive(Debug, Drop)]
 pub struct State {
     horizon: u16,
@@ -68,7 +68,7 @@ impl Model for State {
 
 impl State {
     /// Makes a state from a horizon, ledger items, rows and, if there is one, the index of these
-    /// rows. Together they must be a valid state. 0 means that there is no horizon.
+    /// rows. Together they must be a valid state. The horizon 0 means that no horizon was set.
     pub(crate) fn of_rows(
         horizon: u16,
         ledger: Vec<LedgerItem>,
@@ -128,7 +128,7 @@ impl State {
         ensures err { IfErr result (λ back. back ≡ file) }
     {
         let item = item_of(&file.header());
-        // Called for its contract: the file was read.
+        // Called for its contract, which says that the file was read.
         let _records = file.records();
         match State::of_changes(alloc, item, file.into_parts()) {
             Ok(state) => Ok(state),
@@ -137,8 +137,8 @@ impl State {
     }
 
     /// The state that the kept changes of a file make, for the docker of one place on one day. For
-    /// that place and day it has the same docker as the state of the whole file. It must not be
-    /// used for anything else. If memory runs out, the kept changes are dropped.
+    /// that place and day, this state has the same docker as the state of the whole file. It must
+    /// not be used for anything else. If memory runs out, the kept changes are dropped.
     pub fn of_thin(alloc: Global, file: ThinFile) -> Result<State, Memory>
         ensures { (records : List (List ℕ)) → IsOfRecords file.file records
             → IfOk result (IsStateOfChanges records file.kept) }
@@ -150,8 +150,8 @@ impl State {
         }
     }
 
-    /// The state that changes of the file with this ledger item make. If memory runs out, the parts
-    /// are returned unchanged.
+    /// The state that the changes in these parts make, for the file with this ledger item. If
+    /// memory runs out, the parts are returned unchanged.
     fn of_changes(alloc: Global, item: LedgerItem, parts: FileParts) -> Result<State, FileParts>
         requires records { HaveRecords (map change_meant parts.changes.items) }
         requires noted { AreNotesOf (map change_meant parts.changes.items) parts.notes }
@@ -167,7 +167,7 @@ impl State {
         }
     }
 
-    /// The state, without an index, that changes of the file with this ledger item make.
+    /// The state, without an index, that these changes make, for the file with this ledger item.
     fn of_plain_changes(
         alloc: Global,
         item: LedgerItem,
@@ -196,9 +196,9 @@ impl State {
         Ok(State::of_rows(0, ledger, rows, None))
     }
 
-    /// The state, with its index, that changes of the file with this ledger item make. If there are
-    /// more than 4,294,967,295 changes or places, which are numbered in 32 bits, the parts are also
-    /// returned.
+    /// The state, with its index, that these changes make, for the file with this ledger item. If
+    /// memory runs out, the parts are returned unchanged. They are also returned if there are more
+    /// than 4,294,967,295 changes or places, which are numbered in 32 bits.
     fn of_noted_changes(
         alloc: Global,
         item: LedgerItem,
@@ -242,7 +242,7 @@ impl State {
     }
 
     /// The horizon: a day number, counted from 0 for 1960-01-01. No live entry ends before that
-    /// day. 0 if no horizon was set.
+    /// day. Returns 0 if no horizon was set.
     pub fn horizon(&self) -> u16
         ensures horizon { result ≡ self.now.horizon }
         ensures day { IsDay result }
@@ -300,8 +300,8 @@ impl State {
         self.entries.as_slice()
     }
 
-    /// The entry of a key. None if the state doesn't have the key. The key is found by binary
-    /// search.
+    /// The entry of a key. Returns `None` if the state doesn't have the key. The key is found by
+    /// binary search.
     pub fn get(&self, key: &Key) -> Option<&Entry>
         ensures entry { option_map entry_meant (option_copied result)
             ≡ entry_at self.now (key_meant key.now) }
@@ -320,7 +320,7 @@ impl State {
         entry_near(self.entries.as_slice(), key, near)
     }
 
-    /// The live table: the keys that are put, each with its body, in the order of the keys.
+    /// The live table: each live key with its body, in the order of the keys.
     pub fn live(&self) -> Live<'_>
         ensures rows { result ≡ live_rows self.now.entries }
         ensures table { (key : model.Key) (body : model.Body)
@@ -335,9 +335,10 @@ impl State {
         Live::of(self.entries.as_slice())
     }
 
-    /// The live schedules that call at a TIPLOC, in an LO, LI or LT record. Each is returned once,
-    /// with its lines, in the order of the keys. They are found by binary search in the index, and
-    /// nothing is allocated. A state without an index finds them by a walk over all rows.
+    /// The live schedules that call at a TIPLOC, which means that an LO, LI or LT record names it.
+    /// Each schedule is returned once, with its lines, in the order of the keys. The schedules are
+    /// found by binary search in the index, and nothing is allocated. A state without an index
+    /// finds them by a walk over all rows.
     pub fn calling(&self, tiploc: &Tiploc) -> PlaceRows<'_>
         ensures { AreCalling (live_table self.now) tiploc.now result }
     {
@@ -348,9 +349,9 @@ impl State {
         }
     }
 
-    /// How many live schedules call at a TIPLOC, in an LO, LI or LT record. Each counts once. In an
-    /// index these schedules are adjacent, so no schedule is read. Without an index, all rows are
-    /// read.
+    /// How many live schedules call at a TIPLOC, which means that an LO, LI or LT record names it.
+    /// Each schedule counts once. An index has the postings of a place next to each other, so with
+    /// an index no schedule is read. Without an index, all rows are read.
     pub fn count_calling(&self, tiploc: &Tiploc) -> usize
         ensures { IsCallingCount (live_table self.now) tiploc.now result }
     {
@@ -390,8 +391,8 @@ impl State {
         Live::of(rows_of_uid(self.entries.as_slice(), uid, near))
     }
 
-    /// The index of the rows of the join with another state, if both have one. It is made before
-    /// any row is moved. `Memory` if the allocator refuses.
+    /// The index of the join with another state, if both states have an index. The new index is
+    /// made before any row is moved. Returns `Memory` if the allocator refuses.
     fn index_of_join(&self, alloc: Global, other: &State) -> Result<Option<Index>, Memory>
         ensures { IfOk result (λ index. (joined : states.State) → IsJoin self.now other.now joined
             → IsIndexIfAny joined.entries index) }
@@ -402,7 +403,7 @@ impl State {
         }
     }
 
-    /// The index of the rows of the join with another state, from the indexes of both.
+    /// The index of the join with another state, made from the indexes of both states.
     fn joined_index(
         &self,
         alloc: Global,
@@ -458,7 +459,7 @@ impl State {
     }
 
     /// The join of any two states. The rows of the shorter table are placed among the rows of the
-    /// longer one.
+    /// longer table.
     fn join_into_longer(self, alloc: Global, other: State) -> Result<State, (State, State)>
         ensures ok { IfOk result (IsJoin self other) }
         ensures err { IfErr result (λ both. (both.0 ≡ self) × (both.1 ≡ other)) }
@@ -517,7 +518,8 @@ impl State {
         })
     }
 
-    /// The file stamp of the newest full extract among the known files. None if there is none.
+    /// The file stamp of the newest full extract among the known files. Returns `None` if no full
+    /// extract is known.
     pub fn floor(&self) -> Option<FileStamp>
         ensures { IsFloor self.now.ledger (option_map file_stamp_meant result) }
     {

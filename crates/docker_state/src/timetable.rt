@@ -84,7 +84,7 @@ impl<'a> Timetable<'a> {
         self.state.horizon()
     }
 
-    /// The body of a timing point. None if it isn't live. Timing points always count.
+    /// The body of a timing point. Returns `None` if it isn't live. Timing points always count.
     pub fn tiploc(&self, tiploc: &Tiploc) -> Option<&'a Body>
         ensures body { option_map body_meant (option_copied result)
             ≡ live_in self.now (tiploc_key tiploc.now) }
@@ -96,8 +96,8 @@ impl<'a> Timetable<'a> {
         }
     }
 
-    /// The schedules that count and call at a TIPLOC, in an LO, LI or LT record. Each is returned
-    /// once, with its lines, in the order of the keys.
+    /// The schedules that count and call at a TIPLOC, which means that an LO, LI or LT record names
+    /// it. Each schedule is returned once, with its lines, in the order of the keys.
     pub fn calling(&self, tiploc: &Tiploc) -> TimetableRows<'a>
         ensures rows { AreCalling (live_in self.now) tiploc.now result }
         ensures good { IsOfGoodRows (live_in self.now) }
@@ -125,7 +125,7 @@ impl<'a> Timetable<'a> {
     }
 }
 
-/// The body that an op puts. None if the op isn't a put.
+/// The body that an op puts. Returns `None` if the op isn't a put.
 fn put_in(op: &Op) -> Option<&Body>
     ensures { option_map body_meant (option_copied result) ≡ body_of (op_meant op.entry.now) }
 {

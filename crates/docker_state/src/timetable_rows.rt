@@ -105,7 +105,7 @@ impl<'a> Iterator for UidSchedules<'a> {
     }
 }
 
-/// Whether a row with this key counts: always, or only if it is permanent.
+/// Whether a row with this key counts: always, or only if the key is permanent.
 fn is_counted(permanent: bool, key: &Key) -> bool
     ensures { result ≡ counts permanent (key_meant key.now) }
 {

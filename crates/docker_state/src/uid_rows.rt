@@ -40,7 +40,7 @@ fn rows_before(rows: &[(Key, Entry)], uid: &Uid, near: usize) -> usize
     }
 }
 
-/// Whether the row at this index is a schedule of the UID. False if there is no such row.
+/// Whether the row at this index is a schedule of the UID. Returns false if there is no such row.
 fn is_of_uid_at(rows: &[(Key, Entry)], uid: &Uid, at: usize) -> bool
     ensures { result ≡ is_of_uid_at uid.now rows.now at }
 {
@@ -50,8 +50,8 @@ fn is_of_uid_at(rows: &[(Key, Entry)], uid: &Uid, at: usize) -> bool
     }
 }
 
-/// The index of the UID's first schedule, found by a walk back from the given row, which is one of
-/// its schedules.
+/// The index of the UID's first schedule. A walk back from the given row, which is one of the UID's
+/// schedules, finds it.
 fn first_back(rows: &[(Key, Entry)], uid: &Uid, from: usize) -> usize
     requires up { AreAscending rows.now }
     requires here { is_of_uid_at uid.now rows.now from ≡ true }
@@ -77,7 +77,7 @@ fn rows_up_to(rows: &[(Key, Entry)], uid: &Uid) -> usize
     }
 }
 
-/// The index of the first row after the UID's schedules. None if no row comes after them.
+/// The index of the first row after the UID's schedules. Returns `None` if no row comes after them.
 fn first_after(rows: &[(Key, Entry)], uid: &Uid) -> Option<usize>
     ensures { result
         ≡ position (λ row. not (is_le (to_uid (key_meant row.0) uid.now))) rows.now }

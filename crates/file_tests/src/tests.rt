@@ -79,7 +79,7 @@ fn check_header(rt: &impl Abort, file: &CifFile) {
     same(rt, header.extract(), Extract::Update);
 }
 
-/// The lines of the schedule that an act puts. None for a deletion or another body.
+/// The lines of the schedule that an act puts. Returns `None` for a deletion or another body.
 fn lines_of(act: &Act) -> Option<&Lines> {
     match act {
         Act::Put(Body::Schedule(lines)) => Some(lines),
@@ -96,7 +96,7 @@ fn check_lines(rt: &impl Abort, act: &Act) {
     same(rt, lines.as_slice(), wanted.as_slice());
 }
 
-/// Reads a text in pieces of `step` bytes. Returns its fault, or None.
+/// Reads a text in pieces of `step` bytes. Returns the text's fault, or `None` if it has none.
 fn fault_by(alloc: Global, text: &[u8], step: usize) -> Option<FileFault>
     requires { 0 < step }
 {
@@ -109,7 +109,8 @@ fn fault_by(alloc: Global, text: &[u8], step: usize) -> Option<FileFault>
     parser.finish().err()
 }
 
-/// Checks a text from a source with `judge_file`. Returns why the text is refused, or None.
+/// Checks a text from a source with `judge_file`. Returns why the text is refused, or `None` if it
+/// is accepted.
 fn judged_fault(alloc: Global, text: &[u8]) -> Option<ReadFault> {
     let mut source = Bytes::new(text, 7);
     judge_file(alloc, &mut source, 1000).err()
@@ -123,8 +124,8 @@ fn read_fault(fault: Option<FileFault>) -> Option<ReadFault> {
     }
 }
 
-/// Asserts that a text has this fault, or none, read whole, in pieces of several lengths, and by
-/// `judge_file`. After a fault, a parser must return it again at every call.
+/// Asserts that a text has this fault, or no fault. The text is read whole, in pieces of several
+/// lengths, and by `judge_file`. After a fault, a parser must return the same fault at every call.
 fn check_fault(rt: &impl Abort, alloc: Global, text: &[u8], wanted: Option<FileFault>, name: &str) {
     let whole = read_pieces(alloc, &[text], 1000).err();
     same_in(rt, name, whole, wanted);
@@ -226,7 +227,7 @@ fn changes_stand_at(rt: &impl Abort, alloc: Global, records: &[&[u8]], numbers: 
     }
 }
 
-/// A change that deletes this key, made by the second record.
+/// The change with which the second record deletes this key.
 fn deletion(key: &Key) -> Change {
     Change {
         number: 2,
@@ -235,7 +236,7 @@ fn deletion(key: &Key) -> Change {
     }
 }
 
-/// A change that puts this body at a timing point, made by the second record.
+/// The change with which the second record puts this body at a timing point.
 fn put(key: &Key, body: [u8; 63]) -> Change {
     Change {
         number: 2,
@@ -447,8 +448,8 @@ fn memory_fault_from(
     }
 }
 
-/// Ends the input. Returns the file, or None if memory ran out: earlier, as `wanting` says, or now,
-/// at the record with this number. Asserts that `finish` returns this fault.
+/// Ends the input. Returns the file, or `None` if memory ran out. Asserts that the fault is
+/// `wanting` if memory ran out earlier, and otherwise out of memory at the record with this number.
 fn file_at_end(
     rt: &impl Abort,
     parser: FileParser,
@@ -468,9 +469,10 @@ fn file_at_end(
     }
 }
 
-/// Feeds a parser these records one by one, with line feeds between them. Returns the file, or None
-/// if memory runs out. Asserts that this is reported at the line feed of the record that needed the
-/// memory, or at the end for the last record, and again by each later call.
+/// Feeds a parser these records one by one, with line feeds between them. Returns the file, or
+/// `None` if memory runs out. Asserts that running out of memory is reported at the line feed of
+/// the record that needed the memory, or at the end for the last record. Each later call must
+/// report it again.
 fn file_or_out_of_memory(
     rt: &impl Abort,
     alloc: Global,

@@ -21,7 +21,7 @@ use Rattle.state_index.proofs.RowPlaces.{call_back}
 none_some : {A : Type 0} (a : A) → None ≡ Some a → ⊥
 none_some a h = cc
 
--- some postings of one place have exactly as many spots as there are postings
+-- if all postings in a list are of one place, they have as many spots as the list has postings
 pub as_many_spots : (names : List (List ℕ)) (rank : ℕ) (place : List ℕ) → slice_get names rank ≡ Some place → (piece : List Posting)
     → ((posting : Posting) → Contains piece posting → posting.place ≡ rank) → length (spots_in names piece) ≡ length piece
 as_many_spots names rank place at [] here = refl
@@ -38,7 +38,7 @@ as_many_spots names rank place at (posting ∷ piece) here =
 abbrev IsSeen : List Keyed → Spot → Type 0
 IsSeen rows spot = (row : Row) × (live_at rows spot ≡ Some row)
 
--- if the row of each spot is live, the spots have as many live rows as there are spots
+-- if the row of each spot is live, there are as many live rows for the spots as there are spots
 as_many_rows : (rows : List Keyed) (piece : List Spot) → ((spot : Spot) → Contains piece spot → IsSeen rows spot)
     → length (rows_at_spots rows piece) ≡ length piece
 as_many_rows rows [] seen = refl

@@ -1,4 +1,4 @@
--- Rows have at most as many spots as the rows or changes that were noted for them.
+-- Lemmas that bound the number of spots of rows by counts over the rows, or over the changes that make the rows.
 use Rattle.std.proofs.Common.{◌≡◌, ℕ, ◌+◌, ◌≤◌, List, [], ◌∷◌, ◌++◌, map, length, refl, ap, sym, ◌∙◌, subst, inl, inr, ◌⊎◌, Contains, arith}
 use Rattle.std.specs.declared.cmp.Ordering.TheVariants.{Less, Equal}
 use Rattle.std.specs.Ordering.{on}
@@ -20,7 +20,7 @@ use Rattle.state_index.proofs.Positions.{Keyed}
 abbrev pub Pair : Type 0
 Pair = Key × Op
 
--- the sum of a count over some keys and ops, such as how many places each has
+-- the sum of a count over a list of keys with their ops. For example, the count is the number of places of a key and its op
 abbrev pub total : (Key → Op → ℕ) → List Pair → ℕ
 total count [] = 0
 total count (pair ∷ pairs) = count pair.0 pair.1 + total count pairs
@@ -50,8 +50,8 @@ cut_at (first ∷ pairs) pair among = by (cut_at pairs pair) (Contains-cons firs
     by rest (inl same) = ([], pairs, (λ i. same i ∷ pairs))
     by rest (inr inside) = let found = rest inside in (first ∷ found.0, found.1, (λ i. first ∷ found.2 i))
 
--- if rows with different keys are all among some keys with ops, a count's total over the rows is at
--- most its total over these keys and ops
+-- suppose that no two rows have the same key, and that a list has each row's key and op. Then the total of a count over the rows is at most its total over the
+-- list
 fewer : (count : Key → Op → ℕ) (rows : List Keyed) → AreAscending rows → (pairs : List Pair) →
     ((row : Keyed) → Contains rows row → Contains {X = Pair} pairs (row.0, row.1.op))
     → total count (pairs_of rows) ≤ total count pairs
@@ -89,7 +89,7 @@ fewer count (row ∷ rows) up pairs among = by (fewer count rows up.1) (cut_at p
             place next inside (Contains-append_cases front ((row.0, row.1.op) ∷ back) (next.0, next.1.op)
             (subst (λ (zs : List Pair). Contains zs (next.0, next.1.op)) whole (among next (cons-Contains row rows next inside))))
 
--- an association has one location, and any other row none
+-- a row is linked at one place at most
 few_links : (key : Key) (op : Op) → length (link_places key op) ≤ 1
 few_links (association_key key) (put_with (association_body line)) = omega arith
 few_links (association_key key) (put_with (tiploc_body bytes)) = omega arith
@@ -118,7 +118,7 @@ links_of_rows rows =
     let three = length-map {B = Pair} rows (λ (row : Keyed). (row.0, row.1.op)) in
     omega arith
 
--- the rows that some changes make have at most as many calls as the changes
+-- the rows that changes make have at most as many calls as the changes have
 pub places_of_changes : (rows : List Keyed) (changes : List model.Change) → AreAscending rows → AreMadeBy changes rows
     → length (spots_of call_places rows) ≤ total (λ key op. length (call_places key op)) (changed changes)
 places_of_changes rows changes up made =
@@ -139,7 +139,7 @@ ones : (pairs : List Pair) → total (λ key op. 1) pairs ≡ length pairs
 ones [] = refl
 ones (pair ∷ pairs) = let rest = ones pairs in omega arith
 
--- some changes make at most as many rows as there are changes
+-- changes make at most as many rows as there are changes
 pub rows_of_changes : (rows : List Keyed) (changes : List model.Change) → AreAscending rows → AreMadeBy changes rows → length rows ≤ length changes
 rows_of_changes rows changes up made =
     let few = fewer (λ key op. 1) rows up (changed changes) made in

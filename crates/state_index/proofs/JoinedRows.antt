@@ -1,4 +1,4 @@
--- The rows of a join are the winning rows of a walk over both tables. The moves say at which index of the join each row is.
+-- The rows of a join are the winning rows of a walk over both tables. The moves give each row's index in the join.
 use Rattle.std.proofs.Common.{◌≡◌, ℕ, List, [], ◌∷◌, map, refl, ap, sym, ◌∙◌, subst, Bool, true, false, cond, ◌⊎◌, Some, None, Contains}
 use Rattle.std.specs.Prelude.{Option, ◌↔◌, filter, not}
 use Rattle.std.specs.List.{AllByRecursion}

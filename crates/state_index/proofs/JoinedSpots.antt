@@ -58,7 +58,7 @@ behind_front [] x xs = refl
 behind_front (y ∷ front) x xs = behind_front front x xs
 
 module _ (places : Places) where
-  -- the spots of some rows, each row at its index in the join
+  -- the spots of the rows, with each row's index in the join
   abbrev pub along : List (Option ℕ) → List Keyed → List Spot
   along [] rows = []
   along (move ∷ moves) [] = []
@@ -83,7 +83,7 @@ module _ (places : Places) where
           ∙ (λ i. moved_row (front ++ move ∷ moves) (length front) move (behind_front front move moves) (places row.0 row.1.op) i
           ++ (sym (λ j. moved_spots (append_assoc front (move ∷ []) moves j) (spots_from places (longer j) rows)) ∙ later) i)
 
-  -- moving the spots of some rows results in the spots of each row at its new index
+  -- moving the spots of the rows gives the spots of each row at its new index
   pub moved_along : (moves : List (Option ℕ)) (rows : List Keyed) → length moves ≡ length rows → moved_spots moves (spots_of places rows) ≡ along moves rows
   moved_along moves rows size = along_from [] moves rows size
 

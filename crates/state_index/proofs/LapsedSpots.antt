@@ -1,4 +1,4 @@
--- After a lapse, the spots whose rows are still put are the spots of the lapsed rows.
+-- After a lapse, the spots whose rows still have a put are the spots of the rows after the lapse.
 use Rattle.std.proofs.Common.{◌≡◌, ℕ, List, [], refl, ap, sym, ◌∙◌, subst, Bool, true, false, Some, None, Contains}
 use Rattle.std.specs.Prelude.{Option, filter, slice_get, option_map, option_and_then}
 use Rattle.std.specs.Option.{is_some}
@@ -39,7 +39,7 @@ module _ (places : Places) (none : (key : Key) (op : Op) → is_put op ≡ false
   lapsed_at at row is = ap (λ (all : List Keyed). slice_get all at) are ∙ slice_get-map (lapse_keyed horizon) before at ∙ ap
       (option_map (lapse_keyed horizon)) is
 
-  -- each row after the lapse is a row from before, with the horizon applied
+  -- each row after the lapse is an earlier row with the horizon applied
   was_at : (at : ℕ) (row : Keyed) → slice_get rows at ≡ Some row → (old : Keyed) × (slice_get before at ≡ Some old) × (lapse_keyed horizon old ≡ row)
   was_at at row is = by (slice_get before at) refl
     where

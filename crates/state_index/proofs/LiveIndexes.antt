@@ -1,4 +1,5 @@
--- The spots of a state's rows determine the indexes of its live table. The rows of a place's spots are exactly the rows that call or are linked there.
+-- The spots of a state's rows determine the indexes of its live table. The rows at a place's spots are exactly the schedules that call there and the
+-- associations that are linked there.
 use Rattle.std.proofs.Common.{◌≡◌, ℕ, List, [], ◌∷◌, ◌++◌, map, refl, ap, sym, ◌∙◌, subst, Some, None, Contains}
 use Rattle.std.specs.Prelude.{Option, slice_get, option_and_then}
 use Rattle.std.specs.List.{filter_map, cons_option}
@@ -33,13 +34,13 @@ put_of deleted body is = absurd (none_some body is)
 put_of lapsed body is = absurd (none_some body is)
 put_of (put_with other) body is = ap put_with (some_is other body is)
 
--- a row that is put is live in the state
+-- if a row's op is a put, its key is live in the state, with the body that is put
 put_is_live : (state : State) → AreAscending state.entries → (at : ℕ) (row : Keyed) (body : Body) → slice_get state.entries at ≡ Some row
     → row.1.op ≡ put_with body → live_table state row.0 ≡ Some body
 put_is_live state up at row body is put =
     ap (option_and_then (λ (entry : Entry). body_of entry.op)) ((entry_at_iff state up row.0 row.1).1 (at_member state.entries at row is)) ∙ ap body_of put
 
--- a key that is live in the state is the key of a row that is put
+-- a key that is live in the state is the key of a row whose op is a put
 live_is_put : (state : State) → AreAscending state.entries → (key : Key) (body : Body) → live_table state key ≡ Some body
     → (at : ℕ) × (entry : Entry) × (slice_get state.entries at ≡ Some (key, entry)) × (entry.op ≡ put_with body)
 live_is_put state up key body live = by (entry_at state key) refl live
@@ -106,12 +107,11 @@ module _ {K : Type 0} (wrap : K → Key) (row_of : List ℕ → Key → Option (
               (λ i. ordering_then ((places ∙ at) i) (cmp c.1 d.1))
               ∙ below c.1 d.1 (sym (λ i. key_cmp (from_a.3 i) (from_b.3 i)) ∙ keys)
 
-  -- Says that the row of a spot is put and has a key of the right kind.
+  -- Says that the row of a spot puts a body and has a key of the index's kind.
   abbrev IsSeen : List Keyed → Spot → Type 0
   IsSeen rows spot = (row : Keyed) × (k : K) × (body : Body) × (slice_get rows spot.at ≡ Some row) × (row.0 ≡ wrap k) × (row.1.op ≡ put_with body)
 
-  -- if the row of each spot is put and has a key of the right kind, the index has the keys of these
-  -- rows
+  -- if the row of each spot puts a body and has a key of the index's kind, the index has the keys of these rows
   same_keys : (rows : List Keyed) (piece : List Spot) → ((spot : Spot) → Contains piece spot → IsSeen rows spot)
       → map (λ (row : Row). row.0) (rows_at_spots rows piece) ≡ map (λ (row : IndexRow). wrap row.1) (filter_map (row_at rows) piece)
   same_keys rows [] seen = refl
@@ -149,7 +149,7 @@ module _ {K : Type 0} (wrap : K → Key) (row_of : List ℕ → Key → Option (
   cut rows before piece behind =
       filter_map-append (row_at rows) (before ++ piece) behind ∙ (λ i. filter_map-append (row_at rows) before piece i ++ filter_map (row_at rows) behind)
 
--- the rows of some spots are live
+-- each row found by a spot is live
 live_at_spots : (state : State) → AreAscending state.entries → (spots : List Spot) (key : Key) (body : Body)
     → Contains (rows_at_spots state.entries spots) (key, body) → live_table state key ≡ Some body
 live_at_spots state up spots key body among = by (slice_get state.entries found.0.at) refl found.2

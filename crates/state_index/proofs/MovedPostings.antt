@@ -1,4 +1,4 @@
--- Postings, moved to the indexes that their places and rows have in a join.
+-- Lemmas on moving postings to the indexes that their places and rows have in a join.
 use Rattle.std.proofs.Common.{◌≡◌, ℕ, suc, ◌≤◌, List, [], ◌∷◌, length, refl, ap, sym, ◌∙◌, subst, inl, inr, ◌⊎◌, Some, None, Contains, arith}
 use Rattle.std.specs.Prelude.{Option, ◌↔◌, slice_get, option_map, option_and_then}
 use Rattle.std.specs.List.{filter_map, cons_option}
@@ -21,7 +21,7 @@ use Rattle.state_index.proofs.MovedSpots.{joined_spots}
 none_some : {A : Type 0} (a : A) → None ≡ Some a → ⊥
 none_some a h = cc
 
--- two functions, each of which maps some elements and drops the others, can be composed into one such function
+-- `filter_map f` followed by `filter_map g` is `filter_map` of the composition of `f` and `g`
 fused : {A B C : Type 0} (f : A → Option B) (g : B → Option C) (xs : List A) → filter_map g (filter_map f xs) ≡ filter_map (λ x. option_and_then g (f x)) xs
 fused f g [] = refl
 fused {A} {B} {C} f g (x ∷ xs) = by (f x) (fused f g xs)

@@ -1,4 +1,4 @@
--- Spots, moved to the indexes that their rows have in a join. They keep their order, and they are the spots of the joined rows.
+-- Lemmas on moving spots to the indexes that their rows have in a join. The moved spots keep their order, and they are the spots of the joined rows.
 use Rattle.std.proofs.Common.{◌≡◌, ℕ, List, refl, ap, sym, ◌∙◌, inl, inr, ◌⊎◌, Some, None, Contains}
 use Rattle.std.specs.Prelude.{Option, ◌↔◌, slice_get, option_map, option_and_then}
 use Rattle.std.specs.declared.cmp.Ordering.{Ordering}
@@ -15,7 +15,7 @@ use Rattle.state_index.proofs.Positions.{Keyed, some_is, chosen_ascends, chosen_
 none_some : {A : Type 0} (a : A) → None ≡ Some a → ⊥
 none_some a h = cc
 
--- spots, moved to the new indexes of their rows
+-- lemmas on moving spots to the new indexes of their rows
 module _ (moves : List (Option ℕ)) where
   -- a moved spot has its old place, and the index of its old row in the join
   went : (spot moved : Spot) → moved_spot moves spot ≡ Some moved → (slice_get moves spot.at ≡ Some (Some moved.at)) × (moved.place ≡ spot.place)

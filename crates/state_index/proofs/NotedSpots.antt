@@ -1,4 +1,4 @@
--- The postings of noted rows have the spots of these rows.
+-- The postings made from noted rows have exactly the spots of these rows.
 use Rattle.std.proofs.Common.{◌≡◌, ℕ, zero, suc, ◌+◌, ◌≤◌, List, [], ◌∷◌, ◌++◌, map, take, drop, length}
 use Rattle.std.proofs.Common.{refl, ap, sym, ◌∙◌, subst, Bool, true, false, Some, None, arith, get_or}
 use Rattle.std.specs.Prelude.{Option, slice_get, option_map}

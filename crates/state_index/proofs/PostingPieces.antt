@@ -62,7 +62,7 @@ below_at (posting ∷ postings) (suc i) (suc j) d up before within = below_at po
 abbrev by_place : ℕ → Posting → Ordering
 by_place place posting = nat_cmp posting.place place
 
--- Says that a test of a comparison is monotone: it fails for greater, and if it passes for equal, it passes for less.
+-- Says that a test of a comparison is monotone: it fails for `Greater`, and if it passes for `Equal`, it also passes for `Less`.
 abbrev GoesDown : (Ordering → Bool) → Type 0
 GoesDown test = (test Greater ≡ false) × (test Equal ≡ true → test Less ≡ true)
 
@@ -104,7 +104,7 @@ behind_ascends (posting ∷ postings) (suc n) up = behind_ascends postings n up.
 abbrev pub is_before : ℕ → Posting → Bool
 is_before place posting = is_lt (nat_cmp posting.place place)
 
--- whether the index of a posting's place is a given index or a lower one
+-- whether the index of a posting's place is at most a given index
 abbrev pub is_up_to : ℕ → Posting → Bool
 is_up_to place posting = is_le (nat_cmp posting.place place)
 

@@ -65,7 +65,7 @@ module _ (names : List (List ℕ)) (up : IsStrictlyAscending bytes_cmp names) wh
   spots_ascend postings rise = chosen_ascends (posting_spot names) posting_cmp spot_cmp
       (λ a b c d below is_c is_d. same_cmp a b c d is_c is_d ∙ below) postings rise
 
-  -- a place is at only one index of an ascending list
+  -- an ascending list has a place at only one index
   one_rank : (i j : ℕ) (place : List ℕ) → slice_get names i ≡ Some place → slice_get names j ≡ Some place → i ≡ j
   one_rank i j place is_i is_j = exact_unsigned i j (sym (place_order i j place place is_i is_j) ∙ tied_itself nat_list_cmp_total place)
 
@@ -119,7 +119,7 @@ same_rows names rank place at (posting ∷ piece) here rows =
         let same : spot ≡ spot_at posting.at place = some_is spot (spot_at posting.at place) told in
         λ i. cons_option (option_and_then live_row (slice_get rows (sym (ap (λ (s : Spot). s.at) same) i))) (rest i)
 
--- if all postings of one list are in another, all spots of the first are spots of the other
+-- if all postings of one list are in another, all spots of the first list are spots of the second
 pub same_spots : (names : List (List ℕ)) (postings others : List Posting) → ((posting : Posting) → Contains postings posting → Contains others posting)
     → (spot : Spot)
     → Contains (spots_in names postings) spot → Contains (spots_in names others) spot
@@ -127,7 +127,7 @@ same_spots names postings others same spot among =
     let found = chosen_from (posting_spot names) postings spot among in
     chosen_to (posting_spot names) others found.0 spot (same found.0 found.1) found.2
 
--- if postings have the spots of some rows, sorting them and removing repeats gives the postings of these rows
+-- if postings have the spots of the rows, sorting the postings and removing repeated ones gives the rows' postings
 pub postings_made : (places : Places) (rows : List Keyed) (names : List (List ℕ)) (made postings : List Posting) → IsStrictlyAscending bytes_cmp names
     → spots_in names made ≡ spots_of places rows → IsStrictlyAscending posting_cmp postings
     → ((posting : Posting) → Contains postings posting ↔ Contains made posting)

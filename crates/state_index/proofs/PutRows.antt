@@ -1,4 +1,4 @@
--- A table with one flag for each row, which says whether its op is a put.
+-- The list of flags that say, for each row, whether the row's op is a put.
 use Rattle.std.proofs.Common.{◌≡◌, List, refl, ap, sym, ◌∙◌, Bool, Some, None}
 use Rattle.std.specs.Prelude.{Option, slice_get, option_map, option_and_then}
 use Rattle.std.specs.Option.{is_some}

@@ -43,7 +43,7 @@ location_forth line (inl is) = ap is_location is
 location_forth line (inr (inl is)) = ap is_location is
 location_forth line (inr (inr is)) = ap is_location is
 
--- Says that a row is a schedule that is put and calls at this place.
+-- Says that a row puts a schedule that calls at this place.
 abbrev pub Calls : Key → Op → List ℕ → Type 0
 Calls key op place = (schedule : ScheduleKey) × (lines : List (List ℕ)) × (key ≡ schedule_key schedule) × (op ≡ put_with (schedule_body lines))
     × CallsAt place lines
@@ -71,7 +71,7 @@ call_forth schedule lines place calls =
     (map-Contains (columns 3 9) (filter (λ line. is_location (kind_of line)) lines) calls.line
     (filter_forth (λ line. is_location (kind_of line)) lines calls.line calls.among (location_forth calls.line calls.kind)))
 
--- Says that a row is an association that is put and links two trains at this place.
+-- Says that a row puts an association whose location is this place.
 abbrev pub IsThere : Key → Op → List ℕ → Type 0
 IsThere key op place = (association : AssociationKey) × (line : List ℕ) × (key ≡ association_key association) × (op ≡ put_with (association_body line)) ×
     (association.location ≡ place)
@@ -89,7 +89,7 @@ pub link_forth : (key : AssociationKey) (line : List ℕ) (place : List ℕ) →
     → Contains (link_places (association_key key) (put_with (association_body line))) place
 link_forth key line place here = single-Contains key.location place here
 
--- a row whose op isn't a put calls nowhere
+-- a row whose op isn't a put has no calls
 pub no_calls : (key : Key) (op : Op) → is_put op ≡ false → call_places key op ≡ []
 no_calls (schedule_key key) deleted none = refl
 no_calls (schedule_key key) lapsed none = refl

@@ -1,4 +1,4 @@
--- What a binary search in an ascending list finds.
+-- Lemmas on what a binary search in an ascending list finds.
 use Rattle.std.proofs.Common.{◌≡◌, ℕ, zero, suc, ◌<◌, ◌≤◌, List, [], ◌∷◌, map, refl, Bool, true, false}
 use Rattle.std.proofs.Common.{length, get_or, ap, sym, ◌∙◌, subst, inl, inr, ◌⊎◌, Contains, Ok, Err, arith}
 use Rattle.std.proofs.lemmas.Bool.{cases_lt}

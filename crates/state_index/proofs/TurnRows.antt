@@ -1,4 +1,4 @@
--- The turns of a walk over two tables: which rows they have, which rows win, and where the winning rows are in the join.
+-- Lemmas on the turns of a walk over two tables: which rows they have, which rows win, and where the winning rows are in the join.
 use Rattle.std.proofs.Common.{◌≡◌, ℕ, suc, ◌+◌, ◌≤◌, List, [], ◌∷◌, map, length, refl, ap, Bool, true, false, cond, None, arith}
 use Rattle.std.specs.Prelude.{Option, ⊤}
 use Rattle.std.specs.List.{AllByRecursion}
@@ -21,7 +21,7 @@ use Rattle.state_index.specs.Turns.{turns_from, turns_of, wins, goes, after, fir
 abbrev pub Row : Type 0
 Row = Key × Entry
 
--- the greater of two entries, which wins
+-- the greater of two entries, which is the winner
 abbrev pub picked : Entry → Entry → Entry
 picked = ord_max (on entry_meant entry_cmp)
 
@@ -94,12 +94,12 @@ all_level : (ys : List Row) → AllByRecursion IsLevel (map in_second ys)
 all_level [] = tt
 all_level (y ∷ ys) = (tt, all_level ys)
 
--- the rows of the first table in all turns are the first table
+-- the first table's rows in all turns, taken together, are the first table
 pub firsts_are : (xs ys : List Row) → firsts (turns_of xs ys) ≡ xs
 firsts_are [] ys = no_firsts ys
 firsts_are (x ∷ xs) ys = firsts_from x xs (turns_of xs) (firsts_are xs) ys
 
--- the rows of the second table in all turns are the second table
+-- the second table's rows in all turns, taken together, are the second table
 pub seconds_are : (xs ys : List Row) → seconds (turns_of xs ys) ≡ ys
 seconds_are [] ys = all_seconds ys
 seconds_are (x ∷ xs) ys = seconds_from x xs (turns_of xs) (seconds_are xs) ys

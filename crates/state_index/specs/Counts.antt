@@ -1,4 +1,4 @@
--- How many live schedules call at a place.
+-- Defines the number of live schedules that call at a place.
 use Rattle.std.specs.Prelude.{◌≡◌, ℕ, List, length}
 use Rattle.docker_model.specs.state.Table.{Table}
 use Rattle.state_laws.specs.Row.{Row}

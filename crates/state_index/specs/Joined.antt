@@ -70,14 +70,16 @@ abbrev pub HasMovedSpots : Places → List (model.Key × ops.Entry) → List (mo
 HasMovedSpots places first second joined moves = (spot : Spot) → Contains (spots_of places joined) spot
     ↔ (Contains (moved_spots moves.first.items (spots_of places first)) spot ⊎ Contains (moved_spots moves.second.items (spots_of places second)) spot)
 
--- Says that these moves give, for each row of two tables, its index in their join.
+-- Says that these moves give, for each row of two tables, the row's index in the join of the
+-- tables.
 pub record AreMoves (first second joined : List (model.Key × ops.Entry)) (moves : Moves) : Type 0 where
   pub first_rise : AreRising moves.first.items
   pub second_rise : AreRising moves.second.items
   pub calls : HasMovedSpots call_places first second joined moves
   pub links : HasMovedSpots link_places first second joined moves
 
--- Says that there is no move yet, and room for the moves of this many rows of each table.
+-- Says that there is no move yet, and that there is room for the moves of this many rows of each
+-- table.
 pub record HasRows (first second : ℕ) (moves : Moves) : Type 0 where
   pub first_none : moves.first.items ≡ []
   pub first_empty : vec_len moves.first ≡ 0

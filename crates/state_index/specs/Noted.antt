@@ -10,12 +10,12 @@ use Rattle.state_index.specs.declared.posting.Posting.{Posting}
 abbrev pub posting_of : List ℕ → ℕ → ℕ → Posting
 posting_of ranks at number = record { place = get_or ranks number 0; at = at }
 
--- the index of the last row whose piece was taken, given how many rows there are and the pieces
--- that remain
+-- the index of the last row whose piece was taken, given the number of rows and the remaining
+-- pieces
 abbrev pub row_before : ℕ → List Piece → ℕ
 row_before rows left = rows - length left - 1
 
--- the postings of the rows whose pieces remain, given how many rows there are
+-- the postings of the rows whose pieces remain, given the number of rows
 abbrev pub noted_postings : Bool → List ℕ → List ℕ → ℕ → List Piece → List Posting
 noted_postings links ranks numbers rows [] = []
 noted_postings links ranks numbers rows (piece ∷ pieces) =

@@ -1,4 +1,4 @@
--- The live rows of spots and postings.
+-- The live rows at the indexes that spots and postings give.
 use Rattle.std.specs.Prelude.{◌≡◌, ℕ, Bool, false, List, ◌++◌, map, Contains, Option, Some, None, slice_get, option_and_then}
 use Rattle.std.specs.List.{filter_map}
 use Rattle.std.specs.Option.{is_some}
@@ -17,7 +17,7 @@ live_row row = option_and_then (λ body. Some (row.0, body)) (body_of row.1.op)
 abbrev pub live_at : List (Key × Entry) → Spot → Option Row
 live_at rows spot = option_and_then live_row (slice_get rows spot.at)
 
--- the live rows of some spots, in the order of the spots
+-- the live rows at the indexes that spots give, in the order of the spots
 abbrev pub rows_at_spots : List (Key × Entry) → List Spot → List Row
 rows_at_spots rows spots = filter_map (live_at rows) spots
 
@@ -25,7 +25,7 @@ rows_at_spots rows spots = filter_map (live_at rows) spots
 abbrev pub live_at_posting : List (Key × Entry) → Posting → Option Row
 live_at_posting rows posting = option_and_then live_row (slice_get rows posting.at)
 
--- the live rows of some postings, in the order of the postings
+-- the live rows at the indexes that postings give, in the order of the postings
 abbrev pub rows_at_postings : List (Key × Entry) → List Posting → List Row
 rows_at_postings rows postings = filter_map (live_at_posting rows) postings
 

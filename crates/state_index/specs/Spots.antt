@@ -1,5 +1,5 @@
--- What an index of rows contains: the spots of all calls of live schedules, and the spots of all
--- live associations.
+-- Defines what an index of rows contains: the spots of all calls of live schedules, and the spots
+-- of all live associations.
 use Rattle.std.specs.Prelude.{ℕ, ◌+◌, ◌↔◌, List, [], ◌∷◌, ◌++◌, map, Contains, Option, option_map, slice_get}
 use Rattle.std.specs.List.{filter_map}
 use Rattle.docker_model.specs.file.Change.{Key}
@@ -11,8 +11,8 @@ use Rattle.state_index.specs.declared.posting.Posting.{Posting}
 use Rattle.state_index.specs.PostingOrder.{posting_cmp}
 use Rattle.state_index.specs.declared.index.Index.{Index}
 
--- a function from a row's key and op to the places where the row calls, or to the places where it
--- is linked
+-- a function that gives, for the key and the op of a row, the places where the row's schedule
+-- calls, or the place where its association is linked
 abbrev pub Places : Type 0
 Places = Key → Op → List (List ℕ)
 
@@ -24,12 +24,12 @@ places_of places row = places row.0 row.1.op
 abbrev pub spot_at : ℕ → List ℕ → Spot
 spot_at at place = record { place = place; at = at }
 
--- the spots of some rows, if the first of them is at index `at`
+-- the spots of a list of rows whose first row has index `at`
 abbrev pub spots_from : Places → ℕ → List (Key × Entry) → List Spot
 spots_from places at [] = []
 spots_from places at (row ∷ rows) = map (spot_at at) (places_of places row) ++ spots_from places (1 + at) rows
 
--- the spots of some rows, if the first of them is at index 0
+-- the spots of a list of rows whose first row has index 0
 abbrev pub spots_of : Places → List (Key × Entry) → List Spot
 spots_of places rows = spots_from places 0 rows
 
@@ -43,7 +43,7 @@ pub record AreSpotsOf (places : Places) (rows : List (Key × Entry)) (spots : Li
 abbrev pub posting_spot : List (List ℕ) → Posting → Option Spot
 posting_spot names posting = option_map (spot_at posting.at) (slice_get names posting.place)
 
--- the spots of some postings, whose places are indexes in a list of names
+-- the spots of a list of postings, whose places are indexes in a list of names
 abbrev pub spots_in : List (List ℕ) → List Posting → List Spot
 spots_in names postings = filter_map (posting_spot names) postings
 

@@ -1,4 +1,4 @@
--- The walk over the rows of two tables, key by key, and where each row is in the join.
+-- A walk over the rows of two tables, key by key. It gives the index of each row in the join.
 use Rattle.std.specs.Prelude.{ℕ, ◌+◌, Bool, true, false, ◌&&◌, not, if◌then◌else◌, List, [], ◌∷◌, map, Option, Some, None}
 use Rattle.std.specs.declared.cmp.Ordering.{Ordering}
 use Rattle.std.specs.declared.cmp.Ordering.TheVariants.{Less, Equal, Greater}
@@ -26,14 +26,14 @@ turn_meant (turn.First one) = in_first one.now
 turn_meant (turn.Second other) = in_second other.now
 turn_meant (turn.Both one other) = in_both one.now other.now
 
--- the rows of the first table in some turns
+-- the rows of the first table in a list of turns
 abbrev pub firsts : List AtKey → List (Key × Entry)
 firsts [] = []
 firsts (in_first one ∷ turns) = one ∷ firsts turns
 firsts (in_second other ∷ turns) = firsts turns
 firsts (in_both one other ∷ turns) = one ∷ firsts turns
 
--- the rows of the second table in some turns
+-- the rows of the second table in a list of turns
 abbrev pub seconds : List AtKey → List (Key × Entry)
 seconds [] = []
 seconds (in_first one ∷ turns) = seconds turns
@@ -68,8 +68,8 @@ is_put deleted = false
 is_put lapsed = false
 is_put (put_with body) = true
 
--- the index that a winning entry gets in the join, if `at` rows come before it. None if the floor
--- doesn't keep the entry, or if the entry isn't live once the horizon is applied
+-- the index that a winning entry gets in the join, if `at` rows come before the entry. It is none
+-- if the floor doesn't keep the entry, or if the entry isn't live once the horizon is applied
 abbrev pub goes : Option FileStamp → ℕ → ℕ → Entry → Option ℕ
 goes floor horizon at entry =
     if is_kept floor (entry_meant entry).stamp.file && is_put (lapse horizon (entry_meant entry).op) then Some at else None
@@ -82,8 +82,8 @@ after floor at entry = if is_kept floor (entry_meant entry).stamp.file then 1 + 
 abbrev pub wins : Entry → Entry → Bool
 wins one other = is_lt (entry_cmp (entry_meant other) (entry_meant one))
 
--- for each row of the first table in some turns, its index in the join, if the join has `at` rows
--- before these turns
+-- for each row of the first table in a list of turns, the row's index in the join, if the join has
+-- `at` rows before these turns
 abbrev pub first_moves : Option FileStamp → ℕ → ℕ → List AtKey → List (Option ℕ)
 first_moves floor horizon at [] = []
 first_moves floor horizon at (in_first one ∷ turns) = goes floor horizon at one.1 ∷ first_moves floor horizon (after floor at one.1) turns
@@ -92,8 +92,8 @@ first_moves floor horizon at (in_both one other ∷ turns) =
     if wins one.1 other.1 then goes floor horizon at one.1 ∷ first_moves floor horizon (after floor at one.1) turns
     else None ∷ first_moves floor horizon (after floor at other.1) turns
 
--- for each row of the second table in some turns, its index in the join, if the join has `at` rows
--- before these turns
+-- for each row of the second table in a list of turns, the row's index in the join, if the join has
+-- `at` rows before these turns
 abbrev pub second_moves : Option FileStamp → ℕ → ℕ → List AtKey → List (Option ℕ)
 second_moves floor horizon at [] = []
 second_moves floor horizon at (in_first one ∷ turns) = second_moves floor horizon (after floor at one.1) turns

@@ -28,13 +28,15 @@ use cif_change::{Key, Memory, Notes, Tiploc};
 use docker_join::Entry;
 use std::alloc::Global;
 
-/// An index of a table's rows by place: for each TIPLOC, the rows that call or are linked there.
+/// An index of a table's rows by place. For each TIPLOC it has the rows of the schedules that call
+/// there and of the associations that are linked there.
 #[derive(Debug, Drop)]
 pub struct Index {
     /// The TIPLOCs that the rows name, in ascending order and without duplicates.
     pub places: Vec<[u8; 7]>,
-    /// One posting for each live schedule and each place at which it calls, in an LO, LI or LT
-    /// record. Postings ascend by place and then by row, and none is repeated.
+    /// One posting for each live schedule and each place at which it calls. A schedule calls at the
+    /// places of its LO, LI and LT records. Postings ascend by place and then by row, and none is
+    /// repeated.
     pub calls: Vec<Posting>,
     /// One posting for each live association, at its location. Postings ascend by place and then by
     /// row, and none is repeated.
@@ -82,9 +84,9 @@ impl Index {
         }
     }
 
-    /// Updates the index in place after a horizon was set and some of its rows lapsed. May allocate
-    /// one byte per row for a while. If the allocator refuses, the call takes longer but doesn't
-    /// fail.
+    /// Updates the index, without making a new one, after a horizon was set and rows have lapsed
+    /// under it. May allocate one byte per row until it returns. If the allocator refuses, the call
+    /// takes longer but doesn't fail.
     pub fn lapse(&mut self, rows: &[(Key, Entry)])
         ensures { (before : List (model.Key × ops.Entry)) (horizon : ℕ)
             → map row_meant rows.now ≡ lapse_entries horizon before

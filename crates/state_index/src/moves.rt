@@ -1,4 +1,4 @@
-//! Finds where each row of two tables is in their join.
+//! Finds the index that each row of two tables has in their join.
 ghost use Rattle.std.specs.Prelude.{◌≡◌, ◌+◌, ◌<◌, ◌≤◌, ◌^◌, List, [], ◌∷◌, ◌++◌, vec_len, vec_capacity, length, map, IfOk};
 ghost use Rattle.docker_model.specs.file.Change as model;
 ghost use Rattle.docker_model.specs.state.Op as ops;
@@ -13,8 +13,8 @@ use cif_change::{Key, Memory};
 use docker_join::{Entry, FileStamp, Op};
 use std::alloc::Global;
 
-/// The index in the join of each row of two tables. None if the other table's entry at the key
-/// wins, if the floor doesn't keep the entry, or if the entry isn't live once the horizon is
+/// The index in the join of each row of two tables. It is `None` if the other table's entry at the
+/// key wins, if the floor doesn't keep the entry, or if the entry isn't live once the horizon is
 /// applied.
 #[derive(Debug, Drop)]
 pub struct Moves {
@@ -39,9 +39,10 @@ impl Moves {
         Ok(Moves { first, second })
     }
 
-    /// Finds where the rows of two tables are in their join, from which the floor removes older
-    /// entries and in which entries lapse under the horizon. The horizon is a day number, counted
-    /// from 0 for 1960-01-01. There must be room for the moves of all rows. Allocates nothing.
+    /// Finds the index that each row of two tables has in their join. The join lacks the entries
+    /// that the floor doesn't keep, and entries in it lapse under the horizon. The horizon is a day
+    /// number, counted from 0 for 1960-01-01. There must be room for the moves of all rows.
+    /// Allocates nothing.
     pub fn of_tables(
         self,
         first: &[(Key, Entry)],
@@ -141,8 +142,8 @@ fn wins(one: &Entry, other: &Entry) -> bool
     other < one
 }
 
-/// The index that a winning entry gets in the join, if `at` rows come before it. None if the floor
-/// doesn't keep the entry, or if it isn't live once the horizon is applied.
+/// The index that a winning entry gets in the join, if `at` rows come before it. Returns `None` if
+/// the floor doesn't keep the entry, or if it isn't live once the horizon is applied.
 fn index_of(entry: &Entry, floor: &Option<FileStamp>, horizon: u16, at: u32) -> Option<u32>
     ensures { result ≡ goes (floor_meant floor.now) horizon at entry.now }
 {

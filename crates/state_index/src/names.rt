@@ -13,7 +13,7 @@ pub(crate) fn ascending_places(mut places: Vec<[u8; 7]>) -> Vec<[u8; 7]>
     places
 }
 
-/// The index of a place in an ascending list of places. None if the list doesn't have it.
+/// The index of a place in an ascending list of places. Returns `None` if the list doesn't have it.
 pub(crate) fn rank_of(places: &[[u8; 7]], place: &[u8; 7]) -> Option<usize>
     requires { IsStrictlyAscending bytes_cmp places.now }
     ensures some { IfSome result (λ rank. slice_get places.now rank ≡ Some place.now) }

@@ -1,4 +1,5 @@
-//! Iterators over the rows that call or are linked at a place.
+//! Iterators over the rows at a place: either the schedules that call there or the associations
+//! that are linked there.
 ghost use Rattle.std.specs.Prelude.{◌≡◌, List, length, map};
 ghost use Rattle.std.specs.Iterator.{YieldsFirstBy, item_count};
 ghost use Rattle.cif_change.specs.Meaning.{key_meant, body_meant};
@@ -157,8 +158,8 @@ fn is_up_to(posting: &Posting, rank: usize) -> bool
     (posting.place as usize).cmp(&rank).is_le()
 }
 
-/// The postings of one place among ascending postings, found by binary search. None are found if
-/// the place isn't in the list of places.
+/// The postings of one place among ascending postings, found by binary search. No postings are
+/// found if the place isn't in the list of places.
 pub(crate) fn postings_at<'a>(
     places: &[[u8; 7]],
     postings: &'a [Posting],

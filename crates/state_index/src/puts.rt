@@ -10,7 +10,7 @@ use cif_change::Key;
 use docker_join::{Entry, Op};
 use std::alloc::Global;
 
-/// A table with one byte for each row, which says whether its op is a put. None if the allocator
+/// Whether the op of each row is a put, in the order of the rows. Returns `None` if the allocator
 /// refuses.
 pub(crate) fn puts_of(alloc: Global, rows: &[(Key, Entry)]) -> Option<Vec<bool>>
     ensures { IfSome result (λ puts. puts.items ≡ puts_in (map row_meant rows.now)) }

@@ -1,4 +1,4 @@
--- Offering the entries of a valid state one by one, in their order.
+-- Lemmas on offering the entries of a valid state one by one, in their order.
 use Rattle.std.proofs.Common.{◌≡◌, List, [], ◌∷◌, ◌++◌, ◌<◌, length, sym, subst, ◌⊎◌, inl, inr, arith}
 use Rattle.std.specs.Prelude.{Contains}
 use Rattle.std.specs.List.{AllByRecursion}
@@ -10,14 +10,13 @@ use Rattle.docker_model.specs.state.Stamp.{IsFloor}
 use Rattle.docker_model.specs.state.State.{State, IsGoodEntry, AreAscending, AreEntries}
 use Rattle.docker_state.specs.Staging.{Staging, IsAboveStaged, IsOffered}
 
--- Says that these entries can be offered in their order. Each is good with the received items,
--- their keys ascend, and all keys are above the staged ones.
+-- Says that these entries can be offered in their order. Each is good with the received items, their keys ascend, and all keys are above the staged keys.
 pub record CanBeOffered (staging : Staging) (entries : List (Key × Entry)) : Type 0 where
   pub good : AllByRecursion (IsGoodEntry staging.items) entries
   pub above : AllByRecursion (λ (entry : Key × Entry). IsAboveStaged staging.staged entry.0) entries
   pub ascending : AreAscending entries
 
--- a key that is above the staged keys and above the offered key is above all of them once the entry is staged
+-- a key that is above the staged keys and above the offered key is above all staged keys once the offered entry is staged
 above_both : (staged : List (Key × Entry)) (entry next : Key × Entry) → IsAboveStaged staged next.0 → key_cmp entry.0 next.0 ≡ Less
     → IsAboveStaged (staged ++ entry ∷ []) next.0
 above_both staged entry next above below other among = by (Contains-push_cases staged entry other among)

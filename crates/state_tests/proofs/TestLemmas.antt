@@ -1,5 +1,4 @@
--- Adding the parts of a state with one ledger item and one entry: first the item, and then the
--- entry.
+-- Lemmas on adding the parts of a state with one ledger item and one entry: first the item, and then the entry.
 use Rattle.std.proofs.Common.{◌≡◌, List, [], ◌∷◌, ◌++◌, map, length, get_or, ap, sym, ◌∙◌, subst, arith}
 use Rattle.docker_model.specs.state.Stamp as stamps
 use Rattle.docker_model.specs.state.State.{State, IsLedger, IsValid, IsGoodEntry}
@@ -26,7 +25,7 @@ one_item items item other one is state items_are valid before none =
     (sym items_are ∙ ap (map item_meant) (only_element items item other one is) ∙ ap (λ (xs : List stamps.LedgerItem). xs ++ item_meant item ∷ []) (sym none))
     valid.ledger
 
--- the only entry of a valid state is good if the ledger has just the only item
+-- the only entry of a valid state is good with a ledger that has just the state's only item
 good_entry : (items : List LedgerItem) (item other : LedgerItem) → length items ≡ 1 → item ≡ get_or items 0 other
     → (rows : List (Key × Entry)) (row next : Key × Entry) → length rows ≡ 1 → row ≡ get_or rows 0 next
     → (state : State) → map item_meant items ≡ state.ledger → map row_meant rows ≡ state.entries → IsValid state

@@ -1,4 +1,4 @@
--- How the bodies of associations and the first lines of schedules are judged.
+-- Lemmas on how the bodies of associations and the first lines of schedules are judged.
 use Rattle.std.proofs.Common.{◌≡◌, ℕ, List, sym, subst, Bool, true, false, ◌∙◌}
 use Rattle.std.specs.Prelude.{IsTrue, ◌↔◌}
 use Rattle.docker_model.specs.records.Record.{IsRecord, HasKind, association, basic_schedule, columns}
@@ -20,8 +20,7 @@ association_test key line view test is kind fields same tested = (
   (λ of. tested.1 (subst (λ l. HasNewTransaction l × (association_named l ≡ association_key key)) (sym same) (of.new, of.key_is))),
 )
 
--- a line whose transaction isn't N, or whose key is another one, isn't the first line of a schedule
--- with the given key
+-- a line isn't the first line of a schedule with the given key if its transaction isn't N or if it has another key
 pub not_named : (horizon : ℕ) (key : ScheduleKey) (line : List ℕ) (test : Bool)
     → IsTrue test ↔ (HasNewTransaction line × IsTrue (is_date (columns 10 15 line)) × (schedule_named line ≡ schedule_key key)) → test ≡ false
     → ¬ IsFirstOf horizon key line

@@ -1,4 +1,4 @@
--- Pieces that are written to a sink through a buffer, one after the other.
+-- Lemmas on pieces that are written, one after the other, to a sink through a buffer.
 use Rattle.std.proofs.Common.{◌≡◌, ℕ, suc, ◌+◌, ◌<◌, ◌≤◌, List, [], ◌∷◌, ◌++◌, length, take, drop, get_or, map, refl, ap, sym, ◌∙◌}
 use Rattle.std.proofs.Common.{subst, arith, append_assoc, append-nil, length-append, Some, None, Ok, Err, Result}
 use Rattle.std.specs.Prelude.{Option, IsErr, IsErrAnd, OnOk, OnErr}
@@ -85,7 +85,7 @@ module _ {S A E : Type 0} (taken : S → Told) (failures : S → ℕ) where
   flush_gives old new held holds (Err failed) part empty =
       (subst (λ xs. TakesPart (taken old) xs (taken new)) (sym (append-nil held)) part.0, part.1)
 
-  -- if a piece was gathered and the next one is written, the concatenation of both is written
+  -- if a piece was gathered and the next piece is written, the concatenation of both is written
   pub then_gives : (old mid new : S) (b p d q h : List ℕ) (result : Result A E) → Gathers (taken old) b p (taken mid) d
       → failures mid ≡ failures old → Gives taken failures mid d q result new h → Gives taken failures old b (p ++ q) result new h
   then_gives old mid new b p d q h (Ok done) first same second =
@@ -188,7 +188,7 @@ pub mapped_join : {A B : Type 0} (f : B → List ℕ) (m : A → B) (xs ys : Lis
     → flat_map f (map m (xs ++ ys)) ≡ flat_map f (map m xs) ++ flat_map f (map m ys)
 mapped_join f m xs ys = ap (flat_map f) (map-append m xs ys) ∙ flat_map-append f (map m xs) (map m ys)
 
--- for lists of lines too, the bytes of a concatenation are the concatenation of the bytes
+-- the bytes of two concatenated lists of lines are the bytes of the first list followed by the bytes of the second
 pub concat_join : (xs ys : List (List ℕ)) → concat (xs ++ ys) ≡ concat xs ++ concat ys
 concat_join [] ys = refl
 concat_join (x ∷ xs) ys = ap (λ zs. x ++ zs) (concat_join xs ys) ∙ sym (append_assoc x (concat xs) (concat ys))

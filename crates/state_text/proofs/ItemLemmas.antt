@@ -1,4 +1,4 @@
--- How the bytes of a ledger item are read.
+-- Lemmas on how the bytes of a ledger item are read.
 use Rattle.std.proofs.Common.{◌≡◌, ℕ, ◌+◌, ◌-◌, ◌<◌, ◌≤◌, List, length, take, drop, refl, ap, ◌∙◌, subst, arith, true, length-drop}
 use Rattle.std.specs.Prelude.{slice_range, slice_index, slice_get, option_map, Some, ◌==◌, ◌||◌, IsTrue, ◌↔◌, map, Bool}
 use Rattle.std.specs.List.{AllPass}

@@ -1,4 +1,4 @@
--- How keys are judged.
+-- Lemmas on how keys are judged.
 use Rattle.std.proofs.Common.{◌≡◌, ◌-◌, length, refl, ap, sym, ◌∙◌, subst, Bool, true, Some, None}
 use Rattle.std.specs.Prelude.{Option, slice_get, option_map, IsTrue, ◌↔◌}
 use Rattle.std.specs.Ordering.{is_lt, is_eq}
@@ -18,7 +18,7 @@ equal_by_test Less is = cc
 equal_by_test Equal is = refl
 equal_by_test Greater is = cc
 
--- keys that compare equal are equal
+-- keys that compare as equal are equal
 pub same_key : (first second : Key) (test : Bool) → test ≡ is_eq (key_cmp first second) → IsTrue test ↔ (first ≡ second)
 same_key first second test tested = (
   (λ yes. exact_key first second (equal_by_test (key_cmp first second) (sym tested ∙ yes))),

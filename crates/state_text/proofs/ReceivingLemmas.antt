@@ -1,4 +1,4 @@
--- Which of the given entries are staged. Committing the staged entries results in the join.
+-- Lemmas on staging the given entries. Committing the staged entries results in the join.
 use Rattle.std.proofs.Common.{◌≡◌, ℕ, ◌-◌, List, [], ◌∷◌, ◌++◌, length, refl, ap, sym, ◌∙◌, subst, inl, inr, arith, length-append, All, Some, None}
 use Rattle.std.specs.Prelude.{Option, slice_get}
 use Rattle.docker_model.specs.file.Change.{Key}
@@ -32,7 +32,7 @@ offered_more own staging after entries key entry are above (inr out) =
     subst (λ (s : Staging). IsStagedOf own s (entries ++ (key, entry) ∷ [])) (sym out.1)
     (record { floor = are.floor; staged = one_left_out own staging.floor entries staging.staged key entry are.staged out.0 })
 
--- no entry is staged before the first one is given
+-- no entry is staged before the first entry is given
 pub none_staged : (own : State) (staging : Staging) (entries : List (Key × Entry)) → entries ≡ [] → staging.staged ≡ []
     → IsFloor (own.ledger ++ staging.items) staging.floor → IsStagedOf own staging entries
 none_staged own staging entries none empty floor = record {

@@ -1,4 +1,4 @@
--- How the lines of a schedule are judged.
+-- Lemmas on how the lines of a schedule are judged.
 use Rattle.std.proofs.Common.{◌≡◌, ◌∙◌, ℕ, List, [], ◌∷◌, ◌++◌, length, refl, ap, sym, subst, inl, inr, ◌⊎◌, Some}
 use Rattle.std.proofs.Common.{None, ◌+◌, ◌<◌, ◌≤◌, Bool, true, false, arith, length-append}
 use Rattle.std.specs.Prelude.{Option, IsTrue, ◌↔◌, slice_index_or}
@@ -22,7 +22,7 @@ first_kind line begin =
     let same : line ≡ begin.1.basic = ap first_record begin.1.whole in
     (subst (HasKind basic_schedule) (sym same) begin.1.kind, subst HasGoodFields (sym same) begin.1.fields)
 
--- a line that isn't a first line for the key doesn't begin a schedule with this key
+-- if a line can't be the first line of a schedule with this key, it doesn't begin one
 pub not_first : (state : State) (key : ScheduleKey) (count : ℕ) (lines : Lines) (line : List ℕ) → lines ≡ [] → ¬ IsFirstOf state.horizon key line
     → ¬ AreLinesUpToIn state key count (lines ++ line ∷ [])
 not_first state key count lines line none bad are =
@@ -39,7 +39,7 @@ one_line_more state key [] line are first begin = let told = first refl in (reco
 one_line_more state key (basic ∷ lines) line (inl none) first begin = cc
 one_line_more state key (basic ∷ lines) line (inr are) first begin = (record { begin = begin; new = are.0.new; key_is = are.0.key_is }, are.1)
 
--- if no line follows the next one, the next line is the last of `count`
+-- if no line follows the next line, the next line is the last of `count`
 pub no_more : (more : Bool) (n count : ℕ) → (IsTrue more ↔ (n + 1 < count)) → n < count → more ≡ false → n + 1 ≡ count
 no_more more n count tells few none = by (cases_lt (n + 1) count)
   where
@@ -64,7 +64,7 @@ begin_up_to count lines line more tells begin (inl is) = record
     { begin = begin; complete = λ all. let size = length-append lines (line ∷ []) in let below = tells.0 is in absurd (omega arith) }
 begin_up_to count lines line more tells begin (inr whole) = record { begin = begin; complete = λ all. whole }
 
--- if more lines follow, a line may come next if some schedule begins with the lines and this one
+-- if more lines follow, a line may come next if some schedule begins with the lines followed by this line
 pub more_up_to : (count : ℕ) (lines : Lines) (line : List ℕ) → length lines + 1 < count → BeginsSchedule (lines ++ line ∷ [])
     → BeginUpTo count (lines ++ line ∷ [])
 more_up_to count lines line more begin = record { begin = begin; complete = λ all. let size = length-append lines (line ∷ []) in absurd (omega arith) }
@@ -85,8 +85,7 @@ lines_up_to state key count lines line bytes same here first up_to =
     let are = one_line_more state key lines line here first up_to.begin in
     subst (λ b. AreLinesUpToIn state key count (lines ++ b ∷ [])) same (record { lines_of = are.0; complete = up_to.complete }, are.1)
 
--- if a line is refused after some lines of the key's schedule, it is refused for the same reason as
--- a line of the schedule with this key
+-- after lines that begin a schedule with the key, a cause for which a line is refused is a right cause for refusing it in that schedule
 pub line_refused : (state : State) (key : ScheduleKey) (count : ℕ) (lines : Lines) (line bytes : List ℕ) → line ≡ bytes
     → (lines ≡ []) ⊎ AreLinesIn state key lines → (lines ≡ [] → IsOfKey state.horizon key line)
     → (cause : Option StateCause) → IsLineRefusal count lines line cause → IsUpToRefusal state key count lines bytes cause

@@ -1,4 +1,4 @@
--- How stamps are judged, by searching a ledger.
+-- Lemmas on how stamps are judged, by searching a ledger.
 use Rattle.std.proofs.Common.{◌≡◌, ℕ, zero, suc, ◌<◌, ◌≤◌, List, [], ◌∷◌, length, get_or, map, refl, ap, sym}
 use Rattle.std.proofs.Common.{◌∙◌, subst, inl, inr, ◌⊎◌, arith, true, false, Contains}
 use Rattle.std.specs.Prelude.{IsTrue, ◌↔◌}

@@ -1,4 +1,4 @@
--- How the parts that were read grow by a ledger item or a line.
+-- Lemmas on reading one more ledger item, or one more line, of a state's text.
 use Rattle.std.proofs.Common.{◌≡◌, ℕ, ◌+◌, ◌-◌, ◌<◌, ◌≤◌, ◌^◌, List, [], ◌∷◌, ◌++◌, length, ap, sym, ◌∙◌, subst, arith, length-append, Ok, Err}
 use Rattle.std.specs.Prelude.{Result, IfOk, IfErr}
 use Rattle.docker_model.specs.file.Change.{ScheduleKey, schedule_key, schedule_body}
@@ -31,8 +31,7 @@ taken_all lines line taken n is last =
     let same : length taken ≡ length (lines ++ line ∷ []) = ap (λ (ls : List (List ℕ)). length ls) is in
     omega arith
 
--- a result that is the stage after an entry, or out of memory, is a correct judgement of the
--- entry's last part
+-- a result of reading the last part of an entry is a correct judgement of this part if it is the stage after the entry, or out of memory
 pub entry_judged : (format : Format) (before after : Before) (bytes : List ℕ) (new : State) (lines : List (List ℕ)) (result : Result Stage StateCause)
     → IfOk result (λ s. (ls : List (List ℕ)) → stage_meant s new ls ≡ after) → IfOk result (λ s. IsFresh s new)
     → IfErr result (λ told. told ≡ cause.Memory) → after ≡ advance format before bytes → IsWantingHere format before bytes

@@ -74,8 +74,7 @@ module _ {S A B : Type 0} (taken : S → Option (List ℕ)) (failures : S → �
         (then_gives {A = X} taken failures old first second b (flat_map item_bytes state.ledger) d (to_be_bytes w64 (length state.entries)) holds
         (Err failed) given same (subst (λ n. TakesPart (taken first) (d ++ to_be_bytes w64 n) (taken second)) many part.0, part.1))
 
-    -- if the number of entries was gathered, the result of writing the entries is the result of
-    -- writing the whole text after the head
+    -- if the number of entries was gathered, writing the entries has the same result as writing the whole text after the head
     pub body_given : {X E : Type 0} (third : S) (f h : List ℕ) (result : Result X E)
         → Gathers (taken first) d (to_be_bytes w64 (length rows)) (taken second) f × (failures second ≡ failures first)
         → Gives taken failures second f (flat_map entry_bytes (map row rows)) result third h

@@ -6,13 +6,13 @@ use Rattle.docker_model.specs.state.Op.{Op, deleted, lapsed, put_with, Entry, ke
 use Rattle.docker_model.specs.state.State.{IsGoodKey, IsOpOf}
 use Rattle.docker_model.specs.state.StateText.{key_bytes, stamp_bytes}
 
--- the bytes of a body. For a schedule's body, only the count of its lines
+-- the bytes of a body or, for a schedule's body, of the number of its lines
 abbrev pub body_head : Body → List ℕ
 body_head (tiploc_body bytes) = bytes
 body_head (association_body line) = line
 body_head (schedule_body lines) = to_be_bytes w32 (length lines)
 
--- the bytes of an op with its body. For a schedule's body, only the count of its lines
+-- the bytes of an op, followed by its body. For a schedule, only the number of its lines follows
 abbrev pub op_head : Op → List ℕ
 op_head deleted = 0 ∷ []
 op_head lapsed = 2 ∷ []
@@ -22,12 +22,12 @@ op_head (put_with body) = 1 ∷ body_head body
 abbrev pub entry_head : Key × Entry → List ℕ
 entry_head entry = key_tag entry.0 ∷ key_bytes entry.0 ++ stamp_bytes entry.1.stamp ++ op_head entry.1.op
 
--- the lines of a schedule's body. None for any other body
+-- the lines of a schedule's body; none for any other body
 abbrev pub lines_in : Body → List (List ℕ)
 lines_in (schedule_body lines) = lines
 lines_in _ = []
 
--- the lines of a schedule that an op puts. None for any other op
+-- the lines of the schedule that an op puts; none for any other op
 abbrev pub op_lines : Op → List (List ℕ)
 op_lines deleted = []
 op_lines lapsed = []

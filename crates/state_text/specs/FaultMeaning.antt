@@ -45,7 +45,8 @@ TakesMemory (before_item horizon count ledger) bytes = ⊤
 TakesMemory (in_entry count state part) bytes = PartTakesMemory part bytes
 TakesMemory _ bytes = ⊥
 
--- says that memory ran out for this part, which needs memory and isn't bad
+-- says that reading this part needs memory and that no cause makes the part bad. Only then may the
+-- reader report that memory ran out
 pub record IsWantingHere (format : Format) (before : Before) (bytes : List ℕ) : Type 0 where
   pub takes : TakesMemory before bytes
   pub not_bad : (cause : model.StateCause) → ¬ IsBadPart format before bytes cause

@@ -5,8 +5,8 @@ use Rattle.docker_model.specs.state.StatePart.{EntryPart, in_entry, part_text, I
 use Rattle.state_text.specs.declared.stage.Stage.{Stage}
 use Rattle.state_text.specs.Stage.{stage_meant, IsFresh}
 
--- says that these bytes are the first parts of an entry, that these parts are good, and that the
--- stage after them, which is inside the entry, is this stage
+-- says that these bytes are the first parts of an entry, that these parts are good, and that this
+-- is the stage after them. The stage is inside the entry
 pub record IsHead (count : ℕ) (state : State) (bytes : List ℕ) (stage : Stage) : Type 0 where
   pub part : EntryPart
   pub is : stage_meant stage state [] ≡ in_entry count state part

@@ -33,25 +33,26 @@ pub record MayFollow (ledger : List stamps.LedgerItem) (item : stamps.LedgerItem
   pub above : IsAboveItems ledger item
   pub keeps_floor : ¬ RaisesFloor ledger item
 
--- says that this ledger item is bad for this cause. `None` means out of memory, which is never such
--- a cause
+-- says that this ledger item is bad for this cause. `None` means that memory ran out, which never
+-- makes an item bad
 abbrev pub IsItemCause : List stamps.LedgerItem → stamps.LedgerItem → Option fault.StateCause → Type 0
 IsItemCause ledger item None = ⊥
 IsItemCause ledger item (Some cause) = IsBadItem ledger item cause
 
 -- says what the result of judging a ledger item means. `Ok` gives the item, which may come next.
--- `Err` gives the cause why the item may not come next
+-- `Err` gives the cause for which the item may not come next
 abbrev pub IsJudgedItem : List stamps.LedgerItem → stamps.LedgerItem → Result LedgerItem StateCause → Type 0
 IsJudgedItem ledger item (Ok told) = (item_meant told ≡ item) × MayFollow ledger item
 IsJudgedItem ledger item (Err cause) = IsItemCause ledger item (cause_meant cause)
 
--- says that this key is bad for this cause. `None` means out of memory, which is never such a cause
+-- says that this key is bad for this cause. `None` means that memory ran out, which never makes a
+-- key bad
 abbrev pub IsKeyCause : State → model.Key → Option fault.StateCause → Type 0
 IsKeyCause state key None = ⊥
 IsKeyCause state key (Some cause) = IsBadKey state key cause
 
 -- says what the result of judging a key means. `Ok` gives the key, which may come next. `Err` gives
--- the cause why the key may not come next
+-- the cause for which the key may not come next
 abbrev pub IsJudgedKey : State → model.Key → Result Key StateCause → Type 0
 IsJudgedKey state key (Ok told) = (key_meant told ≡ key) × IsGoodKey key × IsAboveEntries state key
 IsJudgedKey state key (Err cause) = IsKeyCause state key (cause_meant cause)
@@ -66,8 +67,8 @@ pub record IsOfKey (horizon : ℕ) (key : model.ScheduleKey) (line : List ℕ) :
   pub key_is : schedule_named line ≡ schedule_key key
   pub stays : horizon ≤ readable_end (columns 16 21 line)
 
--- says that the line may begin a schedule with this key: it is a basic schedule with good fields,
--- the transaction `N` and this key. It doesn't end before the horizon
+-- says that the line may begin a schedule with this key. The line is a basic schedule with good
+-- fields, the transaction `N` and this key, and it doesn't end before the horizon
 pub record IsFirstOf (horizon : ℕ) (key : model.ScheduleKey) (line : List ℕ) : Type 0 where
   pub kind : HasKind basic_schedule line
   pub fields : HasGoodFields line

@@ -1,4 +1,4 @@
--- Why a line can't follow the other lines of a schedule in a state's text.
+-- Defines the causes for which a line can't follow the other lines of a schedule in a state's text.
 use Rattle.std.specs.Prelude.{◌≡◌, ℕ, List, [], ◌∷◌, ◌++◌, length, Option, Some, None}
 use Rattle.docker_model.specs.file.Change as model
 use Rattle.docker_model.specs.file.File.{IsSchedule, BeginsSchedule}
@@ -12,9 +12,9 @@ pub record BeginUpTo (count : ℕ) (lines : List (List ℕ)) : Type 0 where
   pub begin : BeginsSchedule lines
   pub complete : length lines ≡ count → IsSchedule lines
 
--- says why a line that comes after these lines is refused. For `bad_body`, the lines and this one
--- aren't the first lines of any schedule of `count` lines. For `None`, they are, but memory ran out
--- for the line
+-- says why a line that comes after these lines is refused. For `bad_body`, no schedule of `count`
+-- lines begins with the lines followed by this line. For `None`, a schedule begins so, but memory
+-- ran out for the line
 abbrev pub IsLineRefusal : ℕ → List (List ℕ) → List ℕ → Option StateCause → Type 0
 IsLineRefusal count lines line None = BeginUpTo count (lines ++ line ∷ [])
 IsLineRefusal count lines line (Some bad_body) = ¬ BeginUpTo count (lines ++ line ∷ [])
@@ -30,8 +30,8 @@ abbrev pub AreLinesUpToIn : State → model.ScheduleKey → ℕ → List (List �
 AreLinesUpToIn state key n lines = AreLinesUpTo key n lines × HaveNotToLapse state lines
 
 -- says why a line is refused as one of the `n` lines of a schedule with this key. For `bad_body`,
--- the lines and this one aren't the first lines of such a schedule. For `None`, they are, but
--- memory ran out for the line
+-- the earlier lines with this line don't begin a schedule of `n` lines with this key. For `None`,
+-- they do, but memory ran out for the line
 abbrev pub IsUpToRefusal : State → model.ScheduleKey → ℕ → List (List ℕ) → List ℕ → Option StateCause → Type 0
 IsUpToRefusal state key n lines line None = AreLinesUpToIn state key n (lines ++ line ∷ [])
 IsUpToRefusal state key n lines line (Some bad_body) = ¬ AreLinesUpToIn state key n (lines ++ line ∷ [])

@@ -1,4 +1,4 @@
--- What a state has received from another state's text.
+-- Defines what a state has received from another state's text.
 use Rattle.std.specs.Prelude.{◌≡◌, List, ◌++◌, [], length, map, Option, Some, None}
 use Rattle.std.specs.Option.{option_map}
 use Rattle.docker_model.specs.file.Change as model

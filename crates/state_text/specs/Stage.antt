@@ -42,7 +42,8 @@ assoc_meant key = record {
 }
 
 -- converts a stage to a point in the text, with the values of the parts before that point. Besides
--- the stage it needs the parts that were read, and the lines of a schedule that isn't complete
+-- the stage, the conversion needs the parts that were read, and the lines of a schedule that isn't
+-- complete
 abbrev pub stage_meant : Stage → State → List (List ℕ) → Before
 stage_meant stage.Mark state lines = before_mark
 stage_meant stage.Horizon state lines = before_horizon

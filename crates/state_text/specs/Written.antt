@@ -1,4 +1,4 @@
--- What a sink has taken when bytes are written through a buffer.
+-- Defines what a sink has taken when bytes are written through a buffer.
 use Rattle.std.specs.Prelude.{◌≡◌, ℕ, ◌+◌, List, ◌++◌, length, Option, Result, Ok, Err}
 use Rattle.std.specs.List.{flat_map}
 use Rattle.std.specs.Int.{w64, to_be_bytes}
@@ -23,8 +23,8 @@ abbrev pub Gives : {S A E : Type 0} → (S → Option (List ℕ)) → (S → ℕ
 Gives taken failures old held piece (Ok done) new holds = Gathers (taken old) held piece (taken new) holds × (failures new ≡ failures old)
 Gives taken failures old held piece (Err failed) new holds = TakesPart (taken old) (held ++ piece) (taken new) × (failures new ≡ failures old + 1)
 
--- says what the result of writing bytes to a sink means. On success, the sink has taken all of
--- them. On failure, it has failed once, and has taken a proper prefix of them
+-- says what the result of writing bytes to a sink means. On success, the sink has taken all of the
+-- bytes. On failure, the sink has failed once and has taken a proper prefix of the bytes
 abbrev pub Flushes : {S A E : Type 0} → (S → Option (List ℕ)) → (S → ℕ) → S → List ℕ → Result A E → S → Type 0
 Flushes taken failures old bytes (Ok done) new = Takes (taken old) bytes (taken new) × (failures new ≡ failures old)
 Flushes taken failures old bytes (Err failed) new = TakesPart (taken old) bytes (taken new) × (failures new ≡ failures old + 1)

@@ -22,7 +22,7 @@ const ASSOC_END_AT: usize = 21;
 /// The index of the end date in a basic schedule.
 const SCHEDULE_END_AT: usize = 15;
 
-/// Reads the body of a TIPLOC. `None` if a byte isn't printable.
+/// Reads the body of a TIPLOC. Returns `None` if a byte isn't printable.
 pub(crate) fn tiploc_body(bytes: &[u8]) -> Option<Body>
     requires { length bytes.now ≡ TIPLOC_BODY }
     ensures { MatchOption result (¬ IsTextOfLength TIPLOC_BODY bytes.now)
@@ -34,8 +34,8 @@ pub(crate) fn tiploc_body(bytes: &[u8]) -> Option<Body>
     Some(Body::Tiploc(*field(bytes, 0)))
 }
 
-/// Reads the body of the association with this key. `None` if the bytes aren't a body of this
-/// association, or if the association ends before the horizon.
+/// Reads the body of the association with this key. Returns `None` if the bytes aren't a body of
+/// this association, or if the association ends before the horizon.
 pub(crate) fn assoc_body(key: &AssocKey, horizon: u16, bytes: &[u8]) -> Option<Body>
     ensures { MatchOption result (¬ IsAssociationUnder horizon (assoc_meant key.now) bytes.now)
         (λ body. (body_meant body ≡ association_body bytes.now)
@@ -127,7 +127,7 @@ pub(crate) fn is_first_of(key: &ScheduleKey, horizon: u16, line: &Line) -> bool
     stays(line, SCHEDULE_END_AT, horizon)
 }
 
-/// Whether a line has the transaction `N` and this schedule key, with a first day that can be read.
+/// Whether a line has the transaction `N`, this schedule key, and a first day that can be read.
 fn is_new_schedule(key: &ScheduleKey, line: &Line) -> bool
     ensures { IsTrue result ↔ (HasNewTransaction line.now
         × IsTrue (is_date (columns 10 15 line.now))
@@ -145,7 +145,7 @@ fn is_new_schedule(key: &ScheduleKey, line: &Line) -> bool
     begins_on(line, &key.runs_from)
 }
 
-/// Whether the line's first day is this day. False if the date can't be read.
+/// Whether the line's first day is this day. Returns false if the date can't be read.
 fn begins_on(line: &Line, day: &Day) -> bool
     ensures { IsTrue result ↔ (IsTrue (is_date (columns 10 15 line.now))
         × (date_number (columns 10 15 line.now) ≡ day.now)) }

@@ -1,4 +1,4 @@
-//! Why bytes aren't the text of a state.
+//! Causes: the reasons why bytes aren't the text of a state.
 ghost use Rattle.std.specs.Prelude.{◌≡◌, ◌≤◌, Some, length};
 ghost use Rattle.state_text.specs.CauseText.{cause_text};
 

@@ -80,8 +80,7 @@ fn add_schedule_key(buffer: &mut Buffer, key: &ScheduleKey)
     put(buffer, &[key.stp.letter()]);
 }
 
-/// Appends a key's tag and the key. The buffer needs room for an association's key, which is the
-/// longest.
+/// Appends a key's tag and the key. The buffer needs room for the longest key, an association's.
 fn add_key(buffer: &mut Buffer, key: &Key)
     requires { array_vec_len buffer.old + (TAG + ASSOC_KEY) ≤ ROOM }
     ensures items { buffer.new.items ≡ buffer.old.items ++ key_text (key_meant key.now) }
@@ -98,7 +97,7 @@ fn add_key(buffer: &mut Buffer, key: &Key)
 }
 
 /// Appends an op and its body. For a schedule's body it appends only the number of lines. The
-/// buffer needs room for an association's op, which is the longest.
+/// buffer needs room for the longest op, an association's.
 fn add_op(buffer: &mut Buffer, op: &Op)
     requires room { array_vec_len buffer.old + (OP + LINE) ≤ ROOM }
     requires few { length (op_lines (op_meant op.now)) < 2 ^ 32 }
@@ -129,7 +128,7 @@ pub(crate) fn add_entry_head(buffer: &mut Buffer, row: &(Key, Entry))
     add_op(buffer, &row.1.op);
 }
 
-/// The lines of a schedule that an op puts. Any other op has none.
+/// The lines of the schedule that an op puts, or no lines for any other op.
 pub(crate) fn lines_of(op: &Op) -> &[Line]
     ensures { result.now ≡ op_lines (op_meant op.now) }
 {

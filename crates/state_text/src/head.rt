@@ -25,8 +25,8 @@ use docker_join::Stamp;
 /// tag and the number of lines.
 const SCHEDULE_PUT: usize = SCHEDULE_KEY + STAMP + OP;
 
-/// Reads the key and the stamp of a put from its bytes between the tag and the body. `None` if a
-/// part is bad, or if the op isn't a put.
+/// Reads the key and the stamp of a put from its bytes between the tag and the body. Returns `None`
+/// if a part is bad, or if the op isn't a put.
 #[inline(always)]
 fn put_of<K: Keeper>(tag: Tag, parts: &PartsSoFar<K>, bytes: &[u8]) -> Option<(Key, Stamp)>
     requires valid { IsValid parts.now }
@@ -105,8 +105,8 @@ fn schedule_head<K: Keeper>(
 
 /// Reads the head of a put at the start of the bytes: its tag, key, stamp and op, and for a
 /// schedule also the number of its lines. Returns the stage after the head and the head's length in
-/// bytes. `count` is the number of all entries in the text. `None` if the bytes end before the head
-/// does, if a part of the head is bad, or if the op isn't a put.
+/// bytes. `count` is the number of all entries in the text. Returns `None` if the bytes end before
+/// the head does, if a part of the head is bad, or if the op isn't a put.
 pub fn put_head<K: Keeper>(
     count: u64,
     parts: &PartsSoFar<K>,

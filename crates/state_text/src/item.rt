@@ -15,7 +15,7 @@ use docker_state::LedgerItem;
 /// The number of minutes in a day.
 const MINUTES: u16 = 1440;
 
-/// Reads a ledger item. `None` if no file's header can give this item.
+/// Reads a ledger item. Returns `None` if no file's header can give this item.
 fn item_in(bytes: &[u8]) -> Option<LedgerItem>
     requires { length bytes.now ≡ ITEM }
     ensures { MatchOption result (¬ IsGoodItem (item_in bytes.now))
@@ -44,7 +44,7 @@ fn item_in(bytes: &[u8]) -> Option<LedgerItem>
     })
 }
 
-/// Whether an item is above the ledger's last item. True if the ledger is empty.
+/// Whether an item is above the ledger's last item. Returns true if the ledger is empty.
 fn is_above(ledger: &[LedgerItem], item: &LedgerItem) -> bool
     requires { IsLedger (map item_meant ledger.now) }
     ensures { IsTrue result ↔ IsAboveItems (map item_meant ledger.now) (item_meant item.now) }

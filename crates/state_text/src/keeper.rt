@@ -46,7 +46,7 @@ pub trait Keeper: Drop + Sized {
     fn len(&self) -> u64
         ensures { result ≡ length (given self.now).entries };
 
-    /// The key of the last entry that was given. `None` if none was given.
+    /// The key of the last entry that was given. Returns `None` if none was given.
     fn last(&self) -> Option<&Key>
         ensures { option_map key_meant (option_copied result)
             ≡ last_key (given self.now).entries };

@@ -19,7 +19,7 @@ use crate::stage::Tag;
 use cif_file::{AssocKey, Key, ScheduleKey};
 use cif_line::{Day, Stp, Tiploc, Uid, is_printable};
 
-/// Reads the key of a TIPLOC. `None` if no record can have this key.
+/// Reads the key of a TIPLOC. Returns `None` if no record can have this key.
 fn tiploc_key(bytes: &[u8]) -> Option<Key>
     requires { length bytes.now ≡ TIPLOC_KEY }
     ensures { MatchOption result (¬ IsGoodKey (key_in 1 bytes.now))
@@ -29,7 +29,7 @@ fn tiploc_key(bytes: &[u8]) -> Option<Key>
     Some(Key::Tiploc(code))
 }
 
-/// Reads the key of an association. `None` if no record can have this key.
+/// Reads the key of an association. Returns `None` if no record can have this key.
 fn assoc_key(bytes: &[u8]) -> Option<Key>
     requires { length bytes.now ≡ ASSOC_KEY }
     ensures { MatchOption result (¬ IsGoodKey (key_in 2 bytes.now))
@@ -54,7 +54,7 @@ fn assoc_key(bytes: &[u8]) -> Option<Key>
     }))
 }
 
-/// Reads the key of a schedule. `None` if no record can have this key.
+/// Reads the key of a schedule. Returns `None` if no record can have this key.
 fn schedule_key(bytes: &[u8]) -> Option<Key>
     requires { length bytes.now ≡ SCHEDULE_KEY }
     ensures { MatchOption result (¬ IsGoodKey (key_in 3 bytes.now))
@@ -70,7 +70,7 @@ fn schedule_key(bytes: &[u8]) -> Option<Key>
     }))
 }
 
-/// Reads a key of the kind that the tag gives. `None` if no record can have this key.
+/// Reads a key of the kind that the tag gives. Returns `None` if no record can have this key.
 fn key_in(tag: Tag, bytes: &[u8]) -> Option<Key>
     requires { length bytes.now ≡ key_width (tag_meant tag) }
     ensures { MatchOption result (¬ IsGoodKey (key_in (tag_meant tag) bytes.now))

@@ -52,7 +52,7 @@ impl<K: Keeper> PartsSoFar<K> {
         self.horizon = Some(day);
     }
 
-    /// The day number of the horizon. 0 if no horizon was read.
+    /// The day number of the horizon. Returns 0 if no horizon was read.
     pub(crate) fn horizon(&self) -> u16
         ensures { result ≡ self.now.horizon }
     {
@@ -96,7 +96,7 @@ impl<K: Keeper> PartsSoFar<K> {
         self.keeper.len()
     }
 
-    /// The key of the last entry that was read. `None` if none was read.
+    /// The key of the last entry that was read. Returns `None` if none was read.
     pub(crate) fn last(&self) -> Option<&Key>
         ensures { option_map key_meant (option_copied result) ≡ last_key self.now.entries }
     {

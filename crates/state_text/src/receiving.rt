@@ -1,5 +1,5 @@
-//! What a state has received from another state's text. Only the entries that the state will take
-//! over are staged.
+//! Receives the parts of another state's text. Only the entries that the state will take over are
+//! staged.
 ghost use Rattle.std.specs.Prelude.{◌≡◌, ◌+◌, ◌-◌, ◌^◌, ◌<◌, ℕ, [], ◌∷◌, ◌++◌, length, map, IsOk, IsErr, IsSome, None};
 ghost use Rattle.std.specs.Option.{option_copied, option_map};
 ghost use Rattle.docker_model.specs.state.State.{IsLedger, IsOpOf, IsValid, IsJoin};
@@ -35,8 +35,9 @@ impl Receiver for Brand {
 }
 
 /// A state that receives another state's text. Before the first entry, `items` contains the ledger
-/// items received. The first entry begins the staging, which then contains them. `last` is the last
-/// key and `count` the number of all entries given, whether staged or not.
+/// items received. The first entry begins the staging, and from then on the staging contains the
+/// ledger items. `last` is the key of the last entry given, and `count` is the number of all
+/// entries given, whether staged or not.
 #[derive(Drop)]
 pub(crate) struct Receiving<R> {
     alloc: Global,
@@ -162,7 +163,7 @@ impl<R: Receiver> Receiving<R> {
         self.count
     }
 
-    /// The key of the last entry that was given. `None` if none was given.
+    /// The key of the last entry that was given. Returns `None` if none was given.
     pub(crate) fn last(&self) -> Option<&Key>
         requires { IsReceiving R.own self.now }
         ensures { option_map key_meant (option_copied result)

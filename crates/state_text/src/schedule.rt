@@ -125,7 +125,7 @@ impl Gathered {
     }
 
     /// Returns the lines in memory of just their size. They are copied only if the buffer's memory
-    /// is larger than that.
+    /// is larger than the lines need.
     pub(crate) fn take_body(&mut self, alloc: Global) -> Result<Lines, AllocError>
         ensures { IfOk result (λ lines. lines ≡ self.old) }
     {
@@ -138,10 +138,10 @@ impl Gathered {
         Ok(Lines::of(body))
     }
 
-    /// Judges the next line of a schedule of `count` lines, and then adds the line. `Body` if no
-    /// schedule begins with the lines and this one; the lines are then unchanged. `Body` also if
-    /// this is the last line and the lines with it aren't a schedule; all lines are then dropped.
-    /// If memory runs out, all lines are dropped too.
+    /// Judges the next line of a schedule of `count` lines, and then adds the line. Returns `Body`
+    /// if no schedule begins with the lines and this one; the lines are then unchanged. `Body` also
+    /// if this is the last line and the lines with it aren't a schedule; all lines are then
+    /// dropped. If memory runs out, all lines are dropped too.
     fn take(&mut self, line: &Line, count: u32) -> Result<(), StateCause>
         requires { length self.old < count }
         ensures taken { IsOk result → self.new ≡ self.old ++ line.now ∷ [] }
@@ -165,8 +165,8 @@ impl Gathered {
         Ok(())
     }
 
-    /// Adds the next line of a schedule of `count` lines when the buffer is full. `Body` if the
-    /// bytes aren't a line, and for the reasons given at `take`.
+    /// Adds the next line of a schedule of `count` lines when the buffer is full. Returns `Body` if
+    /// the bytes aren't a line, and for the reasons given at `take`.
     #[cold]
     #[inline(never)]
     fn take_growing(&mut self, bytes: &[u8], count: u32) -> Result<(), StateCause>
@@ -228,8 +228,8 @@ fn may_follow<K: Keeper>(
 }
 
 /// Judges the next line of the schedule with this key and `count` lines, and then adds the line.
-/// `Body` if the line doesn't continue such a schedule, or if the schedule lapses under the horizon
-/// that was read. `Memory` if there is no memory for the line.
+/// Returns `Body` if the line doesn't continue such a schedule, or if the schedule lapses under the
+/// horizon that was read. Returns `Memory` if there is no memory for the line.
 pub fn judged_line<K: Keeper>(
     key: &ScheduleKey,
     parts: &PartsSoFar<K>,

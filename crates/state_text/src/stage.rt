@@ -69,7 +69,7 @@ pub enum Stage {
 }
 
 impl Stage {
-    /// The width of the next part in bytes. 0 if the text has ended.
+    /// The width of the next part in bytes. Returns 0 if the text has ended.
     pub fn width(&self) -> usize
         ensures value { (state : states.State) (lines : List (List ℕ)) →
             result ≡ width (stage_meant self.now state lines) }

@@ -19,7 +19,7 @@ const FIRST_NUMBER: u32 = 2;
 /// The greatest record number that a change can have.
 const LAST_NUMBER: u32 = 4_294_967_294;
 
-/// Reads a stamp. `None` if its day number is above 36524, the last day.
+/// Reads a stamp. Returns `None` if its day number is above 36524, the last day.
 fn stamp_in(bytes: &[u8]) -> Option<Stamp>
     requires { length bytes.now ≡ STAMP }
     ensures { MatchOption result (last_day < (stamp_in bytes.now).file.moment.day)
@@ -49,7 +49,7 @@ fn has_file(ledger: &[LedgerItem], file: &FileStamp) -> bool
     }
 }
 
-/// Reads a stamp. `None` if no change from a file in the ledger can have this stamp.
+/// Reads a stamp. Returns `None` if no change from a file in the ledger can have this stamp.
 pub(crate) fn judged_stamp(ledger: &[LedgerItem], bytes: &[u8]) -> Option<Stamp>
     requires wide { length bytes.now ≡ STAMP }
     requires ledger { IsLedger (map item_meant ledger.now) }

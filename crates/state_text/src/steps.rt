@@ -46,7 +46,7 @@ fn is_mark(format: Format, bytes: &[u8]) -> bool
     )
 }
 
-/// Reads the mark. `Mark` if the bytes aren't the mark of the format.
+/// Reads the mark. Returns `Mark` if the bytes aren't the mark of the format.
 fn after_mark(format: Format, bytes: &[u8]) -> Result<Stage, StateCause>
     ensures { (state : states.State) (lines : List (List ℕ)) → IsFresh Stage.Mark state →
         Judges (format_meant format) before_mark bytes.now state lines result }
@@ -60,7 +60,7 @@ fn after_mark(format: Format, bytes: &[u8]) -> Result<Stage, StateCause>
     }
 }
 
-/// Reads the horizon and sets it. `Horizon` if the bytes aren't a day number.
+/// Reads the horizon and sets it. Returns `Horizon` if the bytes aren't a day number.
 fn after_horizon<K: Keeper>(parts: &mut PartsSoFar<K>, bytes: &[u8]) -> Result<Stage, StateCause>
     ghost format: { formats.Format }
     requires fresh { IsFresh Stage.Horizon parts.old }
@@ -127,7 +127,7 @@ fn after_item<K: Keeper>(
     Ok(stage_in_ledger(count, parts))
 }
 
-/// Reads the tag of an entry. `Tag` if the byte isn't a tag.
+/// Reads the tag of an entry. Returns `Tag` if the byte isn't a tag.
 fn after_tag(count: u64, bytes: &[u8]) -> Result<Stage, StateCause>
     ghost format: { formats.Format }
     requires { length bytes.now ≡ TAG }
@@ -160,7 +160,8 @@ fn after_key<K: Keeper>(
     Ok(Stage::Stamp(count, key))
 }
 
-/// Reads the stamp of an entry. `Stamp` if no change from a file in the ledger can have it.
+/// Reads the stamp of an entry. Returns `Stamp` if no change from a file in the ledger can have
+/// this stamp.
 fn after_stamp<K: Keeper>(
     count: u64,
     key: Key,
@@ -202,7 +203,7 @@ fn give<K: Keeper>(
 }
 
 /// Reads the op of an entry. The op of a put is followed by a body. Any other op completes the
-/// entry. `Body` if the format has no such op.
+/// entry. Returns `Body` if the format has no such op.
 fn after_op<K: Keeper>(
     format: Format,
     count: u64,
@@ -227,7 +228,7 @@ fn after_op<K: Keeper>(
     }
 }
 
-/// Reads the body of a TIPLOC, which completes the entry. `Body` if a byte isn't printable.
+/// Reads the body of a TIPLOC, which completes the entry. Returns `Body` if a byte isn't printable.
 fn after_tiploc_body<K: Keeper>(
     count: u64,
     code: Tiploc,
@@ -250,8 +251,8 @@ fn after_tiploc_body<K: Keeper>(
     }
 }
 
-/// Reads the body of an association, which completes the entry. `Body` if the bytes aren't a body
-/// for the key, or if the association ends before the horizon.
+/// Reads the body of an association, which completes the entry. Returns `Body` if the bytes aren't
+/// a body for the key, or if the association ends before the horizon.
 fn after_assoc_body<K: Keeper>(
     count: u64,
     key: AssocKey,
@@ -273,8 +274,8 @@ fn after_assoc_body<K: Keeper>(
     }
 }
 
-/// Reads the number of a schedule's lines from four bytes. `None` if no schedule can have this many
-/// lines.
+/// Reads the number of a schedule's lines from four bytes. Returns `None` if no schedule can have
+/// this many lines.
 pub(crate) fn line_count(bytes: &[u8]) -> Option<u32>
     requires { length bytes.now ≡ LINE_COUNT }
     ensures { MatchOption result (¬ IsLineCount (from_be_bytes w32 bytes.now))
@@ -291,8 +292,8 @@ pub(crate) fn line_count(bytes: &[u8]) -> Option<u32>
     Some(count)
 }
 
-/// Reads the number of a schedule's lines, and drops the lines of the schedule before it. `Body` if
-/// no schedule can have this many lines.
+/// Reads the number of a schedule's lines, and drops the previous schedule's lines. Returns `Body`
+/// if no schedule can have this many lines.
 fn after_line_count(
     count: u64,
     key: ScheduleKey,
@@ -324,8 +325,8 @@ struct Schedule {
     count: u32,
 }
 
-/// Reads the last line of a schedule, which completes the entry. `Body` if the lines aren't a
-/// schedule with this key.
+/// Reads the last line of a schedule, which completes the entry. Returns `Body` if the lines aren't
+/// a schedule with this key.
 fn after_last_line<K: Keeper>(
     alloc: Global,
     count: u64,
@@ -349,7 +350,7 @@ fn after_last_line<K: Keeper>(
 }
 
 /// Reads the next part and returns the stage after it, or why it can't be read. A line must be the
-/// last line of its schedule: `judged_inner_line` reads the lines before the last one.
+/// last line of its schedule: `judged_inner_line` reads the lines before the last.
 pub fn step<K: Keeper>(
     alloc: Global,
     format: Format,

@@ -88,7 +88,7 @@ pub const LEAVES_AS_5E50: &[u8] = b"1200  D 5E50 C50001 P                    ASH
 /// C50001 passes Colwell at 12:10, now with another train identity.
 pub const PASSES_AS_5E51: &[u8] = b"1210  P 5E51 C50001 P                    ASHFELD BRAYTON";
 
-/// C50001 arrives at Brayton at 12:30, still with its other train identity.
+/// C50001 arrives at Brayton at 12:30, still with its new train identity.
 pub const COMES_AS_5E51: &[u8] = b"1230  A 5E51 C50001 P                    ASHFELD BRAYTON";
 
 /// The docker of Ashfeld with one line: C10001 leaves at 09:00.

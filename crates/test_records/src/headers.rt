@@ -40,7 +40,7 @@ pub const HD_7B: &[u8] =
 pub const HD_X: &[u8] =
     b"HDTPS.UDFROC1.PD2406090906242100DFROC1ADFROC1ZXA                                ";
 
-/// A note record (LN), an identity that the reader doesn't know.
+/// A note record (LN), whose identity the reader doesn't know.
 pub const LN: &[u8] =
     b"LN                                                                              ";
 
@@ -52,6 +52,6 @@ pub const ZZ: &[u8] =
 pub const HD_EARLY: &[u8] =
     b"HDTPS.UDFROC1.PD2406090101000307DFROC1ADFROC1ZUA                                ";
 
-/// A trailer that is a character too short.
+/// A trailer that is one character too short.
 pub const ZZ_SHORT: &[u8] =
     b"ZZ                                                                             ";

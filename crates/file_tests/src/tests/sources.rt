@@ -9,7 +9,8 @@ use std::alloc::Global;
 use std::process::Abort;
 use test_records::{HD, TI, text};
 
-/// A source that fails at the end of its bytes and at every later read. Contracts don't know its bytes.
+/// A source that fails at the end of its bytes and at every later read. Contracts don't know its
+/// bytes.
 #[derive(Drop)]
 struct Broken<'a> {
     bytes: &'a [u8],
@@ -126,7 +127,7 @@ fn endless_fails(
     same(rt, found, Some(ReadFault::File(fault)));
 }
 
-/// Like `endless_fails`, in pieces of several lengths.
+/// Like `endless_fails`, but reads the source in pieces of several lengths.
 fn check_endless(
     rt: &impl Abort,
     alloc: Global,

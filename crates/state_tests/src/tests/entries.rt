@@ -58,7 +58,8 @@ pub(super) fn entry(rt: &impl Abort, place: u8) -> Entry {
     Entry { stamp, op }
 }
 
-/// Asserts that one file stamp is below another, and that the join of the two is the higher one.
+/// Asserts that one file stamp is below another, and that the join of the two is the higher file
+/// stamp.
 fn file_is_below(rt: &impl Abort, alloc: Global, low: FileStamp, high: FileStamp) {
     same(rt, low < high, true);
     same(rt, low.pick(high), high);
@@ -95,7 +96,7 @@ fn stamps(rt: HostRuntime) {
     same(&rt, high.join(rt.alloc(), next), Ok(next));
 }
 
-/// Asserts that one entry is below another, and that the join of the two is the higher one.
+/// Asserts that one entry is below another, and that the join of the two is the higher entry.
 fn is_below(rt: &impl Abort, alloc: Global, low: u8, high: u8) {
     same(rt, entry(rt, low) < entry(rt, high), true);
     same(rt, entry(rt, low).pick(entry(rt, high)), entry(rt, high));

@@ -1,5 +1,5 @@
-//! Indexes of rows: which rows call or are linked at which places, which postings a lapse removes,
-//! and what the index of a join contains.
+//! Indexes of rows: which schedules call and which associations are linked at which places, which
+//! postings a lapse removes, and what the index of a join contains.
 
 use super::compare::same;
 use cif_file::{AssocKey, Body, Key, Lines, ScheduleKey};
@@ -160,7 +160,8 @@ fn postings_are(rt: &impl Abort, index: &Index, postings: &[Posting], wanted: &[
     }
 }
 
-/// Asserts which rows call where, and that the association is linked at Colwell.
+/// Asserts that an index has these calls, each given as a place and a row, and one link: row 0, the
+/// association, at Colwell.
 fn index_is(rt: &impl Abort, index: &Index, calls: &[(&str, u32)]) {
     postings_are(rt, index, index.calls.as_slice(), calls);
     postings_are(rt, index, index.links.as_slice(), &[("COLWELL", 0)]);

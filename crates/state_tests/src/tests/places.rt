@@ -96,7 +96,7 @@ const AT_COLWELL: &[&[u8]] = &[
     LT_DUNMERE_1100,
 ];
 
-/// What is found at Elm, where nothing calls.
+/// What is found at Elm, where no schedule calls.
 const AT_ELM: &[&[u8]] = &[
     b"of it C30002 23537",
     BS_C30002,

@@ -1,4 +1,4 @@
-//! Shows a state as lines of text, which the tests compare with the expected ones.
+//! Shows a state as lines of text, which the tests compare with the expected lines.
 
 use cif_file::{Body, Key};
 use cif_line::Line;
@@ -7,7 +7,7 @@ use docker_state::{LedgerItem, State};
 use std::alloc::Global;
 use std::process::Abort;
 
-/// Appends some bytes to a text.
+/// Appends bytes to a text.
 pub(super) fn add(rt: &impl Abort, text: &mut Vec<u8>, bytes: &[u8]) {
     text.extend_from_slice(bytes).expect(rt, "memory");
 }

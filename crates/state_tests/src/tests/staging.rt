@@ -96,8 +96,8 @@ fn receive_is(
     state_is(rt, alloc, own, lines);
 }
 
-/// Receives the state of a file twice. Asserts the result of the first time, and that the second
-/// time nothing is staged.
+/// Receives the state of a file twice. Asserts how many entries are staged the first time, that
+/// none is staged the second time, and how the state is shown after each time.
 fn received_is(
     rt: &impl Abort,
     alloc: Global,

@@ -1,4 +1,4 @@
--- What the reader remembers after a basic schedule: its stage and flags, and no times.
+-- After a basic schedule, the reader remembers the stage, the flags of the record, and no times.
 use Rattle.std.proofs.Common.{◌≡◌, refl, ap, sym, ◌∙◌, Bool, Some}
 use Rattle.std.specs.Prelude.{◌||◌, ◌==◌}
 use Rattle.docker_model.specs.records.Record.{column}

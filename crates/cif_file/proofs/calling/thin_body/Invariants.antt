@@ -1,5 +1,4 @@
--- The body contains the basic schedule, the origin and the terminus if they are among the lines
--- before this one. It contains no other line.
+-- The body contains the basic schedule, the origin and the terminus if they are among the lines before the current one. It contains no other line.
 use Rattle.std.proofs.Common.{◌≡◌, ◌++◌}
 use Rattle.std.specs.Prelude.{filter, take}
 use Rattle.docker_model.specs.records.Record.{kind_of}

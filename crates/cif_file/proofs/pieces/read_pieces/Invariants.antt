@@ -1,4 +1,4 @@
--- The parser has read all pieces before this one.
+-- The parser has read all pieces before the current one.
 use Rattle.std.proofs.Common.{map, take}
 use Rattle.std.specs.List.{concat}
 use Rattle.cif_file.specs.ParserRead.{HasRead}

@@ -1,4 +1,4 @@
--- The text has all records before this one.
+-- The text has all records before the current one.
 use Rattle.std.proofs.Common.{◌≡◌, ◌++◌, take}
 use Rattle.std.specs.List.{flat_map}
 use Rattle.test_records.proofs.texts.text.Given as goal

@@ -1,4 +1,4 @@
--- The three times of a line are counted one after the other.
+-- The midnights passed at a line's three times are counted in turn.
 use Rattle.std.proofs.Common.{◌+◌, ◌∙◌}
 use Rattle.cif_laws.specs.TimesSoFar.{falls_after, later_or}
 use Rattle.cif_change.specs.JourneyRead.{time_list}

@@ -1,5 +1,5 @@
--- After some lines of a schedule, either the schedule continues or a record begins another unit.
--- The latter is possible only if the lines are a whole schedule.
+-- After the first lines of a schedule, either the schedule continues or the next record begins another unit. The next record can begin another unit only if the
+-- lines are a whole schedule.
 use Rattle.std.proofs.lemmas.Result.{err_from_is_err_and}
 use Rattle.std.proofs.Common.{◌∙◌, ap, sym, subst, refl}
 use Rattle.std.proofs.lemmas.Bool.{false≢true}

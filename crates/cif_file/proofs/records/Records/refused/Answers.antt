@@ -1,4 +1,4 @@
--- The limit is the first cause, the trailer the second, and the line's own cause the last.
+-- A line beyond the limit is refused for the limit, a line after the trailer for the trailer, and any other line because it isn't a record.
 use Rattle.std.proofs.Common.{◌≡◌, ap, subst, refl, true, false}
 use Rattle.std.specs.Prelude.{◌↔◌}
 use Rattle.docker_model.specs.file.File.{IsFile}

@@ -1,4 +1,4 @@
--- The line's own cause is its length.
+-- The line isn't a record because of its length.
 use Rattle.cif_file.proofs.ParserLemmas.{refused_long}
 use Rattle.cif_file.proofs.records.Records.too_long.Goals as goal
 

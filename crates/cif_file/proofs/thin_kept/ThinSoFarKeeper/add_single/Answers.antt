@@ -1,4 +1,4 @@
--- Each of the record's changes was kept or dropped as it should be.
+-- Each of the record's changes was kept if the docker may need it, and dropped otherwise.
 use Rattle.std.proofs.Common.{subst, ◌++◌, ◌∙◌}
 use Rattle.cif_file.specs.ThinKept.{HasThinned}
 use Rattle.cif_file.proofs.FrontLemmas.{on_ok_one}

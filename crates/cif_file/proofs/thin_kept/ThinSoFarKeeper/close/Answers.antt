@@ -1,4 +1,4 @@
--- The schedule's change was kept or dropped as it should be, and no lines remain.
+-- The schedule's change was kept if the docker may need it, and dropped otherwise. No lines remain.
 use Rattle.std.proofs.Common.{◌∙◌, ◌++◌, ◌∷◌, []}
 use Rattle.cif_file.specs.KeeperRead.{change_renewed}
 use Rattle.cif_file.proofs.thin_kept.ThinSoFarKeeper.close.Goals as goal

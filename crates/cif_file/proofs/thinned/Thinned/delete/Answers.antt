@@ -1,4 +1,4 @@
--- If no change of the key was kept, the deletion is dropped. Otherwise it is kept.
+-- If no change to the key was kept, the deletion is dropped. Otherwise the deletion is kept.
 use Rattle.std.proofs.Common.{refl, sym, ◌∙◌}
 use Rattle.cif_file.proofs.FrontLemmas.{on_ok_one}
 use Rattle.cif_file.proofs.ThinLemmas.{deletion_dropped, deletion_kept}
