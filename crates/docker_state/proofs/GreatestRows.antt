@@ -30,7 +30,8 @@ pub not_under : (a b : Key × Entry) → is_lt (by_entry b a) ≡ false → IsAt
 not_under a b h above = let turned : by_entry b a ≡ Less = by_entry_total.antisymm b a ∙ ap ordering_reverse above in
     let bad : true ≡ false = sym (ap is_lt turned) ∙ h in cc
 
--- Says that one of the last rows has the key of this row.
+-- Says that `last_rows rows` has a row with the key of `w`. `last_rows` keeps only the last row
+-- of each key.
 abbrev LastOf : List (Key × Entry) → Key × Entry → Type 0
 LastOf rows w = (m : Key × Entry) × Contains (last_rows rows) m × (row_cmp w m ≡ Equal)
 

@@ -3,13 +3,13 @@
 use crate::compare::{same, same_in, same_of};
 use crate::files::*;
 use crate::offices::text_of;
+use crate::records::{HD, SHORT, ZZ};
 use crate::state_texts::*;
 use cif_line::{Bytes, Kept};
 use docker_cmd::{Fault, OfficeFault, emit, fault_text, job, job_line, prepare, status};
 use std::alloc::Global;
 use std::process::Abort;
 use test_records::printed::ASHFELD_0900;
-use test_records::{HD, ZZ, ZZ_SHORT};
 
 /// Runs the command with these words over sources with these two texts, and returns what it writes.
 pub(crate) fn written(
@@ -79,7 +79,7 @@ const OF_STATES: &[(&[&str], Parts, Parts, Parts)] = &[
         &["print", "S", "ASHFELD", "2024-06-10"],
         MORNING_STATE,
         &[],
-        &[ASHFELD_0900.as_bytes()],
+        &[ASHFELD_0900],
     ),
     (
         &["files", "S"],
@@ -172,7 +172,7 @@ fn is_refused(
 #[test]
 fn commands_that_are_refused(rt: HostRuntime) {
     let alloc = rt.alloc();
-    let short = text_of(&rt, alloc, &[HD, ZZ_SHORT, ZZ]);
+    let short = text_of(&rt, alloc, &[HD, SHORT, ZZ]);
     is_refused(
         &rt,
         alloc,

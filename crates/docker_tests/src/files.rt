@@ -1,9 +1,9 @@
 //! The files of the worked examples, each as its records.
 
-use test_records::*;
+use crate::records::*;
 
 /// The records of a file, in order.
-pub(crate) type File = &'static [&'static [u8]];
+pub(crate) type File = &'static [&'static str];
 
 /// A train that is put, and then revised to run on Friday 14 June only. So the docker of 10 June
 /// can't list the train.
@@ -202,7 +202,7 @@ pub(crate) const DELETED_AT_NO_TIME: File = &[HD, BS_DELETED, LO_2400, LT, ZZ];
 pub(crate) const EARLY: File = &[HD_EARLY, ZZ];
 
 /// A train that runs on Wednesdays, by a schedule without a last day.
-pub(crate) const NO_END: File = &[HD, BS_WEDNESDAYS, LO, LT, ZZ];
+pub(crate) const NO_END: File = &[HD, BS_NO_END, LO, LT, ZZ];
 
 /// An amendment of a timing point that leaves its code unchanged.
 pub(crate) const AMENDED: File = &[HD, TA_SAME, ZZ];

@@ -31,6 +31,8 @@ mod printed_faults;
 #[cfg(test)]
 mod random_runs;
 #[cfg(test)]
+mod records;
+#[cfg(test)]
 mod refused_files;
 #[cfg(test)]
 mod refused_states;

@@ -12,10 +12,10 @@ use std::process::Abort;
 const ROOM: usize = 1000;
 
 /// Returns these lines as one text, each with a line feed.
-pub(crate) fn text_of(rt: &impl Abort, alloc: Global, lines: &[&[u8]]) -> Vec<u8> {
+pub(crate) fn text_of(rt: &impl Abort, alloc: Global, lines: &[&str]) -> Vec<u8> {
     let mut text = Vec::new(alloc);
     for line in lines {
-        text.extend_from_slice(line).expect(rt, "room");
+        text.extend_from_slice(line.as_bytes()).expect(rt, "room");
         text.push(b'\n').expect(rt, "room");
     }
     text

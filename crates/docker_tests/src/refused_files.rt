@@ -3,13 +3,13 @@
 use crate::compare::same;
 use crate::files::*;
 use crate::offices::{has, office_of, text_of};
+use crate::records::*;
 use crate::state_texts::REVISION_STATE;
 use cif_file::{FileCause, FileFault};
 use cif_line::Bytes;
 use docker_office::{Office, OfficeFault};
 use std::alloc::Global;
 use std::process::Abort;
-use test_records::*;
 
 /// A row: a file that is refused, the most records that a file may have, the number of the record
 /// at fault, and the cause.
@@ -19,7 +19,7 @@ const REFUSED: &[Row] = &[
     (&[], 1000, 1, FileCause::NoEnd),
     (&[BS, LO, LT, ZZ], 1000, 1, FileCause::Place),
     (&[HD_X, ZZ], 1000, 1, FileCause::Field(47)),
-    (&[HD, ZZ_SHORT, ZZ], 1000, 2, FileCause::Length),
+    (&[HD, SHORT, ZZ], 1000, 2, FileCause::Length),
     (&[HD, TI_TAB, ZZ], 1000, 2, FileCause::Byte(20)),
     (&[HD, LN, ZZ], 1000, 2, FileCause::Kind),
     (&[HD, ZZ, LI_1010], 1000, 3, FileCause::After),

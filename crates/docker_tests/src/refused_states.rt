@@ -198,7 +198,7 @@ const OTHERS: &[Other] = &[
             FIRST,
             FROM_ASHFELD,
             TO_BRAYTON,
-            b"\0",
+            "\0",
         ],
         1000,
         309,
@@ -208,7 +208,7 @@ const OTHERS: &[Other] = &[
 ];
 
 /// Returns a text with this mark and these parts.
-fn marked(rt: &impl Abort, alloc: Global, mark: &[u8], parts: Parts) -> Vec<u8> {
+fn marked(rt: &impl Abort, alloc: Global, mark: &str, parts: Parts) -> Vec<u8> {
     let mut text = text_of_parts(rt, alloc, &[mark]);
     let rest = text_of_parts(rt, alloc, parts);
     text.extend_from_slice(rest.as_slice()).expect(rt, "room");

@@ -1,91 +1,91 @@
 //! The texts of states, worked out by hand part by part.
 
+use crate::records::*;
 use std::alloc::Global;
 use std::process::Abort;
-use test_records::*;
 
 /// The parts of a text, in order.
-pub(crate) type Parts = &'static [&'static [u8]];
+pub(crate) type Parts = &'static [&'static str];
 
 /// The mark of the new format, and no horizon.
-pub(crate) const MARK: &[u8] = b"DKS2\0\0";
+pub(crate) const MARK: &str = "DKS2\0\0";
 
 /// The mark of the new format, and the horizon of 15 June 2024.
-const MARK_15: &[u8] = b"DKS2\x5b\xf6";
+const MARK_15: &str = "DKS2\x5b\u{f6}";
 
 /// The mark of the older format.
-pub(crate) const OLD_MARK: &[u8] = b"DKS1";
+pub(crate) const OLD_MARK: &str = "DKS1";
 
 /// The number of items or entries of a text: zero, one or two.
-const NONE: &[u8] = b"\0\0\0\0\0\0\0\0";
+const NONE: &str = "\0\0\0\0\0\0\0\0";
 
-pub(crate) const ONE: &[u8] = b"\0\0\0\0\0\0\0\x01";
+pub(crate) const ONE: &str = "\0\0\0\0\0\0\0\x01";
 
-pub(crate) const TWO: &[u8] = b"\0\0\0\0\0\0\0\x02";
+pub(crate) const TWO: &str = "\0\0\0\0\0\0\0\x02";
 
 /// The ledger items of the update of 9 June, and of a full extract with the same date and time.
-pub(crate) const ITEM: &[u8] = b"\x5b\xf0\x04\xecDFROC1AUDFROC1Z";
+pub(crate) const ITEM: &str = "\x5b\u{f0}\x04\u{ec}DFROC1AUDFROC1Z";
 
-const ITEM_FULL: &[u8] = b"\x5b\xf0\x04\xecDFROC1AFDFROC1Z";
+const ITEM_FULL: &str = "\x5b\u{f0}\x04\u{ec}DFROC1AFDFROC1Z";
 
 /// The ledger items of other files. The name of each constant has the day in June and the last
 /// letter of the file's reference.
-const ITEM_10B: &[u8] = b"\x5b\xf1\x04\xecDFROC1BUDFROC1A";
+const ITEM_10B: &str = "\x5b\u{f1}\x04\u{ec}DFROC1BUDFROC1A";
 
-pub(crate) const ITEM_5A: &[u8] = b"\x5b\xec\x04\xecDFROC1AUDFROC1Z";
+pub(crate) const ITEM_5A: &str = "\x5b\u{ec}\x04\u{ec}DFROC1AUDFROC1Z";
 
-pub(crate) const ITEM_7B: &[u8] = b"\x5b\xee\x04\xecDFROC1BFDFROC1A";
+pub(crate) const ITEM_7B: &str = "\x5b\u{ee}\x04\u{ec}DFROC1BFDFROC1A";
 
-const ITEM_8A: &[u8] = b"\x5b\xef\x04\xecDFROC1AUDFROC1Z";
+const ITEM_8A: &str = "\x5b\u{ef}\x04\u{ec}DFROC1AUDFROC1Z";
 
-const ITEM_9B: &[u8] = b"\x5b\xf0\x04\xecDFROC1BUDFROC1A";
+const ITEM_9B: &str = "\x5b\u{f0}\x04\u{ec}DFROC1BUDFROC1A";
 
-const ITEM_9C: &[u8] = b"\x5b\xf0\x04\xecDFROC1CUDFROC1B";
+const ITEM_9C: &str = "\x5b\u{f0}\x04\u{ec}DFROC1CUDFROC1B";
 
 /// The entry of C10001 in the update of 9 June, without its op. `ENTRY` is for a schedule at record
 /// 2 of the file, and `ENTRY_FIFTH` for a schedule at record 5.
-pub(crate) const ENTRY: &[u8] = b"\x03C10001\x5b\xf1P\x5b\xf0\x04\xecDFROC1A\0\0\0\x02";
+pub(crate) const ENTRY: &str = "\x03C10001\x5b\u{f1}P\x5b\u{f0}\x04\u{ec}DFROC1A\0\0\0\x02";
 
-const ENTRY_FIFTH: &[u8] = b"\x03C10001\x5b\xf1P\x5b\xf0\x04\xecDFROC1A\0\0\0\x05";
+const ENTRY_FIFTH: &str = "\x03C10001\x5b\u{f1}P\x5b\u{f0}\x04\u{ec}DFROC1A\0\0\0\x05";
 
 /// The entries of C10001 in other files, without their ops.
-const ENTRY_10B: &[u8] = b"\x03C10001\x5b\xf1P\x5b\xf1\x04\xecDFROC1B\0\0\0\x02";
+const ENTRY_10B: &str = "\x03C10001\x5b\u{f1}P\x5b\u{f1}\x04\u{ec}DFROC1B\0\0\0\x02";
 
-const ENTRY_9B: &[u8] = b"\x03C10001\x5b\xf1P\x5b\xf0\x04\xecDFROC1B\0\0\0\x02";
+const ENTRY_9B: &str = "\x03C10001\x5b\u{f1}P\x5b\u{f0}\x04\u{ec}DFROC1B\0\0\0\x02";
 
-const ENTRY_9C: &[u8] = b"\x03C10001\x5b\xf1P\x5b\xf0\x04\xecDFROC1C\0\0\0\x02";
+const ENTRY_9C: &str = "\x03C10001\x5b\u{f1}P\x5b\u{f0}\x04\u{ec}DFROC1C\0\0\0\x02";
 
 /// The entries of C10001 and C10003 in the update of 5 June, without their ops.
-const ENTRY_5A: &[u8] = b"\x03C10001\x5b\xf1P\x5b\xec\x04\xecDFROC1A\0\0\0\x03";
+const ENTRY_5A: &str = "\x03C10001\x5b\u{f1}P\x5b\u{ec}\x04\u{ec}DFROC1A\0\0\0\x03";
 
-const C10003_5A: &[u8] = b"\x03C10003\x5b\xf1P\x5b\xec\x04\xecDFROC1A\0\0\0\x02";
+const C10003_5A: &str = "\x03C10003\x5b\u{f1}P\x5b\u{ec}\x04\u{ec}DFROC1A\0\0\0\x02";
 
 /// The entry of C10002 in the full extract, without its op.
-const ENTRY_7B: &[u8] = b"\x03C10002\x5b\xf1P\x5b\xee\x04\xecDFROC1B\0\0\0\x02";
+const ENTRY_7B: &str = "\x03C10002\x5b\u{f1}P\x5b\u{ee}\x04\u{ec}DFROC1B\0\0\0\x02";
 
 /// The entries of a timing point's old and new codes, without their ops.
-const ASHFELD_10B: &[u8] = b"\x01ASHFELD\x5b\xf1\x04\xecDFROC1B\0\0\0\x02";
+const ASHFELD_10B: &str = "\x01ASHFELD\x5b\u{f1}\x04\u{ec}DFROC1B\0\0\0\x02";
 
-const ASHFLDN_10B: &[u8] = b"\x01ASHFLDN\x5b\xf1\x04\xecDFROC1B\0\0\0\x02";
+const ASHFLDN_10B: &str = "\x01ASHFLDN\x5b\u{f1}\x04\u{ec}DFROC1B\0\0\0\x02";
 
 /// The bytes of ops: deleted, lapsed, put, and put with three lines.
-const GONE: &[u8] = b"\0";
+const GONE: &str = "\0";
 
-const PASSED: &[u8] = b"\x02";
+const PASSED: &str = "\x02";
 
-const PUT: &[u8] = b"\x01";
+const PUT: &str = "\x01";
 
-pub(crate) const THREE_LINES: &[u8] = b"\x01\0\0\0\x03";
+pub(crate) const THREE_LINES: &str = "\x01\0\0\0\x03";
 
 /// The body of a timing point: columns 10 to 72 of its record.
-const DESCRIBED: &[u8] = b"         ASHFIELD NEW                                          ";
+const DESCRIBED: &str = "         ASHFIELD NEW                                          ";
 
 /// The lines of a schedule: its basic schedule, its origin and its terminus.
-pub(crate) const FIRST: &[u8] = BS;
+pub(crate) const FIRST: &str = BS;
 
-pub(crate) const FROM_ASHFELD: &[u8] = LO;
+pub(crate) const FROM_ASHFELD: &str = LO;
 
-pub(crate) const TO_BRAYTON: &[u8] = LT;
+pub(crate) const TO_BRAYTON: &str = LT;
 
 /// These parts, followed by the entry of the morning train.
 macro_rules! train_after {
@@ -221,11 +221,20 @@ pub(crate) const LATER_STATE: Parts = &[
 /// The state that knows an update and a full extract with equal file stamps: 330 bytes.
 pub(crate) const BOTH_STATE: Parts = train_after!(MARK, TWO, ITEM_FULL, ITEM, ONE);
 
+/// Adds a part to a text, one byte per character.
+fn add_part(rt: &impl Abort, text: &mut Vec<u8>, part: &str) {
+    for character in part.chars() {
+        if let Ok(byte) = u8::try_from(u32::from(character)) {
+            text.push(byte).expect(rt, "room");
+        }
+    }
+}
+
 /// Returns the text of these parts.
-pub(crate) fn text_of_parts(rt: &impl Abort, alloc: Global, parts: &[&[u8]]) -> Vec<u8> {
+pub(crate) fn text_of_parts(rt: &impl Abort, alloc: Global, parts: &[&str]) -> Vec<u8> {
     let mut text = Vec::new(alloc);
     for part in parts {
-        text.extend_from_slice(part).expect(rt, "room");
+        add_part(rt, &mut text, part);
     }
     text
 }

@@ -47,11 +47,3 @@ pub const LN: &[u8] =
 /// The trailer.
 pub const ZZ: &[u8] =
     b"ZZ                                                                              ";
-
-/// The header of an update of 1 January 2000, 03:07.
-pub const HD_EARLY: &[u8] =
-    b"HDTPS.UDFROC1.PD2406090101000307DFROC1ADFROC1ZUA                                ";
-
-/// A trailer that is one character too short.
-pub const ZZ_SHORT: &[u8] =
-    b"ZZ                                                                             ";

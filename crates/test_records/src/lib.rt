@@ -10,115 +10,27 @@ mod schedules;
 mod texts;
 mod tiplocs;
 
-pub use associations::AA_BLANK;
-pub use associations::AA_DIVIDE;
-pub use associations::AA_ENDS_1960;
-pub use associations::AA_ENDS_2059;
-pub use associations::AA_JOIN;
-pub use associations::AA_LAST;
-pub use associations::AA_N;
-pub use associations::AA_NO_END;
-pub use associations::AA_NO_END_DIVIDE;
-pub use associations::AA_OTHER;
-pub use associations::AA_P;
-pub use associations::AA_S;
-pub use associations::AA_X;
-pub use headers::HD;
-pub use headers::HD_5A;
-pub use headers::HD_7B;
-pub use headers::HD_8A;
-pub use headers::HD_9B;
-pub use headers::HD_9C;
-pub use headers::HD_10B;
-pub use headers::HD_10B_0605;
-pub use headers::HD_EARLY;
-pub use headers::HD_FULL;
-pub use headers::HD_X;
-pub use headers::LN;
-pub use headers::ZZ;
-pub use headers::ZZ_SHORT;
-pub use locations::CR_5E51;
-pub use locations::LI_0000;
-pub use locations::LI_0005;
-pub use locations::LI_0010;
-pub use locations::LI_1010;
-pub use locations::LI_1040;
-pub use locations::LI_COLWELL_0005;
-pub use locations::LI_COLWELL_1210;
-pub use locations::LI_TIMELESS;
-pub use locations::LO;
-pub use locations::LO_0850;
-pub use locations::LO_0905;
-pub use locations::LO_0910;
-pub use locations::LO_0915;
-pub use locations::LO_0920;
-pub use locations::LO_0940;
-pub use locations::LO_1000;
-pub use locations::LO_1000_PLAIN;
-pub use locations::LO_1100;
-pub use locations::LO_1200;
-pub use locations::LO_2300;
-pub use locations::LO_2355;
-pub use locations::LO_2400;
-pub use locations::LO_COLWELL_0010;
-pub use locations::LO_COLWELL_1045;
-pub use locations::LO_HALF;
-pub use locations::LT;
-pub use locations::LT_0001;
-pub use locations::LT_0005;
-pub use locations::LT_0006;
-pub use locations::LT_0006_PLAIN;
-pub use locations::LT_0020;
-pub use locations::LT_0935;
-pub use locations::LT_1030;
-pub use locations::LT_1100_PLAIN;
-pub use locations::LT_1130;
-pub use locations::LT_1230;
-pub use locations::LT_ASHFELD_0005;
-pub use locations::LT_ASHFELD_0100;
-pub use locations::LT_ASHFELD_0900;
-pub use locations::LT_ASHFELD_0930;
-pub use locations::LT_COLWELL_2350;
-pub use locations::LT_DUNMERE_1100;
-pub use schedules::BS;
-pub use schedules::BS_C10002;
-pub use schedules::BS_C10002_WEEK;
-pub use schedules::BS_C10003;
-pub use schedules::BS_C10003_PLAIN;
-pub use schedules::BS_C30001;
-pub use schedules::BS_C30002;
-pub use schedules::BS_C30002_DELETED;
-pub use schedules::BS_C40001;
-pub use schedules::BS_C40001_CANCELLED;
-pub use schedules::BS_C40001_LAST;
-pub use schedules::BS_C40002;
-pub use schedules::BS_C40002_CANCELLED;
-pub use schedules::BS_C50001;
-pub use schedules::BS_CANCELLED;
-pub use schedules::BS_CANCELLED_DELETED;
-pub use schedules::BS_DELETED;
-pub use schedules::BS_DELETED_PLAIN;
-pub use schedules::BS_FRIDAY;
-pub use schedules::BS_JULY;
-pub use schedules::BS_LONGER;
-pub use schedules::BS_NEW;
-pub use schedules::BS_NIGHT;
-pub use schedules::BS_NO_DAY;
-pub use schedules::BS_NO_END;
-pub use schedules::BS_OVERLAY;
-pub use schedules::BS_OVERLAY_WEEKDAYS;
-pub use schedules::BS_REVISED;
-pub use schedules::BS_REVISED_SHORTER;
-pub use schedules::BS_SHORTER;
-pub use schedules::BS_SUNDAY;
-pub use schedules::BS_WEDNESDAYS;
-pub use schedules::BS_WEEK;
-pub use schedules::BS_WEEKEND;
+pub use associations::{
+    AA_BLANK, AA_DIVIDE, AA_ENDS_1960, AA_ENDS_2059, AA_JOIN, AA_LAST, AA_N, AA_NO_END,
+    AA_NO_END_DIVIDE, AA_OTHER, AA_P, AA_S, AA_X,
+};
+pub use headers::{
+    HD, HD_5A, HD_7B, HD_8A, HD_9B, HD_9C, HD_10B, HD_10B_0605, HD_FULL, HD_X, LN, ZZ,
+};
+pub use locations::{
+    CR_5E51, LI_0000, LI_0005, LI_0010, LI_1010, LI_1040, LI_COLWELL_1210, LI_TIMELESS, LO,
+    LO_0850, LO_0905, LO_0910, LO_0915, LO_0920, LO_0940, LO_1000, LO_1000_PLAIN, LO_1100, LO_1200,
+    LO_2300, LO_2355, LO_2400, LO_COLWELL_0010, LO_COLWELL_1045, LT, LT_0006_PLAIN, LT_0020,
+    LT_0935, LT_1030, LT_1100_PLAIN, LT_1130, LT_1230, LT_ASHFELD_0100, LT_COLWELL_2350,
+    LT_DUNMERE_1100,
+};
+pub use schedules::{
+    BS, BS_C10002, BS_C10002_WEEK, BS_C10003, BS_C10003_PLAIN, BS_C30001, BS_C30002,
+    BS_C30002_DELETED, BS_C40001, BS_C40001_CANCELLED, BS_C40001_LAST, BS_C40002,
+    BS_C40002_CANCELLED, BS_C50001, BS_CANCELLED, BS_CANCELLED_DELETED, BS_DELETED,
+    BS_DELETED_PLAIN, BS_JULY, BS_LONGER, BS_NEW, BS_NIGHT, BS_NO_DAY, BS_NO_END, BS_OVERLAY,
+    BS_OVERLAY_WEEKDAYS, BS_REVISED, BS_REVISED_SHORTER, BS_SHORTER, BS_SUNDAY, BS_WEDNESDAYS,
+    BS_WEEK, BS_WEEKEND,
+};
 pub use texts::text;
-pub use tiplocs::BODY_OF_TA;
-pub use tiplocs::BODY_OF_TI;
-pub use tiplocs::TA;
-pub use tiplocs::TA_SAME;
-pub use tiplocs::TI;
-pub use tiplocs::TI_BLANK;
-pub use tiplocs::TI_TAB;
+pub use tiplocs::{BODY_OF_TA, BODY_OF_TI, TA, TA_SAME, TI, TI_BLANK};

@@ -139,35 +139,3 @@ pub const LT_COLWELL_2350: &[u8] =
 /// A terminus: Dunmere, 11:00, without a public time or a path.
 pub const LT_DUNMERE_1100: &[u8] =
     b"LTDUNMERE 1100     1                                                            ";
-
-/// An origin: Ashfeld, half a minute past 09:00, without a public time or a platform.
-pub const LO_HALF: &[u8] =
-    b"LOASHFELD20900H0000                                                             ";
-
-/// A terminus: Brayton, 00:01.
-pub const LT_0001: &[u8] =
-    b"LTBRAYTON 0001 00022  FL                                                        ";
-
-/// A terminus: Brayton, 00:05.
-pub const LT_0005: &[u8] =
-    b"LTBRAYTON 0005 00062  FL                                                        ";
-
-/// A terminus: Brayton, 00:06.
-pub const LT_0006: &[u8] =
-    b"LTBRAYTON 0006 00072  FL                                                        ";
-
-/// A terminus: Ashfeld, 00:05, with a public time and a path.
-pub const LT_ASHFELD_0005: &[u8] =
-    b"LTASHFELD 0005 00062  FL                                                        ";
-
-/// A terminus: Ashfeld, 09:00, with a public time and a path.
-pub const LT_ASHFELD_0900: &[u8] =
-    b"LTASHFELD 0900 09002  FL                                                        ";
-
-/// A terminus: Ashfeld, 09:30, with a public time and a path.
-pub const LT_ASHFELD_0930: &[u8] =
-    b"LTASHFELD 0930 09322  FL                                                        ";
-
-/// A pass of Colwell at 00:05.
-pub const LI_COLWELL_0005: &[u8] =
-    b"LICOLWELL           0005                                                        ";

@@ -128,10 +128,6 @@ pub const BS_C40002_CANCELLED: &[u8] =
 pub const BS_C50001: &[u8] =
     b"BSNC500012406102406101000000 POO5E50                                           P";
 
-/// A revision of C10001's permanent schedule, which now runs on Friday 14 June only.
-pub const BS_FRIDAY: &[u8] =
-    b"BSRC100012406102406140000100 POO1A10                                           P";
-
 /// An overlay of C10001's permanent schedule, on the same days.
 pub const BS_OVERLAY_WEEKDAYS: &[u8] =
     b"BSNC100012406102406141111100 POO1A10                                           O";

@@ -23,7 +23,3 @@ pub const BODY_OF_TA: [u8; 63] =
 /// A TIPLOC amendment: Ashfeld keeps its code.
 pub const TA_SAME: &[u8] =
     b"TAASHFELD         ASHFIELD CENTRAL                                      ASHFELD ";
-
-/// A timing point with a tab in its description.
-pub const TI_TAB: &[u8] =
-    b"TIASHFELD         A\tHFIELD CENTRAL                                              ";

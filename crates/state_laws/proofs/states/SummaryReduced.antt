@@ -41,7 +41,8 @@ below_kept (Some floor) low high kept = by (at_most_or file_stamp_total floor lo
         (op_cmp low.op high.op)))
 
 module _ (files : List File) (floor : Option FileStamp) (key : Key) where
-  -- an entry of a file that counts is among all entries, and isn't below the floor
+  -- an entry left by a file that isn't older than the floor is among the entries of all files, and
+  -- its file stamp isn't below the floor
   pub entry_in : (entry : Entry) → IsEntryOf files floor key entry → Contains (entries_along files) (key, entry) × IsKept floor entry.stamp.file
   entry_in entry made =
       let pair : entry_of_change made.file made.change ≡ (key, entry) = (λ i. (made.key_is i, made.entry_is i)) in (
@@ -50,7 +51,8 @@ module _ (files : List File) (floor : Option FileStamp) (key : Key) where
         subst (λ (e : Entry). IsKept floor e.stamp.file) made.entry_is made.kept.kept,
       )
 
-  -- an entry that isn't below the floor is an entry of a file that counts
+  -- an entry of the files whose file stamp isn't below the floor was left by a file that isn't
+  -- older than the floor
   pub entry_out : (entry : Entry) → Contains (entries_along files) (key, entry) → IsKept floor entry.stamp.file → IsEntryOf files floor key entry
   entry_out entry among kept =
       let found = Contains-flat_map entries_of files (key, entry) among in
