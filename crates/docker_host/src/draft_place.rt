@@ -96,8 +96,8 @@ fn stands_under(rt: &HostRuntime, file: &File, name: &str) -> bool {
     held.dev() == there.dev() && held.ino() == there.ino()
 }
 
-/// Removes the file with the name of a draft, if a stopped command left it over. Leaves any other
-/// file.
+/// Removes the file with the name of a draft, if it was left by a command that was stopped. Any
+/// other file is unchanged.
 fn remove_left_over(rt: &HostRuntime, name: &str) {
     let Ok(there) = fs::symlink_metadata(rt, name) else {
         return;

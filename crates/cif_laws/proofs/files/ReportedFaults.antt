@@ -210,12 +210,13 @@ pub sure_lines_short : (text : List ℕ) → length (open_line text) ≤ 81 → 
 sure_lines_short text short =
     sure_lines_is text ∙ ap (λ b. length (complete_lines text) + cond b 1 0) (lt-leb 82 (length (open_line text)) (omega arith)) ∙ omega arith
 
--- if the incomplete line has more than 81 bytes, the number of certain lines is the number of
--- complete lines plus one
+-- if the incomplete line has more than 81 bytes, `sure_lines` is the number of complete lines plus
+-- one
 pub sure_lines_long : (text : List ℕ) → 82 ≤ length (open_line text) → sure_lines text ≡ length (complete_lines text) + 1
 sure_lines_long text long = sure_lines_is text ∙ ap (λ b. length (complete_lines text) + cond b 1 0) (le-leb 82 (length (open_line text)) long)
 
--- if the incomplete line has at most 81 bytes, the certain lines are the complete lines
+-- if the incomplete line has at most 81 bytes, the first `sure_lines` lines of the text are its
+-- complete lines
 pub take_told : (text : List ℕ) → length (open_line text) ≤ 81 → take (sure_lines text) (lines_of text) ≡ complete_lines text
 take_told text short =
     ap (λ lines. take (sure_lines text) lines) (lines_of_told text) ∙ take_at (complete_lines text) (line_left (open_line text)) (sure_lines text)
