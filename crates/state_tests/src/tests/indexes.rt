@@ -160,8 +160,8 @@ fn postings_are(rt: &impl Abort, index: &Index, postings: &[Posting], wanted: &[
     }
 }
 
-/// Asserts that an index has these calls, each given as a place and a row, and one link: row 0, the
-/// association, at Colwell.
+/// Asserts that an index has these calls, each given as a place and a row, and one link: the first
+/// row, the association, at Colwell.
 fn index_is(rt: &impl Abort, index: &Index, calls: &[(&str, u32)]) {
     postings_are(rt, index, index.calls.as_slice(), calls);
     postings_are(rt, index, index.links.as_slice(), &[("COLWELL", 0)]);
