@@ -20,7 +20,7 @@ feeds text = count_by (λ b. b == 10) text
 abbrev pub pieces_of : List ℕ → Lines
 pieces_of text = slice_split (λ b. b == 10) text
 
--- these pieces without the last piece
+-- the pieces without the last piece
 abbrev pub but_last : Lines → Lines
 but_last [] = []
 but_last (piece ∷ []) = []

@@ -20,8 +20,8 @@ HoldsInSchedule earlier line (bad_field at) = leftmost_bad_field line ≡ Some a
 HoldsInSchedule earlier line third_midnight = (midnights earlier ≤ 2) × (2 < midnights (earlier ++ line ∷ []))
 HoldsInSchedule earlier line _ = ⊥
 
--- this is the cause of a record that can't continue the schedule: with the record appended, the
--- records no longer begin a schedule. Of the causes that apply, this cause has the lowest rank
+-- `cause` is the cause of a record that can't continue the schedule: with the record appended, the
+-- records no longer begin a schedule. Of the causes that apply, `cause` has the lowest rank
 pub record IsScheduleFault (earlier : List (List ℕ)) (line : List ℕ) (cause : FileCause) : Type 0 where
   pub earlier_begin : BeginsSchedule earlier
   pub here : ¬ BeginsSchedule (earlier ++ line ∷ [])

@@ -116,7 +116,7 @@ changes_of_rename : changes rename
     ∷ record { number = 2; key = tiploc_key (codes "ASHFLDN"); act = put (tiploc_body (columns 10 72 rename_amend)) } ∷ []
 changes_of_rename = refl
 
--- an amendment whose new code equals the old code puts the key once
+-- a TIPLOC amendment whose new code equals the old code puts the key only once
 changes_of_same_code : changes (f2_header ∷ ta (codes "ASHFELD") (codes "ASHFIELD CENTRAL") (codes "ASHFELD") ∷ zz ∷ [])
     ≡ record {
       number = 2;
@@ -125,8 +125,8 @@ changes_of_same_code : changes (f2_header ∷ ta (codes "ASHFELD") (codes "ASHFI
     } ∷ []
 changes_of_same_code = refl
 
--- an amendment, a schedule of three records and another amendment: the changes of each unit have
--- the number of the unit's first record
+-- a TIPLOC amendment, a schedule of three records and another amendment: the changes of each unit
+-- have the number of the unit's first record
 numbers_of_units : map (λ (change : Change). change.number) (changes_of_units 2 ((rename_amend ∷ []) ∷ f2_schedule ∷ (rename_amend ∷ []) ∷ []))
     ≡ 2 ∷ 2 ∷ 3 ∷ 6 ∷ 6 ∷ []
 numbers_of_units = refl

@@ -44,7 +44,7 @@ without_last_append [] piece pieces = refl
 without_last_append (first ∷ []) piece pieces = refl
 without_last_append (first ∷ second ∷ front) piece pieces = ap (λ rest. first ∷ rest) (without_last_append (second ∷ front) piece pieces)
 
--- these pieces, with these bytes prepended to the first piece
+-- the pieces, with these bytes prepended to the first piece
 abbrev pub going_on : List ℕ → Lines → Lines
 going_on bytes [] = bytes ∷ []
 going_on bytes (piece ∷ pieces) = (bytes ++ piece) ∷ pieces
@@ -108,8 +108,8 @@ length_complete_lines text =
     let mapped = length-map (but_last (pieces_of text)) strip_carriage_return in
     omega arith
 
--- the number of certain lines is the number of complete lines, plus one if the incomplete line has
--- more than 81 bytes
+-- `sure_lines` is the number of complete lines, plus one if the incomplete line has more than 81
+-- bytes
 pub sure_lines_is : (text : List ℕ) → sure_lines text ≡ length (complete_lines text) + (if nat_le 82 (length (open_line text)) then 1 else 0)
 sure_lines_is text = ap (λ n. n + (if nat_le 82 (length (open_line text)) then 1 else 0)) (sym (length_complete_lines text))
 
@@ -208,7 +208,7 @@ goes_on text more = by (slice_split (λ b. b == 10) more) refl
 pub complete_lines_stay : (text more : List ℕ) → (others : Lines) × (complete_lines (text ++ more) ≡ complete_lines text ++ others)
 complete_lines_stay text more = let on = goes_on text more in (map strip_carriage_return (but_last ((open_line text ++ on.first) ∷ on.pieces)), on.told)
 
--- appending bytes never lowers the number of certain lines
+-- appending bytes never lowers the number of lines that `sure_lines` counts
 pub sure_lines_grow : (text more : List ℕ) → sure_lines text ≤ sure_lines (text ++ more)
 sure_lines_grow text more = by on.pieces on.told on.open_is
   where

@@ -29,7 +29,7 @@ use Rattle.cif_laws.proofs.schedules.ScheduleStages.{HasShape, details_of, IsSou
 use Rattle.cif_laws.proofs.files.FileStages.{next_by_test, stage_stops, IsWithin, IsAt, next_at, at_of_place, witness_next, at_begins}
 use Rattle.cif_laws.proofs.files.FileStages.{begins_iff_place, file_iff_place, place_of_more, begins_next_iff, one_place}
 
--- ---- records that include a trailer lead to the place `after_end`
+-- ---- records that include a trailer lead the reader to the place `after_end`
 
 end_by_test : (place : Place) → is_after_end place ≡ true → place ≡ after_end
 end_by_test after_end h = refl
@@ -54,7 +54,7 @@ trailer_place (in_schedule stage lines) next line found = by (may_end stage line
     by false h = let none : None ≡ Some next = (λ i. cond (sym h i) (Some after_end) None) ∙ reached in cc
 trailer_place after_end next line found = cc
 
--- records that include a trailer can lead only to the place `after_end`
+-- records that include a trailer can lead the reader only to the place `after_end`
 trailer_leads : (records : Lines) (place final : Place) (line : List ℕ) → place_from place records ≡ Some final → Contains records line → HasKind trailer line
     → final ≡ after_end
 trailer_leads [] place final line found among kind = absurd (nil-Contains line among)
@@ -176,7 +176,7 @@ module _ (limit : ℕ) (earlier : Lines) (place : Place) (line : List ℕ) (foun
   at : IsAt place earlier
   at = at_of_place earlier place found
 
-  -- no cause of a lower rank applies, if the condition of each of these causes is false
+  -- no cause of a lower rank applies, if the condition of each such cause is false
   none_below : (rank : ℕ) → rank ≤ 7 → (0 < rank → ¬ (limit ≤ length earlier)) → (1 < rank → ¬ Any (HasKind trailer) earlier) → (2 < rank → length line ≡ 80)
       → (3 < rank → leftmost_bad_byte line ≡ None) → (4 < rank → ¬ (kind_of line ≡ None)) → (5 < rank → ¬ IsOutOfPlace earlier line)
       → (6 < rank → leftmost_bad_field line ≡ None)
@@ -213,8 +213,9 @@ module _ (limit : ℕ) (earlier : Lines) (place : Place) (line : List ℕ) (foun
           (at_begins there.0 (earlier ++ witness kind ∷ [])
           (next_at place earlier (witness kind) there.0 at (witness_next place earlier kind there.0 at there.1)))
 
-  -- let the fields of a record be good, and let its kind be one that may come at the place. If the
-  -- record leads to no next place, the schedule passes midnight for the third time at this record
+  -- suppose that a record has good fields, and that its kind may come at the place. If the record
+  -- still leads the reader to no next place, the schedule passes midnight for the third time at
+  -- this record
   third : (next : Place) → IsRecord line → place_by_kind place (kind_of line) line ≡ Some next → HasGoodFields line → next_place place line ≡ None
       → HasThirdFall earlier line
   third next is told fields nowhere = by place at unsound
@@ -332,7 +333,8 @@ module _ (limit : ℕ) (earlier : Lines) (place : Place) (line : List ℕ) (foun
       by false h (inl over) = let under = leb-false limit (length earlier) h in absurd (omega arith)
       by false h (inr nowhere) = let under = leb-false limit (length earlier) h in end_is (λ over. omega arith) nowhere
 
-  -- the first record that leads to no next place, or is beyond the limit, is the record at fault
+  -- the record at fault is the first record that leads the reader to no next place or is beyond the
+  -- limit
   pub record_fault : (records later : Lines) → records ≡ earlier ++ line ∷ later → length earlier ≤ limit → (limit ≤ length earlier)
       ⊎ (next_place place line ≡ None)
       → IsRecordFault limit records (record { number = length earlier + 1; cause = cause_of limit (length earlier) place line })
@@ -354,7 +356,8 @@ module _ (limit : ℕ) (earlier : Lines) (place : Place) (line : List ℕ) (foun
           let reached = (begins_iff_place (earlier ++ line ∷ [])).0 begins in
           let bad : None ≡ Some reached.0 = sym nowhere ∙ sym (place_of_more earlier place line found) ∙ reached.1 in cc)
 
--- if records within the limit lead to a place other than `after_end`, their fault is `no_end`
+-- if records within the limit lead the reader to a place other than `after_end`, their fault is
+-- `no_end`
 pub no_end_behind : (limit : ℕ) (records : Lines) (place : Place) → IsPlaceOf records place → is_after_end place ≡ false → length records ≤ limit
     → IsUnended limit records (record { number = length records + 1; cause = no_end })
 no_end_behind limit records place found open_end within = record {
@@ -369,7 +372,7 @@ no_end_behind limit records place found open_end within = record {
 
 -- ---- a text is the text of a file, or has a fault
 
--- no record is at fault: the records are within the limit and lead to a place
+-- no record is at fault: the records are within the limit and lead the reader to a place
 abbrev pub Pass : ℕ → Lines → Type 0
 Pass limit records = (place : Place) × IsPlaceOf records place × (length records ≤ limit)
 

@@ -1,5 +1,5 @@
 -- The place of a reader in a file determines which records may follow, and whether the records read
--- are a file.
+-- are a file. Each record leads the reader from one place to the next.
 use Rattle.std.proofs.Common.{◌≡◌, ℕ, List, ◌∷◌, ◌++◌, [], true, Some, refl, Bool, false, cond, None, ◌∙◌, ap, sym}
 use Rattle.std.proofs.Common.{append-nil, inl, inr, subst, append_assoc, ◌<◌, length, arith, length-append, ◌⊎◌}
 use Rattle.std.specs.Prelude.{◌&&◌, Option, is_some, option_and_then, ◌↔◌, ⊤}
@@ -26,7 +26,7 @@ use Rattle.cif_laws.proofs.schedules.ScheduleStages.{IsFront, front_of_basic, sc
 use Rattle.cif_laws.proofs.schedules.ScheduleStages.{witness, witness_kind, witness_record, witness_fields, witness_sound}
 use Rattle.cif_laws.proofs.schedules.ScheduleStages.{next_line_by_test, IsNextLine, first_line_iff_test, stage_of_schedule, stage_of_more}
 
--- ---- the structure of the records that lead to each place
+-- ---- for each place, the structure of the records that lead the reader to it
 
 -- the records are a header and complete units
 pub record IsBetween (records : Lines) : Type 0 where
@@ -53,16 +53,16 @@ IsAt between_units records = IsBetween records
 IsAt (in_schedule stage lines) records = IsWithin stage lines records
 IsAt after_end records = IsFile records
 
--- ---- a record leads to a next place if and only if the record is sound and its kind leads to that
--- place
+-- ---- a record leads to a next place if and only if it is sound and its kind leads to that place
 
--- the record is sound at this place, and by its kind it leads to the place `next`
+-- the record is sound at this place, and its kind leads the reader to the place `next`
 pub record IsNext (place : Place) (line : List ℕ) (next : Place) : Type 0 where
   pub is : IsRecord line
   pub sound : is_sound_at place line ≡ true
   pub place_is : place_by_kind place (kind_of line) line ≡ Some next
 
--- if a record leads to a next place, the record is sound, and its kind leads to that place
+-- if a record leads the reader to a next place, the record is sound, and its kind leads to that
+-- place
 pub next_by_test : (place : Place) (line : List ℕ) (next : Place) → next_place place line ≡ Some next → IsNext place line next
 next_by_test place line next found = by (is_record line && is_sound_at place line) refl found
   where
@@ -71,7 +71,8 @@ next_by_test place line next found = by (is_record line && is_sound_at place lin
     by true h told = let parts = both (is_record line) _ h in record { is = (record_iff_test line).1 parts.0; sound = parts.1; place_is = told }
     by false h told = cc
 
--- if a record is sound, and its kind leads to a next place, the record leads to that place
+-- if a record is sound, and its kind leads to a next place, the record leads the reader to that
+-- place
 pub test_by_next : (place : Place) (line : List ℕ) (next : Place) → IsNext place line next → next_place place line ≡ Some next
 test_by_next place line next told =
     (λ i. cond (and_true (is_record line) _ ((record_iff_test line).0 told.is) told.sound i) (place_by_kind place (kind_of line) line) None) ∙ told.place_is
@@ -158,8 +159,8 @@ within_more stage lines records line next within found = record {
   front = next_front stage lines line next within.front found;
 }
 
--- if records have the structure of a place, appending a record that leads from this place to a next
--- place gives records with the structure of the next place
+-- suppose that records have the structure of a place, and that one more record leads the reader
+-- from this place to a next place. With that record, they have the structure of the next place
 pub next_at : (place : Place) (records : Lines) (line : List ℕ) (next : Place) → IsAt place records → next_place place line ≡ Some next
     → IsAt next (records ++ line ∷ [])
 next_at before_header records line next at found = by (next_by_test before_header line next found) (kind_of line) refl
@@ -216,13 +217,13 @@ at_from (line ∷ rest) place records final at found =
     subst (IsAt final) (append_assoc records (line ∷ []) rest)
     (at_from rest step.0 (records ++ line ∷ []) final (next_at place records line step.0 at step.1) step.2)
 
--- records that lead to a place have the structure of that place
+-- records that lead the reader to a place have the structure of that place
 pub at_of_place : (records : Lines) (place : Place) → IsPlaceOf records place → IsAt place records
 at_of_place records place found = at_from records before_header [] place refl found
 
--- ---- records that lead to a place begin some file
+-- ---- records that lead the reader to a place begin some file
 
--- for each kind of record that may come at a place, there is a good record of this kind that leads
+-- for each kind of record that may come at a place, some good record of this kind leads the reader
 -- to a next place
 pub witness_next : (place : Place) (records : Lines) (kind : Kind) (next : Place) → IsAt place records → place_by_kind place (Some kind)
     (witness kind) ≡ Some next → next_place place (witness kind) ≡ Some next
@@ -277,7 +278,7 @@ at_begins (in_schedule in_journey lines) records at = journey_begins lines recor
 at_begins (in_schedule after_journey lines) records at = between_begins records (within_ended after_journey lines records at refl)
 at_begins after_end records at = file_begins records at
 
--- ---- the records of a whole file lead to the place `after_end`
+-- ---- the records of a whole file lead the reader to the place after the trailer
 
 place_from_append : (front : Lines) (place middle : Place) (more : Lines) → place_from place front ≡ Some middle
     → place_from place (front ++ more) ≡ place_from middle more
@@ -286,8 +287,8 @@ place_from_append (line ∷ front) place middle more found =
     let step = then_some (λ next. place_from next front) (next_place place line) middle found in
     (λ i. option_and_then (λ next. place_from next (front ++ more)) (step.1 i)) ∙ place_from_append front step.0 middle more step.2
 
--- if a record has a next stage in a schedule, it leads in the file to the place with that stage. If
--- the journey is then complete, the place is between units
+-- if a record has a next stage in a schedule, it leads the reader in the file to the place with
+-- that stage. If the journey is then complete, the place is between units
 pub next_of_stage : (stage : Stage) (lines : Lines) (line : List ℕ) (next : Stage) → next_stage stage lines line ≡ Some next
     → next_place (in_schedule stage lines) line ≡ Some (place_in next (lines ++ line ∷ []))
 next_of_stage stage lines line next found =
@@ -354,8 +355,8 @@ stage_stops in_journey (Some change_en_route) h = cc
 stage_stops in_journey (Some terminating_location) h = cc
 stage_stops _ _ h = refl
 
--- let a schedule be at a stage at which it may end. A record that can't follow a basic schedule
--- then leads to the same next place as from between two units
+-- at a stage at which the schedule may end, a record that can't follow a basic schedule leads the
+-- reader to the same next place as between two units
 pub next_behind : (stage : Stage) (lines : Lines) (line : List ℕ) → may_end stage lines ≡ true → follows_basic (kind_of line) ≡ false
     → next_place (in_schedule stage lines) line ≡ next_place between_units line
 next_behind stage lines line may anew =
@@ -401,7 +402,7 @@ units_pass (unit ∷ units) last each is end =
     ∙ unit_passes unit (flat_map (λ u. u) units ++ last ∷ []) each.0 (units_stop units last each.1 end) (omega arith)
     ∙ units_pass units last each.1 is end
 
--- the records of a whole file lead to the place `after_end`
+-- the records of a whole file lead the reader to the place `after_end`
 pub place_of_file : (file : Lines) → IsFile file → IsPlaceOf file after_end
 place_of_file file is =
     ap place_at is.whole
@@ -422,28 +423,28 @@ place_from_front (line ∷ front) rest place final found =
     let more = place_from_front front rest step.0 final step.2 in
     (more.0, (λ i. option_and_then (λ next. place_from next front) (step.1 i)) ∙ more.1)
 
--- records begin a file if and only if they lead to a place
+-- records begin a file if and only if they lead the reader to a place
 pub begins_iff_place : (records : Lines) → BeginsFile records ↔ ((place : Place) × IsPlaceOf records place)
 begins_iff_place records = (
   λ begins. place_from_front records begins.0 before_header after_end (place_of_file (records ++ begins.0) begins.1),
   λ at. at_begins at.0 records (at_of_place records at.0 at.1),
 )
 
--- records are a file if and only if they lead to the place `after_end`
+-- records are a file if and only if they lead the reader to the place `after_end`
 pub file_iff_place : (records : Lines) → IsFile records ↔ IsPlaceOf records after_end
 file_iff_place records = (place_of_file records, at_of_place records after_end)
 
--- records lead to at most one place
+-- records lead the reader to at most one place
 pub one_place : (records : Lines) (first second : Place) → IsPlaceOf records first → IsPlaceOf records second → first ≡ second
 one_place records first second one two = let both_are : Some first ≡ Some second = sym one ∙ two in cc
 
--- if one more record is appended to records that lead to a place, `next_place` computes the new
--- place
+-- after records that lead the reader to a place, `next_place` computes the place to which one more
+-- record leads
 pub place_of_more : (records : Lines) (place : Place) (line : List ℕ) → IsPlaceOf records place → place_at (records ++ line ∷ []) ≡ next_place place line
 place_of_more records place line found = place_from_append records before_header place (line ∷ []) found ∙ some_then (next_place place line)
 
--- if records lead to a place, then with one more record they begin a file if and only if the added
--- record leads from that place to a next place
+-- suppose that records lead the reader to a place. With one more record they begin a file if and
+-- only if this record leads from that place to a next place
 pub begins_next_iff : (records : Lines) (place : Place) (line : List ℕ) → IsPlaceOf records place → BeginsFile (records ++ line ∷ [])
     ↔ ((next : Place) × IsNext place line next)
 begins_next_iff records place line found = (
@@ -515,7 +516,7 @@ tracked_from (line ∷ rest) place final tracked found =
     let step = then_some (λ next. place_from next rest) (next_place place line) final found in
     tracked_from rest step.0 final (next_tracked place line step.0 tracked (next_by_test place line step.0 step.1)) step.2
 
--- if records lead to a place inside a schedule, the stage of the place is the stage of that
--- schedule's records
+-- if records lead the reader to a place inside a schedule, the stage of the place is the stage of
+-- that schedule's records
 pub tracked_place : (records : Lines) (place : Place) → IsPlaceOf records place → IsTracked place
 tracked_place records place found = tracked_from records before_header place tt found

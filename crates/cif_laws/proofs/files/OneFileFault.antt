@@ -10,7 +10,7 @@ use Rattle.docker_model.specs.file.Text.{lines_of}
 use Rattle.docker_model.specs.file.FileFault.{FileFault, IsRecordFault, FileCause, bad_byte, bad_field, too_many, after_trailer, bad_length, bad_kind}
 use Rattle.docker_model.specs.file.FileFault.{bad_place, third_midnight, no_end, cause_rank, HoldsOf, IsCause, IsUnended, IsFileFault, IsFileText}
 
--- the first of these lines, or `line` if there are no lines. Proofs use this value to compare the
+-- the first line of the list, or `line` if the list is empty. With this value, proofs compare the
 -- indexes of two records of one list
 head_or : List ℕ → Lines → List ℕ
 head_or line [] = line
@@ -81,7 +81,7 @@ cause_again no_end = refl
 pub same_cause : (first second : FileCause) → cause_rank first ≡ cause_rank second → column_of first ≡ column_of second → first ≡ second
 same_cause first second same columns = sym (cause_again first) ∙ (λ i. cause_at (same i) (columns i)) ∙ cause_again second
 
--- the column of a cause with this rank, computed from the line
+-- if the cause of a line has this rank, the column of that cause, computed from the line
 unfoldable pub column_told : ℕ → List ℕ → ℕ
 column_told rank line = if rank == 3 then unwrap_or (leftmost_bad_byte line) 0 else (if rank == 6 then unwrap_or (leftmost_bad_field line) 0 else 0)
 

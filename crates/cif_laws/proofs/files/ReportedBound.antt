@@ -1,5 +1,5 @@
--- If bytes determine no fault, their number is bounded: at most 82 for each complete line with its
--- line feed, and at most 81 for the incomplete line.
+-- If the first bytes of a text determine no fault, their number is bounded: at most 82 for each
+-- complete line with its line feed, and at most 81 for the incomplete line.
 use Rattle.std.proofs.Common.{◌≡◌, ℕ, List, length, [], ◌∷◌, Some, ◌+◌, ◌<◌, arith, refl, ap, Bool, true, false, ◌*◌, ◌≤◌, map, ◌⊎◌, inl, inr}
 use Rattle.std.specs.Prelude.{◌==◌}
 use Rattle.std.specs.List.{AllByRecursion, onto_first, slice_split}
@@ -18,7 +18,7 @@ use Rattle.cif_laws.proofs.files.ReportedFaults.{strip_long, TellsNoFault, fault
 abbrev Has80 : List ℕ → Type 0
 Has80 line = length line ≡ 80
 
--- if records lead to a place, each record has 80 bytes
+-- if records lead the reader to a place, each record has 80 bytes
 records_of_80 : (records : Lines) (place final : Place) → place_from place records ≡ Some final → AllByRecursion Has80 records
 records_of_80 [] place final reached = tt
 records_of_80 (line ∷ rest) place final reached =

@@ -21,7 +21,7 @@ use Rattle.cif_laws.proofs.files.FileStages.{next_by_test, begins_iff_place, beg
 use Rattle.cif_laws.proofs.files.FileCauses.{Pass, HasRecordFault, pass_or_fault, record_fault}
 use Rattle.cif_laws.proofs.files.CompleteLines.{GoesOn, goes_on, lines_of_told, lines_of_open, sure_lines_is, sure_lines_grow, complete_lines_cut}
 
--- ---- the line in a piece of more than 81 bytes is no record
+-- ---- the line in a piece of more than 81 bytes isn't a record
 
 -- the line in a piece is at most one byte shorter than the piece
 pub strip_long : (piece : List ℕ) → length piece ≤ length (strip_carriage_return piece) + 1
@@ -35,7 +35,7 @@ strip_long piece = by (slice_index piece (length piece - 1) == 13)
 pub not_80 : (piece : List ℕ) → 82 ≤ length piece → length (strip_carriage_return piece) ≢ 80
 not_80 piece long is = let most = strip_long piece in absurd (omega arith)
 
--- a line that doesn't have 80 bytes leads to no next place
+-- a line that doesn't have 80 bytes leads the reader to no next place
 pub no_next_place : (place : Place) (line : List ℕ) → length line ≢ 80 → next_place place line ≡ None
 no_next_place place line apart = by (next_place place line) refl
   where
@@ -79,7 +79,7 @@ behind_front (first ∷ front) last (second ∷ earlier) line later e same =
     let rest = behind_front front last earlier line later tails (omega arith) in
     (λ i. sym heads i ∷ rest.0 i, rest.1)
 
--- ---- a fault that bytes determine is preserved when more bytes are appended
+-- ---- a fault that the first bytes of a text determine stays when more bytes are appended
 
 -- after the same earlier records, two lines that don't have 80 bytes have the same cause
 cause_stays : (limit : ℕ) (earlier : Lines) (line other : List ℕ) (cause : FileCause) → length line ≢ 80 → length other ≢ 80 → IsCause limit earlier line cause
@@ -204,8 +204,7 @@ one_fault_so_far limit text first second one two = one_fault limit text first se
 
 -- ---- bytes determine a fault, or their complete lines begin a file
 
--- if the incomplete line has at most 81 bytes, the number of certain lines is the number of
--- complete lines
+-- if the incomplete line has at most 81 bytes, `sure_lines` is the number of complete lines
 pub sure_lines_short : (text : List ℕ) → length (open_line text) ≤ 81 → sure_lines text ≡ length (complete_lines text)
 sure_lines_short text short =
     sure_lines_is text ∙ ap (λ b. length (complete_lines text) + cond b 1 0) (lt-leb 82 (length (open_line text)) (omega arith)) ∙ omega arith
@@ -266,12 +265,12 @@ fault_so_far_or_none limit text = by (cases_lt (length (open_line text)) 82)
     by (inl short) = told (pass_or_fault limit (complete_lines text)) (omega arith)
     by (inr long) = opened (pass_or_fault limit (lines_of text)) long
 
--- like `TellsNoFault`, in terms of the definitions that the laws use
+-- the same statement as `TellsNoFault`, in terms of the definitions that the laws use
 abbrev pub PassesSoFar : ℕ → List ℕ → Type 0
 PassesSoFar limit text =
     BeginsFile (take (sure_lines text) (lines_of text)) × (sure_lines text ≤ limit) × (length (last_of (slice_split (λ b. b == 10) text)) ≤ 81)
 
--- `TellsNoFault` implies `PassesSoFar`, which says the same in terms of the definitions that the
+-- `TellsNoFault` implies `PassesSoFar`, the same statement in terms of the definitions that the
 -- laws use
 pub passes_so_far : (limit : ℕ) (text : List ℕ) → TellsNoFault limit text → PassesSoFar limit text
 passes_so_far limit text none =
@@ -279,7 +278,7 @@ passes_so_far limit text none =
     let within = none.within in
     (subst BeginsFile (sym (take_told text none.short)) none.begin, omega arith, none.short)
 
--- like `fault_so_far_or_none`, in terms of the definitions that the laws use
+-- like `fault_so_far_or_none`, with `PassesSoFar` in place of `TellsNoFault`
 pub fault_so_far_or_passes : (limit : ℕ) (text : List ℕ) → ((fault : FileFault) × IsFaultSoFar limit text fault) ⊎ PassesSoFar limit text
 fault_so_far_or_passes limit text = by (fault_so_far_or_none limit text)
   where
@@ -318,8 +317,8 @@ cause_of_length limit count place line apart =
     λ i. cond (nat_le limit count) too_many
     (cond (is_after_end place) after_trailer (cond (ne_eqb (length line) 80 apart i) (byte_cause place line) bad_length))
 
--- if the complete lines are within the limit and lead to a place, and the incomplete line has at
--- most 81 bytes, the bytes determine no fault
+-- if the complete lines are within the limit and lead the reader to a place, and the incomplete
+-- line has at most 81 bytes, the bytes determine no fault
 pub no_fault_told : (limit : ℕ) (text : List ℕ) (place : Place) → IsPlaceOf (complete_lines text) place → length (complete_lines text) ≤ limit
     → length (open_line text) ≤ 81
     → (fault : FileFault) → ¬ IsFaultSoFar limit text fault
@@ -330,7 +329,8 @@ no_fault_told limit text place found within short fault =
       short = short;
     }))
 
--- a complete line that leads to no next place is at fault. The bytes after the line don't matter
+-- a complete line that leads the reader to no next place is at fault, whatever bytes follow the
+-- line
 pub fault_at_feed : (limit : ℕ) (text front rest : List ℕ) (place : Place) → HasNoFeed front → IsPlaceOf (complete_lines text) place
     → length (complete_lines text) ≤ limit
     → (limit ≤ length (complete_lines text)) ⊎ (next_place place (strip_carriage_return (open_line text ++ front)) ≡ None)
@@ -354,7 +354,7 @@ fault_at_feed limit text front rest place plain found within here = record {
       omega arith;
 }
 
--- an incomplete line of more than 81 bytes is at fault. The bytes after these don't matter
+-- an incomplete line of more than 81 bytes is at fault, whatever bytes follow
 pub fault_at_long : (limit : ℕ) (text : List ℕ) (place : Place) → IsPlaceOf (complete_lines text) place → length (complete_lines text) ≤ limit
     → 82 ≤ length (open_line text)
     → IsFaultSoFar limit text (record { number = length (complete_lines text) + 1; cause = cause_of_long limit (length (complete_lines text)) place })
@@ -371,8 +371,8 @@ fault_at_long limit text place found within long =
       told = omega arith;
     })
 
--- at the end of a text, an incomplete line that isn't empty is the last line. If that line leads to
--- no next place or is beyond the limit, the line is at fault
+-- at the end of a text, an incomplete line that isn't empty is the last line. If that line leads
+-- the reader to no next place or is beyond the limit, the line is at fault
 pub fault_at_end : (limit : ℕ) (text : List ℕ) (place : Place) → IsPlaceOf (complete_lines text) place → length (complete_lines text) ≤ limit
     → 0 < length (open_line text)
     → (limit ≤ length (complete_lines text)) ⊎ (next_place place (strip_carriage_return (open_line text)) ≡ None)

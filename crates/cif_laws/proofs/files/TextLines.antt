@@ -26,7 +26,7 @@ last_is (x ∷ y ∷ bytes) h =
     (last_is (y ∷ bytes) inner) in
     subst (λ k. (x ∷ y ∷ bytes) ≡ take k (x ∷ y ∷ bytes) ++ 13 ∷ []) (sym less) (ap (λ zs. x ∷ zs) rest)
 
--- a piece is its line, or its line and a carriage return
+-- a piece is its line by itself, or its line followed by a carriage return
 piece_is : (piece : List ℕ) → (piece ≡ strip_carriage_return piece) ⊎ (piece ≡ strip_carriage_return piece ++ 13 ∷ [])
 piece_is piece = by (slice_index piece (length piece - 1) == 13) refl
   where
@@ -35,8 +35,8 @@ piece_is piece = by (slice_index piece (length piece - 1) == 13) refl
     by true h = inr (last_is piece (eqb-true _ _ h) ∙ (λ i. cond (sym h i) (take (length piece - 1) piece) piece ++ 13 ∷ []))
     by false h = inl (λ i. cond (sym h i) (take (length piece - 1) piece) piece)
 
--- if a text consists of `lines`, then the text with a piece and a line feed put before it consists
--- of the line in this piece, followed by `lines`
+-- suppose that a text consists of `lines`. If a piece and a line feed are put before the text, it
+-- consists of the line in this piece, followed by `lines`
 one_more : (piece : List ℕ) (lines : List (List ℕ)) (rest : List ℕ) → IsTextOf lines rest → IsTextOf (strip_carriage_return piece ∷ lines) (piece ++ 10 ∷ rest)
 one_more piece [] rest told = by (piece_is piece)
   where

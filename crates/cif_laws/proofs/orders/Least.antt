@@ -18,7 +18,7 @@ module _ {A : Type 0} {cmp : A → A → Ordering} (total : IsTotalOrder cmp) (t
   abbrev pub is_least : List A → A → Bool
   is_least xs x = test x && list_all (λ other. not (test other && is_gt (cmp x other))) xs
 
-  -- this is the least of the members that pass the test
+  -- `x` is the least of the members that pass the test
   pub record IsLeast (xs : List A) (x : A) : Type 0 where
     pub among : Contains xs x
     pub passes : test x ≡ true

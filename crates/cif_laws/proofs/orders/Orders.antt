@@ -1,5 +1,5 @@
--- The orders of the model are total. Each distinguishes different values, with three exceptions:
--- the orders of bodies, ops and entries do so only for values whose lines are records.
+-- All orders that `docker_model` defines are total. Each distinguishes different values, with three
+-- exceptions: the orders of bodies, ops and entries do so only for values whose lines are records.
 use mathlib.Core.Path.{fun_ext}
 use Rattle.std.proofs.Common.{◌≡◌, subst, sym, refl, ℕ, List, [], ap, true, false}
 use Rattle.std.specs.declared.cmp.Ordering.{Ordering}

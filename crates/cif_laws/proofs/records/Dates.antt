@@ -13,7 +13,7 @@ use Rattle.docker_model.specs.records.PrintedTime.{day_text, date_text}
 use Rattle.cif_laws.proofs.lists.BoolsAndOptions.{and_true as and_both, both}
 
 -- a year, a month and a day pass the test `is_calendar_day` if and only if they are a date of the
--- crate's calendar
+-- calendar of `jiff`
 pub is_calendar_day-IsDate : (year month day : ℕ) → year ≤ 9999 → (is_calendar_day year month day ≡ true) ↔ IsDate (pos year) (pos month) (pos day)
 is_calendar_day-IsDate year month day low = (
   λ h.
@@ -65,7 +65,7 @@ count_prefix p a (suc n) (suc k) within passes fails =
     one_more : 1 + k ≡ suc k
     one_more = omega arith
 
--- the number of days that the crate counts up to 1 January 1960
+-- the number of days that `jiff` counts up to 1 January 1960
 start_of_1960 : day_count (pos 1960) 1 1 ≡ 4_368_300
 unfolding day_count days_of_years days_of_months
 start_of_1960 = refl
@@ -105,8 +105,8 @@ from_1960 y m d year low month day =
 abs_is : (z : ℤ) (n : ℕ) → z ≡ pos n → unsigned_abs z ≡ n
 abs_is z n e = ap unsigned_abs e
 
--- a day number is the crate's count of days for the date, minus the crate's count for 1 January
--- 1960
+-- the day number of a date is the number of days that `jiff` counts up to the date, minus the
+-- number that `jiff` counts up to 1 January 1960
 pub day_number-day_count : (y m d : ℕ) → 1960 ≤ y → y ≤ 9999 → 1 ≤ m → 1 ≤ d → day_number y m d + 4_368_300 ≡ day_count (pos y) m d
 day_number-day_count y m d year low month day =
     let start = from_1960 y m d year low month day in

@@ -53,7 +53,7 @@ one_schedule_cause earlier line first second is_first is_second = by (cases_orde
 
 -- ---- a record that can't be the first record has the cause `first_line_cause`
 
--- no cause of a lower rank applies, if the condition of each of these causes is false
+-- no cause of a lower rank applies, if the condition of each such cause is false
 none_below : (earlier : Lines) (line : List ℕ) (rank : ℕ) → rank ≤ 7 → (4 < rank → ¬ (kind_of line ≡ None)) → (5 < rank → ¬ IsOutOfSchedule earlier line)
     → (6 < rank → leftmost_bad_field line ≡ None)
     → (other : FileCause) → cause_rank other < rank → ¬ HoldsInSchedule earlier line other
@@ -146,7 +146,8 @@ begins_next_stage [] stage line next at found = cc
 begins_next_stage (basic ∷ rest) stage line next at found =
     (begins_more_iff basic rest stage line at).1 (next, next_line_by_test stage (basic ∷ rest) line next found)
 
--- if records with one more record begin no schedule, the last record has no next stage
+-- if records are at a stage, but begin no schedule with one more record, that record has no next
+-- stage
 pub no_next_stage : (lines : Lines) (stage : Stage) (line : List ℕ) → stage_of lines ≡ Some stage → ¬ BeginsSchedule (lines ++ line ∷ [])
     → next_stage stage lines line ≡ None
 no_next_stage lines stage line at here = by (next_stage stage lines line) refl
@@ -264,8 +265,8 @@ no_other stage lines line (inr none) = by (may_end stage lines)
     by true = none
     by false = refl
 
--- if a record can only belong to the schedule, it leads in the file to the place with the
--- schedule's next stage
+-- if a record can only belong to the schedule, it leads the reader in the file to the place with
+-- the schedule's next stage
 pub next_place_of_stage : (stage : Stage) (lines : Lines) (line : List ℕ) → IsOfSchedule stage lines line
     → next_place (in_schedule stage lines) line ≡ option_map (λ next. place_in next (lines ++ line ∷ [])) (next_stage stage lines line)
 next_place_of_stage stage lines line of =

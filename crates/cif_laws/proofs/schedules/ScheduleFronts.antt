@@ -379,8 +379,8 @@ front_here_decided (basic ∷ lines) =
     both_decided (both_decided (records_decided (basic ∷ lines)) (basic_decided basic))
     (either_decided (front_part_decided basic lines) (extra_and_front_decided basic lines))
 
--- a prefix of the rest of a journey satisfies `FrontOfCalls`. The lemmas below prove this for the
--- other parts of a schedule
+-- each prefix of the rest of a journey satisfies `FrontOfCalls`. The next lemmas are similar, for
+-- the other parts of a schedule
 front_of_whole : (lines rest : Lines) → WholeCalls (lines ++ rest) → FrontOfCalls lines
 front_of_whole [] rest calls = tt
 front_of_whole (line ∷ lines) rest (inl told) = inl (told.0, nothing lines told.1)

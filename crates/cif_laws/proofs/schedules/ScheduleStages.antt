@@ -60,7 +60,7 @@ details_of after_details extra journey shape = shape.0
 details_of in_journey extra journey shape = shape.0
 details_of after_journey extra journey shape = shape.0
 
--- ---- the first record leads to the stage `after_basic`
+-- ---- the first record leads the reader to the stage `after_basic`
 
 basic_by_test : (kind : Option Kind) → is_basic_kind kind ≡ true → kind ≡ Some basic_schedule
 basic_by_test (Some basic_schedule) h = refl
@@ -117,7 +117,7 @@ pub midnights_of_journey : (basic : List ℕ) (extra journey : Lines) → HasKin
 midnights_of_journey basic extra journey kind details =
     ap fall_count (times_of_journey basic extra journey kind details)
 
--- ---- one more record leads to the next stage
+-- ---- one more record leads the reader to the next stage
 
 -- a record of extra details has no bad field
 pub no_extra_fields : (line : List ℕ) → HasKind extra_details line → HasGoodFields line
@@ -186,7 +186,7 @@ pub record IsNextLine (stage : Stage) (lines : Lines) (line : List ℕ) (next : 
   pub sound : is_sound_next lines line ≡ true
   pub stage_is : stage_after stage (kind_of line) ≡ Some next
 
--- if a record has a next stage, the record is sound, and its kind leads to that stage
+-- if a record has a next stage, the record is sound, and its kind leads the reader to that stage
 pub next_line_by_test : (stage : Stage) (lines : Lines) (line : List ℕ) (next : Stage) → next_stage stage lines line ≡ Some next
     → IsNextLine stage lines line next
 next_line_by_test stage lines line next is = by (is_record line && is_sound_next lines line) refl is
@@ -196,7 +196,8 @@ next_line_by_test stage lines line next is = by (is_record line && is_sound_next
     by true h found = let parts = both (is_record line) _ h in record { is = (record_iff_test line).1 parts.0; sound = parts.1; stage_is = found }
     by false h found = cc
 
--- if a record is sound, and its kind leads to a next stage, the record has that next stage
+-- if a record is sound, and its kind leads the reader to a next stage, the record has that next
+-- stage
 pub test_by_next_line : (stage : Stage) (lines : Lines) (line : List ℕ) (next : Stage) → IsNextLine stage lines line next
     → next_stage stage lines line ≡ Some next
 test_by_next_line stage lines line next told =
@@ -213,8 +214,8 @@ journey_more journey line so_far is = (
   all_append IsWithinJourney so_far.1 (line ∷ []) so_far.4 (is, tt),
 )
 
--- appending a record whose kind leads to a next stage gives a schedule with the structure of that
--- stage
+-- after a record is appended whose kind leads the reader to a next stage, the schedule has the
+-- structure of that stage
 shape_more : (stage : Stage) (kind : Kind) (next : Stage) (extra journey : Lines) (line : List ℕ) → HasShape stage extra journey → HasKind kind line
     → stage_after stage (Some kind) ≡ Some next
     → (HasShape next extra (journey ++ line ∷ [])) ⊎ (HasShape next (line ∷ []) journey × (extra ≡ []) × (journey ≡ []))
@@ -256,8 +257,8 @@ no_stage_of_none after_details = refl
 no_stage_of_none in_journey = refl
 no_stage_of_none after_journey = refl
 
--- if records are at a stage and one more record has a next stage, then with that record the records
--- are at the next stage
+-- if records are at a stage, and one more record has a next stage, the records are at the next
+-- stage after this record
 pub next_front : (stage : Stage) (lines : Lines) (line : List ℕ) (next : Stage) → IsFront stage lines → next_stage stage lines line ≡ Some next
     → IsFront next (lines ++ line ∷ [])
 next_front stage lines line next front test = by (kind_of line) refl (next_line_by_test stage lines line next test)
@@ -291,7 +292,7 @@ next_front stage lines line next front test = by (kind_of line) refl (next_line_
           sound = front.sound;
         }
 
--- ---- records that may end at their stage are a schedule
+-- ---- records at a stage at which the schedule may end are a schedule
 
 -- if a basic schedule passes the test `may_lack`, its journey may be missing
 pub lack_by_test : (basic : List ℕ) → may_lack basic ≡ true → MayLackJourney basic
@@ -310,7 +311,7 @@ test_by_lack basic (inr letter) = or_right (is_deletion basic) (ap (λ n. n == 6
     or_right true h = refl
     or_right false h = h
 
--- records that may end at their stage are a schedule
+-- records at a stage at which the schedule may end are a schedule
 pub schedule_of_front : (stage : Stage) (lines : Lines) → IsFront stage lines → may_end stage lines ≡ true → IsSchedule lines
 schedule_of_front stage lines front test = record {
   basic = front.basic;
@@ -367,7 +368,7 @@ witness_kind terminating_location = refl
 witness_kind change_en_route = refl
 witness_kind trailer = refl
 
--- the record `witness kind` passes the test of a record
+-- the record `witness kind` passes the test `is_record`
 pub witness_record : (kind : Kind) → is_record (witness kind) ≡ true
 unfolding witness
 witness_record header = refl
@@ -534,7 +535,7 @@ stage_from_front (line ∷ front) rest stage done final found =
     let more = stage_from_front front rest step.0 (done ++ line ∷ []) final step.2 in
     (more.0, (λ i. option_and_then (λ next. stage_from next (done ++ line ∷ []) front) (step.1 i)) ∙ more.1)
 
--- if records lead to a stage, each prefix that isn't empty leads to a stage
+-- if records lead the reader to a stage, so does each prefix that isn't empty
 pub stage_of_front : (basic : List ℕ) (front rest : Lines) (final : Stage) → stage_of (basic ∷ front ++ rest) ≡ Some final
     → (stage : Stage) × (stage_of (basic ∷ front) ≡ Some stage)
 stage_of_front basic front rest final found = by (is_first_line basic) refl found
@@ -546,9 +547,9 @@ stage_of_front basic front rest final found = by (is_first_line basic) refl foun
         (more.0, (λ i. cond (h i) (stage_from after_basic (basic ∷ []) front) None) ∙ more.1)
     by false h told = cc
 
--- ---- the records of a schedule lead to a stage
+-- ---- the records of a schedule lead the reader to a stage
 
--- the stage to which these records lead from this stage, judged only by their kinds
+-- the stage to which these records lead a reader who is at this stage, judged only by their kinds
 abbrev pub stage_along : Stage → Lines → Option Stage
 stage_along stage [] = Some stage
 stage_along stage (line ∷ rest) = option_and_then (λ next. stage_along next rest) (stage_after stage (kind_of line))
@@ -599,12 +600,12 @@ journey_along stage journey starts is =
     ∙ (λ i. option_and_then (λ next. stage_along next (is.between ++ is.last ∷ [])) (starts i))
     ∙ calls_along is.between is.last (recursion_from_All IsWithinJourney is.between is.calls) is.terminus
 
--- this is the stage after the records, and the records may be a complete schedule at this stage
+-- `stage` is the stage after the records, and at this stage the records may be a complete schedule
 pub record IsWholeBy (lines : Lines) (stage : Stage) : Type 0 where
   pub found : stage_of lines ≡ Some stage
   pub may : may_end stage lines ≡ true
 
--- the kinds of the records after the first lead to a stage at which the schedule may end
+-- the kinds of the records after the first lead the reader to a stage at which the schedule may end
 record LeadsToEnd (basic : List ℕ) (rest : Lines) : Type 0 where
   pub final : Stage
   pub along : stage_along after_basic rest ≡ Some final
@@ -634,7 +635,7 @@ extra_fields : (extra : Lines) → AreExtraDetails extra → AllByRecursion HasG
 extra_fields extra (inl none) = subst (AllByRecursion HasGoodFields) (sym none) tt
 extra_fields extra (inr one) = subst (AllByRecursion HasGoodFields) (sym one.1) (no_extra_fields one.0 one.2, tt)
 
--- the records of a schedule lead to a stage at which the schedule may end
+-- the records of a schedule lead the reader to a stage at which the schedule may end
 pub stage_of_schedule : (lines : Lines) → IsSchedule lines → (stage : Stage) × IsWholeBy lines stage
 stage_of_schedule lines is = subst (λ l. (stage : Stage) × IsWholeBy l stage) (sym is.whole) (lead.final, record { found = found; may = lead.may })
   where
@@ -659,11 +660,12 @@ stage_of_schedule lines is = subst (λ l. (stage : Stage) × IsWholeBy l stage) 
 
 -- ---- the laws of stages
 
--- records are a schedule if and only if they lead to a stage at which the schedule may end
+-- records are a schedule if and only if they lead the reader to a stage at which the schedule may
+-- end
 pub schedule_iff_stage : (lines : Lines) → IsSchedule lines ↔ ((stage : Stage) × IsWholeBy lines stage)
 schedule_iff_stage lines = (stage_of_schedule lines, λ whole. schedule_of_front whole.0 lines (front_of_stage lines whole.0 whole.1.found) whole.1.may)
 
--- records begin a schedule if and only if they lead to a stage
+-- records begin a schedule if and only if they lead the reader to a stage
 pub begins_iff_stage : (basic : List ℕ) (rest : Lines) → BeginsSchedule (basic ∷ rest) ↔ ((stage : Stage) × (stage_of (basic ∷ rest) ≡ Some stage))
 begins_iff_stage basic rest = (
   λ begins. let whole = stage_of_schedule ((basic ∷ rest) ++ begins.0) begins.1 in stage_of_front basic rest begins.0 whole.0 whole.1.found,
@@ -679,8 +681,8 @@ no_lines_begin =
       fields = witness_fields basic_schedule;
     })))
 
--- if records lead to a stage, then with one more record they begin a schedule if and only if the
--- added record has a next stage
+-- suppose that records lead the reader to a stage. With one more record they begin a schedule if
+-- and only if this record has a next stage
 pub begins_more_iff : (basic : List ℕ) (rest : Lines) (stage : Stage) (line : List ℕ) → stage_of (basic ∷ rest) ≡ Some stage
     → BeginsSchedule (basic ∷ rest ++ line ∷ []) ↔ ((next : Stage) × IsNextLine stage (basic ∷ rest) line next)
 begins_more_iff basic rest stage line at = (
