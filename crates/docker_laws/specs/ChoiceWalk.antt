@@ -8,9 +8,9 @@ use Rattle.docker_model.specs.docker.Choice.{schedule_choice_cmp, association_ch
 use Rattle.docker_laws.specs.LiveRows.{Link, schedules_in, associations_in, is_running, is_linked}
 use Rattle.docker_laws.specs.Best.{IsBest, with_one_more}
 
--- `found` is the choice from these rows: of the UID's schedules in the rows that run on the day,
--- the schedule that comes first in the order of choice. If there is no such schedule, `found` is
--- `None`
+-- `found` is the schedule that is chosen from these rows for the UID on the day. Of the UID's
+-- schedules that run on the day, it comes first in the order of choice. If no schedule of the UID
+-- runs on the day, `found` is `None`
 abbrev pub IsChosenSoFar : List ℕ → ℕ → List Row → Option Train → Type 0
 IsChosenSoFar uid day rows found = IsBest (on (λ (train : Train). train.key) schedule_choice_cmp) (is_running uid day) (schedules_in rows) found
 
@@ -20,9 +20,9 @@ next_chosen uid day found (schedule_key key) (schedule_body lines) =
     with_one_more (on (λ (train : Train). train.key) schedule_choice_cmp) (is_running uid day) found (record { key = key; lines = lines })
 next_chosen uid day found _ _ = found
 
--- `found` is the choice from these rows: of the group's associations in the rows that run on the
--- base train's start day, the first in the order of choice. If there is no such association,
--- `found` is `None`
+-- `found` is the association that is chosen from these rows for the group and the base train's
+-- start day. Of the group's associations that apply on this day, it comes first in the order of
+-- choice. If none applies, `found` is `None`
 abbrev pub IsLinkSoFar : Group → ℕ → List Row → Option Link → Type 0
 IsLinkSoFar group day rows found = IsBest (on (λ (link : Link). link.key) association_choice_cmp) (is_linked group day) (associations_in rows) found
 

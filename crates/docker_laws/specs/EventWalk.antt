@@ -5,14 +5,14 @@ use Rattle.std.specs.List.{enumerate_from, last_or}
 use Rattle.docker_model.specs.file.Journey.{Occasion, times_of}
 use Rattle.docker_model.specs.docker.Event.{Event, has_identity}
 
--- the events of one record with these times. The first event has this number, and `place` is the
--- index of the record in the schedule, counted from 0
+-- the events of one record, made from its times. The first event gets the number `number`. The
+-- index of the record in the schedule, counted from 0, is `place`
 abbrev pub events_here : ℕ → ℕ → List (Occasion × ℕ) → List Event
 events_here number place times =
     map (λ counted. record { number = counted.0; place = place; occasion = counted.1.0; time = counted.1.1 }) (enumerate_from number times)
 
--- the events of the last records of a schedule. The first event has this number, and `place` is the
--- index of the first of these records in the schedule, counted from 0
+-- the events of the last records of a schedule. The first event gets the number `number`. The index
+-- of the first of these records in the schedule, counted from 0, is `place`
 abbrev pub events_from : ℕ → ℕ → List (List ℕ) → List Event
 events_from number place [] = []
 events_from number place (line ∷ lines) = events_here number place (times_of line) ++ events_from (number + length (times_of line)) (place + 1) lines

@@ -22,11 +22,11 @@ pub record IsNamed (live : Table) (place uid : List ℕ) : Type 0 where
 
 -- the docker of the place may depend on the schedules of this UID. A schedule of the UID calls at
 -- the place, or the UID is the associated train of an association at the place. All schedules of
--- the UID are needed, since together they determine by which schedule the train runs
+-- the UID are then needed, since together they determine which of them is chosen on a day
 abbrev pub IsConcerned : Table → List ℕ → List ℕ → Type 0
 IsConcerned live place uid = HasCall live place uid ⊎ IsNamed live place uid
 
--- the docker of the place may depend on this key. The key is the place's TIPLOC, an association at
+-- the docker of the place may depend on this key: the key is the place's TIPLOC, an association at
 -- the place, or a schedule whose UID satisfies `IsConcerned`
 abbrev pub IsNeeded : Table → List ℕ → Key → Type 0
 IsNeeded live place (tiploc_key code) = code ≡ place

@@ -20,7 +20,7 @@ use Rattle.docker_model.specs.docker.Association.{IsAssociationLine, partner_sta
 use Rattle.docker_model.specs.docker.DockerList.{IsEventLine}
 use Rattle.docker_laws.specs.LiveRows.{Link}
 
--- this is a line of the docker, for an event or for an association
+-- the line is in the docker, as the line of an event or of an association
 abbrev pub IsDockerLine : Table → List ℕ → ℕ → DockerLine → Type 0
 IsDockerLine live place day line = IsEventLine live place day line ⊎ IsAssociationLine live place day line
 

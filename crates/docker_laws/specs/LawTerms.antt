@@ -9,11 +9,11 @@ use Rattle.docker_model.specs.run.Knowledge.{Holds}
 abbrev pub IsNear : ℕ → ℕ → Type 0
 IsNear start day = (start ≤ day) × (day ≤ start + 2)
 
--- each of these index rows is for the place
+-- each index row in the list is for this place
 abbrev pub AreAt : {K : Type 0} → List ℕ → List (List ℕ × K) → Type 0
 AreAt {K} place rows = (row : List ℕ × K) → Contains rows row → row.0 ≡ place
 
--- none of these index rows is for the place
+-- no index row in the list is for this place
 abbrev pub AreElsewhere : {K : Type 0} → List ℕ → List (List ℕ × K) → Type 0
 AreElsewhere {K} place rows = (row : List ℕ × K) → Contains rows row → ¬ (row.0 ≡ place)
 

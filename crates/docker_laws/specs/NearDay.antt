@@ -16,7 +16,8 @@ use Rattle.docker_laws.specs.ExcerptWalk.{excerpt_for}
 abbrev pub near_starts : ℕ → List ℕ
 near_starts day = (day + 1) ∷ day ∷ (day - 1) ∷ (day - 2) ∷ (day - 3) ∷ []
 
--- whether a basic schedule runs on a start day near the day. The argument is a whole record
+-- whether a schedule runs on a start day near the day. The second argument is the schedule's first
+-- record
 abbrev pub runs_near : ℕ → List ℕ → Bool
 runs_near day line = list_any (λ start. schedule_runs line start) (near_starts day)
 

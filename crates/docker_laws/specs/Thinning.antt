@@ -41,8 +41,8 @@ abbrev pub body_for : List ℕ → Body → Body
 body_for place (schedule_body lines) = schedule_body (lines_for place lines)
 body_for place body = body
 
--- whether the docker of the place may depend on this key, judged only by the key: the key is the
--- place's TIPLOC, an association at the place, or any schedule
+-- whether the docker of the place may depend on the body at this key, judged only by the key. The
+-- key must be the place's TIPLOC, an association at the place, or any schedule
 abbrev pub may_matter : List ℕ → Key → Bool
 may_matter place (tiploc_key code) = bytes_eq code place
 may_matter place (association_key key) = bytes_eq key.location place
@@ -97,7 +97,7 @@ AreAtMost highest changes = (change : Change) → Contains changes change → Is
 abbrev pub without : Key → List Change → List Change
 without key changes = filter (λ (change : Change). not (is_eq (key_cmp change.key key))) changes
 
--- this is the state after these changes of a file, which may be thin. The state has the file's
+-- `state` is the state after these changes of a file, which may be thin. The state has the file's
 -- ledger item and, at each key, the greatest of the entries that the changes leave
 pub record IsStateOfChanges (file : List (List ℕ)) (changes : List Change) (state : State) : Type 0 where
   pub horizon : state.horizon ≡ 0

@@ -1,6 +1,8 @@
 //! Laws of excerpts, which leave out entries of a state that the dockers of one place, or of one
-//! day, don't need. A law is a function with an empty body. Its contract states a fact, which holds
-//! for all values of the variables.
+//! day, don't need. A walk over a state's entries in key order computes an excerpt. In key order,
+//! the schedules of one UID are next to each other. Here they are called a *run*. The walk keeps or
+//! drops each run as a whole. A law is a function with an empty body. Its contract states a fact,
+//! which holds for all values of the variables.
 ghost use Rattle.std.specs.Prelude.{◌≡◌, ℕ, List, [], ◌∷◌, ◌++◌, ◌↔◌, ◌||◌, ◌⊎◌, Contains, filter, Bool, true, false, if◌then◌else◌};
 ghost use Rattle.docker_model.specs.file.Change.{Key, schedule_key, ScheduleKey};
 ghost use Rattle.docker_model.specs.state.Stamp.{LedgerItem, Stamp};
@@ -29,7 +31,7 @@ pub fn excerpt_has_one_docker()
         → IsExcerpt place live part → HasGoodBodies live → HasGoodBodies part }
 {}
 
-/// An excerpt of a valid state for a place is valid and has the same dockers of the place, and its
+/// An excerpt of a valid state for a place is valid. It has the same dockers of the place, and its
 /// horizon refuses the same days. The relation "is an excerpt of" is reflexive and transitive.
 pub fn excerpt_of_state()
     ensures valid { (place : List ℕ) (state part : State)
@@ -71,8 +73,9 @@ pub fn walk_leaves_excerpt()
 {}
 
 /// The walk that computes an excerpt can stop after any entry and continue from there, with the
-/// same result. The kept entries followed by the run are a sublist of the entries passed. If the
-/// entries passed may be the entries of a state, so may the kept entries followed by the run.
+/// same result. The walk has a list of kept entries and the run of the current UID. The kept
+/// entries, followed by the run, are a sublist of the entries that the walk has passed. If a state
+/// may have the passed entries, it may also have this sublist.
 pub fn excerpt_in_a_walk()
     ensures none { (place : List ℕ) → kept_so_far place [] ≡ nothing_kept }
     ensures more { (place : List ℕ) (entries : List (Key × Entry)) (entry : Key × Entry)
@@ -120,9 +123,9 @@ pub fn excerpt_by_entry()
         ≡ record { kept = kept_after_run place so_far; run = (schedule_key key, entry) ∷ [] } }
 {}
 
-/// At its end, a run is kept as a whole if it is needed, and dropped otherwise. A run is needed if
-/// its UID is the associated train of a live association at the place, or if one of its live
-/// schedules calls at the place.
+/// A run is all entries for the schedules of one UID. At the end of a run, the walk keeps the whole
+/// run if it is needed, and otherwise drops it. A run is needed if its UID is the associated train
+/// of a live association at the place, or if one of its live schedules calls at the place.
 pub fn run_of_one_uid()
     ensures keeps { (place : List ℕ) (so_far : ExcerptSoFar)
         → is_run_needed place so_far ≡ true
@@ -152,9 +155,10 @@ pub fn run_of_one_uid()
         → Contains (kept_so_far place entries).run one → has_uid uid one.0 ≡ true }
 {}
 
-/// A loop computes the excerpt. It keeps three values: the kept entries, the run, and a flag that
-/// says whether the run is needed. At the start both lists are empty. At the end the entries of the
-/// excerpt are the kept entries, followed by the run if it is needed.
+/// A loop can compute the excerpt from three values: the kept entries, the run of the current UID,
+/// and a flag that says whether the run is needed. At the start the kept entries and the run are
+/// empty. At the end the entries of the excerpt are the kept entries, followed by the run if it is
+/// needed.
 pub fn excerpt_in_a_loop()
     ensures first { (place : List ℕ) → HasKept place [] [] [] false }
     ensures alone { (place : List ℕ) (state : State) (kept run : List (Key × Entry))
@@ -243,8 +247,8 @@ pub fn excerpt_on_has_one_docker()
         ↔ IsDockerText (live_table (excerpt_on place day state)) place day text }
 {}
 
-/// The entries that may count on a day can be found entry by entry. An appended entry is appended
-/// to the result if the entry may count, and otherwise the result is unchanged.
+/// The entries of a state that may count on a day can be found entry by entry. Each entry that may
+/// count is appended to the result, and any other entry leaves the result unchanged.
 pub fn near_by_entry()
     ensures none { (day : ℕ) → near_entries day [] ≡ [] }
     ensures stays { (day : ℕ) (entries : List (Key × Entry)) (entry : Key × Entry)

@@ -47,8 +47,8 @@ pub fn excerpt_of_thinned_has_one_docker()
 {}
 
 /// If one table may replace another for a place and a day, both have the same docker of the place
-/// on the day. The bodies of both tables must be well formed. The thinned table may replace the
-/// table.
+/// on the day. The bodies of both tables must be well formed. A table may be replaced by its
+/// thinned table.
 pub fn stand_in_has_one_docker()
     ensures list { (place : List ℕ) (day : ℕ) (live part : Table) (lines : List DockerLine)
         → HasGoodBodies live → HasGoodBodies part → StandsFor place day live part
@@ -107,10 +107,10 @@ pub fn thin_lines_in_a_walk()
         || (is_location (kind_of line) && bytes_eq (columns 3 9 line) place)) }
 {}
 
-/// A put of a schedule becomes a deletion in its thin form if the schedule runs on no start day
-/// near the day. Otherwise, if the schedule doesn't call at the place, the put becomes a put of the
-/// thin records. Any other act is unchanged. Whether a schedule runs near the day doesn't depend on
-/// its transaction.
+/// If a schedule runs on no start day near the day, the thin form of its put is a deletion.
+/// Otherwise, if the schedule doesn't call at the place, the thin form is a put of the thin
+/// records. Any other act is unchanged. Whether a schedule runs near the day doesn't depend on its
+/// transaction.
 pub fn thin_act_by_case()
     ensures deletes { (place : List ℕ) (day : ℕ) → thin_act place day delete ≡ delete }
     ensures tiploc { (place : List ℕ) (day : ℕ) (bytes : List ℕ)
@@ -173,9 +173,10 @@ pub fn nothing_kept_of_a_key_above()
         → AreAtMost change.key (kept ++ change ∷ []) }
 {}
 
-/// The table after the kept changes equals the thinned table after all changes. Applying the thin
-/// changes to a thinned table equals applying all changes to the table and then thinning the
-/// result. The kept changes of a file are well formed.
+/// A reader may keep the thin forms of only some changes. The table after the kept changes equals
+/// the thinned table after all changes. Applying the thin changes to a thinned table equals
+/// applying all changes to the table and then thinning the result. The kept changes of a file are
+/// well formed.
 pub fn kept_changes_make_the_thinned_table()
     ensures table { (place : List ℕ) (day : ℕ) (all kept : List Change) (key : Key)
         → IsThinning place day all kept

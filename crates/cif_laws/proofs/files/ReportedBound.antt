@@ -1,5 +1,5 @@
--- If the first bytes of a text determine no fault, their number is bounded: at most 82 for each
--- complete line with its line feed, and at most 81 for the incomplete line.
+-- If the first bytes of a text determine no fault, their number is bounded. Each complete line has
+-- at most 82 bytes with its line feed, and the incomplete line has at most 81.
 use Rattle.std.proofs.Common.{◌≡◌, ℕ, List, length, [], ◌∷◌, Some, ◌+◌, ◌<◌, arith, refl, ap, Bool, true, false, ◌*◌, ◌≤◌, map, ◌⊎◌, inl, inr}
 use Rattle.std.specs.Prelude.{◌==◌}
 use Rattle.std.specs.List.{AllByRecursion, onto_first, slice_split}

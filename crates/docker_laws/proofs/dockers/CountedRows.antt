@@ -1,5 +1,5 @@
--- Filtering the rows of a table by a test of their keys gives the rows of the restricted table,
--- which has only the keys that pass the test.
+-- A restricted table has only the keys that pass a test. Its rows are the rows of the whole table
+-- whose keys pass the test.
 use Rattle.std.proofs.Common.{◌≡◌, ℕ, List, refl, ap, sym, ◌∙◌, Bool, true, false, cond, Some, None, Contains}
 use Rattle.std.specs.Prelude.{◌↔◌}
 use Rattle.std.specs.Ordering.{on}

@@ -85,7 +85,7 @@ time_of_line lines event k line low is place among =
       is_time = subst (λ l. Contains (times_of l) (event.occasion, event.time)) (sym line_is) among;
     }
 
--- each time in `placed_times` is a time of the record with the same index
+-- each time in `placed_times` comes with the index of a record, and is a time of that record
 time_of_placed : (lines : List (List ℕ)) (placed : Placed) → Contains (placed_times lines) placed
     → (line : List ℕ) × (placed.0 < length lines) × (get_or lines placed.0 [] ≡ line) × Contains (times_of line) placed.1
 time_of_placed lines placed among =

@@ -1,6 +1,6 @@
--- An excerpt of a valid state for a place is valid and has the same dockers of the place, and its
--- horizon refuses the same days. The entries whose keys are needed for these dockers are an
--- excerpt.
+-- An excerpt of a valid state for a place is valid. It has the same dockers of the place, and its
+-- horizon refuses the same days. One excerpt of a state has exactly the entries whose keys the
+-- docker of the place needs.
 use Rattle.std.proofs.Common.{◌++◌, ◌≡◌, ℕ, List, [], ◌∷◌, subst, inl, inr, ◌⊎◌, refl, ap, sym, ◌∙◌, Bool, true, false, cond, Some, None}
 use Rattle.std.specs.Prelude.{Option, ◌↔◌, ◌&&◌, ◌||◌, filter, find, option_and_then}
 use Rattle.std.specs.List.{list_any}
@@ -33,7 +33,7 @@ use Rattle.state_laws.proofs.indexes.CallsTest.{any_forth, calls_test}
 
 -- ---- an excerpt of a valid state is valid
 
--- if entries may be the entries of a state with a ledger, so may a sublist of these entries
+-- if a state with a ledger may have a list of entries, it may also have any sublist of the list
 pub some_entries : (ledger : List LedgerItem) (some all : List Keyed) → AreEntries ledger all → IsSublist some all → AreEntries ledger some
 some_entries ledger some all are is = (
   sublist_all (IsGoodEntry ledger) some all is are.0,
@@ -51,8 +51,8 @@ still_here state part key stamp is same here = (
   subst (λ ledger. IsStampIn ledger stamp) (sym same) here.1,
 )
 
--- if an entry may follow the entries of a state, a state with the same ledger may have these
--- entries with that entry appended
+-- if an entry may follow the entries of a state, a state with the same ledger may have the same
+-- entries and this entry after them
 pub entries_more : (state : State) (key : Key) (entry : Entry) → AreEntries state.ledger state.entries → IsStampHere state key entry.stamp
     → IsOpOf key entry.op
     → AreEntries state.ledger (state.entries ++ (key, entry) ∷ [])

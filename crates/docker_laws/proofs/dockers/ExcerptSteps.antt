@@ -1,5 +1,6 @@
 -- Lemmas on the walk that computes an excerpt. They say which entries are kept after each step and
--- at the end.
+-- at the end. In key order the schedules of one UID are next to each other and form a run, which
+-- the walk keeps or drops as a whole.
 use Rattle.std.proofs.Common.{All, ◌≡◌, ℕ, List, [], ◌∷◌, ◌++◌, subst, inl, inr, ◌⊎◌, refl, ap, sym}
 use Rattle.std.proofs.Common.{◌∙◌, Bool, true, false, cond, Some, Contains, append-nil, append_assoc}
 use Rattle.std.specs.Prelude.{Option, ◌||◌, ◌↔◌, filter, fold, option_and_then}
@@ -117,12 +118,12 @@ module _ (place : List ℕ) where
   within_more done so_far (tiploc_key code) entry here = within_other done so_far (tiploc_key code, entry) (is_here place (tiploc_key code)) here
   within_more done so_far (association_key key) entry here = within_other done so_far (association_key key, entry) (is_here place (association_key key)) here
 
-  -- the kept entries followed by the run are a sublist of the entries passed
+  -- the kept entries followed by the run are a sublist of the entries that the walk has passed
   pub so_far_within : (entries : List Keyed) → IsSublist ((kept_so_far place entries).kept ++ (kept_so_far place entries).run) entries
   so_far_within = all_along place Within (λ done so_far x here. within_more done so_far x.0 x.1 here) tt
 
-  -- if the entries passed may be the entries of a state, so may the kept entries followed by the
-  -- run
+  -- if a state may have the entries that the walk has passed, it may also have the kept entries
+  -- followed by the run
   pub so_far_good : (ledger : List LedgerItem) (entries : List Keyed) → AreEntries ledger entries
       → AreEntries ledger ((kept_so_far place entries).kept ++ (kept_so_far place entries).run)
   so_far_good ledger entries are =
@@ -288,11 +289,11 @@ module _ (place : List ℕ) (so_far : ExcerptSoFar) where
       cond (stops i) (record { kept = so_far.kept; run = so_far.run ++ (schedule_key key, entry) ∷ [] })
       (record { kept = kept_after_run place so_far; run = (schedule_key key, entry) ∷ [] })
 
-  -- a run that is needed is kept
+  -- at its end, a run that is needed is kept
   pub keeps_run : is_run_needed place so_far ≡ true → kept_after_run place so_far ≡ so_far.kept ++ so_far.run
   keeps_run needed = λ i. cond (needed i) (so_far.kept ++ so_far.run) so_far.kept
 
-  -- a run that isn't needed is dropped
+  -- at its end, a run that isn't needed is dropped
   pub drops_run : is_run_needed place so_far ≡ false → kept_after_run place so_far ≡ so_far.kept
   drops_run unneeded = λ i. cond (unneeded i) (so_far.kept ++ so_far.run) so_far.kept
 

@@ -1,5 +1,5 @@
--- A loop can compute an excerpt. It keeps three values: the kept entries, the run, and a flag that
--- says whether the run is needed.
+-- A loop can compute an excerpt from three values: the kept entries, the run, and a flag that says
+-- whether the run is needed. A run is all entries for the schedules of one UID.
 use Rattle.std.proofs.Common.{◌≡◌, ℕ, List, [], ◌∷◌, ◌++◌, subst, refl, ap, sym, ◌∙◌, Bool, true, false, cond, Contains}
 use Rattle.std.specs.Prelude.{◌||◌, ◌↔◌}
 use Rattle.docker_model.specs.file.Change.{Key, schedule_key, ScheduleKey}
@@ -87,17 +87,17 @@ module _ (place : List ℕ) (entries kept run : List Keyed) (needed : Bool) (has
           same_tests (is_run_named (names_in (cond needed (kept ++ run) kept)) ((schedule_key key, entry) ∷ [])) named (λ h. tells.1 (told.0 h))
           (λ h. told.1 (tells.0 h))
 
-  -- the kept entries followed by the run are a sublist of the entries passed
+  -- the kept entries followed by the run are a sublist of the entries that the loop has passed
   pub kept_within : IsSublist (kept ++ run) entries
   kept_within = subst (λ (so_far : ExcerptSoFar). IsSublist (so_far.kept ++ so_far.run) entries) has.so_far (so_far_within place entries)
 
-  -- if the entries passed may be the entries of a state, so may the kept entries followed by the
-  -- run
+  -- if a state may have the entries that the loop has passed, it may also have the kept entries
+  -- followed by the run
   pub kept_good : (ledger : List LedgerItem) → AreEntries ledger entries → AreEntries ledger (kept ++ run)
   kept_good ledger are = subst (λ (so_far : ExcerptSoFar). AreEntries ledger (so_far.kept ++ so_far.run)) has.so_far (so_far_good place ledger entries are)
 
 module _ (place : List ℕ) (state : State) (kept run : List Keyed) (needed : Bool) (has : HasKept place state.entries kept run needed) where
-  -- when the walk reaches a TIPLOC or an association, its run is empty
+  -- when the loop reaches a TIPLOC or an association, its run is empty
   pub kept_alone : (key : Key) → IsAboveEntries state key → ((uid : List ℕ) → has_uid uid key ≡ false) → run ≡ []
   kept_alone key above never = sym (ap (λ (so_far : ExcerptSoFar). so_far.run) has.so_far) ∙ no_run_before place state.entries key above never
 

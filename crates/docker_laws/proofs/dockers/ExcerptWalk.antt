@@ -306,7 +306,7 @@ module _ (place : List ℕ) (all : List Keyed) (order : AllLater Below all) wher
   regrouped done run rest x =
       sym (append_assoc (done ++ run) (x ∷ []) rest) ∙ ap (λ (xs : List Keyed). xs ++ rest) (append_assoc done run (x ∷ []))
 
-  -- a schedule with the run's UID, appended to the run, preserves the invariant
+  -- appending a schedule with the run's UID to the run preserves the invariant
   joins : (done : List Keyed) (so_far : ExcerptSoFar) (key : ScheduleKey) (entry : Entry) (rest : List Keyed)
       → IsAt place all done so_far ((schedule_key key, entry) ∷ rest) → goes_on so_far.run key.uid ≡ true
       → IsAt place all done (record { kept = so_far.kept; run = so_far.run ++ (schedule_key key, entry) ∷ [] }) rest
@@ -349,7 +349,7 @@ module _ (place : List ℕ) (all : List Keyed) (order : AllLater Below all) wher
           hit (between_uid r.0 (schedule_key key) y.0 other (run_below done so_far (schedule_key key, entry) rest at r in_run)
           (next_below done so_far (schedule_key key, entry) rest at y there) of_r of_y)
 
-  -- a schedule with another UID, as the first entry of the next run, preserves the invariant
+  -- beginning the next run with a schedule of another UID preserves the invariant
   begins : (done : List Keyed) (so_far : ExcerptSoFar) (key : ScheduleKey) (entry : Entry) (rest : List Keyed)
       → IsAt place all done so_far ((schedule_key key, entry) ∷ rest) → goes_on so_far.run key.uid ≡ false
       → IsAt place all (done ++ so_far.run) (record { kept = kept_after_run place so_far; run = (schedule_key key, entry) ∷ [] }) rest
@@ -372,7 +372,7 @@ module _ (place : List ℕ) (all : List Keyed) (order : AllLater Below all) wher
           at.apart z y other here (Contains-append_right so_far.run ((schedule_key key, entry) ∷ rest) y behind) of_z of_y
       by z y other (inr here) behind of_z of_y = ended z y other here behind of_z of_y
 
-  -- the invariant holds for some list of passed entries
+  -- the invariant holds for some list `done` of passed entries
   abbrev Goes : ExcerptSoFar → List Keyed → Type 0
   Goes so_far rest = (now : List Keyed) × IsAt place all now so_far rest
 

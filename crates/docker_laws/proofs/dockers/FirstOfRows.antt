@@ -1,6 +1,6 @@
 -- The first value, in an order, that has a property. A search in a list finds this value under two
--- conditions. The list has each value with the property, and a value passes the test if and only if
--- the value has the property.
+-- conditions. The list must have each value with the property, and a value must pass the test if
+-- and only if it has the property.
 use Rattle.std.proofs.Common.{◌≡◌, List, refl, sym, ◌∙◌, Some, None, Bool, true, Contains}
 use Rattle.std.specs.Prelude.{Option, find}
 use Rattle.std.specs.declared.cmp.Ordering.{Ordering}
@@ -10,8 +10,8 @@ use Rattle.docker_laws.specs.Best.{IsBest}
 use Rattle.cif_laws.proofs.lists.BoolsAndOptions.{true_is_not}
 use Rattle.cif_laws.proofs.orders.Least.{is_least, found_least, none_passes}
 
--- this is the first value with the property: the value has the property, and no other value with
--- the property comes before it. The first value is `None` if no value has the property
+-- the option is the first value with the property: the value has the property, and no other value
+-- with the property comes before it. The option is `None` if no value has the property
 abbrev pub IsFirst : {A : Type 0} → (A → A → Ordering) → (A → Type 0) → Option A → Type 0
 IsFirst {A} cmp Is None = (x : A) → ¬ Is x
 IsFirst {A} cmp Is (Some x) = Is x × ((other : A) → Is other → IsAtMost cmp x other)

@@ -1,5 +1,5 @@
--- The bodies in the live table of a valid state are well formed. The rows of the table are the
--- state's puts.
+-- The bodies in the live table of a valid state are well formed. Each of these bodies belongs to an
+-- entry of the state.
 use Rattle.std.proofs.Common.{◌≡◌, refl, ap, sym, ◌∙◌, subst, Some, None, Contains}
 use Rattle.std.specs.Prelude.{Option, find}
 use Rattle.std.specs.Ordering.{is_eq}

@@ -174,7 +174,7 @@ list_over one other place day forth back lines is = record {
 
 -- ---- leaving out schedules that don't run near a day leaves the dockers unchanged
 
--- this key may be left out: its body is a schedule that runs on no start day near the day
+-- the key may be left out: its body is a schedule that runs on no start day near the day
 abbrev pub IsLeftOut : ℕ → Table → Key → Type 0
 IsLeftOut day live key = (lines : List (List ℕ)) × (live key ≡ Some (schedule_body lines)) × (runs_near day (first_record lines) ≡ false)
 

@@ -20,7 +20,7 @@ use Rattle.cif_laws.proofs.lists.Membership.{Contains-single, Contains-cons, con
 use Rattle.cif_laws.proofs.lists.FilteredMembers.{filter_back}
 use Rattle.state_laws.proofs.indexes.CallsTest.{calls_test}
 
--- the records that are an origin or a terminus
+-- the origins and termini among these records
 abbrev ends_in : List (List ℕ) → List (List ℕ)
 ends_in lines = filter (λ line. is_end (kind_of line)) lines
 
@@ -153,7 +153,7 @@ module _ (lines : List (List ℕ)) (is : IsSchedule lines) where
         subst (λ ls. Contains ls journey.last) (sym journey.whole)
         (Contains-append_right (journey.first ∷ journey.between) (journey.last ∷ []) journey.last (cons-Contains-first journey.last []))
 
-    -- a property of each record of the journey is a property of its origin and its terminus
+    -- if each record of the journey has a property, so have its origin and its terminus
     of_ends : (P : List ℕ → Type 0) → ((line : List ℕ) → Contains is.journey line → P line) → All P (journey.first ∷ journey.last ∷ [])
     of_ends P each = all_members P (journey.first ∷ journey.last ∷ [])
         (λ line among. by line (Contains-cons journey.first (journey.last ∷ []) line among))

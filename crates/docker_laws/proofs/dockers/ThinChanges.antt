@@ -54,7 +54,8 @@ after_here table change key h = λ i. cond (h i) (left_by change.act) (table key
 after_there : (table : Table) (change : Change) (key : Key) → is_of key change ≡ false → after_change table change key ≡ table key
 after_there table change key h = λ i. cond (h i) (left_by change.act) (table key)
 
--- two tables with the same body at a key have the same body at this key after thinning
+-- if two tables have the same body at a key, the two thinned tables also have the same body at this
+-- key
 left_at : (place : List ℕ) (day : ℕ) (one other : Table) (key : Key) → one key ≡ other key → thinned place day one key ≡ thinned place day other key
 left_at place day one other key same = λ i. cond (may_matter place key) (option_and_then (thin_body place day) (same i)) None
 
@@ -96,7 +97,7 @@ module _ (place : List ℕ) (day : ℕ) where
 
   -- ---- thinning commutes with all changes of a list
 
-  -- the changes to keys that may matter
+  -- the changes whose keys may matter at the place
   abbrev matter : List Change → List Change
   matter changes = filter (λ (change : Change). may_matter place change.key) changes
 
@@ -345,8 +346,8 @@ module _ (place : List ℕ) (day : ℕ) where
       enough = enough_replaced place day changes kept change is.enough matters;
     }
 
--- a thinning can be continued: of any later changes, it is enough to keep the thin forms of those
--- whose keys may matter
+-- a thinning can be continued: of the later changes, it is enough to keep, in its thin form, each
+-- change whose key may matter
 pub thinning_more : (place : List ℕ) (day : ℕ) (all kept more : List Change) → IsThinning place day all kept
     → IsThinning place day (all ++ more) (kept ++ thin_changes place day more)
 thinning_more place day all kept [] is =
@@ -411,8 +412,8 @@ none_above highest key kept low below change among same =
 pub none_at_first : (highest : Key) → AreAtMost highest []
 none_at_first highest change among = absurd (nil-Contains change among)
 
--- if a change is kept whose key is at most an upper bound of the kept keys, the bound is still an
--- upper bound
+-- if one more change is kept, and its key isn't above an upper bound of the kept keys, the bound is
+-- still an upper bound
 pub still_at_most : (highest : Key) (kept : List Change) (change : Change) → AreAtMost highest kept → IsAtMost key_cmp change.key highest
     → AreAtMost highest (kept ++ change ∷ [])
 still_at_most highest kept change low more other among = by (Contains-append_cases kept (change ∷ []) other among)
@@ -421,8 +422,8 @@ still_at_most highest kept change low more other among = by (Contains-append_cas
     by (inl before) = low other before
     by (inr last) = subst (λ (c : Change). IsAtMost key_cmp c.key highest) (Contains-single change other last) more
 
--- if a change is kept whose key is above an upper bound of the kept keys, the key of this change is
--- an upper bound
+-- if one more change is kept, and its key is above an upper bound of the kept keys, this key is the
+-- new upper bound
 pub raised_at_most : (highest : Key) (kept : List Change) (change : Change) → AreAtMost highest kept → IsBelow key_cmp highest change.key
     → AreAtMost change.key (kept ++ change ∷ [])
 raised_at_most highest kept change low below =

@@ -72,8 +72,9 @@ needed_stand_in place day lines = by (calls_at place lines) refl
 -- ---- two tables have the same docker if each has all parts that the docker needs
 
 -- the table `other` has all parts of `one` that the docker needs. For each schedule of `one` that
--- runs near the day, `other` has a schedule that may replace it. The table `other` also has each
--- association at the place
+-- runs near the day, `other` has a schedule that may replace it. Each association of `one` at the
+-- place is also in `other`. A schedule of `one` that calls at the place passes midnight at most
+-- twice
 record Covers (one other : Table) (place : List ℕ) (day : ℕ) : Type 0 where
   runs : (start : ℕ) → IsStartNear day start → (uid : List ℕ) (key : ScheduleKey) (lines : List (List ℕ)) → IsRunning one uid start key lines
       → (others : List (List ℕ)) × IsRunning other uid start key others × IsStandIn place day lines others
@@ -138,7 +139,7 @@ module _ (one other : Table) (place : List ℕ) (day : ℕ) (forth : Covers one 
         is = is.is;
       }
 
--- on a start day near the day, a UID has the same train identity in both tables
+-- on a start day near the day, the train of a UID has the same identity in both tables
 module _ (one other : Table) (place : List ℕ) (day : ℕ) (forth : Covers one other place day) (back : Covers other one place day) where
   identity_over : (start : ℕ) → IsStartNear day start → (uid identity : List ℕ) → IsIdentityOn one uid identity start → IsIdentityOn other uid identity start
   identity_over start near uid identity (inl runs) =

@@ -97,11 +97,11 @@ module _ (place : List ℕ) (day : ℕ) (file : List (List ℕ)) (kept : List Ch
   was_change change among =
       Contains-map (thin_change place day) (changes file) change (sublist_member kept (map (thin_change place day) (changes file)) change is.some among)
 
-  -- the live table is the thinning of the table after the file's changes
+  -- the live table of the state is the thinned table after the file's changes
   pub thin_live : (state : State) → IsStateOfChanges file kept state → (key : Key) → live_table state key ≡ thinned place day (after_file empty_table file) key
   thin_live state of key = live_is_made file kept state of kept_apart key ∙ is.enough key
 
--- the op of the thin form of an act is well formed for the same key
+-- if the op of an act is well formed for a key, so is the op of the act's thin form
 thin_op : (place : List ℕ) (day : ℕ) (key : Key) (act : Act) → IsOpOf key (op_of act) → IsOpOf key (op_of (thin_act place day act))
 thin_op place day key delete good = tt
 thin_op place day key (put body) good = by (may_count day (put_with body))

@@ -20,7 +20,7 @@ use Rattle.docker_laws.proofs.dockers.FirstOfRows.{IsFirst, best_is_first, found
 by_key : IsTotalOrder (on (λ (train : Train). train.key) schedule_choice_cmp)
 by_key = on_total (λ (train : Train). train.key) schedule_choice_total
 
--- the schedule in a row has the row's key and the row's body
+-- if a row has a schedule, the row's key and body are the key and body of this schedule
 row_is : (key : Key) (body : Body) (train : Train) → schedule_of key body ≡ Some train → (key ≡ schedule_key train.key) × (body ≡ schedule_body train.lines)
 row_is (schedule_key key) (schedule_body lines) train is =
     let e : record { key = key; lines = lines } ≡ train = some_is (record { key = key; lines = lines }) train is in

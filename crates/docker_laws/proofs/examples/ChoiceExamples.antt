@@ -107,7 +107,7 @@ one_of_three other others h = by (in_state three (schedule_key other) (schedule_
         first (inr rest) =
             inr (second (Contains-cons (placed (key_of 23538 79) overlay) (placed (key_of 23541 67) cancellation ∷ []) (schedule_key other, found.0) rest))
 
--- on 11 June the cancellation doesn't run, since it is for another day
+-- the cancellation doesn't apply on 11 June, since it is for another day
 cancelled_not : schedule_runs (first_record cancellation) 23538 ≡ false
 unfolding days_from_civil day_count days_of_years days_of_months
 cancelled_not = refl
@@ -134,7 +134,7 @@ overlay_chosen = record { running = overlay_runs; first = λ other others runnin
         not_both : false ≡ true → ⊥
         not_both h = cc
 
--- on 14 June the cancellation runs
+-- the cancellation applies on 14 June
 cancellation_runs : IsRunning (live_table three) (codes "C10001") 23541 (key_of 23541 67) cancellation
 unfolding days_from_civil day_count days_of_years days_of_months
 cancellation_runs = record { uid_is = refl; is_live = refl; runs_then = refl }

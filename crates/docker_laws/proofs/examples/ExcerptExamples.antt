@@ -47,7 +47,7 @@ one_day uid identity origin terminus =
     ∷ lo origin no_text (codes "2300") no_text (codes "1") no_text
     ∷ lt terminus no_text (codes "2350") no_text (codes "1") no_text ∷ []
 
--- the key of a schedule
+-- the key of a schedule with this UID, this first day and this STP indicator
 abbrev pub key_of : List ℕ → ℕ → ℕ → ScheduleKey
 key_of uid day letter = record { uid = uid; runs_from = day; indicator = letter }
 
@@ -226,7 +226,7 @@ identity_there =
       refl,
     )
 
--- without the associated train the docker couldn't print its identity
+-- if the state doesn't have the associated train, the docker can't print its identity
 identity_lost : ¬ IsPartnerIdentity (live_table parted) (codes "C40002") (Some 23537) (codes "4D42")
 identity_lost (inl runs) = no_partner runs.0 runs.1 runs.2.chosen.running.uid_is runs.2.chosen.running.is_live
 identity_lost (inr none) = let first : ◌≡◌ {A = ℕ} 52 63 = ap (λ bytes. slice_index bytes 0) none.1 in omega arith

@@ -75,8 +75,8 @@ all_changes =
     ∷ change_of 6 (schedule_key stops_key) (put (schedule_body stops)) ∷ change_of 9 (schedule_key short_key) (put (schedule_body way_round))
     ∷ change_of 13 (schedule_key (key_of (codes "C40003") 23528 80)) (put (schedule_body long_ago)) ∷ []
 
--- for COLWELL on 11 June these changes are kept: the TIPLOC of COLWELL, its association, the train
--- that calls at COLWELL, the overlay in its thin form, and a deletion
+-- for COLWELL on 11 June five changes are kept: puts of the TIPLOC, the association at COLWELL, the
+-- train that calls there and the thin overlay, and a deletion
 kept_of_all : thin_changes place 23538 all_changes
     ≡ change_of 3 (tiploc_key (codes "COLWELL")) (put (tiploc_body (spaces 63))) ∷ change_of 4 (association_key link_key) (put (association_body link))
     ∷ change_of 6 (schedule_key stops_key) (put (schedule_body stops)) ∷ change_of 9 (schedule_key short_key) (put (schedule_body short))
@@ -120,7 +120,7 @@ same_schedule : (key other : ScheduleKey) → is_eq (schedule_key_cmp key other)
 unfolding schedule_in
 same_schedule key other h = ap schedule_in (same_key (schedule_key key) (schedule_key other) h)
 
--- the table after `stops_alone` has no other schedule
+-- the table after `stops_alone` has no schedule with a key other than `stops_key`
 only_stops : (other : ScheduleKey) (others : List (List ℕ)) → table_of stops_alone (schedule_key other) ≡ Some (schedule_body others) → stops_key ≡ other
 only_stops other others h = by (is_eq (schedule_key_cmp stops_key other)) refl h
   where
@@ -178,7 +178,7 @@ revision_removes =
     kept : thin_changes place 23543 stops_alone ≡ stops_alone
     kept = refl
 
--- after the revision, the key of the revised schedule has no other body
+-- after the revision, `ended` is the only schedule in the table
 revised_is : (other : ScheduleKey) (others : List (List ℕ)) → table_of revised (schedule_key other) ≡ Some (schedule_body others) → ended ≡ others
 revised_is other others h = by (is_eq (schedule_key_cmp stops_key other)) h
   where
