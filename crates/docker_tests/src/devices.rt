@@ -1,4 +1,4 @@
-//! Tests with devices that fail midway, that are full, or that never end.
+//! Tests with devices that fail midway, with sinks that are full, and with sources that never end.
 ghost use Rattle.std.specs.Prelude.{◌<◌};
 
 use crate::compare::same;

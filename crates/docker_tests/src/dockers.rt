@@ -382,7 +382,7 @@ fn past_midnight(rt: HostRuntime) {
     are_printed(&rt, rt.alloc(), NIGHTS);
 }
 
-/// Rows with days far in the past or the future, and with places that have a description.
+/// Rows with days far in the past or in the future, and rows with places that have a description.
 const OTHERS: &[Row] = &[
     (
         &[NO_END],

@@ -1,4 +1,4 @@
-//! Tests of the status and the printed line of each fault.
+//! Tests of the program's status and printed line for each fault.
 
 use crate::compare::same;
 use cif_file::{FileCause, FileFault};

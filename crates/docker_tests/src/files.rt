@@ -5,17 +5,17 @@ use crate::records::*;
 /// The records of a file, in order.
 pub(crate) type File = &'static [&'static str];
 
-/// A train that is put, and then revised to run on Friday 14 June only. So the docker of 10 June
-/// can't list the train.
+/// A file that puts a train and then revises it to run on Friday 14 June only. So the docker of 10
+/// June can't list the train.
 pub(crate) const PUT_AND_REVISED: File = &[HD, BS, LO, LT, BS_FRIDAY, LO_0905, LT_0935, ZZ];
 
-/// A train that is revised to run on Friday 14 June only, and then put.
+/// A file that revises a train to run on Friday 14 June only, and then puts it on all weekdays.
 pub(crate) const REVISED_AND_PUT: File = &[HD, BS_FRIDAY, LO_0905, LT_0935, BS, LO, LT, ZZ];
 
-/// A train that is put, deleted and put again.
+/// A file that puts a train, deletes it and puts it again.
 pub(crate) const PUT_AGAIN: File = &[HD, BS, LO, LT, BS_DELETED, BS, LO_0905, LT_0935, ZZ];
 
-/// A train that is put and then deleted.
+/// A file that puts a train and then deletes it.
 pub(crate) const PUT_AND_DELETED: File = &[HD, BS, LO, LT, BS_DELETED, ZZ];
 
 /// One train from Ashfeld to Brayton, on weekdays from 10 to 14 June 2024.
@@ -102,7 +102,7 @@ pub(crate) const THREE_NIGHTS: File = &[
     ZZ,
 ];
 
-/// A train that calls at Colwell twice. Another train divides from it at the second call.
+/// A train that calls at Colwell twice. Another train divides from this train at the second call.
 pub(crate) const DIVISION: File = &[
     HD,
     BS_C30001,
@@ -179,7 +179,7 @@ pub(crate) const DAY_BEFORE: File = two_trains!(BS_C40001, AA_P);
 /// A train to Colwell and its next working. The association has an unknown date indicator.
 pub(crate) const UNKNOWN_INDICATOR: File = two_trains!(BS_C40001, AA_X);
 
-/// Two trains, the first to Colwell, with an association of an unknown category.
+/// Two trains with an association of an unknown category. The first train runs to Colwell.
 pub(crate) const UNKNOWN_CATEGORY: File = two_trains!(BS_C40001, AA_OTHER);
 
 /// A train to Colwell and its next working, on the last day of the calendar.

@@ -1,4 +1,4 @@
-//! Tests of jobs that are named by the first line of a source.
+//! Tests of jobs whose words are the first line of a source.
 ghost use Rattle.std.specs.Prelude.{None, false};
 
 use crate::compare::{same, same_in};
@@ -57,8 +57,8 @@ fn line_of(rt: &impl Abort, alloc: Global, spaces: usize, end: &[u8]) -> Vec<u8>
     line
 }
 
-/// Asserts whether the line with this number of spaces and this end names a job or is refused for
-/// this fault.
+/// Asserts that the line with this number of spaces and this end is refused for this fault, or that
+/// it names a job if there is no fault.
 fn fault_is(
     rt: &impl Abort,
     alloc: Global,
@@ -81,7 +81,8 @@ fn lengths_of_a_job_line(rt: HostRuntime) {
     fault_is(&rt, rt.alloc(), 1, b"", usage, "no line feed");
 }
 
-// An endless source. Contracts don't know which bytes it holds. Each read returns the letter a.
+// An endless source. Each of its reads returns the letter a, but no contract says which bytes the
+// source holds.
 #[derive(Drop)]
 struct Endless {
     reads: u16,

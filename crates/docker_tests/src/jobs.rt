@@ -1,4 +1,4 @@
-//! Tests of jobs that are named by words.
+//! Tests of the jobs that the words of a command name.
 
 use crate::compare::same_of;
 use cif_line::{Day, Tiploc};

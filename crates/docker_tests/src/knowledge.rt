@@ -1,5 +1,5 @@
-//! Works out what offices know in a run, from the events and replies of the run only. Also makes
-//! the state of that knowledge without an office.
+//! Works out what offices know in a run, only from the events and replies of the run. Also makes
+//! the state that belongs to this knowledge, without an office.
 
 use crate::files::*;
 use crate::offices::text_of;
@@ -14,7 +14,7 @@ use std::process::Abort;
 /// The number of offices.
 pub(crate) const OFFICES: usize = 3;
 
-/// The files that an office may take. The first two are refused.
+/// The files that an office may take. Offices refuse the first two.
 pub(crate) const FILES: [File; 18] = [
     OPEN,
     THREE_NIGHTS,
@@ -36,7 +36,7 @@ pub(crate) const FILES: [File; 18] = [
     FULL,
 ];
 
-/// The faults for which the first two files are refused.
+/// The faults for which offices refuse the first two files.
 const REFUSED: [FileFault; 2] = [
     FileFault {
         number: 5,
@@ -63,35 +63,35 @@ pub(crate) fn texts_of_files(rt: &impl Abort, alloc: Global) -> Vec<Vec<u8>> {
 pub(crate) enum Step {
     /// The office takes a file.
     Take {
-        /// The office.
+        /// The index of the office.
         office: usize,
-        /// The file.
+        /// The index of the file in `FILES`.
         file: usize,
     },
     /// The office sends its state.
     Send {
-        /// The office.
+        /// The index of the office.
         office: usize,
     },
     /// A message is delivered to an office.
     Deliver {
-        /// The office.
+        /// The index of the office.
         office: usize,
-        /// The message.
+        /// The index of the message.
         message: usize,
     },
     /// An office reloads a message.
     Reload {
-        /// The office.
+        /// The index of the office.
         office: usize,
-        /// The message.
+        /// The index of the message.
         message: usize,
     },
     /// An office sets a horizon.
     Horizon {
-        /// The office.
+        /// The index of the office.
         office: usize,
-        /// The horizon.
+        /// The horizon that the office sets.
         day: Day,
     },
 }

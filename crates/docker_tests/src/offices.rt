@@ -8,7 +8,7 @@ use docker_office::{LedgerOffice, Office, OfficeFault, PlaceOffice};
 use std::alloc::Global;
 use std::process::Abort;
 
-/// The most bytes of a text in the worked examples.
+/// The greatest length in bytes that a text may have in the worked examples.
 const ROOM: usize = 1000;
 
 /// Returns these lines as one text, each with a line feed.
@@ -21,7 +21,7 @@ pub(crate) fn text_of(rt: &impl Abort, alloc: Global, lines: &[&str]) -> Vec<u8>
     text
 }
 
-/// Has an office take a file.
+/// Lets an office take a file.
 pub(crate) fn take(rt: &impl Abort, alloc: Global, office: &mut Office, file: File) {
     let text = text_of(rt, alloc, file);
     let mut source = Bytes::new(text.as_slice(), 100);
@@ -37,7 +37,7 @@ pub(crate) fn office_of(rt: &impl Abort, alloc: Global, files: &[File]) -> Offic
     office
 }
 
-/// Has an office receive the state of another office that has taken this file.
+/// Lets an office receive the state of another office, which has taken this file.
 fn receive_of(rt: &impl Abort, alloc: Global, office: &mut Office, file: File) {
     let mut other = Office::new(alloc);
     take(rt, alloc, &mut other, file);

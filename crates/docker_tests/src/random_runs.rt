@@ -1,5 +1,6 @@
-//! A thousand random runs of three offices. At the end of a run, each office and each message has
-//! the text of the state of what that office or message knows.
+//! A thousand random runs of three offices. At the end of a run, each office's state must have the
+//! text that follows from what the office knows. Each message must have the text that follows from
+//! what the message knows.
 ghost use Rattle.docker_office.specs.RunEnds.{HasGoodLimit};
 ghost use Rattle.docker_office.specs.RunMeaning.{event_meant};
 
@@ -125,7 +126,7 @@ fn left_by(rt: &impl Abort, alloc: Global, steps: &[Step], texts: &[Vec<u8>]) ->
     run(alloc, OFFICES, &events).expect(rt, "memory")
 }
 
-/// For one kind of event: how often each kind of reply was given.
+/// For one kind of event, how often it got each kind of reply.
 #[derive(Clone, Copy)]
 struct Count {
     done: u32,
@@ -135,7 +136,7 @@ struct Count {
 }
 
 impl Count {
-    /// The count before any event.
+    /// The counts before the first event.
     const NONE: Count = Count {
         done: 0,
         no_office: 0,
@@ -155,7 +156,7 @@ impl Count {
     }
 }
 
-/// For each kind of event: how often each kind of reply was given.
+/// For each kind of event, how often it got each kind of reply.
 #[derive(Clone, Copy)]
 struct Tally {
     takes: Count,
@@ -166,7 +167,7 @@ struct Tally {
 }
 
 impl Tally {
-    /// The count before any event.
+    /// The counts before the first event.
     const NONE: Tally = Tally {
         takes: Count::NONE,
         sends: Count::NONE,
@@ -186,7 +187,7 @@ impl Tally {
         }
     }
 
-    /// Whether each kind of event got every reply that is possible for it.
+    /// Whether each kind of event got each kind of reply that it can get.
     fn is_full(&self) -> bool {
         let all = [
             self.takes,
@@ -203,7 +204,8 @@ impl Tally {
     }
 }
 
-/// Works out what is known at the end of a run. Asserts that each reply is the expected one.
+/// Works out what offices and messages know at the end of a run. Asserts that each reply is the
+/// expected one.
 fn known_at_end(
     rt: &impl Abort,
     alloc: Global,
@@ -222,7 +224,7 @@ fn known_at_end(
     known
 }
 
-/// Asserts that this text is the text of the state of what is known.
+/// Asserts that this text is the text of the state of the known files, under the known horizon.
 fn is_of_known(
     rt: &impl Abort,
     alloc: Global,
@@ -243,7 +245,7 @@ fn text_of_office(rt: &impl Abort, alloc: Global, office: &Office) -> Kept {
     kept
 }
 
-/// Asserts that the text of each office is the text of the state of what the office knows.
+/// Asserts that each office sends the text that follows from what the office knows.
 fn offices_are_of_known(
     rt: &impl Abort,
     alloc: Global,
@@ -259,7 +261,7 @@ fn offices_are_of_known(
     }
 }
 
-/// Asserts that the text of each message is the text of the state of what the message knows.
+/// Asserts that each message has the text that follows from what the message knows.
 fn messages_are_of_known(
     rt: &impl Abort,
     alloc: Global,

@@ -9,7 +9,7 @@ use docker_office::{LedgerOffice, Office, OfficeFault, PlaceOffice, StateCause, 
 use std::alloc::Global;
 use std::process::Abort;
 
-/// A way to read a state.
+/// A call by which an office reads a state.
 #[derive(Clone, Copy, PartialEq, Eq, Debug)]
 enum Ask {
     Receive,
@@ -19,14 +19,14 @@ enum Ask {
     Ledger,
 }
 
-/// The ways of reading a state in the new format.
+/// The calls that read a state in the new format.
 const NEWER: &[Ask] = &[Ask::Receive, Ask::Reload, Ask::Place, Ask::Ledger];
 
-/// The ways of reading a state in the older format.
+/// The call that reads a state in the older format.
 const OLDER: &[Ask] = &[Ask::Migrate];
 
-/// Returns the result when an office reads a text of at most `limit` bytes in this way. The source
-/// returns at most 9 bytes per read.
+/// Returns the result when an office reads a text by this call, with a limit of `limit` bytes. The
+/// source returns at most 9 bytes per read.
 fn read_in(
     rt: &impl Abort,
     alloc: Global,
@@ -56,7 +56,7 @@ fn refuses(rt: &impl Abort, alloc: Global, how: Ask, text: &[u8], limit: u64, fa
     has(rt, alloc, &office, REVISION_STATE);
 }
 
-/// Asserts that this text is refused for this fault in each of these ways.
+/// Asserts that each of these calls refuses this text for this fault.
 fn refuses_by(
     rt: &impl Abort,
     alloc: Global,
@@ -91,9 +91,10 @@ fn changed(rt: &impl Abort, alloc: Global, text: &[u8], at: usize, bytes: &[u8])
 /// bytes that replace the text's bytes at this offset, and the offset and the cause of the fault.
 type Change = (usize, &'static [u8], u64, StateCause);
 
-/// Changes to the text of one file's state. The first four replace bytes of its mark, of its
-/// horizon (twice), and of the day of its ledger item. The next five replace bytes of its entry's
-/// tag, stamp, op (twice) and first line. The last replaces the number of entries.
+/// Changes to the text of one file's state. The first change is in the mark, the next two are in
+/// the horizon, and the fourth is in the ledger item's day. The next five changes are in the entry:
+/// in its tag, its stamp, its op (twice) and its first line. The last change is in the number of
+/// entries.
 const CHANGED: &[Change] = &[
     (3, b"1", 0, StateCause::Mark),
     (4, b"\x8e\xad", 4, StateCause::Horizon),
@@ -112,7 +113,7 @@ const CHANGED: &[Change] = &[
     ),
 ];
 
-/// Asserts that this text, with this change, is refused in each of these ways of reading.
+/// Asserts that each of these calls refuses this text after this change.
 fn refuses_change(rt: &impl Abort, alloc: Global, ways: &[Ask], text: &[u8], change: &Change) {
     let (offset, bytes, at, cause) = *change;
     let other = changed(rt, alloc, text, offset, bytes);
@@ -120,7 +121,7 @@ fn refuses_change(rt: &impl Abort, alloc: Global, ways: &[Ask], text: &[u8], cha
     refuses_by(rt, alloc, ways, other.as_slice(), 1000, found);
 }
 
-/// Asserts that this text, with each of these changes, is refused in each of these ways of reading.
+/// Asserts that each of these calls refuses this text after each of these changes.
 fn refuses_changed(rt: &impl Abort, alloc: Global, ways: &[Ask], parts: Parts, changes: &[Change]) {
     let text = text_of_parts(rt, alloc, parts);
     for change in changes {
@@ -155,9 +156,9 @@ fn changed_older_states(rt: HostRuntime) {
 }
 
 /// A row: the text after its mark, the most bytes that a text may have, and the offset and the
-/// cause of the fault in the older format. In order, the texts have an item twice, an item of a
-/// full extract above the first item, and an entry twice. The last two have one byte after the
-/// state, and one byte more than the limit.
+/// cause of the fault in the older format. The first text has an item twice, the second has an item
+/// of a full extract above its first item, and the third has an entry twice. The fourth has one
+/// byte after the state, and the last has one byte more than the limit.
 type Other = (Parts, u64, u64, StateCause);
 
 const OTHERS: &[Other] = &[
@@ -215,7 +216,7 @@ fn marked(rt: &impl Abort, alloc: Global, mark: &str, parts: Parts) -> Vec<u8> {
     text
 }
 
-/// Asserts that the text of this row is refused in the older format.
+/// Asserts that an office refuses the text of this row in the older format.
 fn refuses_older(rt: &impl Abort, alloc: Global, row: &Other) {
     let (parts, limit, at, cause) = *row;
     let text = marked(rt, alloc, OLD_MARK, parts);
@@ -223,8 +224,8 @@ fn refuses_older(rt: &impl Abort, alloc: Global, row: &Other) {
     refuses_by(rt, alloc, OLDER, text.as_slice(), limit, found);
 }
 
-/// Asserts that the text of this row is refused in the new format, whose mark and horizon take two
-/// bytes more.
+/// Asserts that an office refuses the text of this row in the new format, whose mark and horizon
+/// take two more bytes.
 fn refuses_newer(rt: &impl Abort, alloc: Global, row: &Other) {
     let (parts, limit, at, cause) = *row;
     let text = marked(rt, alloc, MARK, parts);
@@ -241,8 +242,8 @@ fn items_and_entries_out_of_place(rt: HostRuntime) {
     }
 }
 
-/// Rows: the number of bytes to which a text is cut, and the offset at which the cut text is too
-/// short.
+/// Rows: the number of bytes to which a text is cut, and the offset of the item that is cut off. An
+/// item is the mark, the horizon, a number, a ledger item or an entry.
 const CUT: &[(usize, u64)] = &[
     (0, 0),
     (3, 0),
@@ -272,16 +273,15 @@ const OLD_CUT: &[(usize, u64)] = &[
     (308, 39),
 ];
 
-/// Asserts that the first `bytes` bytes of a text are refused in each of these ways of reading,
-/// because the text is too short at this offset.
+/// Asserts that each of these calls refuses the first `bytes` bytes of a text, because they end
+/// before the item at this offset is complete.
 fn refuses_front(rt: &impl Abort, alloc: Global, ways: &[Ask], text: &[u8], bytes: usize, at: u64) {
     let front = text.get(..bytes).expect(rt, "a length");
     let found = fault(at, StateCause::Short);
     refuses_by(rt, alloc, ways, front, 1000, found);
 }
 
-/// Asserts that a text that is cut as in each of these rows is refused in each of these ways of
-/// reading.
+/// Asserts that each of these calls refuses a text that is cut as in each of these rows.
 fn refuses_cut(rt: &impl Abort, alloc: Global, ways: &[Ask], parts: Parts, cuts: &[(usize, u64)]) {
     let text = text_of_parts(rt, alloc, parts);
     for (bytes, at) in cuts {

@@ -109,7 +109,7 @@ fn no_office(rt: HostRuntime) {
     same(&rt, left.messages().len(), 0);
 }
 
-/// Events at three offices. They end with the first office's reload, and then these further events.
+/// Events at three offices, up to the first office's reload, followed by these further events.
 macro_rules! up_to_reload {
     ([$early:expr, $full:expr, $late:expr], $($more:expr),*) => {
         &[
@@ -224,8 +224,8 @@ fn two_offices_and_a_horizon(rt: HostRuntime) {
     prints_there(&rt, alloc, &left, 0, "2024-06-10", ASHFELD_0900);
 }
 
-/// Returns the end of a run of two offices. The first office sends its state and then sets a
-/// horizon. After that the first office's message is delivered to the second office.
+/// Returns the end of a run of two offices. The first office sends its state, sets a horizon, and
+/// sends its state again. Then its first message is delivered to the second office.
 fn delivery_left(rt: &impl Abort, alloc: Global) -> Exchange {
     let text = text_of(rt, alloc, MORNING);
     let day = day_of(rt, "2024-06-15");
@@ -246,8 +246,7 @@ fn a_delivery_before_the_horizon(rt: HostRuntime) {
     prints_there(&rt, rt.alloc(), &left, 1, "2024-06-10", ASHFELD_0900);
 }
 
-/// Events at one office. They end with the reload of its first message, and then these further
-/// events.
+/// Events at one office, up to the reload of its first message, followed by these further events.
 macro_rules! up_to_loss {
     ([$text:expr, $revision:expr], $($more:expr),*) => {
         &[
@@ -269,7 +268,8 @@ fn lost_left(rt: &impl Abort, alloc: Global) -> Exchange {
     left_by(rt, alloc, 1, events)
 }
 
-/// Returns the end of the run in which a message with the revision is delivered after the reload.
+/// Returns the end of a run in which a message with the revision is delivered to the office after
+/// the reload.
 fn found_left(rt: &impl Abort, alloc: Global) -> Exchange {
     let text = text_of(rt, alloc, MORNING);
     let revision = text_of(rt, alloc, REVISION);
@@ -312,7 +312,8 @@ fn five_left(rt: &impl Abort, alloc: Global, files: [File; 3]) -> Exchange {
     left_by(rt, alloc, 5, events)
 }
 
-/// The three files in every order. In some orders, the full extract is taken after a later update.
+/// The files of 5, 7 and 9 June in every order. In some orders, an office takes the full extract
+/// after a later update.
 const ORDERS: &[[File; 3]] = &[
     [FIFTH, SEVENTH, NINTH],
     [FIFTH, NINTH, SEVENTH],

@@ -7,23 +7,23 @@ use std::process::Abort;
 /// The parts of a text, in order.
 pub(crate) type Parts = &'static [&'static str];
 
-/// The mark of the new format, and no horizon.
+/// The mark of the new format, followed by the bytes for no horizon.
 pub(crate) const MARK: &str = "DKS2\0\0";
 
-/// The mark of the new format, and the horizon of 15 June 2024.
+/// The mark of the new format, followed by the horizon 15 June 2024.
 const MARK_15: &str = "DKS2\x5b\u{f6}";
 
 /// The mark of the older format.
 pub(crate) const OLD_MARK: &str = "DKS1";
 
-/// The number of items or entries of a text: zero, one or two.
+/// The number of items or entries in a text, as eight bytes: zero, one or two.
 const NONE: &str = "\0\0\0\0\0\0\0\0";
 
 pub(crate) const ONE: &str = "\0\0\0\0\0\0\0\x01";
 
 pub(crate) const TWO: &str = "\0\0\0\0\0\0\0\x02";
 
-/// The ledger items of the update of 9 June, and of a full extract with the same date and time.
+/// Two ledger items: of the update of 9 June, and of a full extract with the same date and time.
 pub(crate) const ITEM: &str = "\x5b\u{f0}\x04\u{ec}DFROC1AUDFROC1Z";
 
 const ITEM_FULL: &str = "\x5b\u{f0}\x04\u{ec}DFROC1AFDFROC1Z";
@@ -96,19 +96,20 @@ macro_rules! train_after {
 
 pub(crate) use train_after;
 
-/// The state that knows no files.
+/// The state of an office that knows no files.
 pub(crate) const EMPTY_STATE: Parts = &[MARK, NONE, NONE];
 
-/// The state that knows the morning train: 311 bytes.
+/// The state of an office that knows the morning train: 311 bytes.
 pub(crate) const MORNING_STATE: Parts = train_after!(MARK, ONE, ITEM, ONE);
 
-/// The state that knows the morning train, as a text in the older format: 309 bytes.
+/// The state of an office that knows the morning train, as a text in the older format: 309 bytes.
 pub(crate) const OLD_STATE: Parts = train_after!(OLD_MARK, ONE, ITEM, ONE);
 
-/// The state that knows the morning train, under a horizon after its last day: 67 bytes.
+/// The state of an office that knows the morning train, under a horizon after the train's last day:
+/// 67 bytes.
 pub(crate) const LAPSED_STATE: Parts = &[MARK_15, ONE, ITEM, ONE, ENTRY, PASSED];
 
-/// The state that knows only the revision: 311 bytes.
+/// The state of an office that knows only the revision: 311 bytes.
 pub(crate) const REVISION_STATE: Parts = &[
     MARK,
     ONE,
@@ -121,7 +122,7 @@ pub(crate) const REVISION_STATE: Parts = &[
     LT_0935,
 ];
 
-/// The state that knows the morning train and its revision: 330 bytes.
+/// The state of an office that knows the morning train and its revision: 330 bytes.
 pub(crate) const REVISED_STATE: Parts = &[
     MARK,
     TWO,
@@ -135,7 +136,7 @@ pub(crate) const REVISED_STATE: Parts = &[
     LT_0935,
 ];
 
-/// The state that knows the update of 5 June: 337 bytes.
+/// The state of an office that knows the update of 5 June: 337 bytes.
 pub(crate) const FIFTH_STATE: Parts = &[
     MARK,
     ONE,
@@ -150,8 +151,8 @@ pub(crate) const FIFTH_STATE: Parts = &[
     GONE,
 ];
 
-/// The state that knows three files: the update of 5 June, the full extract of 7 June and the
-/// update of 9 June. It has 600 bytes.
+/// The state of an office that knows three files: the update of 5 June, the full extract of 7 June
+/// and the update of 9 June. It has 600 bytes.
 pub(crate) const LATE_STATE: Parts = &[
     MARK,
     TWO,
@@ -170,13 +171,13 @@ pub(crate) const LATE_STATE: Parts = &[
     LT_1030,
 ];
 
-/// The state that knows a train of 8 June and its deletion: 86 bytes.
+/// The state of an office that knows a train of 8 June and its deletion: 86 bytes.
 pub(crate) const DELETED_STATE: Parts = &[MARK, TWO, ITEM_8A, ITEM_9B, ONE, ENTRY_9B, GONE];
 
-/// The state that knows a file that puts a train and deletes it: 67 bytes.
+/// The state of an office that knows a file that puts a train and deletes it: 67 bytes.
 pub(crate) const WITHDRAWN_STATE: Parts = &[MARK, ONE, ITEM, ONE, ENTRY_FIFTH, GONE];
 
-/// The state that knows a timing point and its new code: 171 bytes.
+/// The state of an office that knows a timing point and its new code: 171 bytes.
 pub(crate) const RENAMED_STATE: Parts = &[
     MARK,
     TWO,
@@ -190,8 +191,8 @@ pub(crate) const RENAMED_STATE: Parts = &[
     DESCRIBED,
 ];
 
-/// The state that knows two files with equal stamps. The greater entry is kept: the train that runs
-/// until a later day. It has 311 bytes.
+/// The state of an office that knows two files with equal stamps. The greater entry is kept: the
+/// train that runs until a later day. It has 311 bytes.
 pub(crate) const LONGER_STATE: Parts = &[
     MARK,
     ONE,
@@ -204,8 +205,8 @@ pub(crate) const LONGER_STATE: Parts = &[
     TO_BRAYTON,
 ];
 
-/// The state that knows two files with equal stamps. The greater entry is kept: the train with the
-/// greater bytes. It has 311 bytes.
+/// The state of an office that knows two files with equal stamps. The greater entry is kept: the
+/// train with the greater bytes. It has 311 bytes.
 pub(crate) const LATER_STATE: Parts = &[
     MARK,
     ONE,
@@ -218,7 +219,8 @@ pub(crate) const LATER_STATE: Parts = &[
     TO_BRAYTON,
 ];
 
-/// The state that knows an update and a full extract with equal file stamps: 330 bytes.
+/// The state of an office that knows an update and a full extract with equal file stamps: 330
+/// bytes.
 pub(crate) const BOTH_STATE: Parts = train_after!(MARK, TWO, ITEM_FULL, ITEM, ONE);
 
 /// Adds a part to a text, one byte per character.

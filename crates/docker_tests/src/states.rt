@@ -51,8 +51,8 @@ const ROWS: &[Row] = &[
     (&[MORNING, FULL], &[FULL, MORNING], 330, BOTH_STATE),
 ];
 
-/// Asserts the text of an office that takes these files in this order. An office that receives the
-/// state of each file from another office must have the same text.
+/// Asserts that an office that takes these files in this order has a state with this text. An
+/// office that receives the state of each file from another office must have the same text.
 fn have(rt: &impl Abort, alloc: Global, files: &[File], parts: Parts) {
     has(rt, alloc, &office_of(rt, alloc, files), parts);
     has(rt, alloc, &merged(rt, alloc, files), parts);

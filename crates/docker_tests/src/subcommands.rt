@@ -12,16 +12,17 @@ HDTPS.UDFROC1.PD2406090906242100DFROC1ADFROC1ZUA
 ZZ                                                                              
 ";
 
-/// The state that knows no files.
+/// The text of the state of an office that knows no files.
 const EMPTY: &[u8] = b"DKS2\0\0\0\0\0\0\0\0\0\0\0\0\0\0\0\0\0\0";
 
-/// The state that knows the update of 9 June: day 23536, minute 1260.
+/// The text of the state of an office that knows the update of 9 June: day 23536, minute 1260.
 const STATE: &[u8] = b"DKS2\0\0\0\0\0\0\0\0\0\x01\x5b\xf0\x04\xecDFROC1AUDFROC1Z\0\0\0\0\0\0\0\0";
 
-/// The state that knows the update of 9 June, as a text in the older format.
+/// The text of the state of an office that knows the update of 9 June, in the older format.
 const OLD: &[u8] = b"DKS1\0\0\0\0\0\0\0\x01\x5b\xf0\x04\xecDFROC1AUDFROC1Z\0\0\0\0\0\0\0\0";
 
-/// The state that knows the update of 9 June, under the horizon of 15 June 2024, day 23542.
+/// The text of the state of an office that knows the update of 9 June, under the horizon of 15 June
+/// 2024, day 23542.
 const RAISED: &[u8] =
     b"DKS2\x5b\xf6\0\0\0\0\0\0\0\x01\x5b\xf0\x04\xecDFROC1AUDFROC1Z\0\0\0\0\0\0\0\0";
 

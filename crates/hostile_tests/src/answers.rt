@@ -1,4 +1,4 @@
-//! The outcome of a call in a row of a table.
+//! The outcomes that a call may have in a row of a table.
 
 use crate::desk::Desk;
 use docker_cmd::{Fault, fault_text};

@@ -28,7 +28,7 @@ pub(crate) fn call_of(name: &str) -> Call {
     }
 }
 
-/// Makes this call of an office, with this limit on records or bytes.
+/// Lets an office make this call, with this limit on the number of records or bytes.
 pub(crate) fn ask<S: Source>(
     call: Call,
     office: &mut Office,

@@ -1,4 +1,4 @@
-//! Copies rows of states.
+//! Copies the rows of a state, each a key with its entry.
 ghost use Rattle.std.specs.Prelude.{◌≡◌, IfOk};
 ghost use Rattle.cif_change.specs.Meaning.{body_meant};
 ghost use Rattle.docker_join.specs.Meaning.{op_meant};

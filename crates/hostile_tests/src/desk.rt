@@ -1,4 +1,4 @@
-//! The texts that a row names, and the printing of its results.
+//! The desk of a row, which finds the texts that the row names and prints the row's results.
 
 use crate::endings::Ending;
 use crate::records::lines_of;
@@ -33,7 +33,7 @@ impl<'a> Desk<'a> {
         }
     }
 
-    /// The text with this name: the text of records, the text of a docker's lines, or a file in the
+    /// The text with this name: a file or a docker that is made in `records.rt`, or a file in the
     /// folder `data`.
     pub(crate) fn text(&self, name: &str) -> Vec<u8> {
         match self.found(name) {

@@ -1,5 +1,5 @@
-//! Devices that move one byte per call and fail at one call: first at the first call, then at the
-//! second, and so on.
+//! Rows with devices that move one byte per call. An office first uses a device that fails at its
+//! first call, then a device that fails at its second call, and so on.
 ghost use Rattle.std.specs.Prelude.{◌<◌, ◌^◌, ◌-◌};
 
 use crate::answers::Answer;
@@ -12,7 +12,7 @@ use cif_line::{Day, Fuse, Sink, Source, Tiploc};
 use docker_cmd::{Fault, job_line};
 use docker_office::{Office, OfficeFault};
 
-/// A number that is greater than the number of calls of any row.
+/// A number that is greater than the number of device calls in any row.
 const MOST_CALLS: u64 = 5000;
 
 /// `CALL STATE TEXT STATE`: the office reads the text from a source that fails at the first read,
@@ -124,7 +124,8 @@ fn sinks(desk: &Desk, own: &str, output: Output, wanted: &str) {
     write_all(desk, &office, output, before.as_slice(), wanted.as_slice());
 }
 
-/// Prints the answer for each of these sinks, and whether the office's state is unchanged.
+/// Prints the answer for a sink that fails at the first write, at the second, and so on. The answer
+/// also says whether the office's state changed.
 fn write_all(desk: &Desk, office: &Office, output: Output, before: &[u8], wanted: &[u8]) {
     let mut spans = Spans::new();
     for call in 1..=MOST_CALLS {
@@ -139,7 +140,7 @@ fn write_all(desk: &Desk, office: &Office, output: Output, before: &[u8], wanted
 }
 
 /// The answer for a sink that fails at this write, and whether the sink did fail. After a failure
-/// the sink has to have the bytes of the earlier writes, and a good sink has to gain the whole
+/// the sink must have the bytes of the earlier writes, and a good sink must then receive the whole
 /// text.
 fn written(
     desk: &Desk,
@@ -163,8 +164,8 @@ fn written(
     (if again { answer } else { Answer::Stuck }, true)
 }
 
-/// The answer for a sink that has these bytes. If the sink failed, the bytes have to be the bytes
-/// of the earlier writes, and otherwise the whole text.
+/// The answer for a sink that has these bytes. If the sink failed, these bytes must be the bytes of
+/// the earlier writes, and otherwise they must be the whole text.
 fn written_answer(done: Result<(), OfficeFault>, bytes: &[u8], wanted: &[u8], call: u64) -> Answer {
     match done {
         Ok(()) => {
@@ -184,7 +185,7 @@ fn written_answer(done: Result<(), OfficeFault>, bytes: &[u8], wanted: &[u8], ca
     }
 }
 
-/// Whether a good sink, to which the office writes, gains the whole text.
+/// Whether a good sink has the whole text after the office writes to it.
 fn is_written(desk: &Desk, office: &Office, output: &Output, wanted: &[u8]) -> bool {
     match sink(desk) {
         Some(mut good) => write(output, office, &mut good).is_ok() && good.bytes() == wanted,
@@ -217,7 +218,7 @@ pub(crate) fn line(desk: &Desk, words: &[&str]) {
 }
 
 /// The answer for a source that holds the line and fails at this read, and whether the source did
-/// fail. After a failure, a job has to be read from a good source.
+/// fail. After a failure, the same call with a good source must return a job.
 fn line_read(desk: &Desk, text: &[u8], call: u64) -> (Answer, bool)
     requires { 0 < call }
 {

@@ -29,9 +29,9 @@ impl Ending {
     }
 }
 
-/// A fault that may say that memory ran out.
+/// A fault that may mean that memory ran out.
 pub(crate) trait MayWant {
-    /// Whether the fault is out of memory.
+    /// Whether the fault means that memory ran out.
     fn is_memory(&self) -> bool;
 }
 

@@ -7,7 +7,7 @@ use std::alloc::{AllocError, Global};
 /// The number of offices.
 pub(crate) const OFFICES: usize = 3;
 
-/// Which of the three files an office knows, or the state in a message includes.
+/// Which of the three files an office knows, or which of them the state in a message includes.
 #[derive(Clone, Copy, PartialEq, Eq)]
 pub(crate) struct Known {
     /// Whether the update of 5 June is included.
@@ -131,14 +131,15 @@ pub(crate) const STEPS: [Step; 18] = [
 /// The reply to an event for which memory runs out.
 const OUT_OF_MEMORY: Reply = Reply::Refused(RunFault::Office(OfficeFault::Memory));
 
-/// What each office knows, and what each message includes, after a prefix of the events.
+/// What each office knows, and which files each message includes, after the first events of the
+/// run.
 #[derive(Drop)]
 pub(crate) struct Book {
     /// What each office knows.
     pub(crate) offices: [Known; OFFICES],
     /// The files that the state in each message includes.
     pub(crate) messages: Vec<Known>,
-    /// Whether each reply is one that is allowed for its event.
+    /// Whether each reply so far is a reply that is allowed for its event.
     pub(crate) fits: bool,
     /// How many events were refused because memory ran out.
     pub(crate) wanting: u32,

@@ -47,7 +47,7 @@ fn end<T>(desk: &Desk, here: bool, done: &Result<T, Memory>) {
     }
 }
 
-/// The state of one ledger item and one entry, built from its parts. Prints how the call `at`
+/// Builds a state with one ledger item and one entry from its parts. Prints how the call `at`
 /// ended.
 fn rebuilt(desk: &Desk, one: &State, at: At) -> Result<State, Memory> {
     let (items, rows) = (one.ledger(), one.entries());

@@ -106,8 +106,8 @@ fn knows(desk: &Desk, office: &Office, known: Known) -> bool {
     has_text(desk, office.state(), text.as_slice()) && prints(desk, office, known.docker())
 }
 
-/// Whether the result of a run agrees with the book: each office has the state of the files that
-/// the book has for it, and so has each message.
+/// Whether the result of a run agrees with the book. Each office and each message must have the
+/// state of the files that the book lists for it.
 fn is_left(desk: &Desk, left: &Exchange, book: &Book) -> bool {
     let mut same = book.fits
         && left.replies().len() == STEPS.len()
@@ -193,7 +193,7 @@ fn report_first(desk: &Desk, left: Result<Exchange, Memory>) {
     }
 }
 
-/// Like `report_first`, for a run with a reply to each event.
+/// Like `report_first`, for a run that ended with a reply to each event.
 fn report_ended(desk: &Desk, left: &Exchange) {
     if !ran_out_of_memory(left) {
         return desk.end(Ending::Done);

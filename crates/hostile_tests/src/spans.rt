@@ -1,4 +1,5 @@
-//! Prints equal answers for consecutive numbers as one span.
+//! Prints equal answers for consecutive numbers in one line, as a span of numbers with their
+//! answer.
 
 use crate::answers::Answer;
 use crate::desk::Desk;

@@ -29,8 +29,7 @@ pub(crate) struct Asked<'a> {
 }
 
 impl<'a> Asked<'a> {
-    /// The answer for this result of the call. The answer also depends on the office's state after
-    /// the call.
+    /// The answer for a call that had this result and left the office in this state.
     pub(crate) fn judge(
         &self,
         desk: &Desk,

@@ -82,8 +82,8 @@ pub(crate) fn compare_state(desk: &Desk, state: &State, name: &str) {
     desk.report(has_text(desk, state, text.as_slice()), name);
 }
 
-/// The timing point and the day that are written as these two words. Prints a line if the first
-/// word isn't a TIPLOC or the second word isn't a date.
+/// The timing point and the day that these two words name. Prints a line if the first word isn't a
+/// TIPLOC or the second word isn't a date.
 pub(crate) fn occasion_of(desk: &Desk, place: &str, day: &str) -> Option<(Tiploc, Day)> {
     match (Tiploc::from_text(place), Day::from_iso(day)) {
         (Some(place), Some(day)) => Some((place, day)),

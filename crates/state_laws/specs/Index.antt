@@ -51,33 +51,33 @@ pub record IsLinked (live : Table) (place : List ℕ) (key : AssociationKey) (li
   pub is_live : live (association_key key) ≡ Some (association_body line)
   pub here : key.location ≡ place
 
--- this is the index of calls of a live table: the pairs of a TIPLOC and a live schedule that calls
--- at the TIPLOC, each once, in ascending order
+-- `index` is the index of calls of a live table. It lists the pairs of a TIPLOC and the key of a
+-- live schedule that calls there, each pair once, in ascending order
 pub record IsCallingIndex (live : Table) (index : List CallingRow) : Type 0 where
   pub ascending : IsStrictlyAscending calling_cmp index
   pub members : (place : List ℕ) (key : ScheduleKey) → Contains index (place, key) ↔ ((lines : List (List ℕ)) × IsCalling live place key lines)
 
--- this is the index of associations of a live table: the pairs of a TIPLOC and a live association
--- at the TIPLOC, each once, in ascending order
+-- `index` is the index of associations of a live table. It lists the pairs of a TIPLOC and the key
+-- of a live association there, each pair once, in ascending order
 pub record IsLinkedIndex (live : Table) (index : List LinkedRow) : Type 0 where
   pub ascending : IsStrictlyAscending linked_cmp index
   pub members : (place : List ℕ) (key : AssociationKey) → Contains index (place, key) ↔ ((line : List ℕ) × IsLinked live place key line)
 
--- these rows are the schedules in the live table that call at the place, in key order
+-- `rows` are the schedules in the live table that call at the place, in key order
 pub record AreCalling (live : Table) (place : List ℕ) (rows : List Row) : Type 0 where
   pub ascending : AreInKeyOrder rows
   pub members : (key : Key) (body : Body) → Contains rows (key, body)
       ↔ ((schedule : ScheduleKey) × (lines : List (List ℕ)) × (key ≡ schedule_key schedule) × (body ≡ schedule_body lines)
       × IsCalling live place schedule lines)
 
--- these rows are the associations in the live table at the place, in key order
+-- `rows` are the associations in the live table at the place, in key order
 pub record AreLinked (live : Table) (place : List ℕ) (rows : List Row) : Type 0 where
   pub ascending : AreInKeyOrder rows
   pub members : (key : Key) (body : Body) → Contains rows (key, body)
       ↔ ((association : AssociationKey) × (line : List ℕ) × (key ≡ association_key association) × (body ≡ association_body line)
       × IsLinked live place association line)
 
--- these rows are the schedules of the UID in the live table, in key order
+-- `rows` are the schedules of the UID in the live table, in key order
 pub record AreOfUid (live : Table) (uid : List ℕ) (rows : List Row) : Type 0 where
   pub ascending : AreInKeyOrder rows
   pub members : (key : Key) (body : Body) → Contains rows (key, body)

@@ -24,7 +24,7 @@ abbrev pub IsGreaterThan : Option Entry → Entry → Type 0
 IsGreaterThan None entry = ⊤
 IsGreaterThan (Some mine) entry = IsBelow entry_cmp mine entry
 
--- these are the staged entries: the offered entries that are to be staged, in key order
+-- `staged` is the list of staged entries: the offered entries that are to be staged, in key order
 pub record IsStaged (own : State) (floor : Option FileStamp) (offered staged : List (Key × Entry)) : Type 0 where
   pub ascending : AreAscending staged
   pub members : (key : Key) (entry : Entry) → Contains staged (key, entry) ↔ (Contains offered (key, entry) × IsToStage own floor key entry)
@@ -35,7 +35,7 @@ abbrev pub IsPutIn : State → List (Key × Entry) → Option FileStamp → Key 
 IsPutIn own staged floor key entry =
     Contains staged (key, entry) ⊎ (Contains own.entries (key, entry) × IsKept floor entry.stamp.file × HasNoEntryOf staged key)
 
--- this is the state after a commit. The horizon is unchanged. The ledger is the union of both
+-- `after` is the state after a commit. Its horizon is unchanged. Its ledger is the union of both
 -- ledgers without the items below the floor of the union. Each key with a staged entry has that
 -- entry. Each other key keeps its entry, unless that entry is below the floor. Each entry whose
 -- body ended before the horizon has lapsed

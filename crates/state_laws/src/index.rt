@@ -12,8 +12,8 @@ ghost use Rattle.state_laws.specs.Index.{IsFromEither, IsCallingFromEither, IsLi
 
 /// A live table has at most one index of calls and at most one index of associations. It has at
 /// most one list of rows for the schedules that call at a place, for the associations at a place,
-/// and for the schedules of a UID. The index rows of all rows of the table, sorted and without
-/// duplicates, are the index.
+/// and for the schedules of a UID. An index of the table consists of the index rows for all rows of
+/// the table, sorted and without duplicates.
 pub fn one_index()
     ensures calling { (live : Table) (first second : List CallingRow)
         → IsCallingIndex live first → IsCallingIndex live second → first ≡ second }
@@ -36,9 +36,9 @@ pub fn one_index()
         ↔ Contains (flat_map (λ (r : Row). links_of r.0 r.1) rows) row) → IsLinkedIndex live index }
 {}
 
-/// The indexes of a join can be computed from the indexes of the two states. An index row of a
-/// state is kept if the join has the same body at the row's key as that state. When a horizon is
-/// set, an index row is kept if the body at its key hasn't lapsed.
+/// The indexes of a join can be computed from the indexes of the two states. An index row of one of
+/// the states stays in the index if the join has the same body as that state at the row's key. When
+/// a horizon is set, an index row stays in the index if the body at its key hasn't lapsed.
 pub fn index_of_join()
     ensures either { (own other joined : State) → AreAscending own.entries
         → AreAscending other.entries → IsJoin own other joined → IsFromEither (live_table own)

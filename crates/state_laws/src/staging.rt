@@ -11,10 +11,10 @@ ghost use Rattle.state_laws.specs.Staging.{IsGreaterThan, IsToStage, IsStaged, I
 ghost use Rattle.state_laws.specs.LawTerms.{HoldsOnceCommitted};
 
 /// A state is received in three steps: all its entries are offered for staging, the staged entries
-/// are committed, and then its horizon is set. The result is the join with the received state.
-/// Before the horizon is set, the result is the join with the received state without its horizon.
-/// That join equals the join with the state that has the received ledger items and the staged
-/// entries.
+/// are committed, and then its horizon is set. The result is the join of the receiving state with
+/// the received state. Before the horizon is set, the result is the join with the received state
+/// without its horizon. A join with only the received ledger items and the staged entries has the
+/// same result.
 pub fn staging_and_commit_is_join()
     ensures join { (own received : State) (floor : Option FileStamp) (staged : List (Key × Entry))
         (after : State)
@@ -44,8 +44,8 @@ pub fn staging_and_commit_is_join()
 {}
 
 /// The horizon of a received state may be set last. If the horizon of a state is removed and set
-/// again, the result is the same state. If a state is joined without its horizon, and the horizon
-/// is set afterwards, the result is the join with the state.
+/// again, the result is the same state. If the received state is joined without its horizon, and
+/// this horizon is set afterwards, the result is the join with the received state.
 pub fn horizon_is_set_last()
     ensures state { (state : State) → IsValid state
         → raise_horizon state.horizon (without_horizon state) ≡ state }
@@ -54,7 +54,8 @@ pub fn horizon_is_set_last()
 {}
 
 /// Entries are staged one by one, as they are offered. Before the first offer no entry is staged.
-/// An entry is staged if it isn't below the floor and is greater than the state's entry at its key.
+/// An offered entry is staged if it isn't below the floor and is greater than the entry that the
+/// receiving state has at the same key.
 pub fn offers_are_staged()
     ensures none { (own : State) (floor : Option FileStamp) → IsStaged own floor [] [] }
     ensures test { (own : State) → AreAscending own.entries → (floor : Option FileStamp) (key : Key)

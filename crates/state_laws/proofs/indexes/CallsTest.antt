@@ -91,7 +91,7 @@ pub no_member : {A : Type 0} (xs : List A) → ((x : A) → ¬ Contains xs x) �
 no_member [] none = refl
 no_member (x ∷ xs) none = absurd (none x (cons-Contains-first x xs))
 
--- ---- the index rows of all rows of a table are its index
+-- ---- the index of a table consists of the index rows for all rows of the table
 
 calls_row_back : (key : Key) (body : Body) (place : List ℕ) (schedule : ScheduleKey) → Contains (calls_of key body) (place, schedule)
     → (lines : List (List ℕ)) × (key ≡ schedule_key schedule) × (body ≡ schedule_body lines) × CallsAt place lines

@@ -55,7 +55,7 @@ one_calling live place a b one two = same_list rows_total a b one.ascending two.
 pub one_linked : (live : Table) (place : List ℕ) (a b : List Row) → AreLinked live place a → AreLinked live place b → a ≡ b
 one_linked live place a b one two = same_list rows_total a b one.ascending two.ascending (λ row. through (one.members row.0 row.1) (two.members row.0 row.1))
 
--- a UID has at most one list of rows
+-- a UID has at most one list of rows of its schedules
 pub one_of_uid : (live : Table) (uid : List ℕ) (a b : List Row) → AreOfUid live uid a → AreOfUid live uid b → a ≡ b
 one_of_uid live uid a b one two = same_list rows_total a b one.ascending two.ascending (λ row. through (one.members row.0 row.1) (two.members row.0 row.1))
 
@@ -83,8 +83,8 @@ at_place_ascends {K} cmp wrap to place index up =
         let level : bytes_cmp a.0 b.0 ≡ Equal = (λ i. bytes_cmp (one i) (two i)) ∙ tied_itself nat_list_cmp_total place in
         sym (λ i. ordering_then (level i) (cmp a.1 b.1)) ∙ below
 
--- a key is among the filtered keys for a place if and only if the index has a row with this place
--- and this key
+-- a key is among the keys that an index lists for a place if and only if the index has a row with
+-- this place and this key
 found_at : {K : Type 0} (wrap : K → Key) (place : List ℕ) (index : List (List ℕ × K)) (key : Key)
     → Contains (map (λ (r : List ℕ × K). wrap r.1) (filter (λ (r : List ℕ × K). bytes_eq r.0 place) index)) key
     ↔ ((k : K) × Contains index (place, k) × (wrap k ≡ key))
@@ -110,8 +110,8 @@ order_of_keys (row ∷ rows) up = (above rows up.0, order_of_keys rows up.1)
     above (other ∷ others) all = (all.0, above others all.1)
 
 module _ (live : Table) (place : List ℕ) where
-  -- live rows with the keys in the index of calls for a place are the rows of the schedules that
-  -- call at the place
+  -- if live rows have the keys that the index of calls lists for a place, they are the rows of the
+  -- schedules that call at the place
   pub calling_by_index : (index : List CallingRow) (rows : List Row) → IsCallingIndex live index → map (λ (row : Row). row.0) rows ≡ calling_keys index place
       → ((key : Key) (body : Body) → Contains rows (key, body) → live key ≡ Some body) → AreCalling live place rows
   calling_by_index index rows is keys each = record {
@@ -137,8 +137,8 @@ module _ (live : Table) (place : List ℕ) where
     );
   }
 
-  -- live rows with the keys in the index of associations for a place are the rows of the
-  -- associations at the place
+  -- if live rows have the keys that the index of associations lists for a place, they are the rows
+  -- of the associations at the place
   pub linked_by_index : (index : List LinkedRow) (rows : List Row) → IsLinkedIndex live index → map (λ (row : Row). row.0) rows ≡ linked_keys index place
       → ((key : Key) (body : Body) → Contains rows (key, body) → live key ≡ Some body) → AreLinked live place rows
   linked_by_index index rows is keys each = record {

@@ -34,8 +34,8 @@ kept_floor items ledger (Some stamp) greatest from to = record {
   greatest = λ item among. greatest.greatest item (from item among);
 }
 
--- if the joined ledger contains those items of a ledger that aren't below the floor, it contains
--- the file stamps of these items
+-- if the joined ledger contains each item of a ledger that isn't below the floor, it contains the
+-- file stamps of these items
 pub stamp_stays : (ledger joined : List LedgerItem) (floor : Option FileStamp) → ((item : LedgerItem) → Contains ledger item → IsKept floor item.stamp
     → Contains joined item)
     → (stamp : FileStamp) → IsKept floor stamp → Contains (map (λ (item : LedgerItem). item.stamp) ledger) stamp
@@ -144,8 +144,8 @@ one_floor state = floor_unique state.ledger state.ledger (λ item. (λ x. x, λ 
 abbrev pub first_full : List LedgerItem → Option FileStamp
 first_full ledger = option_map (λ (item : LedgerItem). item.stamp) (find (λ (item : LedgerItem). item.indicator == 70) ledger)
 
--- this is the file stamp of some full extract among the items, or it is `None` and no item is for a
--- full extract
+-- the option is the file stamp of some full extract among the items, or it is `None` and no item is
+-- for a full extract
 FirstFull : List LedgerItem → Option FileStamp → Type 0
 FirstFull ledger None = (item : LedgerItem) → Contains ledger item → ¬ IsFull item
 FirstFull ledger (Some stamp) = (item : LedgerItem) × Contains ledger item × IsFull item × (item.stamp ≡ stamp)

@@ -45,8 +45,8 @@ set_last state valid =
 
 -- ---- a horizon may be set after a join instead of before
 
--- joining with a state whose horizon has been removed, and then setting this horizon, equals
--- joining with the state
+-- a state may be joined without its horizon if this horizon is set afterwards: the result is the
+-- join with the whole state
 pub join_then_set : (a b c : State) → IsJoin a (without_horizon b) c → IsJoin a b (raise_horizon b.horizon c)
 join_then_set a b c is = record {
   horizon = horizons;
@@ -87,8 +87,8 @@ none_to_lapse entries = All-from_recursion (λ (entry : Keyed). HasNotToLapse 0 
     each [] = tt
     each (x ∷ xs) = (none_has_to x.1.op, each xs)
 
--- this state is the summary of the files without a horizon: each key has its greatest entry, which
--- no lapse has changed
+-- `state` is the summary of the files without a horizon: each key has its greatest entry, which no
+-- lapse has changed
 pub record IsPlainSummary (files : List (List (List ℕ))) (state : State) : Type 0 where
   pub no_horizon : state.horizon ≡ 0
   pub floor : Option FileStamp

@@ -75,8 +75,7 @@ nothing_staged own floor = record {
 
 module _ (own : State) (floor : Option FileStamp) (offered staged : List (Key × Entry)) (key : Key) (entry : Entry)
     (stages : IsStaged own floor offered staged) where
-  -- if an offered entry is to be staged, the staged entries after the offer are the earlier ones
-  -- with this entry appended
+  -- if an offered entry is to be staged, the offer appends it to the staged entries
   pub one_staged_more : ((other : Key × Entry) → Contains staged other → key_cmp other.0 key ≡ Less) → IsToStage own floor key entry
       → IsStaged own floor (offered ++ (key, entry) ∷ []) (staged ++ (key, entry) ∷ [])
   one_staged_more above to = record {
@@ -121,8 +120,8 @@ module _ (own : State) (floor : Option FileStamp) (offered staged : List (Key ×
 
 -- ---- after all offers, the commit gives the join
 
--- after all entries of a received state are offered and the staged entries are committed, the state
--- is the join with the received state without its horizon
+-- after all entries of a received state are offered and the staged entries are committed, the
+-- result is the join with the received state without its horizon
 pub staging_joins_before : (own received : State) (floor : Option FileStamp) (staged : List (Key × Entry)) (after : State) → IsValid own → IsValid received
     → IsFloor (own.ledger ++ received.ledger) floor → IsStaged own floor received.entries staged → IsCommit own received.ledger staged after
     → IsJoin own (without_horizon received) after
@@ -132,7 +131,7 @@ staging_joins_before own received floor staged after valid valid_too is_floor st
     commit_is_join own received valid valid_too staged after commit (subst (λ f. IsStaged own f received.entries staged) floors stages)
 
 -- after all entries of a received state are offered, the staged entries are committed and the
--- received horizon is set, the state is the join with the received state
+-- received horizon is set, the result is the join with the received state
 pub staging_joins : (own received : State) (floor : Option FileStamp) (staged : List (Key × Entry)) (after : State) → IsValid own → IsValid received
     → IsFloor (own.ledger ++ received.ledger) floor → IsStaged own floor received.entries staged → IsCommit own received.ledger staged after
     → IsJoin own received (raise_horizon received.horizon after)

@@ -1,5 +1,5 @@
--- After all entries of a received state are offered and the staged entries are committed, the state
--- is the join with the received state without its horizon.
+-- After all entries of a received state are offered and the staged entries are committed, the
+-- result is the join with the received state without its horizon.
 use Rattle.std.proofs.Common.{◌≡◌, ℕ, List, ◌++◌, ap, sym, ◌∙◌, subst, inl, inr, ◌⊎◌, Some, None, Contains}
 use Rattle.std.specs.Prelude.{Option}
 use Rattle.std.specs.declared.cmp.Ordering.TheVariants.{Equal}

@@ -1,4 +1,4 @@
--- The state with the received ledger items and the staged entries is valid. The join with this
+-- A state with only the received ledger items and the staged entries is valid. The join with this
 -- state equals the state after the commit.
 use Rattle.std.proofs.Common.{◌≡◌, List, ◌++◌, ◌∙◌, ap, subst, arith, inl, inr, ◌⊎◌, Contains}
 use Rattle.std.specs.Prelude.{Option}
@@ -90,7 +90,8 @@ module _ (own received : State) (floor : Option FileStamp) (staged : List (Key �
           subst (λ e. IsAtMost entry_cmp other e) (one_per_key own.entries up key other entry here told.0) (at_most_itself entry_total other)
       under other (inr there) = absurd (told.2 other there)
 
-  -- the join with the state of received items and staged entries is the state after the commit
+  -- the join with the state of only the received ledger items and the staged entries is the state
+  -- after the commit
   pub join_with_staged : IsCommit own received.ledger staged after
   unfolding Best
   join_with_staged = record {

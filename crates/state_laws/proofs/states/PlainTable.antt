@@ -37,7 +37,7 @@ Keyed = Key × Entry
 abbrev pub step : Table → Keyed → Table
 step table entry key = cond (is_eq (key_cmp entry.0 key)) (body_of entry.1.op) (table key)
 
--- the second entry has a greater stamp than the first if both have the same key
+-- if two entries have the same key, the second has the greater stamp
 abbrev pub Ascends : Keyed → Keyed → Type 0
 Ascends first second = first.0 ≡ second.0 → IsBelow stamp_cmp first.1.stamp second.1.stamp
 

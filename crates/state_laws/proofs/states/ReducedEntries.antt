@@ -1,7 +1,8 @@
--- The reduction of ledger items and entries under a horizon. It has the items that aren't below the
--- floor of all items, and the greatest entry of each key if that entry isn't below the floor. Each
--- entry whose body ended before the horizon has lapsed. A reduction in two steps equals the
--- reduction in one step, if the horizon of the first step is at most the horizon of the second.
+-- The reduction of ledger items and entries under a horizon is a state. It has the items that
+-- aren't below the floor of all items, and the greatest entry of each key if that entry isn't below
+-- the floor. Each entry whose body ended before the horizon has lapsed. A reduction in two steps
+-- equals the reduction in one step, if the horizon of the first step is at most the horizon of the
+-- second.
 use Rattle.std.proofs.Common.{◌≡◌, ℕ, ◌≤◌, List, ◌++◌, Contains, subst, inl, inr, ◌⊎◌, ap, sym, ◌∙◌, Some, None}
 use Rattle.std.specs.Prelude.{Option, ◌↔◌}
 use Rattle.std.proofs.Math.Nat.{max-eq_left}
@@ -19,7 +20,7 @@ use Rattle.state_laws.proofs.states.GreatestEntry.{NoEntry, GreatestEntry, great
 use Rattle.state_laws.proofs.states.Lapse.{lapse_entry_keeps_order, entry_twice, entry_stays}
 use Rattle.state_laws.proofs.states.KeptEntries.{kept_up, lapse_below, level_lapsed, lapses_or_not}
 
--- this is the entry of the key in the reduction: the greatest of the key's entries after its lapse
+-- the entry is the key's entry in the reduction: the greatest of the key's entries after its lapse
 -- under the horizon, if that entry isn't below the floor
 abbrev pub KeptOf : List Keyed → Option FileStamp → ℕ → Key → Entry → Type 0
 KeptOf entries floor horizon key entry =

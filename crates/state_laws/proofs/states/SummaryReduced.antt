@@ -51,8 +51,8 @@ module _ (files : List File) (floor : Option FileStamp) (key : Key) where
         subst (λ (e : Entry). IsKept floor e.stamp.file) made.entry_is made.kept.kept,
       )
 
-  -- an entry of the files whose file stamp isn't below the floor was left by a file that isn't
-  -- older than the floor
+  -- if the file stamp of an entry isn't below the floor, a file that isn't older than the floor
+  -- left the entry
   pub entry_out : (entry : Entry) → Contains (entries_along files) (key, entry) → IsKept floor entry.stamp.file → IsEntryOf files floor key entry
   entry_out entry among kept =
       let found = Contains-flat_map entries_of files (key, entry) among in

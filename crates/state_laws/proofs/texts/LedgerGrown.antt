@@ -28,8 +28,8 @@ stamps_below first second below above =
     by : (o : Ordering) → ordering_then Greater o ≡ Less → ⊥
     by o e = cc
 
--- let `item` be a well-formed item that is above all items of the ledger and doesn't raise the
--- floor
+-- in this module, `item` is a well-formed item that is above all items of the ledger and doesn't
+-- raise the floor
 module _ (ledger : List LedgerItem) (item : LedgerItem) (is : IsLedger ledger) (good : IsGoodItem item) (above : IsAboveItems ledger item)
     (floor : ¬ RaisesFloor ledger item) where
   above_each : AllByRecursion (λ earlier. IsBelow ledger_item_cmp earlier item) ledger

@@ -33,7 +33,7 @@ use Rattle.state_laws.proofs.texts.PartDecisions.{stamp_in_decided, above_entrie
 use Rattle.state_laws.proofs.texts.LedgerGrown.{one_item_more, no_items}
 use Rattle.state_laws.proofs.texts.StateGrown.{good_after_items, good_after_entries, tells_deleted, tells_put, no_entries, one_entry_more}
 
--- the part is good: after this part is read, all parts read are good, and the text read ends with
+-- the part is good: once a reader has read it, all parts read are good, and the text read ends with
 -- this part
 abbrev pub Good : (format : Format) → Before → List ℕ → Type 0
 Good format before bytes =
@@ -202,7 +202,7 @@ judge_stamp format count state key bytes told here size small = by (stamp_in_dec
         )
     by (inr bad) = inl (bad_stamp, (refl, bad))
 
--- the byte of an op is 0 or 1, or it is 2 and the format has lapsed ops
+-- the first byte of an op is 0 or 1, or it is 2 and the format has lapsed ops
 op_of_byte : (format : Format) (byte : ℕ) → IsOpByte format byte → (byte ≡ 0) ⊎ (byte ≡ 1) ⊎ ((byte ≡ 2) × TellsOp format lapsed)
 op_of_byte dks_1 byte (inl e) = inl e
 op_of_byte dks_1 byte (inr e) = inr (inl e)

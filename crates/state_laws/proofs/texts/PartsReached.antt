@@ -187,7 +187,7 @@ body_leads format count state (association_key key) stamp (schedule_body lines) 
 body_leads format count state (schedule_key key) stamp (tiploc_body bytes) below is stays = absurd is
 body_leads format count state (schedule_key key) stamp (association_body line) below is stays = absurd is
 
--- this may be an entry of a state with this horizon and ledger, in this format
+-- a state with this horizon and this ledger may have the entry, and the format can hold it
 abbrev pub IsToldEntry : Format → ℕ → List LedgerItem → Key × Entry → Type 0
 IsToldEntry format horizon ledger entry = IsGoodEntry ledger entry × HasNotToLapse horizon entry.1.op × TellsOp format entry.1.op
 
@@ -204,7 +204,7 @@ entry_leads format count state key stamp (put_with body) below ledger told above
     then_leads format _ _ _ (put_leads format count state key stamp below ledger ((told.0.key, above), told.0.stamp))
     (body_leads format count state key stamp body below told.0.op told.1)
 
--- the state with this horizon, ledger and entries
+-- the state that has this horizon, this ledger and these entries
 abbrev state_of : (horizon : ℕ) → List LedgerItem → List (Key × Entry) → State
 state_of horizon ledger entries = record { horizon = horizon; ledger = ledger; entries = entries }
 

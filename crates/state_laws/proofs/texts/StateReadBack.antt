@@ -1,5 +1,5 @@
 -- Decoding is inverse to encoding, for ledger items, keys and stamps. The lemmas also say how many
--- bytes each of these has.
+-- bytes an item, a key and a stamp have.
 use Rattle.std.proofs.Common.{◌≡◌, ℕ, suc, ◌+◌, ◌-◌, ◌<◌, ◌^◌, List, [], ◌∷◌, ◌++◌, length, take, drop}
 use Rattle.std.proofs.Common.{refl, ap, ◌∙◌, subst, arith, append_assoc, length-append, Contains}
 use Rattle.std.specs.Prelude.{slice_index, slice_range}
@@ -23,7 +23,8 @@ drop_past (x ∷ xs) ys n k size =
     let up : n + k ≡ suc ((n - 1) + k) = omega arith in
     ap (λ j. drop j (x ∷ xs ++ ys)) up ∙ drop_past xs ys (n - 1) k (omega arith)
 
--- this can be the file stamp of a header
+-- the file stamp can be decoded from its bytes: its two numbers are below 2^16, and its reference
+-- has seven bytes
 record IsGoodFileStamp (stamp : FileStamp) : Type 0 where
   day : stamp.moment.day < 2 ^ 16
   minute : stamp.moment.minute < 2 ^ 16

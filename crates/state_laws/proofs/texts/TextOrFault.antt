@@ -17,7 +17,7 @@ use Rattle.cif_laws.proofs.lists.Decisions.{Decided, le_decided}
 use Rattle.state_laws.proofs.texts.StateBytes.{AreBytes}
 use Rattle.state_laws.proofs.texts.PartJudged.{Judged, judge}
 
--- the next part of an entry has at least one byte
+-- each key has at least one byte, and so has each other part of an entry
 key_width_some : (tag : ℕ) → IsTag tag → 0 < key_width tag
 key_width_some tag (inl e) = subst (λ t. 0 < key_width t) (sym e) (omega arith)
 key_width_some tag (inr (inl e)) = subst (λ t. 0 < key_width t) (sym e) (omega arith)

@@ -10,14 +10,14 @@ use Rattle.docker_model.specs.state.StateFault.{StateCause, IsBadPart}
 use Rattle.state_laws.specs.TextStage.{advance}
 use Rattle.cif_laws.proofs.lists.Fronts.{same_front}
 
--- these bytes are the next part, and the part isn't bad
+-- the bytes `part` are the next part of the text, and the part isn't bad
 pub record IsNextPart (format : Format) (before : Before) (part : List ℕ) : Type 0 where
   pub size : length part ≡ width before
   pub some : 0 < width before
   pub not_bad : (cause : StateCause) → ¬ IsBadPart format before part cause
   pub text : text_before format (advance format before part) ≡ text_before format before ++ part
 
--- each of these parts is a good next part after the parts before it
+-- each part in the list is a good next part after the parts before it
 abbrev pub Follow : (format : Format) → Before → List (List ℕ) → Type 0
 Follow format before [] = ⊤
 Follow format before (part ∷ parts) = IsNextPart format before part × Follow format (advance format before part) parts
@@ -33,7 +33,7 @@ pub record Leads (format : Format) (before after : Before) : Type 0 where
   pub follow : Follow format before parts
   pub to : after_parts format before parts ≡ after
 
--- a reader reaches each point from itself
+-- from any point a reader reaches this point itself, without reading a part
 pub no_step : (format : Format) → (before after : Before) → before ≡ after → Leads format before after
 no_step format before after same = record { parts = []; follow = tt; to = same }
 
