@@ -195,9 +195,9 @@ pub fn kept_changes_make_the_thinned_table()
         → (2 ≤ change.number) × (change.number < 2 ^ 32 - 1) }
 {}
 
-/// The state of the kept changes of a file is valid. Its live table is the table of the file,
-/// thinned for the place and the day. The state has the same docker of the place on the day as the
-/// summary of the file.
+/// A state that is made from the kept changes of a file is valid. Its live table is the table of
+/// the file, thinned for the place and the day. The state has the same docker of the place on the
+/// day as the summary of the file.
 pub fn state_of_thinning_has_one_docker()
     ensures valid { (place : List ℕ) (day : ℕ) (file : List (List ℕ)) (kept : List Change)
         (part : State) → IsFile file → length file ≤ most_records

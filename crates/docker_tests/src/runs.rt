@@ -15,7 +15,8 @@ use std::alloc::Global;
 use std::process::Abort;
 use test_records::printed::{ASHFELD_0900, NONE_ON_18_JUNE};
 
-/// Returns the event that an office takes this text. The text may have as many records as any file.
+/// Returns the event in which an office takes this text. The text may have as many records as any
+/// file.
 fn take(office: usize, text: &[u8]) -> Event<'_>
     ensures { HasGoodLimit (event_meant result) }
 {
@@ -26,28 +27,28 @@ fn take(office: usize, text: &[u8]) -> Event<'_>
     }
 }
 
-/// Returns the event that an office sends its state.
+/// Returns the event in which an office sends its state.
 fn send<'a>(office: usize) -> Event<'a>
     ensures { HasGoodLimit (event_meant result) }
 {
     Event::Send { office }
 }
 
-/// Returns the event that this message is delivered to an office.
+/// Returns the event in which this message is delivered to an office.
 fn deliver<'a>(office: usize, message: usize) -> Event<'a>
     ensures { HasGoodLimit (event_meant result) }
 {
     Event::Deliver { office, message }
 }
 
-/// Returns the event that an office reloads this message.
+/// Returns the event in which an office reloads this message.
 fn reload<'a>(office: usize, message: usize) -> Event<'a>
     ensures { HasGoodLimit (event_meant result) }
 {
     Event::Reload { office, message }
 }
 
-/// Returns the event that an office sets this horizon.
+/// Returns the event in which an office sets this horizon.
 fn horizon<'a>(office: usize, day: Day) -> Event<'a>
     ensures { HasGoodLimit (event_meant result) }
 {

@@ -15,8 +15,8 @@ use docker_office::{Office, OfficeFault};
 /// A number that is greater than the number of device calls in any row.
 const MOST_CALLS: u64 = 5000;
 
-/// `CALL STATE TEXT STATE`: the office reads the text from a source that fails at the first read,
-/// then from a source that fails at the second read, and so on.
+/// Runs a row with the arguments `CALL STATE TEXT STATE`. An office with the first state reads the
+/// text from sources that fail at the first read, at the second read, and so on.
 pub(crate) fn source(desk: &Desk, words: &[&str]) {
     let [call, own, name, wanted] = words else {
         return desk.trouble("CALL STATE TEXT STATE");
@@ -86,8 +86,8 @@ fn write<K: Sink>(output: &Output, office: &Office, sink: &mut K) -> Result<(), 
     }
 }
 
-/// `STATE TIPLOC DATE DOCKER`: the office prints the docker to a sink that fails at the first
-/// write, then to a sink that fails at the second write, and so on.
+/// Runs a row with the arguments `STATE TIPLOC DATE DOCKER`. An office with the state prints the
+/// docker to sinks that fail at the first write, at the second write, and so on.
 pub(crate) fn print(desk: &Desk, words: &[&str]) {
     let [own, place, day, wanted] = words else {
         return desk.trouble("STATE TIPLOC DATE DOCKER");
@@ -97,8 +97,8 @@ pub(crate) fn print(desk: &Desk, words: &[&str]) {
     }
 }
 
-/// `STATE`: the office sends its state to a sink that fails at the first write, then to a sink that
-/// fails at the second write, and so on.
+/// Runs a row with the argument `STATE`. An office sends the state to sinks that fail at the first
+/// write, at the second write, and so on.
 pub(crate) fn send(desk: &Desk, words: &[&str]) {
     let [own] = words else {
         return desk.trouble("STATE");
@@ -106,8 +106,8 @@ pub(crate) fn send(desk: &Desk, words: &[&str]) {
     sinks(desk, own, Output::State, own);
 }
 
-/// `STATE FILES`: the office lists its files to a sink that fails at the first write, then to a
-/// sink that fails at the second write, and so on.
+/// Runs a row with the arguments `STATE FILES`. An office with the state writes the list of its
+/// files to sinks that fail at the first write, at the second write, and so on.
 pub(crate) fn files(desk: &Desk, words: &[&str]) {
     let [own, wanted] = words else {
         return desk.trouble("STATE FILES");
@@ -198,8 +198,8 @@ fn is_front(bytes: &[u8], wanted: &[u8], call: u64) -> bool {
     bytes.len() as u64 == call.saturating_sub(1) && wanted.starts_with(bytes)
 }
 
-/// `LINE`: a job is read from a source that holds the line. The source fails at the first read,
-/// then a second source fails at the second read, and so on.
+/// Runs a row with the argument `LINE`. The call reads a job from sources that hold the line. They
+/// fail at the first read, at the second read, and so on.
 pub(crate) fn line(desk: &Desk, words: &[&str]) {
     let [name] = words else {
         return desk.trouble("LINE");

@@ -52,7 +52,8 @@ fn feed_again(desk: &Desk, text: &[u8], wanted: &str) {
     }
 }
 
-/// `FILE STATE`: a parser is fed the file. The file's state has to equal `STATE`.
+/// Runs a row with the arguments `FILE STATE`. A parser is fed the file, and the file's state must
+/// then equal `STATE`.
 pub(crate) fn feed(desk: &Desk, words: &[&str]) {
     let [name, wanted] = words else {
         return desk.trouble("FILE STATE");
@@ -71,7 +72,8 @@ pub(crate) fn feed(desk: &Desk, words: &[&str]) {
     }
 }
 
-/// `FILE STATE`: a parser that was fed the file finishes. The file's state has to equal `STATE`.
+/// Runs a row with the arguments `FILE STATE`. A parser that was fed the file finishes, and the
+/// file's state must then equal `STATE`.
 pub(crate) fn finish(desk: &Desk, words: &[&str]) {
     let [name, wanted] = words else {
         return desk.trouble("FILE STATE");
@@ -99,9 +101,9 @@ fn fed(desk: &Desk, pieces: &[&[u8]]) -> Result<CifFile, FileFault> {
     parser.finish()
 }
 
-/// `FILE STATE`: the file is read from pieces, by `read_pieces` or by a parser that is fed these
-/// pieces. If memory runs out, the two faults must have the same record number. No clause promises
-/// this.
+/// Runs a row with the arguments `FILE STATE`. The call reads the file from pieces, by
+/// `read_pieces` or by a parser. If memory runs out, both calls must report the same record number.
+/// No clause promises that they do.
 pub(crate) fn read(desk: &Desk, call: &str, words: &[&str]) {
     let [name, wanted] = words else {
         return desk.trouble("FILE STATE");
@@ -144,7 +146,8 @@ fn are_same_headers(one: &CifFile, other: &CifFile) -> bool {
         && first.extract() == second.extract()
 }
 
-/// `FILE STATE`: the state of the file is made.
+/// Runs a row with the arguments `FILE STATE`. The call makes the state of the file, which must
+/// equal `STATE`.
 pub(crate) fn of_file(desk: &Desk, words: &[&str]) {
     let [name, wanted] = words else {
         return desk.trouble("FILE STATE");

@@ -59,7 +59,7 @@ fn report_job(desk: &Desk, named: Result<Job, JobFault>, words: &[&str]) {
     }
 }
 
-/// `WORDS`: the words are read as a job.
+/// Runs a row whose arguments are the words of a job. The call reads the words as a job.
 pub(crate) fn words_of_job(desk: &Desk, words: &[&str]) {
     desk.begin();
     let named = job(desk.alloc(), words);
@@ -86,7 +86,8 @@ fn line_of(desk: &Desk, words: &[&str]) -> Option<Vec<u8>> {
     Some(line)
 }
 
-/// `WORDS`: the line of these words is read as a job.
+/// Runs a row whose arguments are the words of a job. The call reads a line of these words as a
+/// job.
 pub(crate) fn line_of_job(desk: &Desk, words: &[&str]) {
     match line_of(desk, words) {
         Some(line) => job_of_line(desk, line.as_slice(), words),
@@ -166,8 +167,8 @@ fn job_of(desk: &Desk, words: &[&str]) -> Option<Job> {
     }
 }
 
-/// `FIRST SECOND TEXT WORDS`: the job of these words reads the first two texts, and then has to
-/// write the third text.
+/// Runs a row with the arguments `FIRST SECOND TEXT WORDS`. The job with these words reads the
+/// first two texts, and must then write the third text.
 pub(crate) fn read_for_job(desk: &Desk, words: &[&str]) {
     let [first, second, wanted, words @ ..] = words else {
         return desk.trouble("FIRST SECOND TEXT WORDS");
@@ -203,8 +204,8 @@ fn read_texts(desk: &Desk, named: &Job, texts: [&[u8]; 2], wanted: &str, words: 
     }
 }
 
-/// `FIRST SECOND TEXT WORDS`: the job of these words, which has read the first two texts, has to
-/// write the third text.
+/// Runs a row with the arguments `FIRST SECOND TEXT WORDS`. The job with these words has read the
+/// first two texts, and must write the third text.
 pub(crate) fn write_for_job(desk: &Desk, words: &[&str]) {
     let [first, second, wanted, words @ ..] = words else {
         return desk.trouble("FIRST SECOND TEXT WORDS");

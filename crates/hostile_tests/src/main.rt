@@ -1,8 +1,9 @@
-//! Tests the hostile use of calls: one row of a table per line of standard input. A row names a
-//! call, the texts that the call receives, and the expected text. Files and dockers are made in
-//! `records.rt`, and other texts are in the folder `data`. The program prints the results. If a
-//! result isn't the expected text, the program also prints a statement about the difference, so
-//! that its output differs from the file `stdout`.
+//! Tests calls with texts that are cut, small limits, sources without end, devices that fail, and
+//! memory that runs out. Each line of standard input is a row of a table. A row names a call, the
+//! texts that the call receives, and the expected text. Files and dockers are made in `records.rt`,
+//! and other texts are in the folder `data`. The program prints the results. If a result isn't the
+//! expected text, the program also prints a statement about the difference, so that its output
+//! differs from the file `stdout`.
 //!
 //! A row that begins with `growth` is a call that allocates memory. The call is made once, and once
 //! more if memory runs out. `tests/growth/calls` runs the program once for each allocation of the

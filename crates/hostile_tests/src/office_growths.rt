@@ -7,8 +7,8 @@ use crate::texts::{MOST_BYTES, compare_state, has_text, occasion_of, office_of, 
 use cif_line::{Day, Sink, Tiploc};
 use docker_office::{LedgerOffice, Office, OfficeFault, PlaceOffice};
 
-/// `STATE TEXT STATE`: an office with the first state reads the text, and then has to have the last
-/// state.
+/// Runs a row with the arguments `STATE TEXT STATE`. An office with the first state reads the text,
+/// and must then have the last state.
 pub(crate) fn read(desk: &Desk, call: &str, words: &[&str]) {
     let [own, name, wanted] = words else {
         return desk.trouble("STATE TEXT STATE");
@@ -45,7 +45,8 @@ fn report_same(desk: &Desk, office: &Office, before: &[u8]) {
     desk.report(same, "the office is as it was");
 }
 
-/// `STATE TIPLOC DATE DOCKER`: an office with the state prints the docker.
+/// Runs a row with the arguments `STATE TIPLOC DATE DOCKER`. An office with the state prints the
+/// docker.
 pub(crate) fn print(desk: &Desk, words: &[&str]) {
     let [own, place, day, wanted] = words else {
         return desk.trouble("STATE TIPLOC DATE DOCKER");
@@ -99,8 +100,8 @@ fn compare_docker(desk: &Desk, office: &PlaceOffice, wanted: &str) {
     }
 }
 
-/// `STATE TIPLOC DATE DOCKER`: an office for the timing point and the day reads the state, and then
-/// prints the docker.
+/// Runs a row with the arguments `STATE TIPLOC DATE DOCKER`. An office for the timing point and the
+/// day reads the state, and then prints the docker.
 pub(crate) fn read_at_place(desk: &Desk, words: &[&str]) {
     let [name, place, day, wanted] = words else {
         return desk.trouble("STATE TIPLOC DATE DOCKER");
@@ -121,8 +122,8 @@ pub(crate) fn read_at_place(desk: &Desk, words: &[&str]) {
     }
 }
 
-/// `STATE TIPLOC DATE DOCKER`: an office for the timing point and the day, which has read the
-/// state, prints the docker.
+/// Runs a row with the arguments `STATE TIPLOC DATE DOCKER`. An office for the timing point and the
+/// day, which has read the state, prints the docker.
 pub(crate) fn print_at_place(desk: &Desk, words: &[&str]) {
     let [name, place, day, wanted] = words else {
         return desk.trouble("STATE TIPLOC DATE DOCKER");
@@ -166,7 +167,8 @@ fn compare_files(desk: &Desk, office: &LedgerOffice, wanted: &str) {
     }
 }
 
-/// `STATE FILES`: an office reads the ledger of the state, and then lists the files.
+/// Runs a row with the arguments `STATE FILES`. An office reads the ledger of the state, and then
+/// lists the files.
 pub(crate) fn read_ledger(desk: &Desk, words: &[&str]) {
     let [name, wanted] = words else {
         return desk.trouble("STATE FILES");

@@ -82,7 +82,8 @@ fn rebuilt(desk: &Desk, one: &State, at: At) -> Result<State, Memory> {
     made
 }
 
-/// `STATE`: the state, which has one file and one entry, is built from its parts.
+/// Runs a row with the argument `STATE`. The state, which has one file and one entry, is built from
+/// its parts.
 pub(crate) fn parts(desk: &Desk, call: &str, words: &[&str]) {
     let [name] = words else {
         return desk.trouble("STATE");
@@ -136,8 +137,8 @@ fn commit(desk: &Desk, own: &mut State, staging: Staging, at: At) -> Result<(), 
     done
 }
 
-/// `STATE OTHER JOINED`: the first state receives the second, which has one file and one entry. The
-/// first state then has to equal the third.
+/// Runs a row with the arguments `STATE OTHER JOINED`. The first state receives the second, which
+/// has one file and one entry. The first state must then equal the third.
 pub(crate) fn staging(desk: &Desk, call: &str, words: &[&str]) {
     let [own, other, wanted] = words else {
         return desk.trouble("STATE OTHER JOINED");

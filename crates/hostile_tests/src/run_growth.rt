@@ -160,8 +160,9 @@ fn report_same(desk: &Desk, left: &Exchange, book: &Book, wanting: u32) {
     );
 }
 
-/// `FIFTH SEVENTH NINTH OPEN`: three offices take the files and send their states. Messages are
-/// lost, repeated and reloaded. Some events name an office or a message that doesn't exist.
+/// Runs a row with the arguments `FIFTH SEVENTH NINTH OPEN`. Three offices take the files and send
+/// their states. Messages are lost, repeated and reloaded. Some events name an office or a message
+/// that doesn't exist.
 pub(crate) fn run_events(desk: &Desk, words: &[&str]) {
     let [fifth, seventh, ninth, open] = words else {
         return desk.trouble("FIFTH SEVENTH NINTH OPEN");

@@ -12,7 +12,8 @@ use docker_day::{Docker, docker, write_docker};
 use docker_join::Merge;
 use docker_state::State;
 
-/// `STATE OTHER JOINED`: the join of the first two states has to equal the third state.
+/// Runs a row with the arguments `STATE OTHER JOINED`. The join of the first two states must equal
+/// the third state.
 pub(crate) fn join(desk: &Desk, words: &[&str]) {
     let [first, second, wanted] = words else {
         return desk.trouble("STATE OTHER JOINED");
@@ -91,7 +92,7 @@ fn feed_again(desk: &Desk, text: &[u8], wanted: &str) {
     }
 }
 
-/// `STATE`: a parser is fed the state's text.
+/// Runs a row with the argument `STATE`. A parser is fed the state's text.
 pub(crate) fn feed(desk: &Desk, words: &[&str]) {
     let [name] = words else {
         return desk.trouble("STATE");
@@ -110,7 +111,7 @@ pub(crate) fn feed(desk: &Desk, words: &[&str]) {
     }
 }
 
-/// `STATE`: a parser that was fed the state's text finishes.
+/// Runs a row with the argument `STATE`. A parser that was fed the state's text finishes.
 pub(crate) fn finish(desk: &Desk, words: &[&str]) {
     let [name] = words else {
         return desk.trouble("STATE");
@@ -129,7 +130,7 @@ pub(crate) fn finish(desk: &Desk, words: &[&str]) {
     }
 }
 
-/// `STATE`: the state is read from a source.
+/// Runs a row with the argument `STATE`. The call reads the state from a source.
 pub(crate) fn read(desk: &Desk, words: &[&str]) {
     let [name] = words else {
         return desk.trouble("STATE");
@@ -149,8 +150,8 @@ fn receive(desk: &Desk, state: &mut State, text: &[u8]) -> Result<(), ReadFault>
     join_state(desk.alloc(), state, &mut source_of(text), MOST_BYTES)
 }
 
-/// `STATE OTHER JOINED`: the first state receives the second from a source, and then has to equal
-/// the third.
+/// Runs a row with the arguments `STATE OTHER JOINED`. The first state receives the second from a
+/// source, and must then equal the third.
 pub(crate) fn join_text(desk: &Desk, words: &[&str]) {
     let [own, other, wanted] = words else {
         return desk.trouble("STATE OTHER JOINED");
@@ -175,7 +176,8 @@ fn migrated(desk: &Desk, text: &[u8]) -> Result<State, ReadFault> {
     migrate(desk.alloc(), &mut source_of(text), MOST_BYTES)
 }
 
-/// `OLDER STATE`: a text in the older format is read from a source. The state has to equal `STATE`.
+/// Runs a row with the arguments `OLDER STATE`. The call reads a text in the older format from a
+/// source, and its state must equal `STATE`.
 pub(crate) fn migrate_text(desk: &Desk, words: &[&str]) {
     let [name, wanted] = words else {
         return desk.trouble("OLDER STATE");
@@ -201,7 +203,8 @@ fn compare_docker(desk: &Desk, docker: &Docker<'_>, wanted: &str) {
     }
 }
 
-/// `STATE TIPLOC DATE DOCKER`: the docker of the state for a place and a day is made.
+/// Runs a row with the arguments `STATE TIPLOC DATE DOCKER`. The call makes the docker of the state
+/// for the place and the day.
 pub(crate) fn make_docker(desk: &Desk, words: &[&str]) {
     let [name, place, day, wanted] = words else {
         return desk.trouble("STATE TIPLOC DATE DOCKER");
@@ -256,7 +259,8 @@ fn compare_kept(desk: &Desk, kept: Result<Kept, Memory>, text: &[u8], name: &str
     }
 }
 
-/// The text with this name, this many times. If memory runs out, prints a line and returns `None`.
+/// The text with this name, repeated `times` times. If memory runs out, prints a line and returns
+/// `None`.
 fn repeated(desk: &Desk, name: &str, times: &str) -> Option<Vec<u8>> {
     let text = desk.text(name);
     let mut all = Vec::new(desk.alloc());
@@ -269,8 +273,8 @@ fn repeated(desk: &Desk, name: &str, times: &str) -> Option<Vec<u8>> {
     Some(all)
 }
 
-/// `TEXT TIMES`: a sink with room for the text this many times is made, and the text is written to
-/// it.
+/// Runs a row with the arguments `TEXT TIMES`. The call makes a sink with room for the text,
+/// repeated `TIMES` times. Then the repeated text is written to the sink.
 pub(crate) fn keep(desk: &Desk, words: &[&str]) {
     let [name, times] = words else {
         return desk.trouble("TEXT TIMES");

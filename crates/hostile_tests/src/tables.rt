@@ -120,7 +120,7 @@ pub(crate) fn do_row(desk: &Desk, table: &str, words: &[&str]) {
     }
 }
 
-/// `CALL STATE TEXT STATE`: the call reads each prefix of the text.
+/// Runs a row with the arguments `CALL STATE TEXT STATE`. The call reads each prefix of the text.
 fn cut(desk: &Desk, words: &[&str]) {
     let [call, own, name, wanted] = words else {
         return desk.trouble("CALL STATE TEXT STATE");
@@ -150,7 +150,8 @@ fn limit_of(word: &str) -> u64 {
     word.parse::<u64>().unwrap_or(0)
 }
 
-/// `CALL STATE TEXT LIMIT`: the call reads the text under the limit, and has to refuse the text.
+/// Runs a row with the arguments `CALL STATE TEXT LIMIT`. The call reads the text under the limit,
+/// and must refuse the text.
 fn limit(desk: &Desk, words: &[&str]) {
     let [call, own, name, limit] = words else {
         return desk.trouble("CALL STATE TEXT LIMIT");
@@ -167,8 +168,8 @@ fn limit(desk: &Desk, words: &[&str]) {
     asked.answer_to(desk, text.as_slice()).report(desk);
 }
 
-/// `CALL STATE FRONT AGAIN LIMIT`: under the limit, the call reads a source that returns the first
-/// text and then repeats the second text without end.
+/// Runs a row with the arguments `CALL STATE FRONT AGAIN LIMIT`. Under the limit, the call reads a
+/// source that returns the first text and then repeats the second text without end.
 fn endless(desk: &Desk, words: &[&str]) {
     let [call, own, front, again, limit] = words else {
         return desk.trouble("CALL STATE FRONT AGAIN LIMIT");

@@ -257,8 +257,8 @@ no_stage_of_none after_details = refl
 no_stage_of_none in_journey = refl
 no_stage_of_none after_journey = refl
 
--- if records are at a stage, and one more record has a next stage, the records are at the next
--- stage after this record
+-- suppose that records are at a stage, and that one more record has a next stage. With this record,
+-- they are at the next stage
 pub next_front : (stage : Stage) (lines : Lines) (line : List ℕ) (next : Stage) → IsFront stage lines → next_stage stage lines line ≡ Some next
     → IsFront next (lines ++ line ∷ [])
 next_front stage lines line next front test = by (kind_of line) refl (next_line_by_test stage lines line next test)

@@ -1,5 +1,5 @@
--- The state of the kept changes of a file is valid. For the place and the day, this state has the
--- same docker as the summary of the file.
+-- A state that is made from the kept changes of a file is valid. For the place and the day, it has
+-- the same docker as the summary of the file.
 use Rattle.std.proofs.Common.{◌≡◌, ℕ, ◌-◌, ◌^◌, ◌<◌, ◌≤◌, List, [], ◌∷◌, length, map, subst, inl, inr, ◌⊎◌}
 use Rattle.std.proofs.Common.{refl, ap, sym, ◌∙◌, Bool, true, false, cond, Some, None, Contains, All, arith}
 use Rattle.std.specs.Prelude.{Option, option_and_then, ◌↔◌, fold}
@@ -97,7 +97,8 @@ module _ (place : List ℕ) (day : ℕ) (file : List (List ℕ)) (kept : List Ch
   was_change change among =
       Contains-map (thin_change place day) (changes file) change (sublist_member kept (map (thin_change place day) (changes file)) change is.some among)
 
-  -- the live table of the state is the thinned table after the file's changes
+  -- the live table of the state is the table after the file's changes, thinned for the place and
+  -- the day
   pub thin_live : (state : State) → IsStateOfChanges file kept state → (key : Key) → live_table state key ≡ thinned place day (after_file empty_table file) key
   thin_live state of key = live_is_made file kept state of kept_apart key ∙ is.enough key
 
@@ -176,7 +177,7 @@ module _ (place : List ℕ) (day : ℕ) (file : List (List ℕ)) (is_file : IsFi
       let told = kept_good place day file is_file few kept is change among in
       record { key = told.0.0; stamp = record { in_ledger = in_ledger; low = told.1.0; high = told.1.1 }; op = told.0.1 }
 
-  -- the state of the kept changes is valid
+  -- the state made from the kept changes is valid
   pub thin_valid : IsValid state
   thin_valid = record {
     horizon = subst IsDay (sym of.horizon) (omega arith);
@@ -212,13 +213,13 @@ module _ (place : List ℕ) (day : ℕ) (file : List (List ℕ)) (is_file : IsFi
             (live_of_summary file whole summary key)
             ∙ sym (thin_live place day file kept is state of key)
 
-    -- the state of the kept changes has the same docker list as the summary of the file
+    -- the state made from the kept changes has the same docker list as the summary of the file
     pub thin_state_list : (lines : List DockerLine) → IsDockerList (live_table whole) place day lines ↔ IsDockerList (live_table state) place day lines
     thin_state_list lines =
         subst (λ (table : Table). IsDockerList (live_table whole) place day lines ↔ IsDockerList table place day lines) same_live
         (thin_list_iff place day (live_table whole) whole_good lines)
 
-    -- the state of the kept changes has the same docker text as the summary of the file
+    -- the state made from the kept changes has the same docker text as the summary of the file
     pub thin_state_text : (text : List ℕ) → IsDockerText (live_table whole) place day text ↔ IsDockerText (live_table state) place day text
     thin_state_text text =
         subst (λ (table : Table). IsDockerText (live_table whole) place day text ↔ IsDockerText table place day text) same_live

@@ -1,5 +1,5 @@
--- If all events of a run are good, all knowledge is good: every known file is a CIF file, and the
--- format allows every known horizon.
+-- If all events of a run are good, all knowledge after the run is good: every known file is a CIF
+-- file, and the format allows every known horizon.
 use Rattle.std.proofs.Common.{◌≡◌, ℕ, zero, suc, ◌≤◌, Bool, true, false, List, [], ◌∷◌, length, get_or, ap, ◌∙◌, refl, arith, All}
 use Rattle.std.specs.Prelude.{max, nat_lt, fold, slice_set}
 use Rattle.std.specs.List.{zip}
