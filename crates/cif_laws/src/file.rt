@@ -56,8 +56,8 @@ pub fn changes_by_units()
         → changes_of_unit number (basic ∷ others) ≡ change_of_schedule number basic others ∷ [] }
 {}
 
-/// Two changes of one record have different keys. This holds for a single record with any records
-/// after it, and for each record of a file.
+/// Two changes of one record have different keys, whatever records follow the record. So two
+/// changes of a file that belong to the same record have different keys.
 pub fn keys_of_record_differ()
     ensures record { (number : ℕ) (line : List ℕ) (following : List (List ℕ))
         → AllPairs (λ (first second : Change). ¬ (first.key ≡ second.key))

@@ -41,8 +41,8 @@ pub fn known_files_fix_permanent_dockers()
 {}
 
 /// If the files of a set have distinct moments, a permanent docker printed from their summary is
-/// the permanent docker of their plain table. This holds under any horizon that doesn't refuse the
-/// day.
+/// the permanent docker of their plain table. The summary may have any horizon that doesn't refuse
+/// the day.
 pub fn permanent_docker_is_plain()
     ensures { (files : List (List (List ℕ))) (horizon : ℕ) (state : State) (table : Table)
         (place : List ℕ) (day : ℕ) (text : List ℕ) → AreFiles files → IsDay horizon

@@ -115,7 +115,8 @@ pub fn laws_of_setting()
         → lapse_entry state.horizon entry ≡ entry }
 {}
 
-/// Setting a horizon on a summary gives the summary under the greater of the two horizons.
+/// After a horizon is set on a summary, the state is the summary under the greater of the two
+/// horizons.
 pub fn setting_on_summary()
     ensures { (files : List (List (List ℕ))) (g h : ℕ) (state : State)
         → IsSummary files g state → IsSummary files (max g h) (raise_horizon h state) }

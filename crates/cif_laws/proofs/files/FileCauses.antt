@@ -78,14 +78,14 @@ trailer_among records is =
     (let among = Contains-append_right (is.first ∷ flat_map (λ unit. unit) is.units) (is.last ∷ []) is.last (cons-Contains-first is.last []) in
     (among.0, is.last, among.1, among.2, is.trailer_kind))
 
--- ---- which kinds of record may come at a place
+-- ---- which kinds of record are allowed at a place
 
 same_unit_by_kind : (kind : Option Kind) (first second : List ℕ) → is_some (unit_by_kind kind first) ≡ is_some (unit_by_kind kind second)
 same_unit_by_kind None first second = refl
 same_unit_by_kind (Some basic_schedule) first second = refl
 same_unit_by_kind (Some _) first second = refl
 
--- whether a record may come at a place depends only on the record's kind
+-- whether a record is allowed at a place depends only on the record's kind
 pub same_place_by_kind : (place : Place) (kind : Option Kind) (first second : List ℕ) → is_some (place_by_kind place kind first) ≡ is_some
     (place_by_kind place kind second)
 same_place_by_kind before_header kind first second = refl
@@ -191,7 +191,7 @@ module _ (limit : ℕ) (earlier : Lines) (place : Place) (line : List ℕ) (foun
   none_below rank most r0 r1 r2 r3 r4 r5 r6 third_midnight below holds = absurd (omega arith)
   none_below rank most r0 r1 r2 r3 r4 r5 r6 no_end below holds = holds
 
-  -- if the kind of a record may not come at the place, the record is out of place
+  -- if the kind of a record isn't allowed at the place, the record is out of place
   pub out_of_place : place_by_kind place (kind_of line) line ≡ None → IsOutOfPlace earlier line
   out_of_place none next same begins =
       let told = (begins_next_iff earlier place next found).0 begins in
@@ -199,7 +199,7 @@ module _ (limit : ℕ) (earlier : Lines) (place : Place) (line : List ℕ) (foun
       ∙ ap is_some told.1.place_is in
       let bad : false ≡ true = (λ i. is_some (sym none i)) ∙ same_place_by_kind place (kind_of line) line next ∙ some in cc
 
-  -- if the kind of a record may come at the place, the record isn't out of place
+  -- if the kind of a record is allowed at the place, the record isn't out of place
   pub in_place : (next : Place) → ¬ (kind_of line ≡ None) → place_by_kind place (kind_of line) line ≡ Some next → ¬ IsOutOfPlace earlier line
   in_place next known told out = by (kind_of line) refl
     where
@@ -213,7 +213,7 @@ module _ (limit : ℕ) (earlier : Lines) (place : Place) (line : List ℕ) (foun
           (at_begins there.0 (earlier ++ witness kind ∷ [])
           (next_at place earlier (witness kind) there.0 at (witness_next place earlier kind there.0 at there.1)))
 
-  -- suppose that a record has good fields, and that its kind may come at the place. If the record
+  -- suppose that a record has good fields, and that its kind is allowed at the place. If the record
   -- still leads the reader to no next place, the schedule passes midnight for the third time at
   -- this record
   third : (next : Place) → IsRecord line → place_by_kind place (kind_of line) line ≡ Some next → HasGoodFields line → next_place place line ≡ None

@@ -223,8 +223,8 @@ at_of_place records place found = at_from records before_header [] place refl fo
 
 -- ---- records that lead the reader to a place begin some file
 
--- for each kind of record that may come at a place, some good record of this kind leads the reader
--- to a next place
+-- for each kind of record that is allowed at a place, some good record of this kind leads the
+-- reader to a next place
 pub witness_next : (place : Place) (records : Lines) (kind : Kind) (next : Place) → IsAt place records → place_by_kind place (Some kind)
     (witness kind) ≡ Some next → next_place place (witness kind) ≡ Some next
 witness_next place records kind next at found = test_by_next place (witness kind) next (record {

@@ -1,5 +1,5 @@
--- Lemmas on relations between the members of a list. A list has a relation if each member is
--- related to each later member.
+-- Lemmas on `AllLater`, which says that each member of a list is related to each later member. For
+-- example, a list is strictly ascending if each member is below each later member.
 use Rattle.std.proofs.Common.{arith, List, [], ◌∷◌, ◌≡◌, sym, ◌∙◌, subst, inl, inr, ◌⊎◌, Contains, Bool, true, false, cond, map, ◌++◌}
 use Rattle.std.specs.Prelude.{⊤, filter}
 use Rattle.std.specs.List.{AllByRecursion, AllPairs, flat_map}
@@ -14,7 +14,7 @@ abbrev pub AllLater : {A : Type 0} → (A → A → Type 0) → List A → Type 
 AllLater R [] = ⊤
 AllLater R (x ∷ xs) = AllByRecursion (R x) xs × AllLater R xs
 
--- if a list has a relation, any two members are equal, or one is related to the other
+-- if `AllLater` holds for a list, any two members are equal, or one is related to the other
 pub one_before : {A : Type 0} (R : A → A → Type 0) (xs : List A) (a b : A) → AllLater R xs → Contains xs a → Contains xs b → (a ≡ b) ⊎ R a b ⊎ R b a
 one_before R [] a b later in_a in_b = absurd (nil-Contains a in_a)
 one_before R (x ∷ xs) a b later in_a in_b = by (one_before R xs a b later.1) (Contains-cons x xs a in_a) (Contains-cons x xs b in_b)
@@ -25,8 +25,8 @@ one_before R (x ∷ xs) a b later in_a in_b = by (one_before R xs a b later.1) (
     by rest (inr here) (inl f) = inr (inr (subst (λ v. R v a) f (below_by_recursion (R x) xs a later.0 here)))
     by rest (inr here) (inr there) = rest here there
 
--- if a list has a relation, and this relation implies another relation for members of the list, the
--- list has the other relation too
+-- if `AllLater` holds for a relation, and the relation implies another one for members of the list,
+-- `AllLater` holds for the other relation too
 pub later_weaker : {A : Type 0} (R S : A → A → Type 0) (xs : List A) → ((a b : A) → Contains xs a → Contains xs b → R a b → S a b) → AllLater R xs
     → AllLater S xs
 later_weaker R S [] to later = tt
@@ -35,7 +35,7 @@ later_weaker R S (x ∷ xs) to later = (
   later_weaker R S xs (λ a b in_a in_b. to a b (cons-Contains x xs a in_a) (cons-Contains x xs b in_b)) later.1,
 )
 
--- filtering a list preserves the relation of each member to each later member
+-- if `AllLater` holds for a list, it also holds for the filtered list
 pub later_filter : {A : Type 0} (R : A → A → Type 0) (test : A → Bool) (xs : List A) → AllLater R xs → AllLater R (filter test xs)
 later_filter R test [] later = tt
 later_filter {A} R test (x ∷ xs) later = by (test x) (later_filter R test xs later.1)
@@ -52,8 +52,8 @@ later_filter {A} R test (x ∷ xs) later = by (test x) (later_filter R test xs l
     by true rest = (above xs later.0, rest)
     by false rest = rest
 
--- if the image of each member is related to the image of each later member, the mapped list has the
--- relation
+-- if the image of each member is related to the image of each later member, `AllLater` holds for
+-- the mapped list
 pub later_map : {A B : Type 0} (R : B → B → Type 0) (f : A → B) (xs : List A) → AllLater (λ a b. R (f a) (f b)) xs → AllLater R (map f xs)
 later_map R f [] later = tt
 later_map {A} R f (x ∷ xs) later = (above xs later.0, later_map R f xs later.1)
@@ -62,8 +62,8 @@ later_map {A} R f (x ∷ xs) later = (above xs later.0, later_map R f xs later.1
     above [] all = tt
     above (y ∷ ys) all = (all.0, above ys all.1)
 
--- if two lists have the relation and each member of the first is related to each member of the
--- second, their concatenation has the relation
+-- if `AllLater` holds for two lists, and each member of the first is related to each member of the
+-- second, `AllLater` holds for their concatenation
 pub later_append : {A : Type 0} (R : A → A → Type 0) (xs ys : List A) → AllLater R xs → AllLater R ys → ((a b : A) → Contains xs a → Contains ys b → R a b)
     → AllLater R (xs ++ ys)
 later_append R [] ys first second across = second
@@ -76,8 +76,8 @@ later_append {A} R (x ∷ xs) ys first second across = (
     by z (inl here) = below_by_recursion (R x) xs z first.0 here
     by z (inr there) = across x z (cons-Contains-first x xs) there
 
--- if each of several lists has the relation, and each member of a list is related to each member of
--- every later list, their concatenation has the relation
+-- if `AllLater` holds for several lists, and each member of a list is related to each member of
+-- every later list, `AllLater` holds for their concatenation
 pub later_flat_map : {A B : Type 0} (R : B → B → Type 0) (S : A → A → Type 0) (f : A → List B) (xs : List A) → AllLater S xs
     → ((x : A) → Contains xs x → AllLater R (f x))
     → ((x y : A) → Contains xs x → Contains xs y → S x y → (a b : B) → Contains (f x) a → Contains (f y) b → R a b) → AllLater R (flat_map f xs)
@@ -90,14 +90,14 @@ later_flat_map R S f (x ∷ xs) later each across =
     let found = Contains-flat_map f xs b in_b in
     across x found.0 (cons-Contains-first x xs) (cons-Contains x xs found.0 found.1) (below_by_recursion (S x) xs found.0 later.0 found.1) a b in_a found.2)
 
--- like `later_append`, with the relation between the two lists stated by recursion
+-- like `later_append`, with the relation between the two lists defined by recursion
 pub later_append_all : {A : Type 0} (R : A → A → Type 0) (xs ys : List A) → AllLater R xs → AllLater R ys → AllByRecursion (λ x. AllByRecursion (R x) ys) xs
     → AllLater R (xs ++ ys)
 later_append_all R [] ys left right across = right
 later_append_all R (x ∷ xs) ys left right across = (all_append (R x) xs ys left.0 across.0, later_append_all R xs ys left.1 right across.1)
 
--- if a relation of two values implies another relation of their images, and a list has the first
--- relation, the mapped list has the second
+-- if a relation of two values implies another relation of their images, and `AllLater` holds for
+-- the first relation, it holds for the second relation and the mapped list
 pub later_map_weaker : {A B : Type 0} (f : A → B) (R : A → A → Type 0) (S : B → B → Type 0) → ((x y : A) → R x y → S (f x) (f y))
     → (xs : List A) → AllLater R xs
     → AllLater S (map f xs)
@@ -105,12 +105,13 @@ later_map_weaker f R S keeps [] all = tt
 later_map_weaker f R S keeps (x ∷ xs) all =
     (all_map f (S (f x)) xs (all_weaker (R x) (λ y. S (f x) (f y)) (λ y r. keeps x y r) xs all.0), later_map_weaker f R S keeps xs all.1)
 
--- if a relation implies another for all values, a list with the first relation has the second
+-- if a relation implies another relation for all values, and `AllLater` holds for the first
+-- relation, it also holds for the second
 pub later_weaker_always : {A : Type 0} (R S : A → A → Type 0) → ((x y : A) → R x y → S x y) → (xs : List A) → AllLater R xs → AllLater S xs
 later_weaker_always R S weaker [] all = tt
 later_weaker_always R S weaker (x ∷ xs) all = (all_weaker (R x) (S x) (weaker x) xs all.0, later_weaker_always R S weaker xs all.1)
 
--- if a list has a relation, each element is related to each element with a higher index
+-- if `AllLater` holds for a list, each element is related to each element with a higher index
 pub pairs_from_later : {A : Type 0} (R : A → A → Type 0) (xs : List A) → AllLater R xs → AllPairs R xs
 pairs_from_later R [] all = λ i j d below within. absurd (omega arith)
 pairs_from_later R (x ∷ xs) all = AllPairs-cons R x xs (All-from_recursion (R x) xs all.0) (pairs_from_later R xs all.1)

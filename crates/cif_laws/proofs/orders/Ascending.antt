@@ -63,8 +63,8 @@ pub ascending_of : {A : Type 0} (cmp : A → A → Ordering) (xs : List A) → A
 ascending_of cmp [] up = tt
 ascending_of cmp (x ∷ xs) up = (up.0, ascending_of cmp xs up.1)
 
--- appending an element above all others to a strictly ascending list gives a strictly ascending
--- list
+-- a strictly ascending list is still strictly ascending after an element above all its elements is
+-- appended
 pub ascending_last : {A : Type 0} (cmp : A → A → Ordering) (xs : List A) (y : A) → IsStrictlyAscending cmp xs → AllByRecursion (λ x. IsBelow cmp x y) xs
     → IsStrictlyAscending cmp (xs ++ y ∷ [])
 ascending_last cmp [] y up below = (tt, tt)

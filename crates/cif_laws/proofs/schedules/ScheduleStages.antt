@@ -722,7 +722,7 @@ schedule_or_not lines = by (stage_of lines) refl
             let same : whole.0 ≡ stage = cc in
             let bad : true ≡ false = sym whole.1.may ∙ ap (λ s. may_end s lines) same ∙ may in cc)
 
--- ---- which kinds of record may come at a stage
+-- ---- which kinds of record are allowed at a stage
 
 -- if the kind of a record has no next stage, the record is out of place: no schedule has a record
 -- of this kind after the earlier records

@@ -118,7 +118,7 @@ module _ (own : State) (floor : Option FileStamp) (offered staged : List (Key ×
       back k e to_stage (inr here) =
           absurd (out (subst (λ (v : Key × Entry). IsToStage own floor v.0 v.1) (sym (Contains-single (key, entry) (k, e) here)) to_stage))
 
--- ---- after all offers, the commit gives the join
+-- ---- after all offers, the state after the commit is the join
 
 -- after all entries of a received state are offered and the staged entries are committed, the
 -- result is the join with the received state without its horizon

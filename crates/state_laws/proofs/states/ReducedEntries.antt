@@ -40,7 +40,7 @@ pub record IsReduced (items : List LedgerItem) (entries : List Keyed) (state : S
 module _ (items more : List LedgerItem) (entries others : List Keyed) (once twice : State) (first : IsReduced items entries once)
     (second : IsReduced (once.ledger ++ more) (once.entries ++ others) twice)
     (rises : once.horizon ≤ twice.horizon) where
-  -- ---- two steps give the same ledger as one step
+  -- ---- the ledger after two steps equals the ledger after one step
   Top : LedgerItem → Type 0
   Top item = (top : LedgerItem) × Contains (once.ledger ++ more) top × IsFull top × IsAtMost file_stamp_cmp item.stamp top.stamp
 
@@ -101,7 +101,7 @@ module _ (items more : List LedgerItem) (entries others : List Keyed) (once twic
       by (inl here) = Contains-append_left once.ledger more item ((first.ledger item).1 (here, kept_first item.stamp kept))
       by (inr here) = Contains-append_right once.ledger more item here
 
-  -- ---- two steps give the same entries as one step
+  -- ---- the entries after two steps equal the entries after one step
   module _ (key : Key) where
     Whole : Type 0
     Whole = (best : Entry) × IsGreatestAmong (entries ++ others) key best

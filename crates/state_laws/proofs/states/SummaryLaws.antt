@@ -1,6 +1,6 @@
 -- A set of files has at most one summary under each horizon. The join of two summaries is the
--- summary of both sets of files together, under the greater horizon. Setting a horizon on a summary
--- gives the summary under the greater of the two horizons.
+-- summary of both sets of files together, under the greater horizon. After a horizon is set on a
+-- summary, the state is the summary under the greater of the two horizons.
 use Rattle.std.proofs.Common.{◌≡◌, ℕ, ◌≤◌, List, ◌++◌, map, Contains, subst, inl, inr, ◌⊎◌, ap, sym, ◌∙◌}
 use Rattle.std.specs.Prelude.{max}
 use Rattle.std.specs.List.{flat_map}
@@ -139,7 +139,8 @@ lapsed_summary files low high state rises is = record {
     twofold : (entry : Entry) → lapse_entry high (lapse_entry low entry) ≡ lapse_entry high entry
     twofold entry = entry_twice high low entry ∙ ap (λ h. lapse_entry h entry) (max-eq_left rises)
 
--- setting a horizon on a summary gives the summary under the greater of the two horizons
+-- after a horizon is set on a summary, the state is the summary under the greater of the two
+-- horizons
 pub raised_summary : (files : List File) (g h : ℕ) (state : State) → IsSummary files g state → IsSummary files (max g h) (raise_horizon h state)
 raised_summary files g h state is =
     let same : max state.horizon h ≡ max g h = ap (λ n. max n h) is.horizon_is in

@@ -1,5 +1,5 @@
--- Appending a good item to a ledger gives a ledger. An item is good if it is well formed, is above
--- all items of the ledger, and doesn't raise the floor.
+-- A ledger with a good item appended is still a ledger. An item is good if it is well formed, is
+-- above all items of the ledger, and doesn't raise the floor.
 use Rattle.std.proofs.Common.{◌≡◌, subst, List, [], ◌∷◌, ◌++◌, refl, sym, inl, inr, ◌⊎◌, arith, All, Contains, Some, None}
 use Rattle.std.specs.Prelude.{Option}
 use Rattle.std.specs.List.{AllByRecursion}
@@ -99,7 +99,7 @@ kept_each (first ∷ ledger) item up floor full = (
     low : IsAtMost file_stamp_cmp item.stamp first.stamp
     low = by (at_most_or file_stamp_total item.stamp first.stamp)
 
--- appending a good item to a ledger gives a ledger
+-- a ledger with a good item appended is still a ledger
 pub one_item_more : (ledger : List LedgerItem) (item : LedgerItem) → IsLedger ledger → IsGoodItem item → IsAboveItems ledger item → ¬ RaisesFloor ledger item
     → IsLedger (ledger ++ item ∷ [])
 one_item_more ledger item is good above floor = by (nat_decided item.indicator 70)

@@ -118,7 +118,7 @@ association_decided key line =
     (both_decided (record_decided line) (both_decided (has_kind_decided association line) (both_decided (good_fields_decided line)
     (both_decided (nat_decided (column 3 line) 78) (same_key_decided (association_named line) (association_key key))))))
 
--- it is decidable whether a number may be the number of a schedule's lines
+-- it is decidable whether a schedule may have this number of lines
 pub line_count_decided : (count : ℕ) → Decided (IsLineCount count)
 line_count_decided count = both_decided (lt_decided 0 count) (lt_decided count (2 ^ 32 - 1))
 

@@ -57,7 +57,7 @@ one_more : (P : Key × Entry → Type 0) (entries : List (Key × Entry)) (entry 
 one_more P entries entry all last =
     All-from_recursion P (entries ++ entry ∷ []) (all_append P entries (entry ∷ []) (recursion_from_All P entries all) (last, tt))
 
--- appending a good entry to a valid state gives a valid state
+-- a valid state with a good entry appended is still valid
 pub valid_more : (state : State) (key : Key) (stamp : Stamp) (op : Op) → IsValid state → IsStampHere state key stamp → IsOpOf key op
     → HasNotToLapse state.horizon op → IsValid (with_entry state key stamp op)
 valid_more state key stamp op valid here of stays = record {
