@@ -13,7 +13,7 @@ pub record HasCall (live : Table) (place uid : List ℕ) : Type 0 where
   pub uid_is : key.uid ≡ uid
   pub calling : IsCalling live place key lines
 
--- an association at the place is in the live table and has the UID as its associated train
+-- an association at the place is in the live table, and the UID belongs to its associated train
 pub record IsNamed (live : Table) (place uid : List ℕ) : Type 0 where
   pub key : AssociationKey
   pub line : List ℕ
@@ -21,8 +21,9 @@ pub record IsNamed (live : Table) (place uid : List ℕ) : Type 0 where
   pub linked : IsLinked live place key line
 
 -- the docker of the place may depend on the schedules of this UID. A schedule of the UID calls at
--- the place, or the UID is the associated train of an association at the place. All schedules of
--- the UID are then needed, since together they determine which of them is chosen on a day
+-- the place, or the UID belongs to the associated train of an association at the place. All
+-- schedules of the UID are then needed, since together they determine which of them is chosen on a
+-- day
 abbrev pub IsConcerned : Table → List ℕ → List ℕ → Type 0
 IsConcerned live place uid = HasCall live place uid ⊎ IsNamed live place uid
 

@@ -53,8 +53,8 @@ is_run_named names (first ∷ run) = list_any (λ name. has_uid name first.0) na
 abbrev pub is_run_calling : List ℕ → List (Key × Entry) → Bool
 is_run_calling place run = list_any (λ entry. is_call place entry.1.op) run
 
--- whether the run is needed: its UID is the associated train of a kept association, or one of its
--- entries puts a schedule that calls at the place
+-- whether the run is needed: its UID belongs to the associated train of a kept association, or one
+-- of its entries puts a schedule that calls at the place
 abbrev pub is_run_needed : List ℕ → ExcerptSoFar → Bool
 is_run_needed place so_far = is_run_named (names_in so_far.kept) so_far.run || is_run_calling place so_far.run
 

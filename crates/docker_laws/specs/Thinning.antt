@@ -79,8 +79,8 @@ table_of changes = fold after_change empty_table changes
 abbrev pub AreEnough : List ℕ → ℕ → List Change → List Change → Type 0
 AreEnough place day changes kept = (key : Key) → table_of kept key ≡ thinned place day (table_of changes) key
 
--- for the place and the day, the kept changes may replace all changes: they are a sublist of the
--- thin forms of all changes, and they are enough
+-- for the place and the day, the kept changes may replace all changes. They are a sublist of the
+-- thin forms of all changes, and they are enough for the docker
 pub record IsThinning (place : List ℕ) (day : ℕ) (changes kept : List Change) : Type 0 where
   pub some : IsSublist kept (map (thin_change place day) changes)
   pub enough : AreEnough place day changes kept

@@ -124,8 +124,9 @@ pub fn excerpt_by_entry()
 {}
 
 /// A run is all entries for the schedules of one UID. At the end of a run, the walk keeps the whole
-/// run if it is needed, and otherwise drops it. A run is needed if its UID is the associated train
-/// of a live association at the place, or if one of its live schedules calls at the place.
+/// run if it is needed, and otherwise drops it. A run is needed if its UID belongs to the
+/// associated train of a live association at the place, or if one of its live schedules calls at
+/// the place.
 pub fn run_of_one_uid()
     ensures keeps { (place : List ℕ) (so_far : ExcerptSoFar)
         → is_run_needed place so_far ≡ true

@@ -91,7 +91,7 @@ pub(crate) const NIGHT: File = &[HD, BS_NIGHT, LO_2355, LI_0000, LI_0010, LT_002
 /// A train that runs past two midnights.
 pub(crate) const TWO_NIGHTS: File = &[HD, BS_NIGHT, LO_2355, LI_0010, LI_COLWELL_0005, LT_0006, ZZ];
 
-/// A train that runs past three midnights. No schedule may do that.
+/// A train that runs past three midnights, which no schedule may do.
 pub(crate) const THREE_NIGHTS: File = &[
     HD,
     BS_NIGHT,

@@ -287,8 +287,8 @@ place_from_append (line ∷ front) place middle more found =
     let step = then_some (λ next. place_from next front) (next_place place line) middle found in
     (λ i. option_and_then (λ next. place_from next (front ++ more)) (step.1 i)) ∙ place_from_append front step.0 middle more step.2
 
--- if a record has a next stage in a schedule, it leads the reader in the file to the place with
--- that stage. If the journey is then complete, the place is between units
+-- if a record has a next stage in a schedule, it leads a reader of the file to the place with that
+-- stage. If the journey is then complete, the place is between units
 pub next_of_stage : (stage : Stage) (lines : Lines) (line : List ℕ) (next : Stage) → next_stage stage lines line ≡ Some next
     → next_place (in_schedule stage lines) line ≡ Some (place_in next (lines ++ line ∷ []))
 next_of_stage stage lines line next found =

@@ -339,8 +339,8 @@ named_iff names key entry others = (
   λ among. any_forth (λ name. bytes_eq key.uid name) names key.uid among ((bytes_eq-Decides key.uid key.uid).1 refl),
 )
 
--- a run is needed if and only if its UID is the associated train of a kept association or one of
--- its live schedules calls at the place
+-- a run is needed if and only if its UID belongs to the associated train of a kept association, or
+-- one of its live schedules calls at the place
 pub run_needed_iff : (place : List ℕ) (so_far : ExcerptSoFar) (key : ScheduleKey) (entry : Entry) (others : List Keyed)
     → so_far.run ≡ (schedule_key key, entry) ∷ others
     → (is_run_needed place so_far ≡ true)

@@ -37,7 +37,7 @@ module _ (place : List ℕ) (entries kept run : List Keyed) (needed : Bool) (has
   same_name names (first ∷ rest) uid x goes = refl
 
   -- a schedule with the run's UID is appended to the run. The run is then needed if it was needed
-  -- or the schedule calls at the place
+  -- before, or if the schedule calls at the place
   pub kept_joins : (key : ScheduleKey) (entry : Entry) → goes_on run key.uid ≡ true
       → HasKept place (entries ++ (schedule_key key, entry) ∷ []) kept (run ++ (schedule_key key, entry) ∷ []) (needed || is_call place entry.op)
   kept_joins key entry goes = record {
@@ -66,7 +66,8 @@ module _ (place : List ℕ) (entries kept run : List Keyed) (needed : Bool) (has
       ∙ ap (λ (so_far : ExcerptSoFar). names_in so_far.kept) has.so_far
 
   -- a schedule of another UID ends the run and begins the next run. The next run is needed if its
-  -- UID is an associated train of a kept association or the schedule calls at the place
+  -- UID belongs to the associated train of a kept association, or if the schedule calls at the
+  -- place
   pub kept_begins : (key : ScheduleKey) (entry : Entry) (named : Bool) → goes_on run key.uid ≡ false
       → (named ≡ true) ↔ Contains (names_in kept) key.uid
       → HasKept place (entries ++ (schedule_key key, entry) ∷ []) (cond needed (kept ++ run) kept) ((schedule_key key, entry) ∷ [])
