@@ -81,7 +81,7 @@ line_with trains day start key line (Some occasion) None = []
 line_with trains day start key line (Some occasion) (Some base) =
     line_at trains day start key line occasion base (first_event_at base.lines key.location key.suffix)
 
--- whether the association may have a docker line for this start day of the base train. It may if it
+-- whether the association can have a docker line for this start day of the base train. It can if it
 -- is the chosen association of its group, isn't a cancellation, and has the date indicator S, a
 -- space, N or P
 abbrev pub is_in_force : (Group → ℕ → Option Link) → ℕ → AssociationKey → List ℕ → Bool
