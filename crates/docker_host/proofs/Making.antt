@@ -1,4 +1,5 @@
--- Making a struct that has only ghost fields. The struct takes no memory. Assumes `Logic`.
+-- Making a struct that has only ghost fields. The struct takes no memory. The proof assumes
+-- `Logic`, the kit's laws of memory.
 use Rattle.std.proofs.Common.{List, [], ◌∷◌, refl}
 use seplogic.Ra.Ura.{Ura}
 use mir.Val.{Val, vstruct, vnil}

@@ -11,8 +11,8 @@ use std::io::ErrorKind;
 /// The reason why a file couldn't be opened, or why no draft could be made.
 #[derive(Clone, Copy, PartialEq, Eq, Debug)]
 pub enum OpenFault {
-    /// The file doesn't exist, may not be opened in this way, or is no longer the file that was
-    /// seen, or the device failed.
+    /// The file doesn't exist, the program isn't allowed to open it, another file has replaced it
+    /// since the look, or the device failed.
     Failed,
     /// Out of memory: an allocation was refused.
     Memory,
@@ -92,7 +92,8 @@ pub trait Folder {
     // The number of the look's event in the history, counted from 0.
     ghost look_of: { Self.Seen → ℕ };
 
-    // Whether contracts know which bytes the folder's drafts have taken. For real files they don't.
+    // Whether contracts know which bytes the folder's drafts have taken. Contracts don't know the
+    // bytes of real files.
     ghost names_bytes: { Bool };
 
     /// Looks at the named file. A draft for the file can be made from the result.
@@ -123,7 +124,7 @@ pub trait Folder {
         ensures counted { failures self.new ≡ failures self.old + Self.File.failures file };
 
     /// Makes an empty draft for the named file, from the result of a look. Fails if the file under
-    /// the name is no longer the one that was seen.
+    /// the name is no longer the file that the look saw.
     fn create<'a>(
         &mut self,
         name: &'a str,

@@ -29,7 +29,7 @@ impl Model for OutputDevice {
 }
 
 impl OutputDevice {
-    /// Returns standard output. This succeeds even if nobody reads it.
+    /// Returns standard output. The call succeeds even if no program reads that stream.
     pub fn stdout(rt: &HostRuntime) -> OutputDevice
         ensures { result.failures ≡ 0 }
     {
@@ -37,7 +37,7 @@ impl OutputDevice {
         OutputDevice { to, failures: 0 }
     }
 
-    /// Returns standard error. This succeeds even if nobody reads it.
+    /// Returns standard error. The call succeeds even if no program reads that stream.
     pub fn stderr(rt: &HostRuntime) -> OutputDevice
         ensures { result.failures ≡ 0 }
     {

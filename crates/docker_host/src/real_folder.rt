@@ -1,5 +1,5 @@
-//! The real files. Contracts don't know their bytes, but know which calls were made for which
-//! files, and in which order.
+//! The folder of the real files. Contracts don't know the bytes of the files. But contracts know
+//! the order of the calls, and which file each call named.
 ghost use Rattle.std.specs.Prelude.{◌≡◌, ◌+◌, ◌-◌, ◌^◌, ◌<◌, [], ◌∷◌, ◌++◌, false, None, IsErr, OnOk, OnErr};
 ghost use Rattle.cif_device.specs.Device.{CountsFailure};
 ghost use Rattle.docker_host.specs.History.{placed, unplaced, dropped};
@@ -42,8 +42,8 @@ impl Model for RealFolder {
 }
 
 impl RealFolder {
-    /// Returns the real files, with names relative to the working directory. The history has no
-    /// events yet.
+    /// Returns the real files, with names relative to the working directory. The history is empty
+    /// at first.
     pub fn new(rt: &HostRuntime) -> RealFolder
         ensures events { result.events ≡ [] }
         ensures no_failure { result.failures ≡ 0 }

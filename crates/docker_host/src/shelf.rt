@@ -28,19 +28,20 @@ pub enum Fails {
     AtOpen,
     /// Opening a file, because memory runs out.
     AtOpenForMemory,
-    /// Reading an opened file after this many bytes.
+    /// Each read of an opened file from which this many bytes have been read.
     AfterReading(usize),
     /// Making a draft.
     AtCreate,
     /// Making a draft, because memory runs out.
     AtCreateForMemory,
-    /// Writing to a draft after this many bytes.
+    /// Each write to a draft that has taken this many bytes.
     AfterWriting(usize),
     /// Replacing a file with its draft.
     AtComplete,
 }
 
-/// The result of a look at a file on a shelf: the number of the text in the file, or `None` if
+/// The result of a look at a file on a shelf: which of the shelf's texts the file has, and the
+/// position of the look in the history. The texts are numbered from the oldest; `None` means that
 /// there was no file.
 #[derive(Drop)]
 pub struct Sight {
@@ -86,8 +87,8 @@ fn text_among<'a>(places: &'a [Place], name: &str) -> Option<&'a [u8]>
     None
 }
 
-/// Returns the number of the text with this name, counted from the oldest place, or `None` if there
-/// is no such file.
+/// Returns which of the shelf's texts the file with this name has, or `None` if there is no such
+/// file. The texts are numbered from the oldest, so that a new text changes no number.
 fn number_among(places: &[Place], name: &str) -> Option<usize> {
     places
         .iter()
@@ -142,8 +143,8 @@ impl Shelf {
         text_among(self.places.as_slice(), name)
     }
 
-    /// Changes nothing. By its contract, each opened file held the text that was last placed under
-    /// its name.
+    /// Does nothing at run time. The contract says that each opened file held the text that was
+    /// last placed under its name, and a caller's proof can use that fact.
     pub fn tell(&self)
         ensures { IsShelfHistory self.now.events }
     {

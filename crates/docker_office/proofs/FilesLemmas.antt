@@ -12,7 +12,7 @@ use Rattle.docker_model.specs.state.State.{IsGoodItem}
 use Rattle.docker_day.specs.LedgerItem.{LedgerItem}
 use Rattle.docker_day.specs.Meaning.{item_meant}
 
--- the list of files that the code's ledger items make
+-- the text of the list of files that are in these ledger items
 abbrev pub text_of : List LedgerItem → List ℕ
 text_of items = files_text (map item_meant items)
 
@@ -46,7 +46,7 @@ minute_at items i item all below at =
     let good : IsGoodItem (item_meant item) = subst IsGoodItem same (all i (item_meant item) (omega arith)) in
     good.minute
 
--- the lines of the items before item `i` have been written
+-- these lemmas assume that the lines of the items before item `i` have been written
 module _ (items : List LedgerItem) (i : ℕ) (item : LedgerItem) (line : List ℕ) (first now next : Option (List ℕ)) (below : i < length items)
     (at : item ≡ get_or items i item) (line_is : line ≡ ended (file_text (item_meant item))) (so_far : Takes first (text_of (take i items)) now) where
   following : suc i ≡ i + 1

@@ -32,7 +32,8 @@ pub record TakesFile (limit : ℕ) (left : Option (List ℕ)) (old new : State) 
   pub of_file : IsSummary (file ∷ []) 0 own
   pub joined : IsJoin old own new
 
--- says that memory ran out while a file was read, or for the state of a file that was read whole
+-- says that memory ran out: while the file was read, or afterwards, while the file's state was made
+-- or joined
 abbrev pub WantsForFile : ℕ → Option (List ℕ) → Option (List ℕ) → Type 0
 WantsForFile limit old new = WantsMemory most_at_once limit old new ⊎ HoldsFile limit old
 

@@ -1,4 +1,4 @@
--- How the reading of a state or a file by an office ends.
+-- How an office's reading of a state or a file ends.
 use Rattle.std.specs.Prelude.{◌≡◌, ℕ, ◌+◌, Option, Some, None, Result, Ok, Err, ⊤}
 use Rattle.cif_file.specs.SourceRead.{ReadsNoFurther, RefusesText}
 use Rattle.cif_device.specs.Device.{IsEnd}
@@ -24,7 +24,7 @@ why_unread (File fault) = None
 why_unread Lapsed = None
 why_unread Sink = None
 
--- says how the reading of a state's text by an office has ended
+-- says how an office's reading of a state's text has ended
 abbrev pub EndsReadingState : {S A : Type 0} → (S → BytesLeft) → (S → ℕ) → Format → ℕ → (A → Type 0) → S → S → Result A OfficeFault → Type 0
 EndsReadingState left failures format limit IsMade source source_now result =
     EndsReadingBy WantsMemory why_unread left failures format limit IsMade source source_now result

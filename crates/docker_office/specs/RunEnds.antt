@@ -9,8 +9,8 @@ use Rattle.docker_model.specs.run.Run.{RunEvent, take_file, send_state, deliver,
 use Rattle.docker_model.specs.run.Run.{Exchange, IsRun, IsReply, IsStateOf, IsMessageOf, office_known, message_known, known_sets}
 use Rattle.docker_model.specs.run.Knowledge.{IsGoodEvent, office_state, message_text, sets_of}
 
--- says that an event that takes a file has a limit of at most 4,294,967,294 records. This is true
--- of every other event
+-- says that the event has a valid limit: if the event takes a file, the limit is at most
+-- 4,294,967,294 records. An event that takes no file has no limit
 abbrev pub HasGoodLimit : RunEvent → Type 0
 HasGoodLimit (take_file office text limit) = limit ≤ 4_294_967_294
 HasGoodLimit (send_state office) = ⊤
@@ -32,11 +32,11 @@ known_at_end offices events exchange office = office_known (sets_of offices even
 abbrev pub sent_with : ℕ → List RunEvent → Exchange → ℕ → Known
 sent_with offices events exchange message = message_known (sets_of offices events exchange) message
 
--- the event at an index, from 0
+-- the event at this index, counted from 0
 abbrev pub event_at : List RunEvent → ℕ → RunEvent
 event_at events place = slice_index_or events place (send_state 0)
 
--- the reply at an index, from 0
+-- the reply at this index, counted from 0
 abbrev pub reply_at : List Reply → ℕ → Reply
 reply_at replies place = slice_index_or replies place done
 

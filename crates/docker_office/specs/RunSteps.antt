@@ -1,4 +1,4 @@
--- One event in the middle of a run: the states of offices and messages before and after it.
+-- One event in the middle of a run: the offices and the messages before and after it.
 use Rattle.docker_model.specs.state.StateText.{dks_2}
 use Rattle.docker_model.specs.run.Run.{RunEvent, KnownSets, IsReply, after_reply}
 use Rattle.docker_model.specs.run.Knowledge.{Holds}

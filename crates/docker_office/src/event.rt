@@ -1,4 +1,4 @@
-//! Events at offices.
+//! The events of a run, each at one office.
 use cif_line::Day;
 
 /// An event at one office in a run. Offices and messages are numbered from 0. A message that no

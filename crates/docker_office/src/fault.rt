@@ -1,4 +1,4 @@
-//! Why an office refuses.
+//! The reasons why an office refuses a request.
 use cif_file::FileFault;
 use docker_bytes::StateFault;
 use docker_day::DockerFault;

@@ -1,4 +1,4 @@
-//! An office that only lists the files of a state, and keeps only the state's ledger.
+//! An office that can only list the files of a state. So it keeps only the state's ledger.
 ghost use Rattle.std.specs.Prelude.{◌≡◌, ◌-◌, ◌^◌, ◌<◌, IfOk, IfErr, OnOk, OnErr, Err};
 ghost use Rattle.cif_device.specs.Device.{CountsFailure, Takes, TakesPart};
 ghost use Rattle.docker_bytes.specs.SourceRead.{ReadsState};
@@ -32,8 +32,8 @@ impl Model for LedgerOffice {
 
 impl LedgerOffice {
     /// Reads a state from a source, and keeps its ledger. A text with more than `limit` bytes is
-    /// refused. Every text that `Office::reload` refuses is refused here too, by `State`, `Source`
-    /// or `Memory`: all parts of the text are judged, although no entry is kept.
+    /// refused. All parts of the text are judged, although no entry is kept. So this call refuses
+    /// every text that `Office::reload` refuses, with `State`, `Source` or `Memory`.
     pub fn read<S: Source>(
         alloc: Global,
         source: &mut S,

@@ -77,8 +77,8 @@ impl Office {
 
     /// Takes the file whose text a source holds: joins the office's state with the file's state. A
     /// file with more than `limit` records is refused. The source is read in pieces of at most
-    /// 65,536 bytes, to its end or to the piece with the first fault. A refusal, by `File`,
-    /// `Source` or `Memory`, leaves the office unchanged.
+    /// 65,536 bytes, to its end or to the piece with the first fault. If the call fails, with
+    /// `File`, `Source` or `Memory`, the office is unchanged.
     pub fn take<S: Source>(&mut self, source: &mut S, limit: u32) -> Result<(), OfficeFault>
         requires failures { S.failures source.old < 2 ^ 64 - 1 }
         requires limit { limit ≤ MOST_RECORDS }
@@ -118,8 +118,8 @@ impl Office {
     }
 
     /// Joins the office's state with the state whose text a source holds. A text with more than
-    /// `limit` bytes is refused. A refusal, by `State`, `Source` or `Memory`, leaves the office
-    /// unchanged.
+    /// `limit` bytes is refused. If the call fails, with `State`, `Source` or `Memory`, the office
+    /// is unchanged.
     pub fn receive<S: Source>(&mut self, source: &mut S, limit: u64) -> Result<(), OfficeFault>
         requires { S.failures source.old < 2 ^ 64 - 1 }
         ensures reads { EndsReadingState S.left S.failures dks_2 limit
@@ -134,8 +134,8 @@ impl Office {
     }
 
     /// Replaces the office's state with the state whose text a source holds. The office forgets
-    /// every file that isn't in the new state. A text with more than `limit` bytes is refused. A
-    /// refusal, by `State`, `Source` or `Memory`, leaves the office unchanged.
+    /// every file that isn't in the new state. A text with more than `limit` bytes is refused. If
+    /// the call fails, with `State`, `Source` or `Memory`, the office is unchanged.
     pub fn reload<S: Source>(&mut self, source: &mut S, limit: u64) -> Result<(), OfficeFault>
         requires { S.failures source.old < 2 ^ 64 - 1 }
         ensures reads { EndsReadingState S.left S.failures dks_2 limit
@@ -151,8 +151,8 @@ impl Office {
 
     /// Replaces the office's state with the state whose text a source holds. The text has the mark
     /// `DKS1`, so neither the text nor the new state has a horizon. A text with the mark `DKS2` is
-    /// refused with a fault at offset 0. A text with more than `limit` bytes is also refused. A
-    /// refusal, by `State`, `Source` or `Memory`, leaves the office unchanged.
+    /// refused with a fault at offset 0. A text with more than `limit` bytes is also refused. If
+    /// the call fails, with `State`, `Source` or `Memory`, the office is unchanged.
     pub fn migrate<S: Source>(&mut self, source: &mut S, limit: u64) -> Result<(), OfficeFault>
         requires { S.failures source.old < 2 ^ 64 - 1 }
         ensures reads { EndsReadingState S.left S.failures dks_1 limit

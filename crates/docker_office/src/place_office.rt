@@ -38,9 +38,9 @@ impl Model for PlaceOffice {
 
 impl PlaceOffice {
     /// Reads a state from a source, and keeps an excerpt of it for a timing point and a day. A text
-    /// with more than `limit` bytes is refused. Every text that `Office::reload` refuses is refused
-    /// here too, by `State`, `Source` or `Memory`: every part of the text is judged, whether it is
-    /// kept or not.
+    /// with more than `limit` bytes is refused. Every part of the text is judged, whether the
+    /// office keeps it or not. So this call refuses every text that `Office::reload` refuses, with
+    /// `State`, `Source` or `Memory`.
     pub fn read<S: Source>(
         alloc: Global,
         place: Tiploc,
@@ -62,9 +62,9 @@ impl PlaceOffice {
     }
 
     /// Reads a file from a source, and keeps the changes from which the file's docker of a timing
-    /// point and a day is made. A file with more than `limit` records is refused. Every file that
-    /// `Office::take` refuses is refused here too, by `File`, `Source` or `Memory`: every record is
-    /// judged, whether a part of it is kept or not.
+    /// point and a day is made. A file with more than `limit` records is refused. Every record is
+    /// judged, whether the office keeps a part of it or not. So this call refuses every file that
+    /// `Office::take` refuses, with `File`, `Source` or `Memory`.
     pub fn take<S: Source>(
         alloc: Global,
         place: Tiploc,

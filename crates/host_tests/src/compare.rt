@@ -1,5 +1,5 @@
-//! The comparison that the tests use. It ends the test if two values differ. An assertion in a
-//! function of its own is proved once for all tests.
+//! The comparison that the tests use. It ends the test if two values differ. The assertion is in a
+//! function of its own, so it is proved only once for all tests.
 
 use std::fmt::Debug;
 use std::process::Abort;

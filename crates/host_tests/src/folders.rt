@@ -7,14 +7,16 @@ use docker_host::{Drafted, Folder, OpenFault};
 use std::alloc::Global;
 use std::process::Abort;
 
-/// Asserts that a folder has failed fewer than 100 times. The contracts of its calls require that.
+/// Asserts that a folder has failed fewer than 100 times. From this fact the prover concludes that
+/// the folder can count another failure, which the contracts of the folder's calls require.
 pub(crate) fn has_few_failures<F: Folder>(rt: &impl Abort, folder: &F)
     ensures { F.failures folder.now < 100 }
 {
     assert!(rt; folder.failures() < 100);
 }
 
-/// Reads the rest of a source, at most 10,000 bytes. Returns `None` if the source fails.
+/// Reads the rest of a source. Returns `None` if the source fails, or doesn't end within 10,000
+/// reads.
 fn left_of<S: Source>(rt: &impl Abort, alloc: Global, source: &mut S) -> Option<Vec<u8>> {
     let mut text = Vec::new(alloc);
     let mut piece = [0u8; 64];
@@ -90,7 +92,7 @@ pub(crate) fn store<F: Folder>(
     finish(rt, folder, made, text)
 }
 
-/// Looks at the named file and then stores this text in it. Asserts the result.
+/// Looks at the named file and then stores this text in it. Asserts that the result is `answer`.
 pub(crate) fn stores<F: Folder>(
     rt: &impl Abort,
     folder: &mut F,

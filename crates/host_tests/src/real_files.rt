@@ -9,7 +9,7 @@ use std::fs::{Files, Permissions};
 use std::os::unix::fs::{PermissionsExt, symlink};
 use std::process::Abort;
 
-/// The result of a draft that was refused, or that failed.
+/// The result of `store` if the draft was refused or failed.
 const FAILED: Result<(), OpenFault> = Err(OpenFault::Failed);
 
 /// Writes a file, as another program would.
@@ -28,7 +28,8 @@ fn link(rt: &(impl Abort + Files), to: &str, name: &str) {
     assert!(rt; symlink(rt, to, name).is_ok());
 }
 
-/// Asserts whether there is a file or a link with this name. A symbolic link isn't followed.
+/// Asserts that there is a file or a link with this name, or that there is none if `there` is
+/// false. A symbolic link isn't followed.
 fn stands(rt: &(impl Abort + Files), name: &str, there: bool) {
     same(rt, fs::symlink_metadata(rt, name).is_ok(), there);
 }

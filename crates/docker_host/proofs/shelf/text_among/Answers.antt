@@ -1,4 +1,5 @@
--- The text is the text of the first place with the name.
+-- The function returns the text of the first place with this name, or `None` if no place has the
+-- name.
 use Rattle.std.proofs.Common.{sym, ap, ◌∙◌}
 use Rattle.std.specs.Str.{bytes_eq}
 use Rattle.docker_host.specs.History.{Text}

@@ -1,4 +1,4 @@
--- A new history has no events. Assumes `Logic`.
+-- A new history has no events. The proof assumes `Logic`, the kit's laws of memory.
 use Rattle.std.proofs.Common.{[], ◌∷◌, refl}
 use seplogic.Ra.Ura.{Ura}
 use base.Logic.{SProp, ent}

@@ -1,4 +1,5 @@
--- A position is the number of events before it. Assumes `Logic`.
+-- `position` returns the number of events in the history. The proof assumes `Logic`, the kit's laws
+-- of running programs.
 use Rattle.std.proofs.Common.{[], ◌∷◌, length, refl}
 use seplogic.Ra.Ura.{Ura}
 use base.Logic.{SProp}

@@ -1,4 +1,5 @@
--- The history has the event of the note as its last event. Assumes `Logic`.
+-- `then` appends the event of the note to the history. The proof assumes `Logic`, the kit's laws of
+-- running programs.
 use Rattle.std.proofs.Common.{[], ◌∷◌, ◌++◌, refl}
 use seplogic.Ra.Ura.{Ura}
 use mir.Syntax.{named}
