@@ -87,7 +87,8 @@ impl Source for Page {
         ensures still { OnErr result
             ((self.new.ended ≡ self.old.ended) × (self.new.passed ≡ self.old.passed)) }
 
-        // Every source promises the clauses above. Only this source promises the clauses below.
+        // The clauses above are promised for every source. The clauses below are promised only for
+        // this source.
         ensures count { IfOk result (λ n. n ≡ page_count self.old (length into.old)) }
         ensures sound { IfOk result (λ n. self.new.sound ≡ self.old.sound - n) }
         ensures fails { IsErr result ↔ (self.old.sound ≡ 0) }

@@ -18,8 +18,8 @@ is_there known state end =
     let low = end.there in
     omega arith
 
--- if a property holds for what an office knows at the end of its run, and for the office's state,
--- the property holds for the `known` and the `state` of `EndsWith`
+-- a property that holds for what an office knows at the end of its run, and for the office's state,
+-- holds for the `known` and the `state` of `EndsWith`
 at_end : (P : Known → State → Type 0) (known : Known) (state : State) → (end : EndsWith known state)
     → P (known_at_end end.offices end.events end.exchange end.office) (office_state end.exchange.states end.office) → P known state
 at_end P known state end is = subst (P known) end.has (subst (λ k. P k (office_state end.exchange.states end.office)) end.knows is)

@@ -132,7 +132,8 @@ known_text known state text is same = record {
 
 -- ---- what a command writes, given what it knows
 
--- if an office without files takes a file, the office's state becomes the summary of that file
+-- if an office that knows no files takes a file, the office's state becomes the summary of that
+-- file
 taken_alone : (bytes : Bytes) (file : List (List ℕ)) (state : State) → HoldsFile bytes file → TakesFile most_records bytes no_state state
     → IsKnown (of_file file) state
 taken_alone bytes file state holds takes =
@@ -204,8 +205,8 @@ written_of_state (horizon_task day) first second state text known days reads is 
 written_of_state migrate_task first second state text known days reads is allowed knows =
     known_text known state text (known_older known first state knows reads) is
 
--- `check` is the only task that counts a file, and `WritesKnown` allows any text as the output of
--- `check`
+-- only the task `check` reads a file without making a state, and `WritesKnown` allows any text as
+-- the output of `check`
 written_of_file : (task : TaskView) (known : Known) (text : List ℕ) → task ≡ check_task → WritesKnown task known text
 written_of_file task known text is = subst (λ (t : TaskView). WritesKnown t known text) (sym is) tt
 

@@ -174,8 +174,8 @@ names_some : (words : List Text) (input : Bytes) → words ≢ [] → AskForSome
 names_some [] input some one = absurd (some refl)
 names_some (word ∷ words) input some one = one
 
--- if the words name a job and the status isn't 2, the status is 2 if and only if the words name no
--- job
+-- if the words name a job and the status isn't 2, neither side of the equivalence in
+-- `IsUsageStatus` is true, so the equivalence holds
 other_status : (words : List Text) (status : ℕ) → status ≢ 2 → ¬ NameNoJob words → (status ≡ 2) ↔ NameNoJob words
 other_status words status differs one = (λ is. absurd (differs is), λ none. absurd (one none))
 

@@ -118,7 +118,7 @@ all_known knowns texts (version ∷ versions) are made =
     (zip_end (IsKnownText dks_2) knowns texts (known_by knowns version.origin) version.text are
     (made_known knowns texts version.origin version.text are made.0)) made.1)
 
--- there are as many entries of knowledge as versions
+-- the list of what the versions know is as long as the list of their texts
 known_long : (knowns : List Known) (texts : List (List ℕ)) (versions : List Version) → AreKnown knowns texts → AreMade texts versions
     → length (known_after knowns versions) ≡ length (texts ++ texts_of versions)
 known_long knowns texts versions are made =

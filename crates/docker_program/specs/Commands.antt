@@ -1,5 +1,6 @@
--- What commands know. Each text that they store or print is made from the summary of known files
--- under a known horizon. The same holds for each text that a desk saves.
+-- What commands know: files and a horizon. Each state, docker or list of files that a command
+-- stores or prints is made from the summary of the known files under the known horizon. The same
+-- holds for each state that a desk saves.
 use Rattle.std.specs.Prelude.{◌≡◌, ◌⊎◌, ◌<◌, ℕ, Bool, List, [], ◌∷◌, ◌++◌, length, map, slice_index_or, Some, None, ⊤}
 use Rattle.docker_model.specs.state.Lapse.{IsDayRefused}
 use Rattle.docker_model.specs.state.State.{State, live_table}
@@ -79,8 +80,8 @@ pub record Prints (run : Run) (job : JobView) (read : SourcesRead) (text : List 
   pub history : run.new.history ≡ history_read run.old.history job read
   pub printed : Takes run.old.output text run.new.output
 
--- this event isn't `placed` or `unplaced`: no draft replaced a file, and no draft may have replaced
--- one
+-- this event isn't `placed` or `unplaced`, so it stored nothing: only these two events can change
+-- what a file holds
 abbrev pub IsNoStoring : Event → Type 0
 IsNoStoring (placed name bytes) = ⊥
 IsNoStoring (unplaced name bytes) = ⊥
@@ -174,10 +175,10 @@ WritesKnown migrate_task known text = IsKnownText dks_2 known text
 -- ---- versions of STATE files
 
 -- how a version of a STATE file was made. Either a command made the version: `new`, `take`,
--- `merge`, `horizon` or `migrate`. Or a desk saved the version, after reading its state from an
--- earlier version and gaining these things. A number gives the index of an earlier version of any
--- office, counted from 0. `migrate` reads the text of a summary in the older format, and `known` is
--- the knowledge of that summary
+-- `merge`, `horizon` or `migrate`. Or a desk saved the version, after it read its state from an
+-- earlier version and gained files, versions and horizons. A number is the index of an earlier
+-- version of any office, counted from 0. `migrate` reads the text of a summary in the older format,
+-- and `known` is the knowledge of that summary
 pub data Origin : Type 0 where
   begun : Origin
   taken : (own : ℕ) (file : List (List ℕ)) → Origin
@@ -191,8 +192,8 @@ pub record Version : Type 0 where
   pub text : List ℕ
   pub origin : Origin
 
--- a command with this task stored this text, or may have stored it, and the bytes that its sources
--- held have this property
+-- a command with this task stored this text, or may have stored it, and `Held` is true of the bytes
+-- that the command's two sources held
 pub record ByCommand (task : TaskView) (Held : Bytes → Bytes → Type 0) (text : List ℕ)
     : Type 0 where
   pub run : Run
@@ -215,8 +216,8 @@ IsMade earlier (migrated known) text =
     ByCommand migrate_task (λ first second. HoldsKnown dks_1 first known) text
 IsMade earlier (saved own gains) text = IsSaved earlier own gains text
 
--- each of these versions was made from earlier versions. Those are the versions that precede it in
--- the list, and the versions made before the list, whose texts are given
+-- each version in the list was made from earlier versions: from versions that precede it in the
+-- list, or from still older versions with the texts `earlier`
 abbrev pub AreMade : List (List ℕ) → List Version → Type 0
 AreMade earlier [] = ⊤
 AreMade earlier (version ∷ versions) = IsMade earlier version.origin version.text
@@ -249,7 +250,7 @@ known_by earlier (raised own day) = united (known_at earlier own) (of_horizon da
 known_by earlier (migrated known) = known
 known_by earlier (saved own gains) = known_once earlier (known_at earlier own) gains
 
--- what each version knows, in order. The entries for the earlier versions come first
+-- what each version knows, in order. The result begins with what the earlier versions know
 abbrev pub known_after : List Known → List Version → List Known
 known_after earlier [] = earlier
 known_after earlier (version ∷ versions) =

@@ -99,8 +99,8 @@ abbrev pub WantsMemory : Bool → HostView → HostView → JobView → Bytes �
 WantsMemory names_bytes old new job rest = EndsReading old new WantsToRead job rest
     ⊎ HasRead old new (WantsToWrite (from_first_look names_bytes old)) job rest
 
--- the reason for which the program ended with this fault before anything was written. For example,
--- with the fault `Usage`, neither the words nor standard input named a job
+-- the reason why the program ended with this fault before it wrote anything. For example, with the
+-- fault `Usage`, neither the words nor standard input named a job
 abbrev pub IsWhy : List Text → Bool → HostView → HostView → Fault → Type 0
 IsWhy words names_bytes old new (Job job.Usage) =
     IsNotAsked words old new (AskForNone words old.input)

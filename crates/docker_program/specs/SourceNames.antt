@@ -50,8 +50,8 @@ abbrev pub second_word : List Text → Text
 second_word [] = []
 second_word (word ∷ words) = first_word words
 
--- the only source of a job. This word names the source. If the job writes a state, the word is the
--- name of STATE, and names a file even if it is `stdin`
+-- the source of a job that has only one source, which this word names. If the job writes a state,
+-- the word is the name of STATE, and names a file even if it is `stdin`
 abbrev pub only_source : Output → Text → SourceNames
 only_source counts_written word = file_or_input word
 only_source (docker_written place day) word = file_or_input word

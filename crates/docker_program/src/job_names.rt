@@ -31,8 +31,8 @@ pub(crate) fn stored_name(job: &Job) -> Option<&str>
     }
 }
 
-/// Returns the only source of a job. This word names the source. If the job writes a state, the
-/// word is the name of STATE, and names a file even if it is `stdin`.
+/// Returns the source of a job that has only one source, which `word` names. If the job writes a
+/// state, the word is the name of STATE, and names a file even if it is `stdin`.
 fn only_source(output: Output, word: &str) -> SourceNames<'_>
     ensures { names_meant result ≡ only_source (output_meant output) word.now }
 {

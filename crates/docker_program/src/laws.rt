@@ -1,6 +1,6 @@
 //! Laws that hold for each command, and for each list of versions of STATE files. Each law is the
-//! contract of a function that does nothing. The law holds for all values that the function's
-//! clauses name.
+//! contract of a function that does nothing. The law holds for all values of the variables in the
+//! function's clauses.
 ghost use Rattle.std.specs.Prelude.{◌≡◌, ◌≢◌, ℕ, List, Some};
 ghost use Rattle.docker_model.specs.state.StateText.{dks_2};
 ghost use Rattle.docker_model.specs.state.Summary.{HaveDistinctMoments};
@@ -57,9 +57,9 @@ pub fn versions_are_summaries()
         → read.first ≡ Some version → PrintsKnown known place day text }
 {}
 
-/// Texts that know the same files under the same horizon are equal, byte for byte. Two offices that
-/// know the same files print equal dockers, for each timing point and each day that is refused
-/// under neither horizon.
+/// Two texts of the summary of the same files under the same horizon are equal, byte for byte. Two
+/// offices that know the same files print equal dockers, for each timing point and each day that is
+/// refused under neither horizon.
 pub fn known_files_fix_texts()
     ensures text { (one two : Known) (text other : List ℕ) → IsKnownText dks_2 one text
         → IsKnownText dks_2 two other → AreOneKnowledge one two → text ≡ other }

@@ -82,7 +82,7 @@ LOASHFELD 0900 09001  SL                                                        
 LTBRAYTON 0930 09301     TF                                                     \n\
 ZZ                                                                              \n";
 
-    /// A STATE file that knows no files.
+    /// The text of a STATE file of an office that knows no files.
     const STATE: &[u8] = b"DKS2\0\0\0\0\0\0\0\0\0\0\0\0\0\0\0\0\0\0";
 
     #[test]

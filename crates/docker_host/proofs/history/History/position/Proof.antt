@@ -1,5 +1,5 @@
 -- `position` returns the number of events in the history. The proof assumes `Logic`, the kit's laws
--- of running programs.
+-- of memory.
 use Rattle.std.proofs.Common.{[], ◌∷◌, length, refl}
 use seplogic.Ra.Ura.{Ura}
 use base.Logic.{SProp}
