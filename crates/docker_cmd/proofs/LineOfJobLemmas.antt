@@ -60,7 +60,7 @@ pub reads_on : (old now new : Option (List ℕ)) (line : List ℕ) (b : ℕ) →
 reads_on old now None line b first then_one = first ∙ ap (option_map (λ rest. line ++ rest)) then_one
 reads_on old now (Some rest) line b first then_one = first ∙ ap (option_map (λ rest. line ++ rest)) then_one ∙ ap Some (sym (append_assoc line (b ∷ []) rest))
 
--- a text of printable bytes without a line feed has no job line
+-- if all bytes of a text are printable, the text has no line feed, so it has no job line
 pub no_line_at_end : (old now : Option (List ℕ)) (line : List ℕ) → Reads old line now → IsEnd now → ArePrintable line → HasNoLine old
 no_line_at_end None now line read end good = tt
 no_line_at_end (Some text) None line read end good = cc

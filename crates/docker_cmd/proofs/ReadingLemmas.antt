@@ -165,7 +165,7 @@ state_failed one one_now two two_now office.Sink same counted = counted
 
 -- ---- the sources of a task
 
--- what was read from sources is also what was read from equal sources
+-- if `asked` equals `sources`, whatever was read from `sources` was also read from `asked`
 pub read_at : (asked sources : Sources) (first left second second_left : DeviceBytes) (read : ReadView) → asked ≡ sources
     → ReadsFew (sources_meant sources) first left second second_left
     (IsContentOf (sources_meant sources) first second read × HasReadToEnd (sources_meant sources) left second_left)
@@ -175,7 +175,8 @@ read_at asked sources first left second second_left read is reads =
     subst (λ (s : Sources). ReadsFew (sources_meant s) first left second second_left
     (IsContentOf (sources_meant s) first second read × HasReadToEnd (sources_meant s) left second_left)) (sym is) reads
 
--- sources may be refused for the same faults as equal sources
+-- if `asked` equals `sources`, `asked` may be refused for any fault for which `sources` may be
+-- refused
 pub refused_at : (asked sources : Sources) (first left second second_left : DeviceBytes) (fault : OfficeFault) → asked ≡ sources
     → ReadsFew (sources_meant sources) first left second second_left (IsWhyRefused (sources_meant sources) first left second second_left fault)
     → ReadsFew (sources_meant asked) first left second second_left (IsWhyRefused (sources_meant asked) first left second second_left fault)

@@ -16,7 +16,7 @@ use Rattle.docker_cmd.specs.Writes.{Output}
 use Rattle.docker_cmd.specs.Prepared.{DeviceBytes, HasNoSource, HasReadToEnd, HasSecondSource, IsContentOf, IsOfOneFile, IsPreparedFor}
 use Rattle.docker_cmd.specs.Prepared.{IsReadOf, IsStateOf, IsWhyRefused, IsWrittenOf, ReadView, ReadsFew, file_read, office_read, under}
 
--- the state that knows nothing is the summary of no files, with no horizon
+-- the state without files and without a horizon is the summary of no files under no horizon
 no_files : IsSummary [] 0 no_state
 no_files = record {
   horizon_is = refl;
@@ -145,7 +145,8 @@ task_read task sources horizon first left second second_left own made same_sourc
       ends = (subst (λ read. IsReadOf task first second read) (sym is) (read_of task first second own moved.ends.0), moved.ends.1);
     }
 
--- sources may be refused for the same faults as equal sources
+-- if `others` equals `sources`, `others` may be refused for any fault for which `sources` may be
+-- refused
 pub refused_for : (sources others : Sources) (first left second second_left : DeviceBytes) (fault : OfficeFault) → sources ≡ others
     → ReadsFew sources first left second second_left (IsWhyRefused sources first left second second_left fault)
     → ReadsFew others first left second second_left (IsWhyRefused others first left second second_left fault)
@@ -162,7 +163,7 @@ prepared_read job first left second second_left read reads =
 
 -- ---- tasks that keep only a part of what they have read
 
--- what a task has read is also what an equal task has read
+-- if two tasks are equal, whatever one has read, the other has read too
 pub read_of_task : (asked task : TaskView) (first left second second_left : DeviceBytes) (read : ReadView) → asked ≡ task
     → ReadsFew (sources_of task) first left second second_left (IsReadOf task first second read × HasReadToEnd (sources_of task) left second_left)
     → ReadsFew (sources_of asked) first left second second_left (IsReadOf asked first second read × HasReadToEnd (sources_of asked) left second_left)

@@ -10,7 +10,7 @@ pub record IsLineText (line : List ℕ) : Type 0 where
   pub short : length line ≤ 255
   pub printable : AllPass is_printable line
 
--- the text begins with this job line and its line feed, and `rest` are the bytes after them
+-- the text begins with this job line and its line feed, and continues with the bytes `rest`
 pub record IsJobLine (text line rest : List ℕ) : Type 0 where
   pub whole : text ≡ line ++ 10 ∷ rest
   pub line_text : IsLineText line
@@ -21,8 +21,8 @@ abbrev pub ReadsLine : Option (List ℕ) → List ℕ → Option (List ℕ) → 
 ReadsLine None line new = IsLineText line
 ReadsLine (Some text) line new = (rest : List ℕ) × IsJobLine text line rest × (new ≡ Some rest)
 
--- the source's bytes don't begin with a job line. This says nothing if contracts don't know which
--- bytes the source holds
+-- the source's bytes don't begin with a job line. If contracts don't know which bytes the source
+-- holds, the definition allows any bytes
 abbrev pub HasNoLine : Option (List ℕ) → Type 0
 HasNoLine None = ⊤
 HasNoLine (Some text) = (line rest : List ℕ) → ¬ IsJobLine text line rest
@@ -31,7 +31,7 @@ HasNoLine (Some text) = (line rest : List ℕ) → ¬ IsJobLine text line rest
 abbrev pub is_space : ℕ → Bool
 is_space byte = byte == 32
 
--- the piece of a line as a list of words: the piece itself, or no word if the piece is empty
+-- a piece of a line as a list of words: the piece itself, or no word if the piece is empty
 abbrev pub word_or_none : List ℕ → List (List ℕ)
 word_or_none piece = if length piece == 0 then [] else piece ∷ []
 
@@ -50,14 +50,14 @@ ReadsByte old (Some byte) new = Reads old (byte ∷ []) new
 abbrev pub ReadsJob : Option (List ℕ) → JobView → Option (List ℕ) → Type 0
 ReadsJob old job new = (line : List ℕ) × ReadsLine old line new × IsJobOf (words_in line) job
 
--- the source's bytes don't begin with a job line that names a job. This says nothing if contracts
--- don't know which bytes the source holds
+-- the source's bytes don't begin with a job line that names a job. If contracts don't know which
+-- bytes the source holds, the definition allows any bytes
 abbrev pub HasNoJob : Option (List ℕ) → Type 0
 HasNoJob None = ⊤
 HasNoJob (Some text) = (line rest : List ℕ) → IsJobLine text line rest → NameNoJob (words_in line)
 
--- the source's bytes begin with a job line that names a job. This says nothing if contracts don't
--- know which bytes the source holds
+-- the source's bytes begin with a job line that names a job. If contracts don't know which bytes
+-- the source holds, the definition allows any bytes
 abbrev pub HasJob : Option (List ℕ) → Type 0
 HasJob None = ⊤
 HasJob (Some text) = (line : List ℕ) × ((rest : List ℕ) × (IsJobLine text line rest × (¬ NameNoJob (words_in line))))

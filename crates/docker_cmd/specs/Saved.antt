@@ -14,7 +14,7 @@ use Rattle.docker_cmd.specs.Prepared.{DeviceBytes, most_bytes}
 abbrev pub HoldsFile : DeviceBytes → List (List ℕ) → Type 0
 HoldsFile bytes file = (text : List ℕ) × (bytes ≡ Some text) × IsFileText most_records text file
 
--- there is an earlier version with this number, and a source held its text
+-- there is an earlier version with this number, and a source held the text of that version
 pub record HoldsVersion (earlier : List (List ℕ)) (bytes : DeviceBytes) (number : ℕ) : Type 0 where
   pub there : number < length earlier
   pub held : bytes ≡ Some (slice_index_or earlier number [])

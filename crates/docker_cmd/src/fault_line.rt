@@ -73,7 +73,8 @@ fn put_file_fault(text: &mut FaultText, fault: &FileFault)
     put(text, b"\n");
 }
 
-/// Appends the name of a file's cause, and then a space and the column if the cause has one.
+/// Appends the cause of a file's fault by name, and then a space and the column if the cause has
+/// one.
 fn put_cause(text: &mut FaultText, cause: &FileCause)
     requires { array_vec_len text.old ≤ 80 }
     ensures text { text.new.items ≡ text.old.items ++ cause_text cause.now }

@@ -60,7 +60,7 @@ fn asks(subcommand: Subcommand, words: &[&str]) -> bool
     subcommand.task(words).is_some()
 }
 
-/// Returns copies of the words. The job can own these copies.
+/// Returns copies of the words, which the job can own.
 fn owned_words(alloc: Global, words: &[&str]) -> Result<Vec<String>, AllocError>
     ensures { IfOk result (λ owned. map (λ word. string_bytes word) owned.items ≡ texts words.now) }
 {

@@ -22,7 +22,8 @@ const LONGEST: usize = 255;
 /// A job line without its line feed.
 type JobLine = ArrayVec<u8, LONGEST>;
 
-/// The most words that a job line can have: words of one byte, each followed by one space.
+/// The most words that a job line can have. A line of 255 bytes has 128 words if each word is one
+/// byte and a single space separates two words.
 const MOST_WORDS: usize = 128;
 
 /// The words of a job line.

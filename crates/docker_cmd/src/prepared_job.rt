@@ -59,7 +59,7 @@ impl<'a> Prepared<'a> {
 ///
 /// Fails with `File` or `State` if a source doesn't hold a file or a state, with `Source` if a
 /// source failed, and with `Memory` if memory ran out. With `Memory`, the records and parts that
-/// were read before have no fault.
+/// were read before memory ran out have no fault.
 pub fn prepare<'a, S: Source, T: Source>(
     alloc: Global,
     job: &'a Job,

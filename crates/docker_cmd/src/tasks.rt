@@ -191,36 +191,36 @@ fn place_and_day(tiploc: &str, date: &str) -> Option<(Tiploc, Day)>
 /// A task: what a job does, with the timing point and the day that its words name.
 #[derive(Clone, Copy, PartialEq, Eq, Debug)]
 pub enum Task {
-    /// `new`.
+    /// What `new` does: it makes an empty state.
     New,
-    /// `check`.
+    /// What `check` does: it counts the records and changes of a file.
     Check,
-    /// `day`.
+    /// What `day` does: it prints a docker from one file.
     Day {
         /// The timing point.
         place: Tiploc,
         /// The day.
         day: Day,
     },
-    /// `take`.
+    /// What `take` does: it joins a file to a state.
     Take,
-    /// `merge`.
+    /// What `merge` does: it joins a second state to a state.
     Merge,
-    /// `print`.
+    /// What `print` does: it prints a docker from a state.
     Print {
         /// The timing point.
         place: Tiploc,
         /// The day.
         day: Day,
     },
-    /// `files`.
+    /// What `files` does: it lists the files that a state knows.
     Files,
-    /// `horizon`.
+    /// What `horizon` does: it raises the horizon of a state.
     Horizon {
         /// The day.
         day: Day,
     },
-    /// `migrate`.
+    /// What `migrate` does: it converts a state from the older format to the present format.
     Migrate,
 }
 

@@ -1,5 +1,5 @@
--- `auto` proves these goals, too. With the answers written out, a wrong body fails without a long
--- search.
+-- `auto` can prove these goals too. They are proved by hand so that the prover refuses a wrong body
+-- at once, without a long search.
 use Rattle.std.proofs.Common.{rules}
 use Rattle.docker_cmd.proofs.line_of_job.split_at_space.Goals as goal
 
