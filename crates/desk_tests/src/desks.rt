@@ -32,8 +32,8 @@ pub(crate) fn prints(rt: &impl Abort, alloc: Global, desk: &Desk, date: &str, wa
     answers(rt, alloc, &desk.print(&place, day_of(rt, date)), wanted);
 }
 
-/// Asserts whether a desk has unsaved changes, and which state it then saves. The desk isn't used
-/// after that.
+/// Asserts that a desk has unsaved changes if and only if `unsaved` is set, and that the desk then
+/// saves this state.
 pub(crate) fn ends(rt: &impl Abort, alloc: Global, mut desk: Desk, unsaved: bool, state: Parts) {
     same(rt, desk.is_unsaved(), unsaved);
     let mut folder = shelf_with(rt, alloc, "S", b"");

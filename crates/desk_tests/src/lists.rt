@@ -42,7 +42,7 @@ ASSOCIATIONS 0
 PLACES       2
 ";
 
-/// The answer to `known` for an update that has no timing points.
+/// The answer to `known` of a desk that knows only an update without timing points.
 const KNOWN_MORNING: &str = "\
 0 5 87
 HORIZON      NONE
@@ -52,7 +52,7 @@ ASSOCIATIONS 0
 PLACES       0
 ";
 
-/// The answer to `known` for no files.
+/// The answer to `known` of a desk that knows no files.
 const KNOWN_NOTHING: &str = "\
 0 4 63
 HORIZON      NONE

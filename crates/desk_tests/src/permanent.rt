@@ -15,8 +15,8 @@ fn keeps(rt: &impl Abort, alloc: Global, desk: &Desk, date: &str, wanted: &str) 
     answers(rt, alloc, &desk.permanent(&place, day_of(rt, date)), wanted);
 }
 
-/// The docker has the overlay, and the permanent docker has the schedule that the overlay replaces.
-/// Both dockers are refused for the same days.
+/// The docker shows the overlay, and the permanent docker shows the schedule that the overlay
+/// replaces. Both dockers are refused for the same days.
 #[test]
 fn answers_without_the_short_term_plan(rt: HostRuntime) {
     let alloc = rt.alloc();

@@ -22,7 +22,7 @@ const MARK: &[u8] = b"DKS2\0\0";
 /// The mark, and the horizon of 15 June 2024.
 const MARK_15: &[u8] = b"DKS2\x5b\xf6";
 
-/// The number of items or entries of a text: zero, one, two or four.
+/// The number of ledger items or entries in a state's text: zero, one, two or four.
 const NONE: &[u8] = b"\0\0\0\0\0\0\0\0";
 
 const ONE: &[u8] = b"\0\0\0\0\0\0\0\x01";
@@ -114,8 +114,9 @@ const BRAYTON: &[u8] = b"\x01BRAYTON\x5b\xf0\x04\xecDFROC1A\0\0\0\x03";
 
 const CORHAM: &[u8] = b"\x01CORHAM \x5b\xf0\x04\xecDFROC1A\0\0\0\x04";
 
-/// The op and the body of a put timing point with a CRS code and a STANOX, the same without them,
-/// and the op of a deleted entry. The body is columns 10 to 72 of the timing point's record.
+/// The op and the body of a put timing point: first with a CRS code and a STANOX, then without. The
+/// third constant is the op of a deleted entry. The body is columns 10 to 72 of the timing point's
+/// record.
 const WITH_CODES: &[u8] = b"\x0100123400AASHFELD JUNCTION          877010000ASFASHFELD         ";
 
 const WITHOUT_CODES: &[u8] = b"\x01         CORHAM EXCHANGE                                       ";

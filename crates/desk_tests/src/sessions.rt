@@ -24,8 +24,8 @@ type Row = (
     Parts,
 );
 
-/// Asserts that a session has the outcome of its row if its input is read in pieces of at most
-/// `step` bytes.
+/// Asserts that a session ends as its row says if its input is read in pieces of at most `step`
+/// bytes.
 fn goes_in_pieces(rt: &impl Abort, alloc: Global, row: &Row, step: usize)
     requires { 0 < step }
 {
@@ -45,7 +45,7 @@ fn goes_in_pieces(rt: &impl Abort, alloc: Global, row: &Row, step: usize)
     same_in(rt, input, text_of(&host.folder), kept.as_slice());
 }
 
-/// Asserts that the session of each row has the outcome of its row.
+/// Asserts that the session of each row ends as the row says.
 fn go(rt: &impl Abort, alloc: Global, rows: &[Row]) {
     for row in rows {
         goes_in_pieces(rt, alloc, row, 1);

@@ -15,14 +15,14 @@ use docker_office::{StateCause, StateFault};
 use std::alloc::Global;
 use std::process::Abort;
 
-/// Returns the result when a desk takes the file `F2` of a shelf.
+/// Has a desk take the file `F2` of a shelf, and returns the result.
 fn take(desk: &mut Desk, shelf: &mut Shelf) -> Result<(), OfficeFault>
     requires { shelf.old.failures ≡ 0 }
 {
     desk.take("F2", shelf)
 }
 
-/// Returns the result when a desk takes a file with this text.
+/// Has a desk take a file with this text, and returns the result.
 pub(crate) fn taken(
     rt: &impl Abort,
     alloc: Global,
@@ -32,7 +32,7 @@ pub(crate) fn taken(
     take(desk, &mut shelf_with(rt, alloc, "F2", text))
 }
 
-/// Returns the result when a desk receives the state in a file with this text.
+/// Has a desk receive the state in a file with this text, and returns the result.
 fn received(
     rt: &impl Abort,
     alloc: Global,

@@ -153,8 +153,8 @@ leaf_of s = leaf (name_of s) (ids_of s)
 abbrev pub leaves : List Shape
 leaves = map leaf_of subcommands
 
--- the facts about one subcommand: its ids differ from each other and are in the right positions,
--- `clap` recognises its name, and looking up its words at their ids finds them
+-- the facts about one subcommand. Its ids differ from each other and are in the right positions.
+-- `clap` recognises its name. Looking up its words at their ids finds them
 pub record IsKnown (s : Subcommand) : Type 0 where
   pub fits : Fits (leaf_of s).rules 1 (ids_of s)
   pub fresh : Fresh [] (ids_of s)

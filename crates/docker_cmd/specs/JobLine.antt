@@ -21,8 +21,8 @@ abbrev pub ReadsLine : Option (List ℕ) → List ℕ → Option (List ℕ) → 
 ReadsLine None line new = IsLineText line
 ReadsLine (Some text) line new = (rest : List ℕ) × IsJobLine text line rest × (new ≡ Some rest)
 
--- the source's bytes don't begin with a job line. If contracts don't know which bytes the source
--- holds, the definition allows any bytes
+-- the source's bytes don't begin with a job line. The definition is also true if contracts don't
+-- know which bytes the source holds
 abbrev pub HasNoLine : Option (List ℕ) → Type 0
 HasNoLine None = ⊤
 HasNoLine (Some text) = (line rest : List ℕ) → ¬ IsJobLine text line rest
@@ -50,14 +50,14 @@ ReadsByte old (Some byte) new = Reads old (byte ∷ []) new
 abbrev pub ReadsJob : Option (List ℕ) → JobView → Option (List ℕ) → Type 0
 ReadsJob old job new = (line : List ℕ) × ReadsLine old line new × IsJobOf (words_in line) job
 
--- the source's bytes don't begin with a job line that names a job. If contracts don't know which
--- bytes the source holds, the definition allows any bytes
+-- the source's bytes don't begin with a job line that names a job. The definition is also true if
+-- contracts don't know which bytes the source holds
 abbrev pub HasNoJob : Option (List ℕ) → Type 0
 HasNoJob None = ⊤
 HasNoJob (Some text) = (line rest : List ℕ) → IsJobLine text line rest → NameNoJob (words_in line)
 
--- the source's bytes begin with a job line that names a job. If contracts don't know which bytes
--- the source holds, the definition allows any bytes
+-- the source's bytes begin with a job line that names a job. The definition is also true if
+-- contracts don't know which bytes the source holds
 abbrev pub HasJob : Option (List ℕ) → Type 0
 HasJob None = ⊤
 HasJob (Some text) = (line : List ℕ) × ((rest : List ℕ) × (IsJobLine text line rest × (¬ NameNoJob (words_in line))))

@@ -191,36 +191,36 @@ fn place_and_day(tiploc: &str, date: &str) -> Option<(Tiploc, Day)>
 /// A task: what a job does, with the timing point and the day that its words name.
 #[derive(Clone, Copy, PartialEq, Eq, Debug)]
 pub enum Task {
-    /// What `new` does: it makes an empty state.
+    /// `new`: makes an empty state.
     New,
-    /// What `check` does: it counts the records and changes of a file.
+    /// `check`: counts the records and changes of a file.
     Check,
-    /// What `day` does: it prints a docker from one file.
+    /// `day`: prints a docker from one file.
     Day {
         /// The timing point.
         place: Tiploc,
         /// The day.
         day: Day,
     },
-    /// What `take` does: it joins a file to a state.
+    /// `take`: joins a file to a state.
     Take,
-    /// What `merge` does: it joins a second state to a state.
+    /// `merge`: joins a second state to a state.
     Merge,
-    /// What `print` does: it prints a docker from a state.
+    /// `print`: prints a docker from a state.
     Print {
         /// The timing point.
         place: Tiploc,
         /// The day.
         day: Day,
     },
-    /// What `files` does: it lists the files that a state knows.
+    /// `files`: lists the files that a state knows.
     Files,
-    /// What `horizon` does: it raises the horizon of a state.
+    /// `horizon`: raises the horizon of a state.
     Horizon {
         /// The day.
         day: Day,
     },
-    /// What `migrate` does: it converts a state from the older format to the present format.
+    /// `migrate`: converts a state from the older format to the present format.
     Migrate,
 }
 

@@ -24,8 +24,8 @@ use Rattle.docker_desk.specs.Answering.{HasLines, IsEndless, IsFollowed, ServesN
 
 -- ---- reading the lines of the input
 
--- the bytes of the input begin with these lines, and the bytes after the lines are left. This says
--- nothing if contracts don't know which bytes the input held
+-- the bytes of the input begin with these lines, and the bytes after the lines are left. The
+-- definition is also true if contracts don't know which bytes the input held
 abbrev pub ReadsFirst : DeviceBytes → List LineView → DeviceBytes → Type 0
 ReadsFirst None lines left = ⊤
 ReadsFirst (Some text) lines left = (rest : List ℕ) × (AreFirstLines text lines rest × (left ≡ Some rest))

@@ -28,20 +28,20 @@ AreFirstLines text [] rest = rest ≡ text
 AreFirstLines text (line ∷ lines) rest =
     (next : List ℕ) × (IsNextLine text line next × AreFirstLines next lines rest)
 
--- the input begins with these lines. This says nothing if contracts don't know which bytes the
--- input holds
+-- the input begins with these lines. The definition is also true if contracts don't know which
+-- bytes the input holds
 abbrev pub BeginsWith : DeviceBytes → List LineView → Type 0
 BeginsWith None lines = ⊤
 BeginsWith (Some text) lines = (rest : List ℕ) × AreFirstLines text lines rest
 
--- the input consists of exactly these lines. This says nothing if contracts don't know which bytes
--- the input holds
+-- the input consists of exactly these lines. The definition is also true if contracts don't know
+-- which bytes the input holds
 abbrev pub HasLines : DeviceBytes → List LineView → Type 0
 HasLines None lines = ⊤
 HasLines (Some text) lines = AreLines text lines
 
--- the input has at least 2 ^ 64 - 1 bytes. This says nothing if contracts don't know which bytes
--- the input holds
+-- the input has at least 2 ^ 64 - 1 bytes. The definition is also true if contracts don't know
+-- which bytes the input holds
 abbrev pub IsEndless : DeviceBytes → Type 0
 IsEndless None = ⊤
 IsEndless (Some text) = 2 ^ 64 - 1 ≤ length text

@@ -16,8 +16,8 @@ pub record CopyView : Type 0 where
   pub copy : Option Text
 
 -- a sink that compares what is written to it with a text. The fields give the text, the bytes that
--- the sink has taken, and its failure count. The sink takes the bytes of the text, and after them
--- the first byte that differs
+-- the sink has taken, and its failure count. The sink takes the bytes that agree with the text, and
+-- then the first byte that differs
 pub record MatchView : Type 0 where
   pub text : Text
   pub taken : Text
@@ -39,7 +39,7 @@ abbrev pub IsNoFront : Text → Text → Type 0
 IsNoFront front text = (more : List ℕ) → text ≢ front ++ more
 
 -- comparing a copy with a text has this result: `Same` if they are equal, `Other` if they differ.
--- For `Unknown` this says nothing
+-- `Unknown` is possible in both cases
 abbrev pub ComparesCopy : Compared → Option Text → Text → Type 0
 ComparesCopy compared.Same copy text = copy ≡ Some text
 ComparesCopy compared.Other None text = ⊥

@@ -161,14 +161,15 @@ EndsReloading new (Err fault) read = IsWhyNot RefusesToReceive fault read
 
 -- ---- how a file is compared with a state
 
--- these bytes differ from the text. This says nothing if contracts don't know which bytes they are
+-- these bytes differ from the text. The definition is also true if contracts don't know which bytes
+-- these are
 abbrev pub IsOtherText : Bytes → Text → Type 0
 IsOtherText None text = ⊤
 IsOtherText (Some bytes) text = bytes ≢ text
 
 -- comparing the text in a file with the text of a state has this result: `Same` if they are equal,
--- `Other` if they differ. This says nothing for `Unknown`, or if contracts don't know which bytes
--- the file held
+-- `Other` if they differ. `Unknown` is possible in both cases. If contracts don't know which bytes
+-- the file held, every result is possible
 abbrev pub IsFound : Compared → State → Reading → Type 0
 IsFound compared.Same state read = IsText read.held (state_text dks_2 state)
 IsFound compared.Other state read = IsOtherText read.held (state_text dks_2 state)

@@ -92,8 +92,8 @@ DoesRequest setting (horizon_request day) before answer after =
     (answer ≡ done_with []) × (after ≡ with_horizon day before)
 DoesRequest setting save_request before answer after = Saves setting before answer after
 
--- the line has this request. None says that the line has no request. A line that isn't whole has
--- none
+-- the line makes this request; None says that the line makes no request. Only a whole line can make
+-- a request
 abbrev pub AsksOf : Bool → LineView → Option RequestView → Type 0
 AsksOf may_write (whole_line line) request = IsLineText line × AsksFor may_write line request
 AsksOf may_write bad_line request = request ≡ None

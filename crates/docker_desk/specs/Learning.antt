@@ -127,7 +127,7 @@ HearsKnown setting (Some request) before (refused_for fault) after = ⊤
 HearsKnown setting (Some request) before no_request after = ⊤
 HearsKnown setting None before answer after = ⊤
 
--- in each of these steps, every file that was merged or renewed held the text of a summary
+-- in each of these steps, every file that `merge` or `renew` read held the text of a summary
 abbrev pub AllHearKnown : Setting → List Step → Type 0
 AllHearKnown setting [] = ⊤
 AllHearKnown setting (step ∷ steps) =
@@ -189,7 +189,7 @@ GainsAsked setting earlier (Some request) before no_request after gains = gains 
 GainsAsked setting earlier None before answer after gains = gains ≡ []
 
 -- this is what the state gained by these steps, in order. Contracts know which bytes were in each
--- file that was taken, merged or renewed. Each file that was merged or renewed held an earlier
+-- file that `take`, `merge` or `renew` read. Each file that `merge` or `renew` read held an earlier
 -- version of any STATE file
 abbrev pub GainedBy : Setting → List Text → List Step → List Gain → Type 0
 GainedBy setting earlier [] gains = gains ≡ []

@@ -50,8 +50,8 @@ IsSomeLine (whole_line line) = IsLineText line
 IsSomeLine bad_line = ⊤
 IsSomeLine cut_line = ⊤
 
--- this line was read from a source. If contracts know which bytes the source held, these began with
--- the line, and the bytes after the line are left
+-- this line was read from a source. If contracts know which bytes the source held, those bytes
+-- began with the line, and the bytes after the line are left
 abbrev pub ReadsNext : Option (List ℕ) → LineView → Option (List ℕ) → Type 0
 ReadsNext None line new = IsSomeLine line
 ReadsNext (Some text) line new = (rest : List ℕ) × (IsNextLine text line rest × (new ≡ Some rest))
@@ -122,14 +122,14 @@ pub record SkipsTo (text : List ℕ) (left : Option (List ℕ)) : Type 0 where
   pub one : IsWithoutFeed skipped
   pub behind : left ≡ Some rest
 
--- the rest of a line and its line feed were read. This says nothing if contracts don't know which
--- bytes the source held
+-- the rest of a line and its line feed were read. The definition is also true if contracts don't
+-- know which bytes the source held
 abbrev pub SkipsLine : Option (List ℕ) → Option (List ℕ) → Type 0
 SkipsLine None new = ⊤
 SkipsLine (Some text) new = SkipsTo text new
 
--- all bytes left in the source were read, and none of them is a line feed. This says nothing if
--- contracts don't know which bytes the source held
+-- all bytes left in the source were read, and none of them is a line feed. The definition is also
+-- true if contracts don't know which bytes the source held
 abbrev pub SkipsAll : Option (List ℕ) → Option (List ℕ) → Type 0
 SkipsAll None new = ⊤
 SkipsAll (Some text) new = IsWithoutFeed text × (new ≡ Some [])

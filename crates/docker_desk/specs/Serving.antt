@@ -126,8 +126,8 @@ pub record IsRefusedStart (words : List Text) (old new : HostView) (status : ℕ
   pub tells : TellsText (fault_line (Office fault)) (faults_of old) (faults_of new)
 
 -- the session started, the lines of the input were answered, and then the session ended. Unsaved
--- changes count only if the desk may write. If the input hadn't reported its end at the start, it
--- wasn't read past its end
+-- changes are reported only if the desk may write. If the input hadn't reported its end at the
+-- start, it wasn't read past its end
 pub record IsServed (words : List Text) (names_bytes : Bool) (old new : HostView) (status : ℕ)
     : Type 0 where
   pub name : Text

@@ -29,7 +29,7 @@ impl Model for Ahead {
 }
 
 impl Ahead {
-    /// Starts with no bytes.
+    /// Returns an `Ahead` without bytes.
     pub fn new() -> Ahead
         ensures { result ≡ [] }
     {

@@ -70,8 +70,8 @@ impl Desk {
         self.unsaved
     }
 
-    /// Returns the text of the docker of a timing point on a day. Refused if the day is earlier
-    /// than three days after the horizon, or if memory ran out.
+    /// Returns the text of the docker of a timing point on a day. The answer is a refusal if the
+    /// day is earlier than three days after the horizon, or if memory ran out.
     pub fn print(&self, place: &Tiploc, day: Day) -> Answer
         ensures { IsDockerAnswer self.now.state place.now day (answer_meant result) }
     {
@@ -84,7 +84,7 @@ impl Desk {
     }
 
     /// Returns the text of the docker that `permanent` prints for a timing point on a day: a docker
-    /// without the short-term plan. Refused for the same faults as `print`.
+    /// without the short-term plan. The answer is a refusal for the same reasons as in `print`.
     pub fn permanent(&self, place: &Tiploc, day: Day) -> Answer
         ensures { IsPermanentAnswer self.now.state place.now day (answer_meant result) }
     {
@@ -96,7 +96,8 @@ impl Desk {
     }
 
     /// Returns the text of the schedule that is chosen for a train on a day, or a line which says
-    /// that no schedule is chosen. Refused for a day before the horizon, or because memory ran out.
+    /// that no schedule is chosen. The answer is a refusal if the day is before the horizon, or if
+    /// memory ran out.
     pub fn train(&self, uid: &Uid, day: Day) -> Answer
         ensures { IsTrainAnswer self.now.state uid.now day (answer_meant result) }
     {
@@ -108,8 +109,8 @@ impl Desk {
         }
     }
 
-    /// Returns a line for each file that the desk knows, in the ledger's order. Refused only if
-    /// memory ran out.
+    /// Returns a line for each file that the desk knows, in the ledger's order. The answer is a
+    /// refusal only if memory ran out.
     pub fn files(&self) -> Answer
         ensures { IsFilesAnswer self.now.state (answer_meant result) }
     {
@@ -121,7 +122,7 @@ impl Desk {
     }
 
     /// Returns a line for each live timing point, with the number of live schedules that call
-    /// there. Refused only if memory ran out.
+    /// there. The answer is a refusal only if memory ran out.
     pub fn places(&self) -> Answer
         ensures { IsPlacesAnswer self.now.state (answer_meant result) }
     {
@@ -131,8 +132,9 @@ impl Desk {
     }
 
     /// Returns a few lines on what the desk knows: the horizon, the newest full extract, the last
-    /// day, and the numbers of live entries. Refused only if memory ran out. The first call counts
-    /// all entries; later calls return the same text, until the state may have changed.
+    /// day, and the numbers of live entries. The answer is a refusal only if memory ran out. The
+    /// first call counts all entries; later calls return the same text, until the state may have
+    /// changed.
     pub fn known(&mut self) -> Answer
         ensures answer { IsKnownAnswer self.old.state (answer_meant result) }
         ensures desk { self.new ≡ self.old }
@@ -144,8 +146,8 @@ impl Desk {
         answer_on(page, printed)
     }
 
-    /// Takes the named file, which is opened once. A refusal leaves the desk unchanged. Its fault
-    /// is `File`, `Source` or `Memory`.
+    /// Takes the named file, which is opened once. If the call fails, with `File`, `Source` or
+    /// `Memory`, the desk is unchanged.
     pub fn take<D: Folder>(&mut self, name: &str, folder: &mut D) -> Result<(), OfficeFault>
         requires { D.failures folder.old < 2 ^ 64 - 1 }
         ensures opens { OpensOnce name.now StopsInFile
@@ -165,8 +167,8 @@ impl Desk {
         }
     }
 
-    /// Joins the desk's state with the state in the named file, which is opened once. A refusal
-    /// leaves the desk unchanged. Its fault is `State`, `Source` or `Memory`.
+    /// Joins the desk's state with the state in the named file, which is opened once. If the call
+    /// fails, with `State`, `Source` or `Memory`, the desk is unchanged.
     pub fn receive<D: Folder>(&mut self, name: &str, folder: &mut D) -> Result<(), OfficeFault>
         requires { D.failures folder.old < 2 ^ 64 - 1 }
         ensures opens { OpensOnce name.now StopsInState
@@ -186,8 +188,8 @@ impl Desk {
         }
     }
 
-    /// Sets a horizon: the desk keeps the later of this day and its own horizon. The call is never
-    /// refused.
+    /// Sets a horizon: the desk keeps the later of this day and its own horizon. The call never
+    /// fails.
     pub fn set_horizon(&mut self, day: Day)
         ensures { self.new
             ≡ record { state = raise_horizon day self.old.state; unsaved = true } }
@@ -207,8 +209,8 @@ impl Desk {
     /// Looks at the named file, then opens it once and joins the desk's state with the state in the
     /// file. On success, `seen` becomes the result of this look, and the call returns whether the
     /// file held the text of the desk's new state. The texts are compared only if `compares` is set
-    /// and there is memory to keep the file's text for that. The desk then has unsaved changes
-    /// unless the comparison showed that the file held that text.
+    /// and there is memory for a copy of the file's text. The desk then has unsaved changes unless
+    /// the comparison showed that the file held that text.
     pub fn renew<D: Folder>(
         &mut self,
         name: &str,
@@ -237,8 +239,8 @@ impl Desk {
     }
 
     /// Stores the text of the desk's state in the named file, by a draft from the look `seen`. On
-    /// success, looks at the file again, and `seen` becomes the result of the new look. A refusal
-    /// leaves the desk and `seen` unchanged. The fault is `Sink` if the draft can't be made or
+    /// success, looks at the file again, and `seen` becomes the result of the new look. If the call
+    /// fails, the desk and `seen` are unchanged. The fault is `Sink` if the draft can't be made or
     /// written or can't replace the file, and `Memory` if there is no memory to make the draft.
     pub fn save<D: Folder>(
         &mut self,

@@ -25,8 +25,8 @@ pub enum Ending {
 }
 
 /// Reports how a session ended, and returns its exit status: 0 if all is saved, 1 if changes
-/// weren't saved, or 4 if a device failed. If both lines are written, the line on the device is
-/// first.
+/// weren't saved, or 4 if a device failed. The line on a failed device comes before the line on
+/// unsaved changes.
 pub(crate) fn end_session<L: Sink>(ending: Ending, unsaved: bool, faults: &mut L) -> u8
     requires { L.failures faults.old < 2 ^ 64 - 1 }
     ensures { EndsWithStatus ending unsaved result

@@ -1,5 +1,5 @@
 //! Laws of every session. Each law is the contract of a function that does nothing. The law holds
-//! for all values that the function's clauses name.
+//! for all values of the variables in the function's clauses.
 ghost use Rattle.std.specs.Prelude.{◌≡◌, ◌≤◌, ◌++◌, ℕ, List, Some, length};
 ghost use Rattle.docker_model.specs.state.Lapse.{IsDayRefused, lapse_table};
 ghost use Rattle.docker_model.specs.state.State.{State, live_table};
@@ -60,10 +60,10 @@ pub fn looks_come_before_readings()
         → IsGoodLook setting.name last.history last.look }
 {}
 
-/// Suppose that a file that was merged or renewed held the text of a summary. Then the session
-/// learns that summary from the file. If each file that is merged or renewed holds such a text, the
-/// knowledge after every step is determined, and the law `known_files_fix_sessions` applies to the
-/// whole session.
+/// Suppose that the file that `merge` or `renew` read held the text of a summary. Then the session
+/// learns that summary from the file. If each file that `merge` or `renew` reads holds such a text,
+/// the knowledge after every step is determined, and the law `known_files_fix_sessions` applies to
+/// the whole session.
 pub fn known_texts_are_heard()
     ensures merged { (setting : Setting) (other text : List ℕ) (before after : SessionView)
         (known : Known) → DoesRequest setting (merge_request other) before (done_with text) after

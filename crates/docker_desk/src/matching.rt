@@ -1,4 +1,4 @@
-//! Finds out whether a text is the text of a state. The state's text isn't made in memory for this.
+//! Finds out whether a text is the text of a state, without making the state's text in memory.
 ghost use Rattle.std.specs.Prelude.{◌≡◌, ◌↔◌, ◌+◌, ◌-◌, ◌<◌, ◌≤◌, [], length, take, Some, IsTrue, option_map};
 ghost use Rattle.docker_model.specs.state.StateText.{dks_2, state_text};
 ghost use Rattle.docker_desk.specs.Copying.{ComparesCopy, IsNoFront};
@@ -9,9 +9,9 @@ use cif_line::{Failed, Sink};
 use docker_cmd::Office;
 use std::marker::{Brand, Model, PhantomData};
 
-/// A sink that compares what is written to it with a text. The sink takes the bytes of the text,
-/// and after them the first byte that differs. Then the sink fails. It allocates nothing. Contracts
-/// get the text from its type parameter `B`.
+/// A sink that compares what is written to it with a text. The sink takes the bytes that agree with
+/// the text, and then the first byte that differs. After that byte, each write fails. The sink
+/// allocates nothing. Contracts get the text from its type parameter `B`.
 #[derive(Drop)]
 pub(crate) struct Matching<'a, B: Begun> {
     text: &'a [u8],

@@ -12,7 +12,7 @@ use docker_host::Folder;
 use std::alloc::Global;
 
 /// Looks at the named file, then opens it and reads its state. The look is made even if the file
-/// can't be opened. If the result is `State`, `Source` or `Memory`, there is no session.
+/// can't be opened. If the call fails, with `State`, `Source` or `Memory`, there is no session.
 pub fn open_session<D: Folder>(
     alloc: Global,
     name: &str,

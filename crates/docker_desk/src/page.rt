@@ -58,7 +58,8 @@ impl Sink for Page {
         ensures counted { OnErr result (self.new.failures ≡ self.old.failures + 1) }
         ensures unmoved { OnErr result (self.new.text ≡ self.old.text) }
 
-        // Every sink promises the clauses above. Only this sink promises the clause below.
+        // The clauses above are promised for every sink. The clause below is promised only for this
+        // sink.
         ensures whole { IfOk result (λ n. n ≡ length piece.now) }
     {
         match self.bytes.extend_from_slice(piece) {

@@ -57,8 +57,8 @@ pub(crate) fn receive_state<D: Folder>(
 }
 
 /// Opens the named file once, and has the office receive the state in it. Also returns whether the
-/// file held the text of the office's new state. The texts are compared only if `compares` is set,
-/// and if there is memory to keep the file's text for that.
+/// file held the text of the office's new state. The texts are compared only if `compares` is set
+/// and there is memory for a copy of the file's text.
 pub(crate) fn renew_state<D: Folder>(
     alloc: Global,
     office: &mut Office,

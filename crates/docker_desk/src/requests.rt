@@ -146,45 +146,45 @@ fn first_named<'a>(verbs: &'a [Verb], name: &str) -> Option<&'a Verb>
 /// A request, with the timing point, the train, the day or the file that the request names.
 #[derive(Clone, Copy, Debug)]
 pub enum Request<'a> {
-    /// `print`.
+    /// `print`: prints the docker of a timing point on a day.
     Print {
         /// The timing point.
         place: Tiploc,
         /// The day.
         day: Day,
     },
-    /// `permanent`.
+    /// `permanent`: prints the docker of a timing point on a day without the short-term plan.
     Permanent {
         /// The timing point.
         place: Tiploc,
         /// The day.
         day: Day,
     },
-    /// `train`.
+    /// `train`: shows the schedule that is chosen for a train on a day.
     Train {
         /// The train.
         uid: Uid,
         /// The day.
         day: Day,
     },
-    /// `files`.
+    /// `files`: lists the files that are known.
     Files,
-    /// `places`.
+    /// `places`: lists the timing points that are known.
     Places,
-    /// `known`.
+    /// `known`: shows how much is known.
     Known,
-    /// `renew`.
+    /// `renew`: joins the state with the state that the state's file holds now.
     Renew,
-    /// `take`, with the name of the file.
+    /// `take`: takes the file with this name into the state.
     Take(&'a str),
-    /// `merge`, with the name of the other state's file.
+    /// `merge`: joins the state with the state in the file with this name.
     Merge(&'a str),
-    /// `horizon`.
+    /// `horizon`: sets a horizon.
     Horizon {
         /// The day.
         day: Day,
     },
-    /// `save`.
+    /// `save`: writes the state to its file.
     Save,
 }
 

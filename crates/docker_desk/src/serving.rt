@@ -51,8 +51,8 @@ pub fn serve_lines<S: Source, D: Folder, K: Sink>(
 }
 
 /// Reads one line and writes its answer. Returns why the session ends, if the session ends at this
-/// line. Later lines are kept for the next call, so each line is answered even if the input never
-/// ends.
+/// line. Bytes that were read beyond this line are kept in `ahead` for the next call. So each line
+/// is answered even if the input never ends.
 pub fn serve_next<S: Source, D: Folder, K: Sink>(
     words: &SessionWords<'_>,
     ahead: &mut Ahead,
