@@ -48,7 +48,7 @@ abbrev IsCounted : List Text → List Text → Type 0
 IsCounted ids words = ((length words ≡ length ids) × (count_fault ids words ≡ []))
     ⊎ ((length words ≡ length ids → ⊥) × (is_empty (count_fault ids words) ≡ false))
 
--- for any ids and words, `IsCounted` holds
+-- there is a fault if and only if the number of words differs from the number of ids
 counted : (ids words : List Text) → IsCounted ids words
 counted [] [] = inl (refl, refl)
 counted [] (word ∷ words) = inr ((λ same. omega (arith, same)), refl)

@@ -200,8 +200,8 @@ no_default_fault position (id ∷ ids) rows =
     ap (λ b. or_else (cond b [] []) (defaults_fault (with_default rows (placed position id)) rest)) (or-true (has_row id rows))
     ∙ ap (λ rs. defaults_fault rs rest) (same_rows id rows) ∙ no_default_fault (next position) ids rows
 
--- if none of the first rows has an id, `is_given` holds for the id in all rows if and only if it
--- holds in the other rows
+-- if none of the first rows has an id, the id is given in all rows if and only if it is given in
+-- the other rows
 not_given : (id : Text) (rows rest : List Row) → has_row id rows ≡ false → is_given id (rows ++ rest) ≡ is_given id rest
 not_given id [] rest fresh = refl
 not_given id (r ∷ rows) rest fresh =
@@ -209,7 +209,7 @@ not_given id (r ∷ rows) rest fresh =
     ap (λ b. option_map_or (λ (x : Row). explicit_source x.source) (cond b (Some r) (find (λ x. bytes_eq x.id id) (rows ++ rest))) false) parts.0
     ∙ not_given id rows rest parts.1
 
--- if an id has a row, `is_given` holds for this id
+-- if the first row has an id, this id is given
 given_here : (id word : Text) (rest : List Row) → is_given id (row id word ∷ rest) ≡ true
 given_here id word rest =
     ap (λ b. option_map_or (λ (x : Row). explicit_source x.source) (cond b (Some (row id word)) (find (λ x. bytes_eq x.id id) rest)) false)

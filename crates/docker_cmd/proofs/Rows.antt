@@ -88,15 +88,16 @@ Suit Files = OfOne (λ state. ⊤)
 Suit Horizon = OfTwo (λ state date. NameHorizon state date)
 Suit Migrate = OfOne (λ state. NamesStored state)
 
--- if one property of two words implies another, `OfTwo` of the first implies `OfTwo` of the second
+-- if one property of two words implies another, every list of exactly two words that has the first
+-- property has the second
 two_weaker : (P Q : Text → Text → Type 0) → ((a b : Text) → P a b → Q a b) → (words : List Text) → OfTwo P words → OfTwo Q words
 two_weaker P Q so [] is = is
 two_weaker P Q so (a ∷ []) is = is
 two_weaker P Q so (a ∷ b ∷ []) is = so a b is
 two_weaker P Q so (a ∷ b ∷ c ∷ words) is = is
 
--- if one property of three words implies another, `OfThree` of the first implies `OfThree` of the
--- second
+-- if one property of three words implies another, every list of exactly three words that has the
+-- first property has the second
 three_weaker : (P Q : Text → Text → Text → Type 0) → ((a b c : Text) → P a b c → Q a b c) → (words : List Text) → OfThree P words → OfThree Q words
 three_weaker P Q so [] is = is
 three_weaker P Q so (a ∷ []) is = is
@@ -162,7 +163,7 @@ pub record IsKnown (s : Subcommand) : Type 0 where
   pub under : find (λ x. answers_to (name_of s) (label_of x)) leaves ≡ Some (leaf_of s)
   pub found : (words : List Text) → length words ≡ length (ids_of s) → found_words (ids_of s) (paired (ids_of s) words) ≡ Some words
 
--- `IsKnown` holds for every subcommand
+-- the facts of `IsKnown` are true of every subcommand
 pub known : (s : Subcommand) → IsKnown s
 known New = record { fits = (refl, refl, refl); fresh = (refl, λ a. tt); met = refl; under = refl; found = one_found (codes "STATE") (λ x. refl) }
 known Check = record { fits = (refl, refl, refl); fresh = (refl, λ a. tt); met = refl; under = refl; found = one_found (codes "FILE") (λ x. refl) }

@@ -94,7 +94,8 @@ module _ (earlier : List (List ℕ)) where
         by (Ok found) None told asked ends = absurd ends.0.0
         by (Err fault) read told asked ends = let never : ⊥ = cc in absurd never
 
-    -- if a request succeeded, the state gained what `GainsDone` says
+    -- if a request succeeded, the state gained what the request adds: a file, a version, a horizon,
+    -- or nothing
     gained_done : (request : RequestView) (text : List ℕ) (gains : List Gain) → ((day : ℕ) → request ≡ horizon_request day → IsDay day)
         → DoesRequest setting request before (done_with text) after → GainsDone setting earlier request before after gains
         → AreGained earlier gains before.desk.state after.desk.state
@@ -112,7 +113,8 @@ module _ (earlier : List (List ℕ)) where
     gained_done save_request text gains days does gained =
         gained_none gains _ _ gained (same_saved setting before after does.result does.desk)
 
-    -- after a line is answered, the state gained what `GainsAsked` says
+    -- after a line is answered, the state has gained what the line's request adds. It has gained
+    -- nothing if the request was refused, or if the line makes no request
     gained_asked : (request : Option RequestView) (answer : AnswerView) (gains : List Gain) → ((day : ℕ) → request ≡ Some (horizon_request day) → IsDay day)
         → DoesAsked setting request before answer after → GainsAsked setting earlier request before answer after gains
         → AreGained earlier gains before.desk.state after.desk.state
@@ -124,7 +126,7 @@ module _ (earlier : List (List ℕ)) where
     gained_asked (Some request) no_request gains days does gained = absurd (never_unasked setting before after request does)
 
   module _ (setting : Setting) where
-    -- after a list of steps, the state gained what `GainedBy` says
+    -- after a list of steps, the state has gained what the requests of these steps add, in order
     gained_steps : (first last : SessionView) (steps : List Step) (gains : List Gain) → AreSteps setting first steps last → GainedBy setting earlier steps gains
         → AreGained earlier gains first.desk.state last.desk.state
     gained_steps first last [] gains are gained = gained_none gains _ _ gained (ap (λ (m : SessionView). m.desk.state) are)
@@ -136,8 +138,8 @@ module _ (earlier : List (List ℕ)) where
         (λ day same. day_asked setting.may_write step.line step.request day are.1.0.asks same) are.1.0.does gained.1.1.0)
         (gained_steps step.after last steps gained.1.0 are.1.1 gained.1.1.1.0)))
 
-    -- if the text is saved after a list of steps, `IsPlaced` holds. The saved text is the text of
-    -- the version read at the beginning, with the gains of the steps
+    -- the text that is saved after a list of steps is the text of a state. This state was read from
+    -- the first version, and then gained what the steps gained
     pub places_version : (first before after : SessionView) (steps : List Step) (old : List Event) (own : ℕ) (gains : List Gain) (answer : List ℕ)
         → (begins : BeginsAt setting.name old first) → HoldsVersion earlier begins.held own → AreSteps setting first steps before
         → GainedBy setting earlier steps gains → Saves setting before (done_with answer) after → IsPlaced setting earlier own gains before after

@@ -62,7 +62,7 @@ known_raised old heard day state is_day heard_is known =
           (raised_summary old.files old.horizon day state known.is);
     })
 
--- if a state is the summary of one file without a horizon, `IsKnown` holds for this file and no
+-- if a state is the summary of one file without a horizon, what is known is this file and no
 -- horizon
 known_file : (file : List (List ℕ)) (state : State) → IsFile file → length file ≤ most_records → IsSummary (file ∷ []) 0 state
     → IsKnown (record { files = file ∷ []; horizon = 0 }) state

@@ -1,4 +1,5 @@
--- At every point of a session, the look from which the next draft is made is good (`IsGoodLook`).
+-- At every point of a session, the look from which the next draft is made is good. It comes
+-- directly before an opening of the state's file, or directly after a draft replaced that file.
 use Rattle.std.proofs.Common.{◌≡◌, ℕ, ◌+◌, List, [], ◌∷◌, ◌++◌, length, sym, ◌∙◌, ap, subst, arith, append_assoc, length-append, Some, None, Ok, Err, inl, inr}
 use Rattle.std.specs.Prelude.{Option, Result, ⊤, Bool}
 use Rattle.docker_cmd.specs.OfficeFault.{OfficeFault}

@@ -21,17 +21,19 @@ use Rattle.docker_desk.specs.Reading.{StopsInState, reading}
 use Rattle.docker_desk.specs.declared.compared.Compared.{Compared}
 use Rattle.docker_desk.specs.declared.compared.Compared.TheVariants as compared
 
--- if the status isn't 4 and no failure was counted, `IsCounted` holds
+-- if the status isn't 4 and no failure was counted, the failure count agrees with the status
+-- (`IsCounted`)
 not_failed : (status before after : ℕ) → status ≢ 4 → after ≡ before → IsCounted status before after
 not_failed status before after other same =
     ((λ is. absurd (other is), λ rose. let never : ⊥ = omega (arith, same, rose) in absurd never), λ differs. same)
 
--- if the status is 4 and one failure was counted, `IsCounted` holds
+-- if the status is 4 and one failure was counted, the failure count agrees with the status
+-- (`IsCounted`)
 failed_once : (before after : ℕ) → after ≡ before + 1 → IsCounted 4 before after
 failed_once before after rose = ((λ is. rose, λ is. refl), λ differs. absurd (differs refl))
 
--- if `IsCounted` holds for a file's failures and the folder adds them to its own count, `IsCounted`
--- holds for the folder
+-- if a file's failure count agrees with the status, and the folder adds the file's failures to its
+-- own, the folder's failure count agrees with the status too
 pub counted_back : (status first opened start read after : ℕ) → opened ≡ first → start ≡ 0 → IsCounted status start read → after ≡ opened + read
     → IsCounted status first after
 counted_back status first opened start read after same none counted back = (
@@ -56,7 +58,8 @@ takes left left_now old new (Err (office.State fault)) outcome kept = absurd out
 takes left left_now old new (Err office.Lapsed) outcome kept = absurd outcome
 takes left left_now old new (Err office.Sink) outcome kept = absurd outcome
 
--- after a file was taken or refused, `IsCounted` holds for the result's status
+-- after a file was taken or refused, one failure was counted if and only if the result's status is
+-- 4
 pub taking_counted : (before after : ℕ) (result : Result ⊤ OfficeFault) → CountsTaking before after result → IsCounted (result_status result) before after
 taking_counted before after (Ok done) counted = not_failed 0 before after (λ is. omega arith) counted
 taking_counted before after (Err (office.File fault)) counted = not_failed _ before after (λ is. omega arith) counted
@@ -92,7 +95,7 @@ pub reloads : (left left_now : Bytes) (new : State) (result : Result ⊤ OfficeF
 reloads left left_now new (Ok done) outcome = outcome
 reloads left left_now new (Err fault) outcome = refuses_to_receive left left_now fault outcome
 
--- after a state was refused, `IsCounted` holds for the fault's status
+-- after a state was refused, one failure was counted if and only if the fault's status is 4
 fault_counted : (before after : ℕ) (fault : OfficeFault) → CountsWhy (why_unread fault) before after
     → IsCounted (result_status {A = ⊤} (Err fault)) before after
 fault_counted before after (office.State fault) counted = not_failed _ before after (λ is. omega arith) counted
@@ -144,8 +147,8 @@ copied : {Z : Type 0} (bytes : Bytes) (copy : Option (Vec ℕ Z)) → IfSome cop
 copied bytes None held = tt
 copied bytes (Some it) held = held
 
--- if a state was received, and the copy was compared with the text of the new state,
--- `EndsComparing` holds
+-- if a state was received, and the copy of the file's text was compared with the text of the new
+-- state, the call succeeded as its contract says (`EndsComparing`)
 pub compares : {Z : Type 0} (held bytes left : Bytes) (copy : Option (Vec ℕ Z)) (old new : State) (found : Compared) → held ≡ bytes
     → IfSome copy (λ it. IsText bytes it.items) → ComparesCopy found (option_map (λ (it : Vec ℕ Z). it.items) copy) (state_text dks_2 new)
     → JoinsState dks_2 most_bytes held old new → EndsComparing old new (Ok found) (Some (reading held left))

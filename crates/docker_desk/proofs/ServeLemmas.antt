@@ -49,7 +49,8 @@ begins desk_in name old new made look failures opens same = by opens.read opens.
 pub still : (before after : ℕ) → IsCounted 0 before after → after ≡ before
 still before after counted = counted.1 (λ four. omega arith)
 
--- if the session started, its lines were answered and its ending was reported, `IsServed` holds
+-- if a session started, its lines were answered and its end was reported, the session was served as
+-- the contract of `serve` says
 pub served : (words : List Text) (names_bytes : Bool) (old new : HostView) (status : ℕ) (name : Text) (may_write : Bool) (first last : SessionView)
     (ending : Ending) (unsaved : Bool)
     → NamesSession words name may_write → BeginsAt name old.history first → first.failures ≡ old.folder_failures

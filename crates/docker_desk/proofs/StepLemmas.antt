@@ -209,8 +209,8 @@ module _ (setting : Setting) where
       → AreSteps setting before (step_of line before answer after does ∷ []) after
   one_step line before answer after does = (refl, (is_step line before answer after does, refl))
 
-  -- after one more line is answered, `IsSoFar` holds for the next point and a count that is greater
-  -- by one
+  -- if `count` lines were answered up to a point, and then one more line, `count + 1` lines were
+  -- answered up to the next point
   so_far_more : (count : ℕ) (first now next : SessionView) (input input_now input_next output output_now output_next : DeviceBytes)
       → IsSoFar count first now input input_now output output_now → ServesNext setting now next input_now input_next output_now output_next None
       → IsSoFar (count + 1) first next input input_next output output_next
@@ -237,8 +237,8 @@ module _ (setting : Setting) where
       so_far_more count first now next input input_now input_next output output_now output_next so_far
       (subst (ServesNext setting now next input_now input_next output_now output_next) none serves)
 
-  -- if `EndsSession` holds for the bytes left in the input and more steps, it holds for the whole
-  -- input and all steps
+  -- suppose that a part of a session was served. If a session on the bytes left in the input ends
+  -- in some way, the whole session ends in the same way
   ends_more : (ending : Ending) (count : ℕ) (first now : SessionView) (input input_now output output_now output_last : DeviceBytes) (more : List Step)
       → (so_far : IsSoFar count first now input input_now output output_now) → EndsSession ending input_now more output_now output_last
       → EndsSession ending input (so_far.steps ++ more) output output_last
@@ -400,11 +400,12 @@ pub counts_on : (result : Option Ending) (input input_now output output_now : �
     → (input_now ≡ input) × (output_now ≡ output)
 counts_on result input input_now output output_now none counts = subst (λ (r : Option Ending). CountsNext r input input_now output output_now) none counts
 
--- if the status isn't 4 and no failure was counted, `IsCounted` holds
+-- if the status isn't 4 and no failure was counted, the failure count agrees with the status
+-- (`IsCounted`)
 counted_none : (status count : ℕ) → status ≢ 4 → IsCounted status count count
 counted_none status count other = ((λ four. absurd (other four), λ more. absurd (omega arith)), λ _. refl)
 
--- if `IsCounted` holds, the failure count grows by at most one
+-- if the failure count agrees with the status, it has grown by at most one
 pub counted_few : (status before after : ℕ) → IsCounted status before after → after ≤ before + 1
 counted_few status before after counted = by (eqb_tells status 4)
   where

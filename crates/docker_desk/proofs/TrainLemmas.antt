@@ -25,8 +25,8 @@ FoundIsPlain =
     → IsPlainTable files table → IsDay horizon → horizon ≤ day → IsFoundFor state uid day found
     → IsChosenOn table uid day (option_map (λ (it : Stamped). it.schedule) found)
 
--- if a text shows the schedule that a state has for a UID on a day, `IsTrainOf` holds for the files
--- that the state knows
+-- if a text shows the schedule that a state has for a UID on a day, this schedule came from a known
+-- file. If the known files have a plain table, it is the schedule that this table has
 pub train_known : FoundCameFrom → FoundIsPlain → (known : Known) (state : State) (uid : List ℕ) (day : ℕ) (text : List ℕ) → IsKnown known state
     → IsTrainText state uid day text → state.horizon ≤ day → IsTrainOf known uid day text
 train_known came_from is_plain known state uid day text is train from = record {

@@ -100,8 +100,8 @@ empty_told = ap (λ (zero : List ℕ). zero ++ codes " " ++ zero ++ codes " " ++
     zero_told : decimal 0 ≡ 48 ∷ []
     zero_told = decimal_digit 0 (omega arith)
 
--- writing the answer to `files`, for the state of no files, gives an output that satisfies
--- `IsAnswered`
+-- after the answer to `files` was written for the state of no files, the output lists no files or
+-- reports that memory ran out
 answered : (output : Bytes) (state : State) (answer : AnswerView) → state ≡ no_state → IsFilesAnswer state answer
     → Takes (Some []) (answer_bytes answer ++ []) output → IsAnswered output
 answered output state (done_with text) same is takes =
@@ -131,7 +131,8 @@ holds_none text is few valid = record {
 
 module _ (text : List ℕ) (holds : HoldsState dks_2 most_bytes (Some text) no_state) (old : List Event) (output : Bytes)
     (before : old ≡ placed (codes "S") (Some text) ∷ []) where
-  -- if the line `files` is the only step of the session, the output satisfies `IsAnswered`
+  -- if the line `files` is the only step of the session, the output lists no files or reports that
+  -- memory ran out
   one_step : (its : Setting) (first last : SessionView) (step : Step) → BeginsAt its.name old first → its.name ≡ codes "S" → step.line ≡ whole_line asked_line
       → AreSteps its first (step ∷ []) last → IsShelfHistory last.history → Takes (Some []) (answer_bytes step.answer ++ []) output → IsAnswered output
   one_step its first last step begins named line are met takes =
@@ -160,7 +161,8 @@ module _ (text : List ℕ) (holds : HoldsState dks_2 most_bytes (Some text) no_s
       read = one_read most_bytes begins.held first.desk.state no_state begins.state
           (subst (λ (h : Bytes). HoldsState dks_2 most_bytes h no_state) (sym held) holds)
 
-  -- if the lines of the steps are the one line `files`, the output satisfies `IsAnswered`
+  -- if the only line of the steps is `files`, the output lists no files or reports that memory ran
+  -- out
   all_steps : (its : Setting) (first last : SessionView) (steps : List Step) → BeginsAt its.name old first → its.name ≡ codes "S"
       → lines_of steps ≡ whole_line asked_line ∷ [] → AreSteps its first steps last → IsShelfHistory last.history
       → Takes (Some []) (answers_text steps) output → IsAnswered output
@@ -203,7 +205,7 @@ sent_text text before after state none takes is same =
     unsome : (one two : List ℕ) → Some one ≡ Some two → one ≡ two
     unsome one two equal = cc
 
--- the same as `IsAnswered`, for the bytes of a sink in memory
+-- a sink in memory that satisfies `IsAnswered` has the bytes of one of the two answers
 bytes_answered : (taken : List ℕ) → IsAnswered (Some taken) → (taken ≡ codes "0 0 0\n") ⊎ (taken ≡ memory_answer)
 bytes_answered taken (inl done) = inl (unsome taken (codes "0 0 0\n") done)
   where

@@ -12,7 +12,8 @@ pub after_events-append : (texts : Texts) (events : List Event) (event : Event)
 after_events-append texts [] event = refl
 after_events-append texts (first ∷ events) event = after_events-append (after_event texts first) events event
 
--- appending an event that satisfies `IsMet` to events that satisfy `AreMet` preserves `AreMet`
+-- suppose that each file that a list of events opens has the text last placed under its name. This
+-- is still true after one more event of which it is true
 pub AreMet-append : (texts : Texts) (events : List Event) (event : Event)
     → AreMet texts events → IsMet (after_events texts events) event → AreMet texts (events ++ event ∷ [])
 AreMet-append texts [] event met last = (last, tt)

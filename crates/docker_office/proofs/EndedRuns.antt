@@ -11,15 +11,15 @@ use Rattle.docker_laws.proofs.runs.KnownSets.{offices_are}
 use Rattle.docker_laws.proofs.runs.RunEnd.{same_state, same_docker, plain_docker}
 use Rattle.docker_office.specs.RunEnds.{EndsWith, PrintsAs, known_at_end}
 
--- the office of `EndsWith` is one of the run's offices
+-- the office about which `EndsWith` speaks is one of the run's offices
 is_there : (known : Known) (state : State) → (end : EndsWith known state) → IsOffice (sets_of end.offices end.events end.exchange) end.office
 is_there known state end =
     let many = offices_are end.offices end.events end.exchange.replies in
     let low = end.there in
     omega arith
 
--- a property that holds for what an office knows at the end of its run, and for the office's state,
--- holds for the `known` and the `state` of `EndsWith`
+-- suppose that an office ends its run with `known` and `state`. A property of the office's
+-- knowledge and state at the end is a property of `known` and `state`
 at_end : (P : Known → State → Type 0) (known : Known) (state : State) → (end : EndsWith known state)
     → P (known_at_end end.offices end.events end.exchange end.office) (office_state end.exchange.states end.office) → P known state
 at_end P known state end is = subst (P known) end.has (subst (λ k. P k (office_state end.exchange.states end.office)) end.knows is)

@@ -191,7 +191,7 @@ one_excerpt place day limit left excerpt reads sent holds =
 
 -- ---- reading from a text in memory
 
--- if reading a state has ended with a value, `IsMade` holds
+-- if reading a state has ended with a value, the promise `IsMade` about this value holds
 pub read_ok : {A : Type 0} (wants : Wanting) (format : Format) (limit : ℕ) (IsMade : Type 0) (left left_now : BytesLeft) (result : Result A OfficeFault)
     → IsOutcome wants why_unread format limit (λ _. IsMade) left left_now result → IsOk result → IsMade
 read_ok wants format limit IsMade left left_now (Ok made) outcome is = outcome
@@ -222,7 +222,7 @@ read_only wants format limit IsMade left left_now (Err (office.File fault)) outc
 read_only wants format limit IsMade left left_now (Err office.Lapsed) outcome = outcome
 read_only wants format limit IsMade left left_now (Err office.Sink) outcome = outcome
 
--- if taking a file has ended with a value, `IsMade` holds
+-- if taking a file has ended with a value, the promise `IsMade` about this value holds
 pub taken_ok : {A : Type 0} (limit : ℕ) (IsMade : Type 0) (left left_now : BytesLeft) (result : Result A OfficeFault)
     → IsTakingOutcome limit (λ _. IsMade) left left_now result → IsOk result → IsMade
 taken_ok limit IsMade left left_now (Ok made) outcome is = outcome.0

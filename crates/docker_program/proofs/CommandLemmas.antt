@@ -62,8 +62,8 @@ state_held format known bytes state holds reads =
     same : holds.0 ≡ reads.text
     same = subst (λ (b : Bytes). Held b reads.text) holds.1 reads.held
 
--- if a source held the text of a summary in the current format, `IsKnown` holds for the state read
--- from the source
+-- if a source held the text of a summary in the present format, the state read from the source is
+-- that summary, and its files and its horizon are valid
 pub known_held : (known : Known) (bytes : Bytes) (state : State) → HoldsKnown dks_2 bytes known → ReadsState dks_2 most_bytes bytes state
     → IsKnown known state
 known_held known bytes state holds reads = record {
@@ -96,7 +96,7 @@ known_raised old day state is_day known = record {
       (raised_summary old.files old.horizon day state known.is);
 }
 
--- if a state is the summary of one file without a horizon, `IsKnown` holds for this file and no
+-- if a state is the summary of one file without a horizon, what is known is this file and no
 -- horizon
 pub known_file : (file : List (List ℕ)) (state : State) → IsFile file → length file ≤ most_records → IsSummary (file ∷ []) 0 state
     → IsKnown (of_file file) state
@@ -171,8 +171,8 @@ known_docker known state place day text is allowed text_is = record {
   docker = text_is;
 }
 
--- if a job writes a text from a state, the text is one that `WritesKnown` allows for what the job
--- knows
+-- if a job writes a text from a state, this text is made from what the job knows. It is the text of
+-- the job's summary, a docker of this summary, or the list of the known files
 written_of_state : (task : TaskView) (first second : Bytes) (state : State) (text : List ℕ) (known : Known)
     → ((day : ℕ) → task ≡ horizon_task day → IsDay day) → IsReadOf task first second (office_read state)
     → IsOutputText (output_of task) (office_read state) text → ¬ IsRefusedDocker (output_of task) (office_read state)
@@ -205,12 +205,12 @@ written_of_state (horizon_task day) first second state text known days reads is 
 written_of_state migrate_task first second state text known days reads is allowed knows =
     known_text known state text (known_older known first state knows reads) is
 
--- only the task `check` reads a file without making a state, and `WritesKnown` allows any text as
--- the output of `check`
+-- only `check` reads a file without making a state, and its output may be any text, because `check`
+-- knows nothing
 written_of_file : (task : TaskView) (known : Known) (text : List ℕ) → task ≡ check_task → WritesKnown task known text
 written_of_file task known text is = subst (λ (t : TaskView). WritesKnown t known text) (sym is) tt
 
--- if a job writes a text, the text is one that `WritesKnown` allows for what the job knows
+-- if a job writes a text, and the job isn't a `check`, the text is made from what the job knows
 written_known : (task : TaskView) (first second : Bytes) (what : ReadView) (text : List ℕ) (known : Known)
     → ((day : ℕ) → task ≡ horizon_task day → IsDay day) → IsReadOf task first second what
     → IsOutputText (output_of task) what text → ¬ IsRefusedDocker (output_of task) what

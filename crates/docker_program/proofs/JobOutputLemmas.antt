@@ -49,7 +49,7 @@ fails_alone taken failures old new prepared name office.Source is ends = elim en
 
 -- ---- a job that writes a file
 
--- if no draft was made because a device failed, `WritesPart` holds
+-- if no draft was made because a device failed, the output wasn't written, as `WritesPart` says
 pub ends_unmade : (by : Drafting) (written : Written) (prepared : PreparedView) (name : Text) → stored_by prepared.job ≡ Some name
     → IsUndrafted name by.look written.before written.now → written.output_now ≡ written.output → WritesPart by written prepared
 ends_unmade by written prepared name is none kept =
@@ -69,7 +69,8 @@ ends_dropped by written prepared name fault is alone given_up kept =
     subst (λ (fault : OfficeFault). EndsWriting by written prepared (Err fault)) (sym alone)
     (subst (λ (stored : Option Text). WritesPartTo stored by written prepared) (sym is) (inr (inl given_up), kept))
 
--- if only the draft failed, and failed once, `IsCounted` holds for the status of the fault `Sink`
+-- if only the draft failed, and failed once, the failure count agrees with the status of the fault
+-- `Sink` (`IsCounted`)
 pub counted_alone : (fault : OfficeFault) (before after : ℕ) → fault ≡ office.Sink → after ≡ before + 1 →
     IsCounted (status_of (Office fault)) before after
 counted_alone fault before after alone rose =
@@ -99,7 +100,8 @@ ends_stored by written prepared name middle empty taken is none gains made put k
       kept,
     )
 
--- if replacing the file with the complete draft failed, `WritesPart` holds
+-- if the complete draft failed to replace the file, the output may not have been stored, as
+-- `WritesPart` says
 pub ends_unplaced : (by : Drafting) (written : Written) (prepared : PreparedView) (name : Text) (middle : List Event) (empty taken : Bytes)
     → stored_by prepared.job ≡ Some name → empty ≡ named_if by.names_bytes [] → GainsOutput prepared empty taken
     → middle ≡ written.before ++ drafted name by.look ∷ [] → written.now ≡ middle ++ unplaced name taken ∷ []
@@ -143,12 +145,13 @@ ends_printed taken failures old new prepared history by (Err (office.File fault)
 ends_printed taken failures old new prepared history by (Err (office.State fault)) is ends lapsed = ends
 ends_printed taken failures old new prepared history by (Err office.Source) is ends lapsed = ends
 
--- if a device didn't fail and the status isn't 4, `IsCounted` holds
+-- if a device didn't fail and the status isn't 4, the failure count agrees with the status
+-- (`IsCounted`)
 none_failed : (status folder before after : ℕ) → status ≢ 4 → after ≡ before → IsCounted status (folder + before) (folder + after)
 none_failed status folder before after other same =
     ((λ is. absurd (other is), λ rose. let never : ⊥ = omega arith in absurd never), λ differs. omega arith)
 
--- when a job prints, `IsCounted` holds for the result's status
+-- when a job prints, one failure is counted if and only if the result's status is 4
 pub counted_printed : {K : Type 0} (taken : K → Bytes) (failures : K → ℕ) (old new : K) (prepared : PreparedView) (folder : ℕ)
     (result : Result ⊤ OfficeFault) →
     EndsEmitting taken failures (output_of prepared.job.task) prepared.read old new result →

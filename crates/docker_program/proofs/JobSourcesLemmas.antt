@@ -35,7 +35,8 @@ opened_by asked job result read = record {
   second_few = read.reads.second_few;
 }
 
--- if the sources of a job were read with a result, `ReadsNamed` holds for this result
+-- if the sources of a job were opened and read with a result, this result is one that `ReadsNamed`
+-- allows
 by_reading : (asked : Asking) (job : JobView) (result : Result PreparedView OfficeFault) → AreRead (names_of job) asked job result
     → ReadsNamed asked job result
 unfolding opened_by
@@ -52,7 +53,8 @@ by_reading asked job (Err office.Memory) read = inr (opened_by asked job (Err of
 by_reading asked job (Err office.Lapsed) read = read.reads.ends
 by_reading asked job (Err office.Sink) read = read.reads.ends
 
--- if a file of a job couldn't be opened, `ReadsNamed` holds for the fault of the opening
+-- if a file of a job couldn't be opened, the fault of the opening is a result that `ReadsNamed`
+-- allows
 by_cause : (asked : Asking) (job : JobView) (cause : OpenFault) → FailsToOpen (names_of job) asked.before asked.now → asked.left ≡ asked.rest
     → ReadsNamed asked job (Err (one_of office.Source office.Memory cause))
 by_cause asked job opening.Failed fails unread = inl (record { fails = fails; unread = unread })
@@ -64,8 +66,8 @@ by_result asked job result (inl fails) =
     subst (ReadsNamed asked job) (sym fails.is) (by_cause asked job fails.cause fails.fails fails.unread)
 by_result asked job result (inr read) = by_reading asked job result read
 
--- if opening and reading the sources of a job ended with a result, `ReadsNamed` holds for this
--- result
+-- if opening and reading sources ended with a result, and these are the sources of a job, the
+-- result is one that `ReadsNamed` allows for the job
 pub reads_named : (names : SourceNames) (asked : Asking) (job : JobView) (result : Result PreparedView OfficeFault) → names ≡ names_of job
     → ReadsBy names asked job result → ReadsNamed asked job result
 reads_named names asked job result is reads =
@@ -113,14 +115,13 @@ reads_alone name before now rest second second_left job result none (inr read) =
 
 -- ---- how failures are counted
 
--- if neither of two sources failed and the status isn't 4, `IsCounted` holds for the sum of their
--- failure counts
+-- if neither of two sources failed and the status isn't 4, the sum of their failure counts agrees
+-- with the status (`IsCounted`)
 none_failed : (status one one_now two two_now : ℕ) → status ≢ 4 → one_now ≡ one → two_now ≡ two → IsCounted status (one + two) (one_now + two_now)
 none_failed status one one_now two two_now other first second =
     ((λ is. absurd (other is), λ rose. let never : ⊥ = omega arith in absurd never), λ differs. omega arith)
 
--- when two sources are read, `IsCounted` holds for the result's status and the sum of their failure
--- counts
+-- when two sources are read, one failure is counted if and only if the result's status is 4
 pub counted_together : {A : Type 0} (result : Result A OfficeFault) (one one_now two two_now : ℕ) → CountsSources result one one_now two two_now →
     IsCounted (result_status result) (one + two) (one_now + two_now)
 counted_together (Ok made) one one_now two two_now counts = none_failed 0 one one_now two two_now (λ is. omega arith) counts.0 counts.1
@@ -134,7 +135,8 @@ counted_together (Err office.Memory) one one_now two two_now counts = none_faile
 counted_together (Err office.Lapsed) one one_now two two_now counts = elim counts [ ]
 counted_together (Err office.Sink) one one_now two two_now counts = elim counts [ ]
 
--- adding the same number to both failure counts preserves `IsCounted`
+-- if a failure count agrees with the status (`IsCounted`), it still agrees after the same number is
+-- added to the counts before and after
 pub counted_beside : (status before after more all all_now : ℕ) → IsCounted status before after → all ≡ before + more → all_now ≡ after + more →
     IsCounted status all all_now
 counted_beside status before after more all all_now counts is is_now = (

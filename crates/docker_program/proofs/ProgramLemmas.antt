@@ -97,7 +97,7 @@ ends_done words names_bytes before old new shown read job rest prepared same see
 abbrev pub with_faults : HostView → Bytes → ℕ → HostView
 with_faults host faults failures = record host { faults = faults; faults_failures = failures }
 
--- reporting a fault afterwards preserves `HasRead`
+-- if a job read all its sources without a fault, this is still true after a fault is reported
 read_still : (old new : HostView) (faults : Bytes) (failures : ℕ) (Holds : Written → PreparedView → Type 0) (job : JobView) (rest : Bytes)
     → HasRead old new Holds job rest → HasRead old (with_faults new faults failures) Holds job rest
 read_still old new faults failures Holds job rest has = record { prepared = has.prepared; read = has.read; is = has.is; holds = has.holds }
@@ -116,7 +116,7 @@ unasked_still : (words : List Text) (old new : HostView) (faults : Bytes) (failu
     → IsNotAsked words old new Why → IsNotAsked words old (with_faults new faults failures) Why
 unasked_still words old new faults failures Why is = record { why = is.why; at_most = is.at_most; unasked = is.unasked }
 
--- reporting a fault preserves `EndsBy`
+-- reporting a fault doesn't change how the program ended
 ends_still : (words : List Text) (names_bytes : Bool) (old new : HostView) (faults : Bytes) (failures : ℕ) (fault : Fault)
     → EndsBy words names_bytes old new (Some fault) → EndsBy words names_bytes old (with_faults new faults failures) (Some fault)
 ends_still words names_bytes old new faults failures (Job job.Usage) ends = (unasked_still words old new faults failures _ ends.0, ends.1)
@@ -142,7 +142,8 @@ ends_still words names_bytes old new faults failures (Office office.Memory) ends
     by (inr has) = inr (read_still old new faults failures _ ends.0.job ends.0.rest has)
 ends_still words names_bytes old new faults failures (Office office.Sink) ends = asked_still words old new faults failures _ ends
 
--- if the program ended with a fault and reported it, `Performs` holds
+-- if the program ended with a fault and reported the fault, it did what the contract of `perform`
+-- says
 pub performs_telling : (words : List Text) (names_bytes : Bool) (old shown new : HostView) (faults : Bytes) (failures : ℕ) (fault : Fault) (status : ℕ)
     → shown ≡ new → EndsBy words names_bytes old new (Some fault) → IsCounted (status_of fault) (failures_of old) (failures_of new)
     → new.faults ≡ old.faults → new.faults_failures ≡ old.faults_failures → status ≡ status_of fault
@@ -159,23 +160,23 @@ performs_telling words names_bytes old shown new faults failures fault status sa
       (subst (λ (host : HostView). IsCounted (status_of fault) (failures_of old) (failures_of host)) (sym same) counted);
 }
 
--- if there are words and `IsAsked` holds, the words name a job
+-- if there are words and a job was found (`IsAsked`), the words name a job
 names_one : (words : List Text) (input : Bytes) (Holds : JobView → Bytes → Type 0) → words ≢ [] → IsAsked words input Holds → ¬ NameNoJob words
 names_one [] input Holds some asked = absurd (some refl)
 names_one (word ∷ words) input Holds some asked = λ none. none asked.job asked.asks.0
 
--- if there are words and `AskForNone` holds, the words name no job
+-- if there are words and no job is requested (`AskForNone`), the words name no job
 names_none : (words : List Text) (input : Bytes) → words ≢ [] → AskForNone words input → NameNoJob words
 names_none [] input some none = absurd (some refl)
 names_none (word ∷ words) input some none = none
 
--- if there are words and `AskForSome` holds, the words name a job
+-- if there are words and a job is requested (`AskForSome`), the words name a job
 names_some : (words : List Text) (input : Bytes) → words ≢ [] → AskForSome words input → ¬ NameNoJob words
 names_some [] input some one = absurd (some refl)
 names_some (word ∷ words) input some one = one
 
--- if the words name a job and the status isn't 2, neither side of the equivalence in
--- `IsUsageStatus` is true, so the equivalence holds
+-- suppose that the words name a job and the status isn't 2. Then the status is 2 if and only if the
+-- words name no job, because neither is true
 other_status : (words : List Text) (status : ℕ) → status ≢ 2 → ¬ NameNoJob words → (status ≡ 2) ↔ NameNoJob words
 other_status words status differs one = (λ is. absurd (differs is), λ none. absurd (one none))
 

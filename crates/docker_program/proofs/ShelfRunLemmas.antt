@@ -155,8 +155,8 @@ end_known extract first second left held (inr few) end =
     let rest = rest_known extract (few.1.before ++ few.1.piece) left read in
     end_some left rest.0 rest.1 end
 
--- on a shelf with a STATE file and an extract, a `take` that ends with status 0 leaves the events
--- of `IsTaken`
+-- on a shelf with a STATE file and an extract, a `take` that ends with status 0 reads both files,
+-- and stores a text in STATE, as `IsTaken` says
 pub take_left : (state extract : List ℕ) (old new : HostView) → old.history ≡ both_put state extract
     → IsShelfHistory new.history → Performs (codes "take" ∷ state_name ∷ file_name ∷ []) true old new 0
     → IsTaken state extract new.history

@@ -5,7 +5,7 @@ use Rattle.docker_cmd.specs.Words.{texts}
 use Rattle.docker_program.specs.Program.{AskForNone}
 use Rattle.docker_program.proofs.request.requested_job.Goals as goal
 
--- if there are words and they name no job, `AskForNone` holds
+-- if there are words and they name no job, no job is requested (`AskForNone`)
 asks_none : (words : List (Bor (List ℕ))) (input : DeviceBytes) → length words ≢ 0 → NameNoJob (texts words) → AskForNone (texts words) input
 asks_none [] input some none = absurd (some refl)
 asks_none (word ∷ words) input some none = none

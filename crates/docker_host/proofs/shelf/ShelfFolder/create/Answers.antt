@@ -1,4 +1,4 @@
--- The invariant holds for the history with one more event.
+-- The shelf's invariant still holds after the call has added its event to the history.
 use Rattle.std.proofs.Common.{refl}
 use Rattle.docker_host.proofs.ShelfLemmas.{kept_still}
 use Rattle.docker_host.proofs.shelf.ShelfFolder.create.Goals as goal

@@ -1,4 +1,4 @@
--- The invariant holds for the history with one more event.
+-- The shelf's invariant still holds after the call has added its event to the history.
 use Rattle.std.proofs.Common.{refl, ap, ◌∙◌}
 use Rattle.docker_host.specs.Folder.{FolderView}
 use Rattle.docker_host.specs.Shelf.{text_under}
