@@ -126,7 +126,7 @@ fn another_command_saves_the_same(rt: HostRuntime) {
     ends(&rt, alloc, desk, false, BOTH_STATE);
 }
 
-/// The fault of a text without a state's mark.
+/// The fault of a text that doesn't begin with the mark of a state.
 const NO_MARK: StateFault = StateFault {
     at: 0,
     cause: StateCause::Mark,

@@ -37,7 +37,7 @@ placed position id = with_index position (filled (required_rule id))
 abbrev pub next : ℕ → ℕ
 next position = min (position + 1) usize_max
 
--- the rules at the positions from this one on are exactly the rules of these ids
+-- from this position on, the rules are exactly the rules of these ids
 abbrev pub Fits : List Rule → ℕ → List Text → Type 0
 Fits c position [] = arg_by_index c position ≡ None
 Fits c position (id ∷ ids) = (arg_by_index c position ≡ Some (placed position id)) × (arg_by_id c id ≡ Some (placed position id)) × Fits c (next position) ids

@@ -54,7 +54,8 @@ name_back word s found = found_name word s subcommands found
 nothing_asked : (s : Subcommand) (words : List Text) → ¬ Suit s words → IsTaskOf s words None
 nothing_asked s words never = λ task same is. never (subst (λ t. Suit t words) same (suit task words is))
 
--- if words name a task of a subcommand, they also name an equal task of an equal subcommand
+-- if `t` equals `s` and `q` equals `r`, words that name the task `r` of the subcommand `s` also
+-- name the task `q` of `t`
 pub asked : (s t : Subcommand) (words : List Text) (r q : Option Task) → t ≡ s → q ≡ r → IsTaskOf s words (option_map task_meant r)
     → IsTaskOf t words (option_map task_meant q)
 asked s t words r q same result is =

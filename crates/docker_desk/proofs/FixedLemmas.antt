@@ -80,7 +80,7 @@ office_knows known state end =
           end.leaves.run.states there;
     }))
 
--- there are as many answers as lines
+-- a list of steps has as many answers as lines
 pub one_each : (steps : List Step) → length (answers_of steps) ≡ length (lines_of steps)
 one_each steps =
     let first = length-map steps (λ (step : Step). step.answer) in

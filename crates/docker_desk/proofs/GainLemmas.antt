@@ -25,15 +25,16 @@ use Rattle.docker_desk.proofs.HeardLemmas.{held_after_look, held_once}
 use Rattle.docker_desk.proofs.KnownLemmas.{day_asked, never_unasked, same_refused, same_saved}
 
 module _ (earlier : List (List ℕ)) where
-  -- if the state is unchanged, it gained the empty list
+  -- if the state is unchanged, the list of what it gained is empty
   gained_none : (gains : List Gain) (old new : State) → gains ≡ [] → new ≡ old → AreGained earlier gains old new
   gained_none gains old new none same = subst (λ g. AreGained earlier g old new) (sym none) same
 
-  -- a state that gained one thing gained the list of this one thing
+  -- if a state gained one thing, the list of what it gained has only this thing
   gained_one : (gain : Gain) (gains : List Gain) (old new : State) → gains ≡ gain ∷ [] → Gains earlier gain old new → AreGained earlier gains old new
   gained_one gain gains old new one gained = subst (λ g. AreGained earlier g old new) (sym one) (new, gained, refl)
 
-  -- a state that gained one list and then another gained their concatenation
+  -- if a state gained the things in one list and then the things in another, it gained the things
+  -- in the concatenation of both lists
   gained_both : (gains more : List Gain) (old now new : State) → AreGained earlier gains old now → AreGained earlier more now new
       → AreGained earlier (gains ++ more) old new
   gained_both [] more old now new first second = subst (λ s. AreGained earlier more s new) first second

@@ -1,4 +1,4 @@
--- What a session learns from the files that it takes, merges and renews.
+-- What a session learns from the files that `take`, `merge` and `renew` read.
 use Rattle.std.proofs.Common.{◌≡◌, ℕ, List, [], ◌∷◌, ◌++◌, refl, sym, ◌∙◌, subst, Some, None, Ok, Err}
 use Rattle.std.specs.Prelude.{Option, Result, ⊤}
 use Rattle.docker_model.specs.run.Run.{Known, nothing, united}
@@ -55,7 +55,7 @@ module _ (before after : SessionView) (known : Known) where
         of = known_read most_bytes holds.read.held there.received holds.sent known there.read holds.holds holds.of;
       }
 
-  -- if `merge` succeeded, the session learns the summary that the merged file held
+  -- if `merge` succeeded, and the file held the text of a summary, the session learns this summary
   pub hears_merged : (other : Text) (text : List ℕ) → Joins other StopsInState EndsReceiving before (done_with text) after
       → HoldsKnown (events_of other) before after known → HearsState (events_of other) before after known
   hears_merged other text does holds = by does.result does.opens.read does.told does.opens.asked does.opens.ends
@@ -68,7 +68,8 @@ module _ (before after : SessionView) (known : Known) where
       by (Ok done) None told asked ends = absurd ends
       by (Err fault) read told asked ends = let never : ⊥ = cc in absurd never
 
-  -- if `renew` succeeded, the session learns the summary that the state's file held
+  -- if `renew` succeeded, and the state's file held the text of a summary, the session learns this
+  -- summary
   pub hears_renewed : (setting : Setting) (text : List ℕ) → Renews setting before (done_with text) after
       → HoldsKnown (renewing setting.name) before after known → HearsState (renewing setting.name) before after known
   hears_renewed setting text does holds = by does.result does.opens.read does.told does.opens.asked does.opens.ends
@@ -100,7 +101,7 @@ module _ (before after : SessionView) (known : Known) where
 
 -- ---- what a session learns from its steps
 
--- if `take` succeeded, there is a file that the session learned
+-- if `take` succeeded, the session learned some file
 takes_heard : (file : Text) (text : List ℕ) (before after : SessionView) → Joins file StopsInFile EndsTaking before (done_with text) after
     → (heard : Known) × HearsFile file before after heard
 takes_heard file text before after does = by does.result does.opens.read does.told does.opens.asked does.opens.ends
@@ -116,8 +117,7 @@ takes_heard file text before after does = by does.result does.opens.read does.to
     by (Err fault) read told asked ends = let never : ⊥ = cc in absurd never
 
 module _ (setting : Setting) where
-  -- for each request that succeeded, there is knowledge, possibly `nothing`, that the session
-  -- learned from it
+  -- from each request that succeeded, the session learned files and a horizon, or nothing
   hears_some : (request : RequestView) (text : List ℕ) (before after : SessionView) → DoesRequest setting request before (done_with text) after
       → ReceivesKnown setting request before after → (heard : Known) × Hears setting request before after heard
   hears_some (print_request place day) text before after does received = (nothing, refl)
@@ -132,7 +132,7 @@ module _ (setting : Setting) where
   hears_some (horizon_request day) text before after does received = (record { files = []; horizon = day }, refl)
   hears_some save_request text before after does received = (nothing, refl)
 
-  -- for each step, there is knowledge, possibly `nothing`, that the session learned from it
+  -- from each step, the session learned files and a horizon, or nothing
   learns_some : (request : Option RequestView) (answer : AnswerView) (before after : SessionView) (old : Known) → DoesAsked setting request before answer after
       → HearsKnown setting request before answer after → (new : Known) × Learns setting request before answer after old new
   learns_some (Some request) (done_with text) before after old does hears =
@@ -141,8 +141,7 @@ module _ (setting : Setting) where
   learns_some (Some request) no_request before after old does hears = (old, refl)
   learns_some None answer before after old does hears = (old, refl)
 
-  -- for all steps together, there is knowledge, possibly `nothing`, that the session learned from
-  -- them
+  -- from all steps together, the session learned files and a horizon, or nothing
   pub learned_of : (first last : SessionView) (steps : List Step) (old : Known) → AreSteps setting first steps last → AllHearKnown setting steps
       → (new : Known) × AreLearned setting old steps new
   learned_of first last [] old are hear = (old, refl)

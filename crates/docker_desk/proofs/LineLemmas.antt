@@ -89,13 +89,14 @@ many_behind n old now new line first many = record {
 
 -- ---- the rest of a bad line
 
--- if the next byte is a line feed, reading this byte skips the line
+-- if the next byte is a line feed, reading this byte skips the rest of the line
 pub skips_feed : (old new : Option (List ℕ)) → Reads old (10 ∷ []) new → SkipsLine old new
 skips_feed None new read = tt
 skips_feed (Some text) None read = let never : ⊥ = cc in absurd never
 skips_feed (Some text) (Some rest) read = record { skipped = []; rest = rest; whole = cc; one = tt; behind = refl }
 
--- reading a byte other than a line feed, and then skipping the rest of the line, skips the line
+-- reading a byte other than a line feed, and then skipping what follows on the line, skips the rest
+-- of the line
 pub skips_byte : (old now new : Option (List ℕ)) (b : ℕ) → Reads old (b ∷ []) now → b ≢ 10 → SkipsLine now new → SkipsLine old new
 skips_byte None now new b read other line = tt
 skips_byte (Some text) None new b read other line = let never : ⊥ = cc in absurd never
@@ -116,8 +117,8 @@ pub skips_end : (old new : Option (List ℕ)) → IsEnd old → new ≡ old → 
 skips_end None new end same = tt
 skips_end (Some text) new end same = (subst IsWithoutFeed (sym end) tt, same ∙ ap Some end)
 
--- reading a byte other than a line feed, and then skipping the rest of the last line, skips the
--- last line
+-- reading a byte other than a line feed, and then skipping what follows on the last line, skips the
+-- rest of the last line
 pub skips_before : (old now new : Option (List ℕ)) (b : ℕ) → Reads old (b ∷ []) now → b ≢ 10 → SkipsAll now new → SkipsAll old new
 skips_before None now new b read other line = tt
 skips_before (Some text) None new b read other line = let never : ⊥ = cc in absurd never

@@ -17,7 +17,7 @@ use Rattle.docker_desk.specs.Copying.{IsNoFront, with_other}
 pub goes_on : (text piece taken : List ℕ) (at n : ℕ) → take n (drop at text) ≡ take n piece → take at text ≡ taken → take (at + n) text ≡ taken ++ take n piece
 goes_on text piece taken at n same front = take-add at n text ∙ (λ i. front i ++ same i)
 
--- the same as `goes_on`, for a sink that has only taken bytes of the text
+-- the same as `goes_on`, for a sink that has taken no byte that differs from the text
 pub goes_on_as : (text piece taken : List ℕ) (other : Option ℕ) (at n : ℕ) → is_some other ≡ false → with_other (take at text) other ≡ taken
     → take n (take (length text - at) (drop at text)) ≡ take n piece → Some (with_other (take (at + n) text) other) ≡ Some (taken ++ take n piece)
 goes_on_as text piece taken None at n none front same = ap Some (goes_on text piece taken at n (ap (take n) (sym rest) ∙ same) front)

@@ -1,5 +1,5 @@
--- How `take`, `merge`, `renew` and the reading of a state end for a desk. This follows from how the
--- office's reading ends.
+-- How a desk's `take`, `merge`, `renew` and its first reading of a state end. The proofs use how
+-- the office's reading ends.
 use Rattle.std.proofs.Common.{◌≡◌, ◌≢◌, ◌+◌, ◌∙◌, ℕ, ap, arith, refl, subst, sym, Some, Ok, Err, IsErr, true, false}
 use Rattle.std.specs.Prelude.{Result, ⊤, Bool, List, ◌++◌, Option, None, IfSome, Vec, option_map}
 use Rattle.cif_device.specs.Device.{Reads}
@@ -141,7 +141,7 @@ refuses_as held left seen seen_left old new fault why kept same same_left = (
   kept,
 )
 
--- if a copy has the text of these bytes, the items of the copy's vector are this text
+-- if the bytes in a copy's vector are the text, the list of these bytes is the text
 copied : {Z : Type 0} (bytes : Bytes) (copy : Option (Vec ℕ Z)) → IfSome copy (λ it. IsText bytes it.items)
     → IfSome (option_map (λ (it : Vec ℕ Z). it.items) copy) (IsText bytes)
 copied bytes None held = tt

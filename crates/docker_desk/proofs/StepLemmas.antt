@@ -204,7 +204,7 @@ module _ (setting : Setting) where
       → IsStep setting (step_of line before answer after does)
   is_step line before answer after does = record { asks = does.asks; does = does.does; counted = does.counted }
 
-  -- an answered line is a list of one step
+  -- one answered line makes a session of one step
   pub one_step : (line : LineView) (before : SessionView) (answer : AnswerView) (after : SessionView) → (does : DoesLine setting line before answer after)
       → AreSteps setting before (step_of line before answer after does ∷ []) after
   one_step line before answer after does = (refl, (is_step line before answer after does, refl))
@@ -413,7 +413,7 @@ counted_few status before after counted = by (eqb_tells status 4)
     by (inl four) = let once = counted.0.0 four.1 in omega (arith, once)
     by (inr other) = let never = counted.1 other.1 in omega (arith, never)
 
--- answering a bad line with `no_request` changes nothing else
+-- a bad line is answered with `no_request`, and nothing changes
 pub does_bad : (setting : Setting) (now : SessionView) → DoesLine setting bad_line now no_request now
 does_bad setting now = record { request = None; asks = refl; does = (refl, refl); counted = counted_none 2 now.failures (λ four. omega arith) }
 

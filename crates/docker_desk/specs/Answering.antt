@@ -56,9 +56,10 @@ pub record BreaksOff (steps : List Step)
   pub told : Takes output (answers_text earlier) between
   pub part : TakesPart between (answer_bytes last.answer) output_now
 
--- these are the steps of a session that ended in this way. If the input ended, their lines are all
--- lines of the input; otherwise the input begins with their lines. The output gained their answers.
--- If the output failed, only a proper prefix of the last answer was written
+-- these are the steps of a session that ended in this way. If the input ended, the lines of the
+-- steps are all lines of the input; otherwise the input begins with these lines. The output gained
+-- the answers of the steps. If the output failed, only a proper prefix of the last answer was
+-- written
 abbrev pub EndsSession : Ending → DeviceBytes → List Step → DeviceBytes
     → DeviceBytes → Type 0
 EndsSession Ended input steps output output_now =

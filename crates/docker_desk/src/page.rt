@@ -5,7 +5,7 @@ use cif_line::{Failed, Sink};
 use std::alloc::Global;
 use std::marker::Model;
 
-/// A sink in memory. It grows when it is written, and fails only if memory runs out.
+/// A sink in memory. It grows with each write, and fails only if memory runs out.
 #[derive(Debug, Drop)]
 pub struct Page {
     bytes: Vec<u8>,

@@ -95,7 +95,7 @@ all_taken items i first now end so_far = subst (λ xs. Takes first (text_of xs) 
     all =
         sym (append-nil (take i items)) ∙ ap (λ rest. take i items ++ rest) (sym (drop_of_length-le items end)) ∙ take-append-drop i items
 
--- a proposition that holds also holds on condition that the result is an error
+-- whatever is true is also true if the result is an error
 pub on_err : {A E : Type 0} (answer : Result A E) (P : Type 0) → P → OnErr answer P
 on_err (Ok a) P holds = tt
 on_err (Err e) P holds = holds

@@ -34,22 +34,22 @@ use Rattle.docker_office.specs.OfficeReads.{CountsTaking, IsTakingOutcome, Stops
 
 -- ---- two results that are both `Ok` or both `Err`
 
--- if a property holds on condition that the first result is `Ok`, it holds on condition that the
--- second result is `Ok`
+-- if two results are both `Ok` or both `Err`, whatever is true if the first is `Ok` is true if the
+-- second is `Ok`
 pub on_ok_with : {A B E F : Type 0} (P : Type 0) (first : Result A E) (second : Result B F) → is_ok second ≡ is_ok first → OnOk first P → OnOk second P
 on_ok_with P (Ok a) (Ok b) same holds = holds
 on_ok_with P (Ok a) (Err f) same holds = tt
 on_ok_with P (Err e) (Err f) same holds = tt
 on_ok_with P (Err e) (Ok b) same holds = let never : ⊥ = cc in absurd never
 
--- if a property holds on condition that the first result is `Ok`, and the second result is `Ok`,
--- the property holds
+-- if two results are both `Ok` or both `Err`, and the second is `Ok`, whatever is true if the first
+-- is `Ok` is true
 pub of_ok : {A B E F : Type 0} (P : Type 0) (first : Result A E) (second : Result B F) → is_ok second ≡ is_ok first → OnOk first P → IsOk second → P
 of_ok P (Ok a) second same holds is = holds
 of_ok P (Err e) second same holds is = let never : ⊥ = cc in absurd never
 
--- if a property holds on condition that the first result is `Err`, and the second result is `Err`,
--- the property holds
+-- if two results are both `Ok` or both `Err`, and the second is `Err`, whatever is true if the
+-- first is `Err` is true
 pub of_err : {A B E F : Type 0} (P : Type 0) (first : Result A E) (second : Result B F) → is_ok second ≡ is_ok first → OnErr first P → (e : F) → second ≡ Err e
     → P
 of_err P (Err e) second same holds fault is = holds
