@@ -44,8 +44,7 @@ const ENTRY_OVERLAY: &[u8] = b"\x03C10001\x5b\xf1O\x5b\xf0\x04\xecDFROC1A\0\0\0\
 
 const ENTRY_LATER: &[u8] = b"\x03C10001\x5b\xf1P\x5b\xf1\x04\xecDFROC1B\0\0\0\x02";
 
-/// The op and the number of lines of a put of a schedule with three lines, and the op of a lapsed
-/// entry.
+/// The op and the line count of a put whose schedule has three lines, and the op of a lapsed entry.
 const THREE_LINES: &[u8] = b"\x01\0\0\0\x03";
 
 const LAPSED: &[u8] = b"\x02";
@@ -115,9 +114,9 @@ const BRAYTON: &[u8] = b"\x01BRAYTON\x5b\xf0\x04\xecDFROC1A\0\0\0\x03";
 
 const CORHAM: &[u8] = b"\x01CORHAM \x5b\xf0\x04\xecDFROC1A\0\0\0\x04";
 
-/// The op and the body of a put of a timing point: first with a CRS code and a STANOX, then
-/// without. The third constant is the op of a deleted entry. The body is columns 10 to 72 of the
-/// timing point's record.
+/// The op and the body of a timing point's put: first with a CRS code and a STANOX, then without.
+/// The third constant is the op of a deleted entry. The body is columns 10 to 72 of the timing
+/// point's record.
 const WITH_CODES: &[u8] = b"\x0100123400AASHFELD JUNCTION          877010000ASFASHFELD         ";
 
 const WITHOUT_CODES: &[u8] = b"\x01         CORHAM EXCHANGE                                       ";

@@ -11,7 +11,7 @@ use Rattle.docker_laws.proofs.runs.KnownSets.{offices_are}
 use Rattle.docker_laws.proofs.runs.RunEnd.{same_state, same_docker, plain_docker}
 use Rattle.docker_office.specs.RunEnds.{EndsWith, PrintsAs, known_at_end}
 
--- the office about which `EndsWith` speaks is one of the run's offices
+-- the office that `EndsWith` describes is one of the run's offices
 is_there : (known : Known) (state : State) → (end : EndsWith known state) → IsOffice (sets_of end.offices end.events end.exchange) end.office
 is_there known state end =
     let many = offices_are end.offices end.events end.exchange.replies in

@@ -32,7 +32,7 @@ impl Model for Exchange {
 }
 
 impl Exchange {
-    /// The result of a run with these offices, messages and replies.
+    /// Returns the result of a run with these offices, messages and replies.
     pub(crate) fn of(offices: Vec<Office>, messages: Vec<Kept>, replies: Vec<Reply>) -> Exchange
         requires { All IsRunReply replies.items }
         ensures { result ≡ record {
@@ -48,23 +48,23 @@ impl Exchange {
         }
     }
 
-    /// The offices, with their states at the end.
+    /// Returns the offices, with their states at the end of the run.
     pub fn offices(&self) -> &[Office]
         ensures { result.now ≡ self.now.states }
     {
         self.offices.as_slice()
     }
 
-    /// All messages, whether they were delivered or not, in the order in which they were sent. Each
-    /// message holds its whole text.
+    /// Returns all messages, whether they were delivered or not, in the order in which they were
+    /// sent. Each message holds its whole text.
     pub fn messages(&self) -> &[Kept]
         ensures { texts_of result.now ≡ self.now.messages }
     {
         self.messages.as_slice()
     }
 
-    /// The replies, one for each event, in the order of the events. The only office faults among
-    /// the replies are a file's fault and out of memory.
+    /// Returns the replies, one for each event, in the order of the events. The only office faults
+    /// among the replies are a file's fault and out of memory.
     pub fn replies(&self) -> &[Reply]
         ensures meant { map reply_meant result.now ≡ self.now.replies }
         ensures each { All IsRunReply result.now }

@@ -40,7 +40,7 @@ impl Model for Office {
 }
 
 impl Office {
-    /// An office that knows no file and has no horizon.
+    /// Returns an office that knows no file and has no horizon.
     pub fn new(alloc: Global) -> Office
         ensures empty { result ≡ no_state }
         ensures summary { IsSummary [] 0 result }
@@ -65,7 +65,7 @@ impl Office {
         }
     }
 
-    /// The office's state.
+    /// Returns the office's state.
     pub fn state(&self) -> &State
         ensures state { result.now ≡ self.now }
         ensures valid { IsValid self.now }

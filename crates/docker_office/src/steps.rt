@@ -207,9 +207,9 @@ fn reload_text(office: &mut Office, text: &[u8]) -> Result<(), OfficeFault>
     office.reload(&mut Bytes::new(text, PIECE), text.len() as u64)
 }
 
-/// The message that an office sends: the text of its state. Room for the whole text is reserved
-/// before the first byte is written. Returns `Memory` if there isn't enough room, or if the length
-/// doesn't fit in a `usize`.
+/// Returns the message that an office sends: the text of its state. Room for the whole text is
+/// reserved before the first byte is written. Returns `Memory` if there isn't enough room, or if
+/// the length doesn't fit in a `usize`.
 fn message_of(alloc: Global, office: &Office) -> Result<Kept, Memory>
     ensures { IfOk result (λ kept. kept.taken ≡ state_text dks_2 office.now) }
 {
@@ -224,7 +224,7 @@ fn message_of(alloc: Global, office: &Office) -> Result<Kept, Memory>
     }
 }
 
-/// The text of a message.
+/// Returns the text of a message.
 fn text_at(messages: &[Kept], message: usize) -> &[u8]
     requires { message < length messages.now }
     ensures text { result.now ≡ message_text (texts_of messages.now) message }
