@@ -7,15 +7,15 @@ use docker_desk::Desk;
 use std::alloc::Global;
 use std::process::Abort;
 
-/// The timing points of the state `PLACES_STATE`. The morning train calls at Ashfeld and Brayton;
-/// Brayton is deleted.
+/// The answer to `places` for the state `PLACES_STATE`. The morning train calls at Ashfeld and
+/// Brayton, but Brayton's TIPLOC is deleted.
 const PLACES: &str = "\
 0 2 112
 ASHFELD ASF 87701 ASHFELD JUNCTION                    1
 CORHAM            CORHAM EXCHANGE                     0
 ";
 
-/// The timing points after the morning train has lapsed.
+/// The answer to `places` for the same state, after the morning train has lapsed.
 const PLACES_LAPSED: &str = "\
 0 2 112
 ASHFELD ASF 87701 ASHFELD JUNCTION                    0
