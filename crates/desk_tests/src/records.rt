@@ -7,7 +7,7 @@ use test_records::{BS, BS_OVERLAY_WEEKDAYS, BS_REVISED, HD, HD_10B, LO, LO_0905,
 /// The lines of a file, or the parts of a state's text.
 pub(crate) type Parts = &'static [&'static [u8]];
 
-/// The file of the morning train, its only train, which runs from Ashfeld to Brayton.
+/// A file with one train, the morning train from Ashfeld to Brayton.
 pub(crate) const MORNING: Parts = &[HD, BS, LO, LT, ZZ];
 
 /// A file of 10 June that revises the morning train to leave five minutes later.

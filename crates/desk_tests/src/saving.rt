@@ -22,7 +22,7 @@ fn desk_with_revision(rt: &impl Abort, alloc: Global) -> Desk {
     desk
 }
 
-/// Saves, and asserts the result and whether the desk then has unsaved changes.
+/// Saves the desk's state. Asserts the result, and whether the desk then has unsaved changes.
 fn saves(
     rt: &impl Abort,
     desk: &mut Desk,
@@ -64,7 +64,8 @@ fn puts(rt: &impl Abort, alloc: Global, folder: &mut Shelf, state: Parts) {
     put(rt, folder, "S", text.as_slice());
 }
 
-/// Renews from the file `S`, and asserts the result and whether the desk then has unsaved changes.
+/// Renews the desk's state from the file `S`. Asserts the result, and whether the desk then has
+/// unsaved changes.
 fn renews(
     rt: &impl Abort,
     desk: &mut Desk,

@@ -49,7 +49,7 @@ long (y ∷ a) [] r s good short same =
     cc
 long (y ∷ a) (z ∷ b) r s good short same = long a b r s good.1 (omega arith) (cc)
 
--- appending a printable byte to printable bytes gives printable bytes
+-- if a printable byte is appended to printable bytes, all bytes are still printable
 pub printable_more : (line : List ℕ) (b : ℕ) → ArePrintable line → is_printable b ≡ true → ArePrintable (line ++ b ∷ [])
 printable_more [] b good here = (here, tt)
 printable_more (y ∷ line) b good here = (good.0, printable_more line b good.1 here)

@@ -64,7 +64,7 @@ neither : (a b : Bool) → (a || b) ≡ false → (a ≡ false) × (b ≡ false)
 neither true b e = absurd (true≢false e)
 neither false b e = (refl, e)
 
--- if no row has this id, changing the rows at the id appends the rows in `missing`
+-- `at_row` changes the row that has this id. If no row has the id, it appends the rows in `missing`
 at_new : (id : Text) (change : Row → List Row) (missing rows : List Row) → has_row id rows ≡ false → at_row id change missing rows ≡ rows ++ missing
 at_new id change missing [] fresh = refl
 at_new id change missing (r ∷ rows) fresh =

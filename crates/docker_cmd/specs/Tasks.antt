@@ -120,11 +120,11 @@ AreWordsOf files_task = OfOne (λ state. ⊤)
 AreWordsOf (horizon_task day) = OfTwo (λ state date. NamesStored state × NamesDay date day)
 AreWordsOf migrate_task = OfOne (λ state. NamesStored state)
 
--- the input of a task
+-- the kind of input that a task reads
 abbrev pub sources_of : TaskView → Sources
 sources_of task = (row_of (subcommand_of task)).reads
 
--- the output of a task
+-- the kind of output that a task writes
 abbrev pub output_of : TaskView → Output
 output_of new_task = state_written
 output_of check_task = counts_written

@@ -262,14 +262,14 @@ impl Task {
         }
     }
 
-    /// Returns the input of the task.
+    /// Returns the kind of input that the task reads.
     pub fn reads(self) -> Sources
         ensures { sources_meant result ≡ sources_of (task_meant self) }
     {
         self.subcommand().row().reads
     }
 
-    /// Returns the output of the task.
+    /// Returns the kind of output that the task writes.
     pub fn writes(self) -> Output
         ensures { output_meant result ≡ output_of (task_meant self) }
     {

@@ -40,7 +40,7 @@ printable_without (b ∷ line) good = (other b good.0, printable_without line go
     other : (b : ℕ) → is_printable b ≡ true → b ≢ 10
     other b here = λ same. let feed : is_printable 10 ≡ true = subst (λ c. is_printable c ≡ true) same here in cc
 
--- appending a printable byte to printable bytes gives printable bytes
+-- if a printable byte is appended to printable bytes, all bytes are still printable
 pub printable_more : (line : List ℕ) (b : ℕ) → ArePrintable line → is_printable b ≡ true → ArePrintable (line ++ b ∷ [])
 printable_more [] b good here = (here, tt)
 printable_more (y ∷ line) b good here = (good.0, printable_more line b good.1 here)

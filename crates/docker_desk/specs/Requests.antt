@@ -88,7 +88,7 @@ verbs =
     verb.Print ∷ verb.Permanent ∷ verb.Train ∷ verb.Files ∷ verb.Places ∷ verb.Known ∷ verb.Renew ∷ verb.Take ∷ verb.Merge ∷ verb.Horizon
     ∷ verb.Save ∷ []
 
--- the bytes of a verb
+-- the name of a verb, as bytes
 abbrev pub name_of : Verb → Text
 name_of verb = (row_of verb).name
 

@@ -128,8 +128,9 @@ module _ (known : KnownSets) (held : Holdings) (holds : AreOf known held) where
       subst (λ states. Holds dks_2 sets states (texts_of after.messages.items)) (sym is.offices)
       (subst (λ kept. Holds dks_2 sets (set held.offices.items office now) (texts_of kept)) (sym is.messages) have)
 
-  -- if the office's new state equals its old state, each office still has the summary of what it
-  -- knew before, and each message the summary of what its sender knew
+  -- if the office's new state equals its old state, each office's state is still the summary of
+  -- what the office knew before. Each message is still the text of the summary of what its sender
+  -- knew
   unchanged : (office : ℕ) (now : State) (after : Holdings) → IsReplaced office now after → now ≡ get_or held.offices.items office no_state
       → AreOf known after
   unchanged office now after is same =

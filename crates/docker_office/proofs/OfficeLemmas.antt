@@ -175,15 +175,15 @@ pub day_read : (place : List ℕ) (day limit : ℕ) (left : Option (List ℕ)) (
     → ReadsMade (IsExcerptAt place day) dks_2 limit left excerpt → excerpt.day ≡ day
 day_read place day limit left excerpt reads = ap (λ (it : Excerpt). it.day) reads.of.made_of
 
--- the value of an excerpt that was read has the state whose text the source held
+-- in contracts, an excerpt that was read has the whole state whose text the source held
 pub state_read : (place : List ℕ) (day limit : ℕ) (left : Option (List ℕ)) (excerpt : Excerpt)
     → ReadsMade (IsExcerptAt place day) dks_2 limit left excerpt → ReadsState dks_2 limit left excerpt.state
 state_read place day limit left excerpt reads =
     subst (ReadsState dks_2 limit left) (sym (ap (λ (it : Excerpt). it.state) reads.of.made_of))
     (record { text = reads.text; held = reads.held; is = reads.of.is })
 
--- if contracts know which bytes the source holds, the value of an excerpt that was read has the
--- state whose text these bytes are
+-- in contracts, an excerpt that was read has the whole state whose text the source held. If
+-- contracts know the source's bytes, this is the only such state
 pub one_excerpt : (place : List ℕ) (day limit : ℕ) (left : Option (List ℕ)) (excerpt : Excerpt)
     → ReadsMade (IsExcerptAt place day) dks_2 limit left excerpt → (sent : State) → HoldsState dks_2 limit left sent → excerpt.state ≡ sent
 one_excerpt place day limit left excerpt reads sent holds =

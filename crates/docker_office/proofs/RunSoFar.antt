@@ -17,15 +17,15 @@ use Rattle.docker_office.specs.declared.event.Event.{Event}
 use Rattle.docker_office.specs.RunSteps.{AreOf, MeetsEvent}
 use Rattle.docker_office.specs.RunEnds.{LeavesRun}
 
--- says that these events had these replies. Each office has the summary of what it knows after
--- these events, and each message has the summary of what its sender knew
+-- says that these events had these replies. Each office's state is the summary of what the office
+-- knows after these events, and each message is the text of the summary of what its sender knew
 pub record HasRun (offices : ℕ) (events : List RunEvent) (replies : List Reply) (held : Holdings) : Type 0 where
   pub told : All IsRunReply replies
   pub are : AreReplies (none_known offices) events (map reply_meant replies)
   pub holds : AreOf (known_sets offices events (map reply_meant replies)) held
   pub good : All (IsGoodEvent dks_2) events
 
--- before the first event, the run is a run without events
+-- before the first event, the run so far is a run without events
 pub run_at_first : (offices : ℕ) (held : Holdings) → length held.offices.items ≡ offices → All (IsSummary [] 0) held.offices.items
     → held.messages.items ≡ [] → HasRun offices [] [] held
 run_at_first offices held many each none = record {
@@ -66,7 +66,7 @@ run_with_one_more offices events replies held after event reply run good meets =
       good = All-push (IsGoodEvent dks_2) events event run.good good;
     }
 
--- after the last event, the run is a run of all events
+-- after the last event, the run so far is a run of all events
 pub run_at_end : (offices : ℕ) (events : List Event) (index : ℕ) (replies : List Reply) (held : Holdings) (exchange : Exchange)
     → HasRun offices (events_meant (take index events)) replies held → length events ≤ index
     → exchange ≡ record { states = held.offices.items; messages = texts_of held.messages.items; replies = map reply_meant replies }

@@ -89,7 +89,7 @@ impl Holdings {
         None
     }
 
-    /// Lets an office take the file with this text.
+    /// Has an office take the file with this text.
     fn take(&mut self, office: usize, text: &[u8], limit: u32) -> Reply
         requires { limit ≤ MOST_RECORDS }
         ensures met { (known : KnownSets) → AreOf known self.old
@@ -102,7 +102,7 @@ impl Holdings {
         reply_to(take_text(&mut self.offices[office], text, limit))
     }
 
-    /// Lets an office send its state. If memory runs out, no message is sent.
+    /// Has an office send its state. If memory runs out, no message is sent.
     fn send(&mut self, alloc: Global, office: usize) -> Reply
         requires { vec_len self.old.messages < vec_capacity self.old.messages }
         ensures met { (known : KnownSets) → AreOf known self.old
@@ -122,7 +122,7 @@ impl Holdings {
         }
     }
 
-    /// Lets an office receive a message.
+    /// Has an office receive a message.
     fn deliver(&mut self, office: usize, message: usize) -> Reply
         ensures met { (known : KnownSets) → AreOf known self.old
             → MeetsEvent known (deliver office message) result self.new }
@@ -137,7 +137,7 @@ impl Holdings {
         }
     }
 
-    /// Lets an office replace its state with the state in a message.
+    /// Has an office replace its state with the state in a message.
     fn reload(&mut self, office: usize, message: usize) -> Reply
         ensures met { (known : KnownSets) → AreOf known self.old
             → MeetsEvent known (reload office message) result self.new }
@@ -169,7 +169,7 @@ impl Holdings {
     }
 }
 
-/// Lets an office take the file with this text.
+/// Has an office take the file with this text.
 fn take_text(office: &mut Office, text: &[u8], limit: u32) -> Result<(), OfficeFault>
     requires { limit ≤ MOST_RECORDS }
     ensures ok { IsOk result → TakesFile limit (Some text.now) office.old office.new }
@@ -182,7 +182,7 @@ fn take_text(office: &mut Office, text: &[u8], limit: u32) -> Result<(), OfficeF
     office.take(&mut Bytes::new(text, PIECE), limit)
 }
 
-/// Lets an office receive the state with this text.
+/// Has an office receive the state with this text.
 fn receive_text(office: &mut Office, text: &[u8]) -> Result<(), OfficeFault>
     ensures ok { IsOk result
         → JoinsState dks_2 (length text.now) (Some text.now) office.old office.new }
@@ -195,7 +195,7 @@ fn receive_text(office: &mut Office, text: &[u8]) -> Result<(), OfficeFault>
     office.receive(&mut Bytes::new(text, PIECE), text.len() as u64)
 }
 
-/// Lets an office replace its state with the state that has this text.
+/// Has an office replace its state with the state that has this text.
 fn reload_text(office: &mut Office, text: &[u8]) -> Result<(), OfficeFault>
     ensures ok { IsOk result → ReadsState dks_2 (length text.now) (Some text.now) office.new }
     ensures unchanged { IsErr result → office.new ≡ office.old }

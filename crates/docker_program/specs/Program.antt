@@ -71,7 +71,8 @@ EndsReading old new Holds job rest = Holds (reading old new job rest new.history
 abbrev pub from_first_look : Bool → HostView → Drafting
 from_first_look names_bytes old = drafting (length old.history) names_bytes
 
--- the changes to the output device during the run, and the changes to the folder since this history
+-- the changes to the output device during the run, and the changes to the folder since the history
+-- `before`
 abbrev pub writing : HostView → HostView → List Event → Written
 writing old new before = written old.output new.output before new.history
 
