@@ -46,8 +46,8 @@ unnamed_job (word ∷ words) d some none = λ job is.
     let never : None ≡ Some (subcommand_of job.task) = none ∙ ap subcommand_named (ap first_word is.whole) ∙ named_back (subcommand_of job.task) in
     cc
 
--- if plain words begin with a subcommand's name, they name no job if and only if the words after
--- the name name no task of the subcommand
+-- suppose that plain words begin with a subcommand's name. They name no job if and only if the
+-- other words name no task of the subcommand
 pub behind_asks : (words : List (Bor Text)) (d : Bor Text) (s : Subcommand) (test : Bool) → 1 ≤ length words
     → Some s ≡ subcommand_named (slice_index_or words 0 d).now → list_all is_plain_word (texts words) ≡ true
     → ((test ≡ false) ↔ AskNothing s (texts (take (length words - 1) (drop 1 words)))) → (test ≡ false) ↔ NameNoJob (texts words)

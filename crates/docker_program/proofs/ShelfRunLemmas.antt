@@ -118,7 +118,8 @@ check_printed extract old new put empty met performs = by (run_done run performs
 some_one : (one two : List ℕ) → ◌≡◌ {A = Bytes} (Some one) (Some two) → one ≡ two
 some_one one two same = cc
 
--- the same as `check_printed`, with equations for the words, the status and the host after the run
+-- the same as `check_printed`, if the words, the status and the host after the run are given by
+-- equations
 pub check_result : (extract text : List ℕ) (words : List Text) (old shown new : HostView) (status : ℕ)
     → words ≡ codes "check" ∷ file_name ∷ [] → status ≡ 0 → shown ≡ new
     → old.history ≡ placed file_name (Some extract) ∷ [] → old.output ≡ Some [] → IsShelfHistory shown.history
@@ -212,7 +213,8 @@ take_left state extract old new put met performs = by (run_done run performs)
         let none = subst (λ (j : JobView). stored_by j ≡ None) (take_job state_name file_name job prints.reads.asks.0) prints.unstored in
         absurd (none_some state_name (sym none))
 
--- the same as `take_left`, with equations for the words, the status and the host after the run
+-- the same as `take_left`, if the words, the status and the host after the run are given by
+-- equations
 pub take_result : (state extract : List ℕ) (words : List Text) (old shown new : HostView) (status : ℕ)
     → words ≡ codes "take" ∷ state_name ∷ file_name ∷ [] → status ≡ 0 → shown ≡ new
     → old.history ≡ both_put state extract → IsShelfHistory shown.history
