@@ -138,14 +138,14 @@ pub none_failed : {Fault : Type 0} (result : Result ℕ (FeedFault Fault)) (befo
     → (result ≡ Err feed.Source → after ≡ before + 1) × (after ≡ before + 1 → result ≡ Err feed.Source)
 none_failed result before now after other same kept = (λ is. absurd (other is), λ more. let none : ⊥ = omega (arith, same, kept, more) in absurd none)
 
--- a number of bytes isn't the error `Source`
+-- a result that is a number of bytes isn't the error `Source`
 pub count_told : {Fault : Type 0} (count : ℕ) → ¬ (◌≡◌ {A = Result ℕ (FeedFault Fault)} (Ok count) (Err feed.Source))
 count_told count is = cc
 
--- a refusal isn't the error `Source`
+-- the error `Refused` isn't the error `Source`
 pub refusal_told : {Fault : Type 0} (fault : Fault) → ¬ (◌≡◌ {A = Result ℕ (FeedFault Fault)} (Err (feed.Refused fault)) (Err feed.Source))
 refusal_told fault is = cc
 
--- out of memory isn't the error `Source`
+-- the error `Memory` isn't the error `Source`
 pub memory_answer : {Fault : Type 0} → ¬ (◌≡◌ {A = Result ℕ (FeedFault Fault)} (Err feed.Memory) (Err feed.Source))
 memory_answer is = cc

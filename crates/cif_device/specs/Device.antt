@@ -4,7 +4,7 @@ use Rattle.std.specs.Prelude.{◌≡◌, ℕ, ◌+◌, ◌-◌, ◌<◌, ◌↔�
 use Rattle.std.specs.List.{concat}
 
 -- a read returned these bytes: the bytes left before the read are these bytes, followed by the
--- bytes left after it. If contracts don't know the bytes of the source, both are `None`
+-- bytes left after it. If contracts don't know the bytes of the source, `old` and `new` are `None`
 abbrev pub Reads : Option (List ℕ) → List ℕ → Option (List ℕ) → Type 0
 Reads old bytes new = old ≡ option_map (λ rest. bytes ++ rest) new
 
@@ -13,11 +13,11 @@ abbrev pub IsEnd : Option (List ℕ) → Type 0
 IsEnd None = ⊤
 IsEnd (Some left) = left ≡ []
 
--- a successful read of `n` bytes into a buffer of `room` bytes changed two flags. The flag `ended`
--- says that the source has reported its end. A read of no bytes into a buffer with room sets
--- `ended`, and a read of at least one byte leaves it unchanged. The flag `passed` says that the
--- source was read after it had reported its end. A read after the end was reported sets `passed`,
--- and any other read leaves it unchanged
+-- the two flags of a source are right after a successful read of `n` bytes into a buffer of `room`
+-- bytes. The flag `ended` says that the source has reported its end. A read of no bytes into a
+-- buffer with room sets `ended`, and a read of at least one byte leaves it unchanged. The flag
+-- `passed` says that the source was read after it had reported its end. A read after the end was
+-- reported sets `passed`, and any other read leaves it unchanged
 abbrev pub Ends : ℕ → ℕ → Bool → Bool → Bool → Bool → Type 0
 Ends n room ended now_ended passed now_passed = (n ≡ 0 → 0 < room → now_ended ≡ true)
     × (0 < n → now_ended ≡ ended)
@@ -33,7 +33,7 @@ Takes old bytes new = new ≡ option_map (λ taken. taken ++ bytes) old
 abbrev pub TakesPart : Option (List ℕ) → List ℕ → Option (List ℕ) → Type 0
 TakesPart old piece new = (n : ℕ) × (n < length piece) × Takes old (take n piece) new
 
--- the failure count rises by one, from `before` to `after`, if `failed` holds, and otherwise is
+-- if `failed` holds, the failure count rises by one, from `before` to `after`. Otherwise it is
 -- unchanged
 abbrev pub CountsFailure : Type 0 → ℕ → ℕ → Type 0
 CountsFailure failed before after = (failed ↔ (after ≡ before + 1)) × (¬ failed → after ≡ before)
@@ -75,9 +75,9 @@ pub record Round : Type 0 where
   pub again : List ℕ
   pub step : ℕ
 
--- an endless source returned these bytes. They are the beginning of the text that was left,
--- followed by enough repetitions of the repeated text. The rest is left now. For example, if `a`
--- was left and `bc` is repeated, a read of `abcb` leaves `c`
+-- an endless source returned these bytes. These bytes, followed by the bytes left now, are the text
+-- that was left before, followed by repetitions of the repeated text. For example, if `a` was left
+-- and `bc` is repeated, a read of `abcb` leaves `c`
 abbrev pub Goes : Round → List ℕ → Round → Type 0
 Goes old bytes new = (new.again ≡ old.again) × (new.step ≡ old.step)
     × (times : ℕ) × (old.left ++ concat (replicate times old.again) ≡ bytes ++ new.left)

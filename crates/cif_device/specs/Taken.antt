@@ -32,7 +32,8 @@ pub record HasFed {T Terms : Type 0} (takes : Taking T Terms) (count : ℕ) (ter
   pub taken : takes taker terms (text ++ bytes)
 
 -- the source returned bytes, and then one more piece of at most `most` bytes. There is a taker that
--- has taken the text followed by these bytes, without the piece
+-- has taken the text followed by these bytes, but not the piece. So at most one piece of the source
+-- is lost
 pub record LosesOnePieceMore {T Terms : Type 0} (takes : Taking T Terms) (most : ℕ) (terms : Terms) (text : List ℕ) (old new : Option (List ℕ)) : Type 0 where
   pub bytes : List ℕ
   pub piece : List ℕ

@@ -43,7 +43,9 @@ pub trait Source {
     ghost passed: { Self → Bool };
 
     /// Reads the next bytes into the beginning of the buffer and returns their number. If the
-    /// buffer has room, 0 means the end. The other bytes of the buffer may have any value.
+    /// buffer isn't empty, 0 means the end of the source. The other bytes of the buffer may have
+    /// any value. Returns `Failed` if the device fails; the read then takes no bytes from the
+    /// source.
     fn read(&mut self, into: &mut [u8]) -> Result<usize, Failed>
         requires { failures self.old < 2 ^ 64 - 1 }
         ensures within { IfOk result (λ n. n ≤ length into.new) }
@@ -73,7 +75,8 @@ pub trait Sink {
     ghost failures: { Self → ℕ };
 
     /// Writes some of the first bytes of the piece, at least one, and returns their number. The
-    /// piece must not be empty.
+    /// piece must not be empty. Returns `Failed` if the device fails; the sink has then taken
+    /// nothing.
     fn write(&mut self, piece: &[u8]) -> Result<usize, Failed>
         requires failures { failures self.old < 2 ^ 64 - 1 }
         requires piece { 0 < length piece.now }
@@ -90,8 +93,8 @@ pub trait Sink {
         ensures { result ≡ failures self.now };
 }
 
-/// Writes the whole piece, in as many writes as necessary. Stops at the first write that fails; the
-/// sink has then taken a proper prefix of the piece.
+/// Writes the whole piece, in as many writes as necessary. Stops at the first write that fails, and
+/// returns `Failed`. The sink has then taken a proper prefix of the piece.
 pub fn write_all<K: Sink>(sink: &mut K, piece: &[u8]) -> Result<(), Failed>
     requires { K.failures sink.old < 2 ^ 64 - 1 }
     ensures whole { OnOk result (Takes (K.taken sink.old) piece.now (K.taken sink.new)) }

@@ -6,8 +6,8 @@ use crate::device::{Failed, Source};
 use std::marker::Model;
 
 /// A source that returns the bytes of one text, and then the bytes of another text over and over.
-/// It never ends and never fails. The bytes left have no end, so contracts see `None` in their
-/// place.
+/// It never ends and never fails. The bytes left in it have no end, so for contracts they are
+/// `None`.
 #[derive(Clone, Debug, Drop)]
 pub struct Endless<'a> {
     rest: &'a [u8],

@@ -27,8 +27,8 @@ impl<D> Model for Fuse<D> {
 }
 
 impl<D> Fuse<D> {
-    /// Returns a device that transfers the bytes of this device, one per call. Only the call with
-    /// this number fails, counted from 1.
+    /// Returns a device that transfers the bytes of this inner device, one per call. The call with
+    /// this number, counted from 1, fails without using the inner device.
     pub fn new(device: D, call: u64) -> Self
         requires { 0 < call }
         ensures device { result.device ≡ device }

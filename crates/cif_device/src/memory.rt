@@ -117,7 +117,7 @@ impl Model for Kept {
 
 impl Kept {
     /// Returns an empty sink with room for `room` bytes. Returns `Memory` if the allocator refuses
-    /// the room.
+    /// memory.
     pub fn new(alloc: Global, room: usize) -> Result<Kept, Memory>
         ensures empty { IfOk result (λ kept. kept.taken ≡ []) }
         ensures room { IfOk result (λ kept. kept.room ≡ room) }

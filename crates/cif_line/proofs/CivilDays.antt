@@ -41,7 +41,8 @@ pub text_is : (number year month day : ℕ) → IsDayOf number year month day �
 text_is number year month day h =
     subst (λ n. day_text n ≡ date_text year month day) (number_is number year month day h) (day_text-day_number year month day h.low h.high h.is_civil)
 
--- a date from the first day to the last has a year from 1960 to 2059
+-- a date whose day count isn't below the day count of 1 January 1960 or above the day count of 31
+-- December 2059 has a year from 1960 to 2059
 years_between : (year : ℤ) (month day : ℕ) → IsCivilDate year month day → 4_368_300 ≤ day_count year month day → day_count year month day ≤ 4_404_824
     → IsBetween (pos 1960) (pos 2059) year
 years_between year month day is_civil low high =
@@ -51,13 +52,15 @@ years_between year month day is_civil low high =
     let last : (pos 2059 <ℤ year) → ⊥ = λ lt. absurd (omega (arith, end_of_2059, day_count-lt_year (pos 2059) 12 31 year month day last_is is_civil.2.0 lt)) in
     (by_lt_z year (pos 1960) (λ lt. absurd (first lt)) (λ ge. ge), by_lt_z (pos 2059) year (λ lt. absurd (last lt)) (λ ge. ge))
 
--- the calendar's count of days for a date, from its days since -9999-01-01
+-- the calendar's day count of a date is 366 more than the number of days from -9999-01-01 to the
+-- date
 count_of : (date : Date) (days : ℕ) → epoch_day date +ℤ pos 4_371_587 ≡ pos days → day_count date.year date.month date.day ≡ days + 366
 count_of date days since =
     let count = days_from_civil-day_count date.year date.month date.day in
     omega (arith, signed_arith)
 
--- a date of the years 1960 to 2059 is a day with its number
+-- a date that is `number` days after 1 January 1960 has this day number, and is in the years 1960
+-- to 2059
 pub day_of_date : (date : Date) (number : ℕ) → number ≤ last_day → epoch_day date +ℤ pos 4_371_587 ≡ pos (4_367_934 + number)
     → IsBetween (pos 1960) (pos 2059) date.year × IsDayOf number (unsigned_abs date.year) date.month date.day
 day_of_date date number low since =
@@ -72,7 +75,7 @@ day_of_date date number low since =
         record { low = omega (arith, signed_arith, years.0); high = omega (arith, signed_arith, years.1); is_civil = is_civil; count = omega arith }
     by (negsuc year) is_civil count years = absurd (omega (arith, signed_arith, years.0))
 
--- if the last day of a year comes before the last day of all, the year isn't 2059
+-- if the last day of a year comes before 31 December 2059, the year is before 2059
 before_2059 : (number year : ℕ) → suc number ≤ last_day → year ≤ 2059 → day_count (pos year) 12 31 ≡ number + 4_368_300 → year < 2059
 before_2059 number year low high count = by (cases_order year 2059)
   where
@@ -128,7 +131,7 @@ module _ (number year month day : ℕ) (low : suc number ≤ last_day) (h : IsDa
             count = omega arith;
           }
 
--- each number up to the last belongs to a day
+-- each day number up to the last is the number of a day of the calendar
 pub day_at : (number : ℕ) → number ≤ last_day → (year : ℕ) × (month : ℕ) × (day : ℕ) × IsDayOf number year month day
 day_at zero low = (
   1960,

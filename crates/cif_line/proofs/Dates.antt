@@ -62,7 +62,7 @@ seven_flags (a ∷ b ∷ c ∷ d ∷ e ∷ f ∷ g ∷ []) size = regrouped (is_
     regrouped false q r s t u v = refl
 seven_flags (a ∷ b ∷ c ∷ d ∷ e ∷ f ∷ g ∷ h ∷ field) size = absurd (omega arith)
 
--- the days of a year before each month from 1 to 12, in a year that isn't a leap year
+-- the number of days of the year before each month from 1 to 12, in a year that isn't a leap year
 abbrev pub days_before : ℕ → ℕ
 days_before month = slice_index_or {A = ℕ} (0 ∷ 0 ∷ 31 ∷ 59 ∷ 90 ∷ 120 ∷ 151 ∷ 181 ∷ 212 ∷ 243 ∷ 273 ∷ 304 ∷ 334 ∷ []) month 0
 
@@ -70,7 +70,8 @@ days_before month = slice_index_or {A = ℕ} (0 ∷ 0 ∷ 31 ∷ 59 ∷ 90 ∷ 1
 abbrev pub leap_before : Bool → ℕ → ℕ
 leap_before leap month = cond (nat_lt 2 month && leap) 1 0
 
--- the days before a month of any year
+-- the number of days of a year before a month. A leap year has one more day before each month from
+-- March on
 before_month : (y n : ℕ) → n < 12 → days_of_months (pos y) n ≡ days_before (suc n) + leap_before (is_leap_year (pos y)) (suc n)
 before_month y zero low = days_of_months_table (pos y) 0 low
 before_month y (suc zero) low = days_of_months_table (pos y) 1 low
@@ -86,7 +87,7 @@ before_month y (suc (suc (suc (suc (suc (suc (suc (suc (suc (suc zero)))))))))) 
 before_month y (suc (suc (suc (suc (suc (suc (suc (suc (suc (suc (suc zero))))))))))) low = days_of_months_table (pos y) 11 low
 before_month y (suc (suc (suc (suc (suc (suc (suc (suc (suc (suc (suc (suc n)))))))))))) low = absurd (omega arith)
 
--- the library's count of days for 1 January 2060
+-- the calendar library's day count of 1 January 2060
 start_of_2060 : day_count (pos 2060) 1 1 ≡ 4_404_825
 unfolding day_count days_of_years days_of_months
 start_of_2060 = refl

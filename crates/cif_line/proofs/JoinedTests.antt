@@ -17,7 +17,8 @@ abbrev pub joined : List ℕ → Bool → List CheckedField → Bool
 joined line before [] = before
 joined line before (field ∷ fields) = joined line (before && is_good_in line field) fields
 
--- the first column of the first field in a list that isn't good in the line; none if all are good
+-- the first column of the first field in a list that isn't good in the line, or `None` if all are
+-- good
 abbrev pub first_bad_of : List ℕ → List CheckedField → Option ℕ
 first_bad_of line fields = option_map (λ (field : CheckedField). field.first) (find (λ field. not (is_good_in line field)) fields)
 

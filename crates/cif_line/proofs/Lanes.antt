@@ -1,5 +1,5 @@
--- A block of bytes is tested at once, with one lane for each byte. The lemmas show that this equals
--- a test of each byte.
+-- A block of bytes is tested at once, with one lane for each byte. The lemmas show that the result
+-- is the same as if each byte were tested by itself.
 use Rattle.std.proofs.Common.{◌≡◌, ℕ, ◌+◌, ◌*◌, ◌%◌, ◌^◌, ◌≤◌, nat_eq, Bool, true, false, cond, not, ◌&&◌, List}
 use Rattle.std.proofs.Common.{[], ◌∷◌, map, length, take, drop, replicate, Fits, w8, refl, sym, ap, ◌∙◌, arith}
 use Rattle.std.proofs.lemmas.Bool.{agree_below, agree_below_at}

@@ -11,7 +11,8 @@ use Rattle.docker_model.specs.records.Field.{is_new_tiploc, is_update_indicator,
 use Rattle.cif_laws.proofs.records.Columns.{IsGoodIn, fields_good}
 use Rattle.cif_line.specs.View.{IsTiplocRecord}
 
--- the first column of the first field in a list that isn't good in the line; none if all are good
+-- the first column of the first field in a list that isn't good in the line, or `None` if all are
+-- good
 unfoldable pub first_bad : List ℕ → List CheckedField → Option ℕ
 first_bad line fields = option_map (λ (field : CheckedField). field.first) (find (λ field. not (field.is_good (columns field.first field.last line))) fields)
 

@@ -4,7 +4,8 @@ use Rattle.docker_model.specs.records.Record.{columns}
 use Rattle.docker_model.specs.records.Clock.{is_present_time, half_minutes, scheduled_time}
 use Rattle.cif_line.specs.declared.intermediate_location.CallTimes.{CallTimes}
 
--- Says that these times are the scheduled times of the line; a time is none if its field is blank.
+-- Says that these times are the scheduled times of the line. A time is `None` if its field is
+-- blank.
 pub record AreTimesOf (line : List ℕ) (times : CallTimes) : Type 0 where
   pub arrival : times.arrival ≡ scheduled_time (columns 11 15 line)
   pub departure : times.departure ≡ scheduled_time (columns 16 20 line)

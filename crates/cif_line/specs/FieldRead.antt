@@ -11,12 +11,12 @@ use Rattle.docker_model.specs.records.PrintedTime.{spaces, time_text}
 abbrev pub field_at : ℕ → ℕ → List ℕ → List ℕ
 field_at first width line = columns first (first - 1 + width) line
 
--- the value of a field that isn't checked in a deletion: none if the association or basic schedule
--- has the transaction `D`
+-- the value of a field that isn't checked in a deletion, or `None` if the association or basic
+-- schedule has the transaction `D`
 abbrev pub unless_deleted : {A : Type 0} → List ℕ → A → Option A
 unless_deleted line told = if is_deletion line then None else Some told
 
--- a public time HHMM in half minutes since midnight; none if the field is `0000` or blank
+-- a public time HHMM in half minutes since midnight, or `None` if the field is `0000` or blank
 abbrev pub public_half_minutes : List ℕ → Option ℕ
 public_half_minutes field = option_map (λ minute. 2 * minute) (public_time field)
 

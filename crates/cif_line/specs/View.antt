@@ -9,7 +9,8 @@ pub record IsGood (kind : Kind) (line : List ℕ) : Type 0 where
   pub has_kind : HasKind kind line
   pub good_fields : HasGoodFields line
 
--- the first column of the leftmost bad field, if the line is checked as a record of this kind
+-- the first column of the leftmost bad field, if the line is checked as a record of this kind. The
+-- result is `None` if every field is good
 abbrev pub bad_field_of : Kind → List ℕ → Option ℕ
 bad_field_of kind line =
     option_map (λ (field : CheckedField). field.first)
@@ -25,8 +26,8 @@ pub record IsGoodTiploc (line : List ℕ) : Type 0 where
   pub code : is_tiploc (columns 3 9 line) ≡ true
   pub new_code : HasKind tiploc_amend line → is_new_tiploc (columns 73 79 line) ≡ true
 
--- the new code in a TIPLOC record of this kind; none if the field is blank or the kind isn't an
--- amendment
+-- the new code in a TIPLOC record of this kind, or `None` if the field is blank or the kind isn't
+-- an amendment
 abbrev pub new_code_of : Option Kind → List ℕ → Option (List ℕ)
 new_code_of (Some tiploc_amend) line = if is_blank (columns 73 79 line) then None else Some (columns 73 79 line)
 new_code_of _ line = None

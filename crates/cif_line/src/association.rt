@@ -73,14 +73,14 @@ impl<'a> Assoc<'a> {
         self.line.uid(10)
     }
 
-    /// The first of the base train's start days on which the association holds: columns 16 to 21.
+    /// The first start day of the base train on which the association may apply: columns 16 to 21.
     pub fn start(&self) -> Day
         ensures { result ≡ date_number (columns 16 21 self.now) }
     {
         self.line.day(16)
     }
 
-    /// The last of the base train's start days on which the association holds: columns 22 to 27.
+    /// The last start day of the base train on which the association may apply: columns 22 to 27.
     /// Returns `None` for a deletion.
     pub fn end(&self) -> Option<Until>
         ensures { result ≡ unless_deleted self.now (end_number (columns 22 27 self.now)) }
@@ -88,7 +88,7 @@ impl<'a> Assoc<'a> {
         self.line.end_unless_deleted(22)
     }
 
-    /// The weekdays on which the base train must start for the association to hold: columns 28 to
+    /// The weekdays on which the base train must start for the association to apply: columns 28 to
     /// 34. Returns `None` for a deletion.
     pub fn days(&self) -> Option<Days>
         ensures { result ≡ unless_deleted self.now (columns 28 34 self.now) }

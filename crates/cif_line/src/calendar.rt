@@ -1,15 +1,16 @@
 //! The calendar of the years 1960 to 2059, computed from tables of the months. Testing a day and
-//! computing its number take no branch. Years have two digits: 60 to 99 are 1960 to 1999, and 0 to
+//! computing its number need no branch. Years have two digits: 60 to 99 are 1960 to 1999, and 0 to
 //! 59 are 2000 to 2059.
 ghost use Rattle.std.specs.Prelude.{◌≡◌, ◌<◌, ◌≤◌, ◌+◌, true, pos};
 ghost use Rattle.jiff.specs.Words.{is_leap_year};
 ghost use Rattle.docker_model.specs.records.Date.{is_calendar_day, day_number, last_day, full_year};
 
-/// The days of each month, from 1 to 12, in a year that isn't a leap year. Indexes 0 and 13 aren't
-/// months, and have 0 days.
+/// The number of days of each month, from 1 to 12, in a year that isn't a leap year. Indexes 0 and
+/// 13 aren't months, and have 0 days.
 const LENGTHS: [u16; 14] = [0, 31, 28, 31, 30, 31, 30, 31, 31, 30, 31, 30, 31, 0];
 
-/// The days of a year before each month, from 1 to 12, in a year that isn't a leap year.
+/// The number of days of the year before each month, from 1 to 12, in a year that isn't a leap
+/// year.
 const BEFORE: [u16; 13] = [0, 0, 31, 59, 90, 120, 151, 181, 212, 243, 273, 304, 334];
 
 /// Whether this is a day of the calendar.

@@ -1,5 +1,5 @@
-//! Tests of the checked fields other than dates, days run and times. Also defines the fault that
-//! gives the column of the leftmost bad field.
+//! Tests of the checked fields other than dates, days run and times. Also defines `FieldFault`,
+//! which has the column of the leftmost bad field.
 ghost use Rattle.std.specs.Prelude.{◌≡◌};
 ghost use Rattle.docker_model.specs.records.Clock.{is_blank};
 ghost use Rattle.docker_model.specs.records.Field.{is_tiploc, is_new_tiploc, is_update_indicator, is_transaction, is_stp_indicator};
@@ -7,8 +7,8 @@ ghost use Rattle.docker_model.specs.records.Field.{is_tiploc, is_new_tiploc, is_
 use crate::letter::{Extract, Stp, Transaction};
 use thiserror::Error;
 
-/// A checked field of a record is bad. The number is the first column, from 1, of the leftmost bad
-/// field.
+/// A checked field of a record is bad. The number is the first column of the leftmost bad field.
+/// Columns count from 1.
 #[derive(Clone, Copy, PartialEq, Eq, Debug, Error)]
 #[error("Field {0}")]
 pub struct FieldFault(pub u8);

@@ -45,7 +45,8 @@ pub(crate) fn date_number_day_first(field: &[u8; 6]) -> u16
     day_number(pair(field, 4), pair(field, 2), pair(field, 0))
 }
 
-/// The number that two digits of a field spell. `at` is the index of the first digit, from 0.
+/// The number that two digits of a field spell. `at` is the index of the first digit, counted from
+/// 0.
 #[inline(always)]
 fn pair(field: &[u8; 6], at: usize) -> u16
     requires within { at + 1 < 6 }

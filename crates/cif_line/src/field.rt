@@ -32,7 +32,7 @@ impl Line {
         }
     }
 
-    /// The scheduled time in the five columns that begin at `first`, which aren't blank.
+    /// The scheduled time in the five columns that begin at `first`. The columns must not be blank.
     pub fn present_time(&self, first: usize) -> Time
         requires from { 0 < first }
         requires within { first ≤ 76 }

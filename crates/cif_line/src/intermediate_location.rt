@@ -11,7 +11,7 @@ use crate::time::Time;
 use crate::tiploc_code::Tiploc;
 use std::marker::Model;
 
-/// The three scheduled times of an intermediate location. A time is None if its field is blank.
+/// The three scheduled times of an intermediate location. A time is `None` if its field is blank.
 #[derive(Clone, Copy, PartialEq, Eq, Debug)]
 pub(crate) struct CallTimes {
     pub arrival: Option<Time>,

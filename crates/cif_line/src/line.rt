@@ -28,13 +28,14 @@ impl Model for Line {
     ghost inverse = { λ bytes. record { bytes = bytes } };
 }
 
-/// Why bytes aren't a line. The length is checked first.
+/// The reason why bytes aren't a line. The length is checked first.
 #[derive(Clone, Copy, PartialEq, Eq, Debug, Error)]
 pub enum LineFault {
     /// The number of bytes isn't 80.
     #[error("Length")]
     Length,
-    /// A byte isn't printable. The number is the column, from 1, of the leftmost such byte.
+    /// A byte isn't printable. The number is the column of the leftmost such byte. Columns count
+    /// from 1.
     #[error("Byte {0}")]
     Byte(u8),
 }
@@ -99,14 +100,14 @@ impl Line {
     }
 }
 
-/// Whether a line may contain this byte: any from a space (0x20) to a tilde (0x7E).
+/// Whether a line may contain this byte: the byte is from a space (0x20) to a tilde (0x7E).
 pub fn is_printable(byte: u8) -> bool
     ensures { result ≡ is_printable byte }
 {
     b' ' <= byte && byte <= b'~'
 }
 
-/// The index, from 0, of the leftmost byte that isn't printable.
+/// The index of the leftmost byte that isn't printable. Returns `None` if all bytes are printable.
 fn first_bad_index(bytes: &[u8]) -> Option<usize>
     ensures value { result ≡ position (λ b. not (is_printable b)) bytes.now }
     ensures within { IfSome result (λ index. index < length bytes.now) }
@@ -115,8 +116,8 @@ fn first_bad_index(bytes: &[u8]) -> Option<usize>
     bytes.iter().position(|byte| !is_printable(*byte))
 }
 
-/// The column, from 1, of the leftmost byte that isn't printable. The line must have a byte that
-/// isn't printable. The search tests one byte after another.
+/// The column, counted from 1, of the leftmost byte that isn't printable. There must be such a
+/// byte. The search tests one byte after another.
 #[tactic(auto, using(cif_laws::proofs::records::RecordTests::no_bad_byte))]
 fn bad_column(bytes: &[u8; 80]) -> u8
     requires { ¬ (AllPass is_printable bytes.now) }

@@ -1,5 +1,5 @@
-//! Time fields, read whether or not they are good. Reading has no branch for each byte. It returns
-//! flags, which a caller joins with the tests of the record's other fields.
+//! Time fields, read whether or not they are good. Reading a field takes no branch per byte. The
+//! result has flags, which a caller joins with the tests of the record's other fields.
 ghost use Rattle.std.specs.Prelude.{◌≡◌, ◌≤◌, ◌<◌, ◌||◌, length, true, Some, None, if◌then◌else◌};
 ghost use Rattle.docker_model.specs.records.Clock.{is_blank, is_clock, minute_of};
 
@@ -16,7 +16,7 @@ pub(crate) struct ClockField {
 }
 
 impl ClockField {
-    /// Reads the first four bytes of a field.
+    /// Reads the first four bytes of a field as HHMM.
     #[inline(always)]
     pub(crate) fn read(field: &[u8]) -> ClockField
         requires { 4 ≤ length field.now }
@@ -46,7 +46,7 @@ pub(crate) struct TimeField {
 impl TimeField {
     ghost use Rattle.cif_line.specs.TimeRead.{ReadsTime};
 
-    /// Reads a field.
+    /// Reads the field of a scheduled time.
     #[inline(always)]
     pub(crate) fn read(field: &[u8; 5]) -> TimeField
         ensures { ReadsTime field.now result }

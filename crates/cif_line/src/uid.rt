@@ -1,11 +1,11 @@
-//! UIDs, the identities of trains' schedules, in basic schedules (BS) and associations (AA).
+//! The UIDs of trains, in basic schedules (BS) and associations (AA).
 ghost use Rattle.std.specs.Prelude.{◌≡◌, ◌↔◌, IsSome, IfSome};
 ghost use Rattle.docker_model.specs.records.Record.{IsTextOfLength};
 
 use crate::line::are_printable;
 use std::marker::Model;
 
-/// A UID, the identity of a train's schedules: six printable bytes.
+/// A UID: six printable bytes that all schedules of one train share.
 #[derive(Clone, Copy, PartialEq, Eq, PartialOrd, Ord, Debug)]
 pub struct Uid {
     bytes: [u8; 6],

@@ -8,8 +8,8 @@ use std::marker::Model;
 /// The end number of an end date that means no end. It is greater than the number of any day.
 pub const NO_END: u16 = 65535;
 
-/// An end date, as its end number: the number of the last day, or 65535 for no end, which is later
-/// than any day.
+/// An end date, as its end number: the day number of the last day, or 65535 for no end. In the
+/// order of end dates, no end comes last.
 #[derive(Clone, Copy, PartialEq, Eq, PartialOrd, Ord, Debug)]
 pub struct Until {
     number: u16,

@@ -3,8 +3,8 @@ use Rattle.std.specs.Prelude.{Bool, true, ◌==◌, if◌then◌else◌, None}
 use Rattle.docker_model.specs.file.Change.{Key, tiploc_key, association_key, schedule_key}
 use Rattle.docker_model.specs.state.Table.{Table}
 
--- whether a docker without the short-term plan uses this key. It uses every timing point, and the
--- schedules and associations with the STP indicator P
+-- whether a docker without the short-term plan uses this key. The docker uses every timing point,
+-- and the schedules and associations with the STP indicator P
 abbrev pub is_permanent : Key → Bool
 is_permanent (tiploc_key code) = true
 is_permanent (association_key key) = key.indicator == 80

@@ -1,4 +1,4 @@
--- The fault that the first bytes of a text determine. The bytes after these don't matter.
+-- The fault that the first bytes of a text determine, whatever bytes follow them.
 use Rattle.std.specs.Prelude.{ℕ, ◌+◌, ◌≤◌, ◌==◌, nat_le, if◌then◌else◌, List, [], ◌∷◌, length, count_by}
 use Rattle.std.specs.List.{slice_split}
 use Rattle.docker_model.specs.file.Text.{lines_of}

@@ -45,7 +45,7 @@ AreExtraDetails lines = (lines ≡ []) ⊎ ((line : List ℕ) × (lines ≡ line
 abbrev pub MayLackJourney : List ℕ → Type 0
 MayLackJourney basic = IsTrue (is_deletion basic) ⊎ (column 80 basic ≡ 67)
 
--- the fields of these records are good, and the schedule passes midnight at most twice
+-- this journey is sound: the fields of its records are good, and it passes midnight at most twice
 pub record IsSoundJourney (lines : List (List ℕ)) : Type 0 where
   pub fields : All HasGoodFields lines
   pub falls : midnights lines ≤ 2

@@ -1,5 +1,5 @@
 -- Dates and day numbers. Day 0 is 1 January 1960. The definitions use the calendar of the crate
--- `jiff`. Each definition says how wide its field is; past the end of a shorter field, bytes read
+-- `jiff`. Each definition says how wide its field is. A byte past the end of a shorter field counts
 -- as 0.
 use Rattle.std.specs.Prelude.{ℕ, ◌+◌, ◌-◌, ◌*◌, List, slice_index, nat_le, if◌then◌else◌, Bool, ◌&&◌}
 use Rattle.std.specs.Prelude.{pos, ◌+ℤ◌, unsigned_abs, ◌≤◌, codes, ◌||◌, ◌==◌, ◌%◌, count_by}

@@ -9,12 +9,12 @@ use Rattle.docker_model.specs.state.StateText.{Format, IsHorizonOf}
 use Rattle.docker_model.specs.run.Run.{Files, Known, KnownSets, Exchange, IsStateOf, IsMessageOf, known_sets, RunEvent}
 use Rattle.docker_model.specs.run.Run.{take_file, send_state, deliver, reload, horizon_event, Reply, done, refused}
 
--- both lists contain the same files. The order of the files doesn't matter, nor how often a file
+-- the two lists contain the same files. The order of the files doesn't matter, nor how often a file
 -- occurs
 abbrev pub HaveSameFiles : Files → Files → Type 0
 HaveSameFiles first second = (file : List (List ℕ)) → Contains first file ↔ Contains second file
 
--- both are the same knowledge: the same files and the same horizon
+-- two offices or messages have the same knowledge: the same files and the same horizon
 abbrev pub AreOneKnowledge : Known → Known → Type 0
 AreOneKnowledge first second = HaveSameFiles first.files second.files × (first.horizon ≡ second.horizon)
 
@@ -33,9 +33,10 @@ IsGoodEvent format (take_file office text limit) = limit ≤ most_records
 IsGoodEvent format (horizon_event office day) = IsHorizonOf format day
 IsGoodEvent format _ = ⊤
 
--- the states and messages match what offices and messages know. Each state is the summary of the
--- files that its office knows. Each message is the text of the summary of the files that the
--- message knows. Every known file is a CIF file, and the format allows every known horizon
+-- the states and the texts of the messages match what the offices and the messages know. Each state
+-- is the summary of the files that its office knows. Each message is the text of the summary of the
+-- files that the message knows. Every known file is a CIF file, and the format allows every known
+-- horizon
 pub record Holds (format : Format) (known : KnownSets) (states : List State) (messages : List (List ℕ)) : Type 0 where
   pub offices : All (IsGoodKnown format) known.offices
   pub sent : All (IsGoodKnown format) known.messages
@@ -68,6 +69,6 @@ is_sending (horizon_event office day) = false
 abbrev pub is_sent : RunEvent × Reply → Bool
 is_sent happened = elim happened.1 [ done ↦ is_sending happened.0 | refused why ↦ false ]
 
--- the number of messages: one for each state that the events sent
+-- the number of messages after a run: one for each event that sent a state
 abbrev pub sent_count : List RunEvent → List Reply → ℕ
 sent_count events replies = length (filter is_sent (zip events replies))

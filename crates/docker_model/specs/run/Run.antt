@@ -120,14 +120,14 @@ IsDoneOrNoMemory (refused no_memory) = ⊤
 IsDoneOrNoMemory (refused _) = ⊥
 
 -- this reply is allowed for an event at the office with this number. If there is no such office,
--- the reply is `refused no_office`. If the office exists, the condition `There` holds
+-- the reply is `refused no_office`. If the office exists, the reply meets the condition `There`
 pub record IsOfficeReply (known : KnownSets) (office : ℕ) (reply : Reply) (There : Type 0) : Type 0 where
   pub absent : ¬ IsOffice known office → reply ≡ refused no_office
   pub there : IsOffice known office → There
 
--- this reply is allowed for an event with the message of this number. If there is no such message,
--- the reply is `refused no_message`. If the message exists, the reply is `done` or `refused
--- no_memory`
+-- this reply is allowed for an event that delivers or reloads the message with this number. If
+-- there is no such message, the reply is `refused no_message`. If the message exists, the reply is
+-- `done` or `refused no_memory`
 pub record IsMessageReply (known : KnownSets) (message : ℕ) (reply : Reply) : Type 0 where
   pub absent : ¬ IsMessage known message → reply ≡ refused no_message
   pub there : IsMessage known message → IsDoneOrNoMemory reply

@@ -20,7 +20,7 @@ pub record State : Type 0 where
   pub ledger : List LedgerItem
   pub entries : List (Key × Entry)
 
--- this can be the ledger item of a header: its day and minute are in range, and its references and
+-- this can be the ledger item of a file: its day and minute are in range, and its references and
 -- indicator are well formed
 pub record IsGoodItem (item : LedgerItem) : Type 0 where
   pub day : IsDay item.stamp.moment.day
@@ -44,7 +44,7 @@ pub record IsGoodScheduleKey (key : ScheduleKey) : Type 0 where
   pub runs_from : IsDay key.runs_from
   pub indicator : IsStpLetter key.indicator
 
--- this can be the key of a record: each field of the key is well formed
+-- this can be the key of some record: each field of the key is well formed
 abbrev pub IsGoodKey : Key → Type 0
 IsGoodKey (tiploc_key code) = IsTiploc code
 IsGoodKey (association_key key) = IsGoodAssociationKey key
@@ -80,8 +80,8 @@ IsOpOf key deleted = ⊤
 IsOpOf key lapsed = ⊤
 IsOpOf key (put_with body) = IsBodyOf key body
 
--- the ledger is well formed: its items are strictly ascending, each can be the item of a header,
--- and none is below the ledger's floor
+-- the ledger is well formed: its items are strictly ascending, each can be the item of a file, and
+-- none is below the ledger's floor
 pub record IsLedger (ledger : List LedgerItem) : Type 0 where
   pub each : All IsGoodItem ledger
   pub ascending : IsStrictlyAscending ledger_item_cmp ledger

@@ -50,8 +50,9 @@ IsBadKey state key bad_body = ¬ IsGoodKey key
 IsBadKey state key bad_order = IsGoodKey key × ¬ IsAboveEntries state key
 IsBadKey state key _ = ⊥
 
--- the bytes are a good body for this key. The body of a schedule is only its number of lines, since
--- each line is a separate part. An association must not have ended before the state's horizon
+-- the bytes are good as the body of an entry with this key. For a schedule they are only the number
+-- of its lines, since each line is a separate part. An association must not have ended before the
+-- state's horizon
 abbrev pub IsBodyPart : State → Key → List ℕ → Type 0
 IsBodyPart state (tiploc_key code) bytes = IsTextOfLength 63 bytes
 IsBodyPart state (association_key key) bytes = IsAssociationOf key bytes × (state.horizon ≤ body_end (association_body bytes))

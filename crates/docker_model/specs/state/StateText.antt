@@ -138,7 +138,7 @@ abbrev pub IsOpByte : Format → ℕ → Type 0
 IsOpByte dks_1 byte = (byte ≡ 0) ⊎ (byte ≡ 1)
 IsOpByte dks_2 byte = (byte ≡ 0) ⊎ (byte ≡ 1) ⊎ (byte ≡ 2)
 
--- the state is valid, and the format can hold it
+-- the state is valid, and can be written in this format
 pub record IsToldState (format : Format) (state : State) : Type 0 where
   pub valid : IsValid state
   pub horizon : IsHorizonOf format state.horizon

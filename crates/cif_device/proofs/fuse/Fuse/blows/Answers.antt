@@ -1,5 +1,5 @@
--- The tactic `auto` proves these goals too. Written answers let the checker refuse a wrong body
--- without a long search.
+-- The tactic `auto` proves these goals too. Here they are proved by hand, so that the prover
+-- refuses a wrong body without a long search.
 use Rattle.std.proofs.Common.{rules}
 use Rattle.cif_device.proofs.fuse.Fuse.blows.Goals as goal
 
