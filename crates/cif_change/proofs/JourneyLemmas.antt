@@ -76,7 +76,8 @@ complete_by journey lines result told has =
 
 -- ---- the next line
 
--- the stage after the next line; none if the line is refused. The first line must be a basic schedule
+-- the stage after the next line, or `None` if the line is refused. The first line must be a basic
+-- schedule
 abbrev pub next_by : Option Stage → Lines → List ℕ → Option Stage
 next_by None lines line = cond (is_first_line line) (Some after_basic) None
 next_by (Some stage) lines line = next_stage stage lines line
@@ -135,8 +136,9 @@ judged_ok answer journey lines line has is iff = (
     from None h begins = absurd ((fault_by journey lines line has is h).here begins)
     from (Some next) h begins = iff.1 (λ i. is_some (h i))
 
--- suppose a result is `Ok` if and only if there is a stage after the line, and that otherwise its error is the cause that `cause_by` gives. Then this error is
--- the cause for which no schedule continues with the line
+-- suppose a result is `Ok` if and only if there is a stage after the line, and that otherwise its
+-- error is the cause that `cause_by` gives. Then this error is the cause for which no schedule
+-- begins with the lines taken followed by this line
 pub judged_err : {A : Type 0} (answer : Result A FileCause) (journey : JourneyState) (lines : Lines) (line : List ℕ) (told : fault.FileCause)
     → HasLines journey lines → IsRecord line
     → IsOk answer ↔ (is_some (next_by journey.stage lines line) ≡ true) → told ≡ cause_by journey.stage line

@@ -45,7 +45,8 @@ keeps_len [] ys keeps = omega arith
 keeps_len (x ∷ xs) [] keeps = absurd (none_some x (keeps 0 x refl))
 keeps_len (x ∷ xs) (y ∷ ys) keeps = let rest = keeps_len xs ys (λ i z is. keeps (suc i) z is) in omega arith
 
--- a part of a list is the same part of any list that keeps the first list's elements at their indexes
+-- a part of a list is unchanged in any list that keeps the elements of the first list at their
+-- indexes
 part_kept : (f n : ℕ) (xs ys : List ℕ) → Keeps xs ys → f + n ≤ length xs → take n (drop f ys) ≡ take n (drop f xs)
 part_kept zero zero xs ys keeps within = refl
 part_kept zero (suc n) [] ys keeps within = absurd (omega arith)
@@ -206,7 +207,8 @@ module _ (names : List (List ℕ)) (old new : List ℕ) (kept : Keeps old new) (
     apart = (let len = keeps_len old new kept in omega arith);
   }
 
--- a row whose key and body are equal to a schedule's is noted in the same way as the schedule
+-- if the added numbers are the numbers of the places where a schedule calls, they are the piece of
+-- a row that puts this schedule
 pub calls_put : (names : List (List ℕ)) (old new : List ℕ) → Keeps old new → (from count : ℕ) → from ≡ length old → count ≡ length new - length old
     → (key : Key) (body : Body) (schedule : ScheduleKey) (lines : List (List ℕ)) → key ≡ schedule_key schedule → body ≡ schedule_body lines
     → AreRanks names (map (columns 3 9) (location_lines lines)) (drop (length old) new)

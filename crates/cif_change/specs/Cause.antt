@@ -1,12 +1,13 @@
--- Converts causes from the code's type to the definitions' type, and gives the printed text of each cause.
+-- Converts causes from the code's type to the definitions' type, and defines the printed text of
+-- each cause.
 use Rattle.std.specs.Prelude.{ℕ, List, ◌++◌, codes, decimal, Option, Some, None}
 use Rattle.docker_model.specs.file.FileFault.{too_many, after_trailer, bad_length, bad_byte, bad_kind, bad_place, bad_field, third_midnight, no_end}
 use Rattle.docker_model.specs.file.FileFault as fault
 use Rattle.cif_change.specs.declared.cause.FileCause.{FileCause}
 use Rattle.cif_change.specs.declared.cause.FileCause.TheVariants as cause
 
--- converts a cause from the code's type to the definitions' type. The result is none if memory ran
--- out, which isn't a fault of the text
+-- converts a cause from the code's type to the definitions' type. The result is `None` if memory
+-- ran out, which isn't a fault of the text
 abbrev pub cause_meant : FileCause → Option fault.FileCause
 cause_meant cause.Length = Some bad_length
 cause_meant (cause.Byte at) = Some (bad_byte at)
@@ -32,7 +33,7 @@ cause_name cause.After = codes "After"
 cause_name cause.TooMany = codes "TooMany"
 cause_name cause.Memory = codes "Memory"
 
--- the column of a bad byte or a bad field, counted from 1; none for any other cause
+-- the column of a bad byte or a bad field, counted from 1, or `None` for any other cause
 abbrev pub cause_column : FileCause → Option ℕ
 cause_column (cause.Byte column) = Some column
 cause_column (cause.Field column) = Some column

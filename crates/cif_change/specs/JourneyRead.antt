@@ -50,7 +50,7 @@ abbrev pub IsScheduleCause : List (List ℕ) → List ℕ → Option fault.FileC
 IsScheduleCause earlier line None = ⊥
 IsScheduleCause earlier line (Some cause) = IsScheduleFault earlier line cause
 
--- converts an optional time to a list of one time or none
+-- converts an optional time to a list with this time, or to the empty list
 abbrev pub time_list : Option ℕ → List ℕ
 time_list None = []
 time_list (Some time) = time ∷ []
@@ -63,8 +63,8 @@ times_list times = time_list times.first ++ time_list times.second ++ time_list 
 abbrev pub AreTimesOf : List ℕ → LineTimes → Type 0
 AreTimesOf line times = map (λ time. time.1) (times_of line) ≡ times_list times
 
--- the stage after a line of this kind; none if a line of this kind can't come next, or if no line
--- was taken yet
+-- the stage after a line of this kind. The result is `None` if a line of this kind can't come next,
+-- or if no line was taken yet
 abbrev pub stage_then : Option place.Stage → Option Kind → Option place.Stage
 stage_then None kind = None
 stage_then (Some stage) kind = stage_after stage kind

@@ -24,8 +24,8 @@ items_put changes = map (λ (change : model.Change). (change.key, op_of change.a
 abbrev pub Keeps : {A : Type 0} → List A → List A → Type 0
 Keeps {A} old new = (i : ℕ) (x : A) → slice_get old i ≡ Some x → slice_get new i ≡ Some x
 
--- the given numbers if the two flags agree, and otherwise none. The flags say whether links are
--- wanted, and whether the numbers are links.
+-- the given numbers if the two flags agree, and otherwise no numbers. The flags say whether links
+-- are wanted, and whether the numbers are links.
 abbrev pub if_asked : Bool → Bool → List ℕ → List ℕ
 if_asked true true numbers = numbers
 if_asked true false numbers = []
@@ -36,8 +36,8 @@ if_asked false false numbers = numbers
 abbrev pub numbers_of : Bool → List ℕ → Piece → List ℕ
 numbers_of links numbers piece = if_asked piece.is_link links (take piece.count (drop piece.from numbers))
 
--- Says that the numbers in a piece are the numbers of the places where the row's schedule calls or
--- its association is linked.
+-- Says that the numbers in a piece are the numbers of the places where the row's schedule calls, or
+-- of the place where its association links two trains.
 pub record IsNoted (names : List (List ℕ)) (numbers : List ℕ) (item : Item) (piece : Piece) : Type 0 where
   pub calls : AreRanks names (call_places item.0 item.1) (numbers_of false numbers piece)
   pub links : AreRanks names (link_places item.0 item.1) (numbers_of true numbers piece)
@@ -60,8 +60,8 @@ pub record HasNoted (items : List Item) (notes : Notes) : Type 0 where
   pub are : AreNoted notes.names.list.items notes.numbers.items items notes.pieces.items
   pub apart : numbers_in notes.pieces.items ≤ length notes.numbers.items
 
--- Says that the next row is noted in this piece, and that at least as many numbers were added for
--- the row as the piece has.
+-- Says that the next row is noted in this piece, and that the list of numbers has grown by at least
+-- as many numbers as the piece has.
 pub record IsNext (names : List (List ℕ)) (old new : List ℕ) (item : Item) (piece : Piece) : Type 0 where
   pub noted : IsNoted names new item piece
   pub apart : length old + piece.count ≤ length new

@@ -1,4 +1,4 @@
-//! Causes: why the reader of an extract refuses it.
+//! The causes for which the reader of an extract refuses the extract.
 ghost use Rattle.std.specs.Prelude.{◌≡◌, ◌≤◌, Some, length};
 ghost use Rattle.cif_change.specs.declared.cause.FileCause.TheVariants.{Field, Memory};
 ghost use Rattle.cif_change.specs.Cause.{cause_column, cause_name, cause_text};
@@ -8,20 +8,21 @@ use std::alloc::AllocError;
 use std::error::Error;
 use std::fmt;
 
-/// Why the reader of an extract refuses a record, or the end of the text.
+/// The reason why the reader of an extract refuses a record, or the end of the text.
 #[derive(Clone, Copy, PartialEq, Eq, Debug)]
 pub enum FileCause {
     /// The line doesn't have 80 bytes.
     Length,
-    /// A byte of the line isn't printable. The number is the column, from 1, of the leftmost such
-    /// byte.
+    /// A byte of the line isn't printable. The number is the column of the leftmost such byte.
+    /// Columns count from 1.
     Byte(u8),
     /// The line doesn't begin with the identity of a kind of record.
     Kind,
-    /// A record of this kind can't follow the records before it: no extract begins in this way.
+    /// A record of this kind can't come next: no extract begins with the earlier records and then a
+    /// record of this kind.
     Place,
-    /// A checked field of the record isn't good. The number is the first column, from 1, of the
-    /// leftmost such field.
+    /// A checked field of the record isn't good. The number is the first column of the leftmost
+    /// such field. Columns count from 1.
     Field(u8),
     /// At this record the schedule passes midnight for the third time. At most two midnights are
     /// allowed.
@@ -32,7 +33,7 @@ pub enum FileCause {
     After,
     /// The extract has more records than the limit allows.
     TooMany,
-    /// Out of memory: the allocator refused to grow.
+    /// Memory ran out: the allocator refused memory.
     Memory,
 }
 
@@ -56,7 +57,7 @@ impl FileCause {
         }
     }
 
-    /// The column, from 1, for a bad byte or a bad field. Returns `None` for any other cause.
+    /// The column of a bad byte or a bad field, counted from 1. Returns `None` for any other cause.
     pub fn column(&self) -> Option<u8>
         ensures { result ≡ cause_column self.now }
     {

@@ -58,7 +58,7 @@ impl Body {
         }
     }
 
-    /// The bytes of the body. If it has several lines, these are joined.
+    /// The bytes of the body. If the body has several lines, the bytes of the lines are joined.
     fn bytes(&self) -> Joined<'_>
         ensures { joined_bytes result ≡ body_bytes (body_meant self.now) }
     {
@@ -217,7 +217,7 @@ impl Ord for Act {
     }
 }
 
-/// A change: what one record of an extract, or one schedule's records, do to one key.
+/// A change: the effect of one record of an extract, or of all records of a schedule, on one key.
 #[derive(PartialEq, Eq, Debug, Drop)]
 pub struct Change {
     /// The number of the record that makes the change. The records of a file are numbered from 1.

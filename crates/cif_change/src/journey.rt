@@ -35,11 +35,11 @@ impl Journey {
     }
 
     /// Takes the next line. Refuses the line if no schedule begins with the lines already taken and
-    /// then this line. The cause is the first of these that applies. `Kind`: no kind of record has
-    /// the line's identity. `Place`: a record of the line's kind can't come next. `Field`: the line
-    /// has a bad field, and the cause gives the first column of the leftmost bad field.
-    /// `Midnights`: the schedule passes midnight for the third time. After the first line of a
-    /// deletion, `Field` and `Midnights` don't apply. If the line is refused, nothing changes.
+    /// then this line. The cause is the first of the following causes that applies. `Kind`: no kind
+    /// of record has the line's identity. `Place`: a record of the line's kind can't come next.
+    /// `Field`: the line has a bad field, and the cause gives the first column of the leftmost bad
+    /// field. `Midnights`: the schedule passes midnight for the third time. After the first line of
+    /// a deletion, `Field` and `Midnights` don't apply. If the line is refused, nothing changes.
     pub fn line(&mut self, line: &Line) -> Result<(), FileCause>
         ensures ok { JudgesLine self.old line.now (IsOk result) }
         ensures read { (lines : List (List ℕ)) → HasLines self.old lines → IsOk result →

@@ -9,7 +9,7 @@ ghost use Rattle.cif_change.specs.JourneyRead.{time_list, times_list, AreTimesOf
 
 use cif_line::{FieldFault, Kind, Line, Time, call, origin, terminus};
 
-/// What a reader remembers of the times read earlier: how often the journey has passed midnight
+/// What a reader remembers of the times read so far: how often the journey has passed midnight
 /// (`falls`), and the last time.
 #[derive(Clone, Copy, PartialEq, Eq, Debug)]
 pub(crate) struct Clock {
@@ -75,8 +75,8 @@ fn is_fall(last: &Option<Time>, next: &Option<Time>) -> bool
     }
 }
 
-/// The scheduled times of any line after the basic schedule. The error is the line's leftmost bad
-/// field.
+/// The scheduled times of any line after the basic schedule. The error has the column of the line's
+/// leftmost bad field.
 pub(crate) fn times_at(kind: Kind, line: &Line) -> Result<LineTimes, FieldFault>
     requires kind { HasKind (meaning kind) line.now }
     requires follows { follows_basic (Some (meaning kind)) ≡ true }

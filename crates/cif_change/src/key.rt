@@ -1,4 +1,4 @@
-//! Keys, under which changes put and delete, and the order of keys.
+//! Keys, which identify what a change puts or deletes, and the order of keys.
 ghost use Rattle.std.specs.Prelude.{◌≡◌};
 ghost use Rattle.std.specs.Ordering.{on, as_partial_cmp, eq_by_cmp};
 ghost use Rattle.std.specs.Cmp.{partial_equiv_from_equiv, on_equiv, on_total, eq_by_cmp_equiv, partial_order_from_total};
@@ -10,15 +10,15 @@ ghost use Rattle.cif_change.specs.Meaning.{key_meant};
 use cif_line::{Day, Stp, Tiploc, Uid};
 use std::cmp::Ordering;
 
-/// A key under which a change puts a body, or which it deletes. In the order of keys all TIPLOCs
+/// A key. A change puts a body under its key, or deletes the key. In the order of keys all TIPLOCs
 /// come first, then all associations, then all schedules.
 #[derive(Clone, Copy, Debug)]
 pub enum Key {
     /// The code of a timing point.
     Tiploc(Tiploc),
-    /// What identifies an association between two trains.
+    /// The key of an association between two trains.
     Assoc(AssocKey),
-    /// What identifies a schedule of a train.
+    /// The key of a schedule of a train.
     Schedule(ScheduleKey),
 }
 
@@ -29,7 +29,7 @@ pub struct AssocKey {
     pub base: Uid,
     /// The UID of the associated train.
     pub associated: Uid,
-    /// The first day on which the association holds.
+    /// The first start day of the base train on which the association may apply.
     pub start: Day,
     /// The TIPLOC at which the trains are associated.
     pub location: Tiploc,

@@ -1,4 +1,4 @@
-//! A memo of the index at which each place was last found in a list.
+//! A memo of the indexes at which places were last found in a list.
 ghost use Rattle.std.specs.Prelude.{◌≡◌, IfSome, Some, slice_get};
 
 use crate::names::{is_at, packed};
@@ -12,8 +12,9 @@ const SLOTS: usize = 65_536;
 const NEAR: usize = 8;
 
 /// Remembers the index at which places were last found in a list. A memo is only a shortcut and may
-/// forget a place. The first slot of a place is a hash of the place's bytes. Another place's index
-/// may be in that slot, so the place at the remembered index is always compared.
+/// forget a place. A hash of a place's bytes determines the first slot of the place. Another
+/// place's index may be in that slot, so the place at a remembered index is always compared with
+/// the place that is looked up.
 #[derive(Debug, Drop)]
 pub(crate) struct Memo {
     slots: Vec<u32>,
@@ -27,7 +28,7 @@ impl Memo {
         }
     }
 
-    /// Makes the slots, if there are none yet. Returns `Memory` if the allocator refuses.
+    /// Makes the slots, if there are none yet. Returns `Memory` if the allocator refuses memory.
     pub(crate) fn grow(&mut self) -> Result<(), Memory> {
         if self.slots.is_empty() {
             self.slots = vec![in *self.slots.allocator(); 0u32; SLOTS]?;
@@ -50,8 +51,8 @@ impl Memo {
         None
     }
 
-    /// Remembers the index of a place. The index is written to the first free slot of the place, or
-    /// to its very first slot if none is free.
+    /// Remembers the index of a place. The index is written to the first free slot of the place. If
+    /// none of its slots is free, the index replaces the first slot.
     pub(crate) fn set(&mut self, place: &[u8; 7], index: u32) {
         let first = slot_of(place);
         for step in 0..NEAR {

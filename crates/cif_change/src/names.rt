@@ -8,7 +8,7 @@ use cif_line::Memory;
 use std::alloc::Global;
 
 /// Places, in the order in which they were first named. If the memo has forgotten a place, the
-/// place is listed again, and each of its indexes in the list is one of its numbers.
+/// place is listed again. The place then has several numbers: each of its indexes in the list.
 #[derive(Debug, Drop)]
 pub struct PlaceNames {
     /// The places. The index of a place is its number.
@@ -17,7 +17,7 @@ pub struct PlaceNames {
 }
 
 impl PlaceNames {
-    /// A list without places. It allocates nothing.
+    /// Returns a list without places. Nothing is allocated.
     pub(crate) fn new(alloc: Global) -> PlaceNames
         ensures { result.list.items ≡ [] }
     {
@@ -28,7 +28,7 @@ impl PlaceNames {
     }
 
     /// The number of a place. A place that the memo doesn't find is appended to the list. Returns
-    /// `Memory` if the allocator refuses, or if the next number doesn't fit in 32 bits.
+    /// `Memory` if the allocator refuses memory, or if the next number doesn't fit in 32 bits.
     pub(crate) fn number_of(&mut self, place: &[u8; 7]) -> Result<u32, Memory>
         ensures kept { Keeps self.old.list.items self.new.list.items }
         ensures number { IfOk result (λ number.

@@ -15,7 +15,7 @@ use cif_line::Memory;
 use std::alloc::Global;
 
 /// Notes of the places that each row names. A place is noted by its number in `names`. Each row has
-/// a piece of the list `numbers`, given by where it begins and how long it is.
+/// a piece of the list `numbers`, given by the piece's first index and length.
 #[derive(Debug, Drop)]
 pub struct Notes {
     /// The list of places. The number of a place is its index in this list.
@@ -28,7 +28,7 @@ pub struct Notes {
 }
 
 impl Notes {
-    /// Notes of no row. They allocate nothing.
+    /// Returns the notes of no row. Nothing is allocated.
     pub fn new(alloc: Global) -> Notes
         ensures { HasNoted [] result }
     {
@@ -39,9 +39,9 @@ impl Notes {
         }
     }
 
-    /// The notes of only the rows at these indexes, in this order. The index of a row is how many
-    /// rows were noted before it. The result's pieces are written to `pieces`, which must be empty
-    /// and have room for them.
+    /// Returns the notes of only the rows at these indexes, in this order. The index of a row is
+    /// the number of rows that were noted before it. The pieces of the result are written to
+    /// `pieces`, which must be empty and have room for them.
     pub fn picked(self, order: &[u32], mut pieces: Vec<Piece>) -> Notes
         requires none { pieces.items ≡ [] }
         requires empty { vec_len pieces ≡ 0 }
@@ -65,7 +65,7 @@ impl Notes {
     }
 
     /// Notes the next row, which puts this body under this key. Returns `Memory` if the allocator
-    /// refuses; the row isn't noted then.
+    /// refuses memory; the row isn't noted then.
     pub fn note_put(&mut self, key: &Key, body: &Body) -> Result<(), Memory>
         ensures ok { IsOk result → (items : List Item) → HasNoted items self.old
             → HasNoted (items ++ (key_meant key.now, put_with (body_meant body.now)) ∷ [])
@@ -79,8 +79,8 @@ impl Notes {
         Ok(())
     }
 
-    /// Notes the next row, which names no place because its key is deleted or lapsed. If the
-    /// allocator refuses, returns `Memory` and doesn't note the row.
+    /// Notes the next row, which names no place because its key is deleted or lapsed. Returns
+    /// `Memory` if the allocator refuses memory; the row isn't noted then.
     pub fn note_none(&mut self) -> Result<(), Memory>
         ensures ok { IsOk result → (items : List Item) (key : model.Key) (op : ops.Op)
             → body_of op ≡ None → HasNoted items self.old
@@ -93,8 +93,8 @@ impl Notes {
         Ok(())
     }
 
-    /// Notes the next change. Returns `Memory` if the allocator refuses; the change isn't noted
-    /// then.
+    /// Notes the next change. Returns `Memory` if the allocator refuses memory; the change isn't
+    /// noted then.
     pub fn note_change(&mut self, change: &Change) -> Result<(), Memory>
         ensures ok { IsOk result → (made : List model.Change)
             → HasNoted (items_put made) self.old
@@ -125,7 +125,7 @@ fn picked_pieces(all: &[Piece], order: &[u32], mut pieces: Vec<Piece>) -> Vec<Pi
     pieces
 }
 
-/// The piece at an index; a piece without numbers if the index is past the end.
+/// The piece at an index, or a piece without numbers if the index is past the end.
 fn piece_at(all: &[Piece], number: u32) -> Piece
     ensures { result ≡ get_or all.now number no_piece }
 {

@@ -13,8 +13,9 @@ use crate::piece::Piece;
 use crate::places::{is_location, tiploc_in};
 use cif_line::{Line, Memory};
 
-/// Notes the places that are named by a key with this body. Returns where their numbers are in the
-/// list of numbers.
+/// Notes the places that a row with this key and this body names. Returns the piece of `numbers`
+/// that belongs to the row. Returns `Memory` if the allocator refuses memory, or if the length of
+/// `numbers` doesn't fit in 32 bits.
 pub(crate) fn piece_of(
     names: &mut PlaceNames,
     numbers: &mut Vec<u32>,
@@ -61,7 +62,7 @@ fn count_of(numbers: &Vec<u32>) -> Result<u32, Memory>
 }
 
 /// Notes the TIPLOC of each location record among these lines. Returns `Memory` if the allocator
-/// refuses.
+/// refuses memory.
 fn note_locations(
     names: &mut PlaceNames,
     numbers: &mut Vec<u32>,
@@ -83,7 +84,8 @@ fn note_locations(
     Ok(())
 }
 
-/// Appends the number of a place to the list of numbers. Returns `Memory` if the allocator refuses.
+/// Appends the number of a place to the list of numbers. Returns `Memory` if the allocator refuses
+/// memory.
 fn note_place(names: &mut PlaceNames, numbers: &mut Vec<u32>, place: &[u8; 7]) -> Result<(), Memory>
     ensures names { Keeps names.old.list.items names.new.list.items }
     ensures numbers { Keeps numbers.old.items numbers.new.items }

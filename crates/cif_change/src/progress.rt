@@ -4,9 +4,9 @@ ghost use Rattle.std.specs.Prelude.{◌≡◌, ◌≤◌, true, None};
 use crate::journey_times::Clock;
 use crate::stage::ScheduleStage;
 
-/// What the reader of a schedule remembers of the lines taken. `stage` is None before the first
-/// line. `lacking` says whether the schedule may end without a journey. `clock` has the last time
-/// and counts how often midnight was passed, at most twice. For a deletion `clock` never changes.
+/// What the reader of a schedule remembers of the lines taken. `stage` is `None` before the first
+/// line. `lacking` says whether the schedule may end without a journey. `clock` has the last time,
+/// and counts how often midnight was passed: at most twice. For a deletion `clock` never changes.
 #[derive(Clone, Copy, PartialEq, Eq, Debug)]
 pub struct Progress {
     pub(crate) stage: Option<ScheduleStage>,

@@ -1,4 +1,5 @@
--- Lemmas on what the reader of a file's records holds after taking a record, and why it refuses a record.
+-- Lemmas on what the reader of a file's records knows after taking a record, and why it refuses a
+-- record.
 use Rattle.std.proofs.Common.{◌≡◌, ℕ, ◌+◌, ◌<◌, inl, inr, Bool, true, false, cond, List, [], ◌∷◌, ◌++◌, length, map, subst}
 use Rattle.std.proofs.Common.{refl, ap, sym, ◌∙◌, Some, None, arith, append-nil, append_assoc, length-append, take}
 use Rattle.std.specs.Prelude.{Option, IsTrue, ◌↔◌, ◌&&◌, is_some, is_none, option_map, slice_index_or, OnOk, Result, Ok, Err}
@@ -158,7 +159,8 @@ anew_by_unit line begins = by (follows_basic (kind_of line)) refl
     by false h = h
     by true h = let bad : false ≡ true = (λ i. is_some (sym (no_unit_by_kind (kind_of line) line h) i)) ∙ begins in cc
 
--- after whole units, the record's kind determines the reader's place after a record with good fields that begins a unit
+-- after whole units, if a record begins a unit and has good fields, the record's kind determines
+-- the reader's place after it
 pub place_over : {K : Type 0} (keeps : Keeps K) (front : Front K) (records : Lines) (line : List ℕ) (next : Place) → (over : IsOver keeps front records)
     → IsRecord line → HasGoodFields line
     → unit_by_kind (kind_of line) line ≡ Some next
@@ -537,7 +539,7 @@ no_kind keeps front records line has unended is none = record {
     by false h = h
     by true h = absurd (unended ((file_iff_place records).1 (has.at ∙ ap Some (end_by_test has.place h))))
 
--- before the header, a record of any other kind may not come next
+-- before the header, a record that isn't a header may not come next
 pub no_header : {K : Type 0} (keeps : Keeps K) (front : Front K) (records : Lines) (line : List ℕ) (kind : Kind) → HasRecords keeps front records
     → front.stage ≡ BeforeHeader → IsRecord line
     → HasKind kind line → is_header_kind (Some kind) ≡ false
@@ -607,7 +609,7 @@ header_added keeps old new records line has at is kind fields same_header place 
       );
     }
 
--- between units, no file continues with a record that begins no unit or has a bad field
+-- between units, no file can continue with a record that begins no unit or has a bad field
 pub no_unit : (line : List ℕ) → ¬ ((is_some (unit_by_kind (kind_of line) line) ≡ true) × HasGoodFields line) → next_place between_units line ≡ None
 no_unit line bad = by (next_place between_units line) refl
   where

@@ -73,7 +73,7 @@ memory_answer limit records line number all under goes_on counted whole =
       sound = subst BeginsFile (sym (take_all number all (omega arith))) (subst BeginsFile (sym whole) ((begins_iff_place (records ++ line ∷ [])).1 goes_on));
     }
 
--- if memory may have run out at a record, this is still so when more records follow
+-- if memory may have run out at a record, it may also have run out there when more records follow
 memory_more : (limit : ℕ) (records others : Lines) (number : ℕ) → WantsMemoryAt limit records number → WantsMemoryAt limit (records ++ others) number
 memory_more limit records others number told = record {
   some = told.some;
@@ -103,7 +103,7 @@ after_cause keeps limit front records line has is under = record {
     none true = refl
     none false = refl
 
--- no file continues with a line that isn't a record
+-- no file can continue with a line that isn't a record
 no_next : (place : Place) (line : List ℕ) → ¬ IsRecord line → next_place place line ≡ None
 no_next place line bad = by (next_place place line) refl
   where
@@ -111,7 +111,7 @@ no_next place line bad = by (next_place place line) refl
     by None h = h
     by (Some next) h = absurd (bad (next_by_test place line next h).is)
 
--- the choice among three causes is always a cause, never none
+-- the choice among three causes is always a cause, and never `None`
 some_cause : (over ended : Bool) (first second third : model.FileCause)
     → cond over (Some first) (cond ended (Some second) (Some third)) ≡ Some (cond over first (cond ended second third))
 some_cause true ended first second third = refl
@@ -323,7 +323,8 @@ refused_over keeps records limit taken cause fault counted number over told = re
       λ i. cond (sym (le-leb limit (length taken) most) i) (Some too_many) (cond (is_after_end counted.has.place) (Some after_trailer) cause));
 }
 
--- a line within the limit that isn't a record is refused for the trailer if it follows the trailer, and otherwise for not being a record
+-- a line within the limit that isn't a record is refused with the cause `After` if it follows the
+-- trailer, and otherwise with the cause for which it isn't a record
 pub refused_within : {K : Type 0} (keeps : Keeps K) (records : Records K) (limit : ℕ) (taken : Lines) (cause : Option model.FileCause) (fault : FileFault)
     (ended : Bool) → HasCounted keeps records limit taken
     → fault.number ≡ records.next → records.next ≤ records.limit
@@ -386,7 +387,7 @@ ended_err keeps wants old limit text front line fault reading plain same told =
     ended_fault keeps wants old limit text front fault reading plain
     (subst (λ l. IsFaultNext wants limit (complete_lines text) l fault) same (told limit (complete_lines text) reading.counted))
 
--- if the parser keeps no bytes, the list of kept bytes is empty
+-- if the number of bytes that the parser keeps is 0, the list of these bytes is empty
 pub empty_is : {K : Type 0} (old : FileReading K) → true ≡ (length old.partial.items == 0) → old.partial.items ≡ []
 empty_is old none = by old.partial.items (eqb-true (length old.partial.items) 0 (sym none))
   where
@@ -480,7 +481,7 @@ cut_whole rest front behind cut = cut.whole ∙ sym (append_assoc front (10 ∷ 
 abbrev Told : Type 1
 Told = ℕ → List ℕ → Type 0
 
--- at first none of the text has been taken
+-- at first no byte of the text has been taken
 pub takes_none : (before : Told) (text : List ℕ) → TakesUpTo before text text before
 takes_none before text =
     let first = cut_first text in
@@ -576,7 +577,7 @@ wants_of : (wants : Type 0) (limit : ℕ) (records : Lines) (line : List ℕ) (f
     → fault.cause ≡ Memory → wants
 wants_of wants limit records line fault next memory = (subst (λ cause. IsCauseAfter wants limit records line (cause_meant cause)) memory next.cause).0
 
--- a fault whose cause the definitions have doesn't have the cause `Memory`
+-- if the definitions have the cause of a fault, this cause isn't `Memory`
 no_want : (wants : Type 0) (fault : FileFault) (cause : model.FileCause) → cause_meant fault.cause ≡ Some cause → fault.cause ≡ Memory → wants
 no_want wants fault cause told memory = let bad : ◌≡◌ {A = Option model.FileCause} None (Some cause) = sym (ap cause_meant memory) ∙ told in absurd cc
 
@@ -594,7 +595,8 @@ later_long keeps wants reading fault told = λ limit text is.
     let next = told limit text is in
     (later_than keeps reading limit text fault is next.number, no_want wants fault (cause_of_long limit (length (complete_lines text)) next.place) next.cause)
 
--- a fault after all complete lines of a text comes after all complete lines of any text with which it begins
+-- a fault after all complete lines of a text also comes after all complete lines of each prefix of
+-- the text
 later_front : (text more : List ℕ) (fault : FileFault) → sure_lines (text ++ more) < fault.number → sure_lines text < fault.number
 later_front text more fault later = let grown = sure_lines_grow text more in omega arith
 

@@ -16,7 +16,8 @@ module _ {X : Type 0} (f : X → List ℕ) where
       ∙ concat-append (map f (take i pieces)) (f (get_or pieces i d) ∷ [])
       ∙ ap (λ last. concat (map f (take i pieces)) ++ last) (append-nil (f (get_or pieces i d)))
 
-  -- a parser that has read the first i pieces followed by the next piece has read the first i + 1 pieces
+  -- a parser that has read the first `i` pieces and then the next piece has read the first `i + 1`
+  -- pieces
   pub read_more : (parser : ParserState) (limit : ℕ) (pieces : List X) (i : ℕ) (d : X) → i < length pieces
       → HasRead parser limit (concat (map f (take i pieces)) ++ f (get_or pieces i d)) → HasRead parser limit (concat (map f (take (i + 1) pieces)))
   read_more parser limit pieces i d below read = subst (HasRead parser limit) (sym (joined_more pieces i d below)) read

@@ -43,7 +43,8 @@ pub record IsCauseNext (limit : ℕ) (records : Lines) (line : List ℕ) (cause 
   pub is : cause_of limit (length records) place line ≡ cause
 
 -- Says why the reader refused the line that follows these records. `None` means that memory ran
--- out: then `wants` holds, and some file within the limit begins with these records and the line.
+-- out. Then `wants` holds, which says that the keeper may run out of memory, and some file within
+-- the limit begins with these records and the line.
 abbrev pub IsCauseAfter : Type 0 → ℕ → Lines → List ℕ → Option model.FileCause → Type 0
 IsCauseAfter wants limit records line None = wants × (length records < limit) × GoesOnWith records line
 IsCauseAfter wants limit records line (Some cause) = IsCauseNext limit records line cause
@@ -67,8 +68,8 @@ pub record IsLongNext (limit : ℕ) (records : Lines) (fault : FileFault) : Type
 abbrev pub refusal : ℕ → ℕ → law.Place → Option model.FileCause → Option model.FileCause
 refusal limit count place cause = cond (nat_le limit count) (Some too_many) (cond (is_after_end place) (Some after_trailer) cause)
 
--- Says that this is the fault of the line that follows these records, if for this cause the line
--- isn't a record.
+-- Says that this is the fault of the line that follows these records. The line isn't a record, and
+-- `cause` says why.
 pub record IsRefusedNext (limit : ℕ) (records : Lines) (cause : Option model.FileCause) (fault : FileFault) : Type 0 where
   pub number : fault.number ≡ length records + 1
   pub place : law.Place
@@ -192,8 +193,9 @@ HasFailed parser fault = parser.fault ≡ Some fault
 abbrev pub HasNotFailed : ParserState → Type 0
 HasNotFailed parser = (fault : FileFault) → ¬ HasFailed parser fault
 
--- Says that the record at fault isn't complete in any text that the parser may have taken before,
--- and that the cause is `Memory` only if `wants` holds.
+-- Says that the record at fault isn't complete in any text that the parser may have taken before.
+-- Also says that the cause is `Memory` only if `wants` holds, which says that the keeper may run
+-- out of memory.
 abbrev pub IsLater : {K : Type 0} → Keeps K → Type 0 → FileReading K → FileFault → Type 0
 IsLater keeps wants reading fault =
     (limit : ℕ) (text : List ℕ) → IsReading keeps reading limit text → (sure_lines text < fault.number) × (fault.cause ≡ Memory → wants)

@@ -22,7 +22,7 @@ use Rattle.cif_file.specs.KeeperRead.{Keeps}
 abbrev Lines : Type 0
 Lines = List (List ℕ)
 
--- the first record of a list, which is the header; none if the list is empty
+-- the first record of a list, which is the header, or `None` if the list is empty
 abbrev pub header_of : Lines → Option (List ℕ)
 header_of [] = None
 header_of (first ∷ records) = Some first
@@ -78,9 +78,9 @@ pub record IsNoNext (records : Lines) (line : List ℕ) (cause : fault.FileCause
 abbrev pub GoesOnWith : Lines → List ℕ → Type 0
 GoesOnWith records line = (next : law.Place) × IsPlaceOf (records ++ line ∷ []) next
 
--- Says why the line that follows these records was refused. `None` means that memory ran out: then
--- `wants` holds, and some file begins with the records and the line. A cause says why no file
--- begins with them.
+-- Says why the line that follows these records was refused. `None` means that memory ran out. Then
+-- `wants` holds, which says that the keeper may run out of memory, and some file begins with the
+-- records and the line. A cause says why no file begins with them.
 abbrev pub IsNoNextCause : Type 0 → Lines → List ℕ → Option fault.FileCause → Type 0
 IsNoNextCause wants records line None = wants × GoesOnWith records line
 IsNoNextCause wants records line (Some cause) = IsNoNext records line cause

@@ -86,9 +86,10 @@ pub record WantsLast (limit : ℕ) (left : Option (List ℕ)) : Type 0 where
   pub held : Held left text
   pub wanting : WantsMemoryAt limit (lines_of text) (length (lines_of text))
 
--- Says that memory ran out before a byte was read or, if `wants` holds, at a record. No record up
--- to that record is at fault. The record at which memory ran out is complete only with the last
--- piece, or is the last record of the text.
+-- Says that memory ran out before a byte was read or, if `wants` holds, at a record. The condition
+-- `wants` says that the keeper may run out of memory. No record up to that record is at fault. The
+-- record at which memory ran out is complete only with the last piece, or is the last record of the
+-- text.
 abbrev pub WantsMemoryBy : Type 0 → ℕ → ℕ → Option (List ℕ) → Option (List ℕ) → Type 0
 WantsMemoryBy wants most limit old new = Reads old [] new ⊎ (wants × (WantsRecord most limit old new ⊎ WantsLast limit old))
 

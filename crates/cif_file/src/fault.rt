@@ -6,11 +6,12 @@ use cif_change::FileCause;
 use std::error::Error;
 use std::fmt;
 
-/// Why a text isn't a CIF file, or that memory ran out: a record and a cause.
+/// The fault of a text that isn't a CIF file: a record and a cause. Also used if memory ran out at
+/// a record.
 #[derive(Clone, Copy, PartialEq, Eq, Debug)]
 pub struct FileFault {
-    /// The number, from 1, of the record at fault or, if memory ran out, of the record at which it
-    /// ran out.
+    /// The number of the record at fault, counted from 1. If memory ran out, the number is the
+    /// record at which it ran out.
     pub number: u32,
     /// What is wrong with this record.
     pub cause: FileCause,
@@ -26,7 +27,7 @@ impl fmt::Display for FileFault {
 
 impl Error for FileFault {}
 
-/// Why no file could be read from a source.
+/// The reason why no file could be read from a source.
 #[derive(Clone, Copy, PartialEq, Eq, Debug)]
 pub enum ReadFault {
     /// The source failed.

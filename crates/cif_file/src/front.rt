@@ -19,7 +19,7 @@ use cif_change::FileCause;
 use cif_line::{Basic, Kind, Line, header, kind};
 use std::alloc::AllocError;
 
-/// Which records may come next in a file.
+/// How far the reader has come in a file. The stage determines which records may come next.
 #[derive(Clone, Copy, PartialEq, Eq, Debug)]
 pub(crate) enum FileStage {
     /// Nothing was read: the header must come next.
@@ -66,7 +66,7 @@ impl FileStage {
     }
 }
 
-/// The reader's state after some records: the stage, the header, and what the keeper has kept.
+/// What the reader knows after some records: the stage, the header, and what the keeper has kept.
 #[derive(Debug, Drop)]
 pub(crate) struct Front<K> {
     header: Option<HeaderLine>,
@@ -89,7 +89,7 @@ fn follows_basic(kind: Kind) -> bool
 }
 
 impl<K: Keeper> Front<K> {
-    /// The state before the first record.
+    /// Makes a reader that has read no record.
     pub(crate) fn new(keeper: K) -> Front<K>
         requires { K.keeps keeper [] [] }
         ensures { HasRecords K.keeps result [] }
@@ -140,8 +140,8 @@ impl<K: Keeper> Front<K> {
         }
     }
 
-    /// Takes the next record, which has the given number. Returns the cause if no file continues
-    /// with this record, or if memory runs out.
+    /// Takes the next record, which has the given number. Returns the cause if no file begins with
+    /// the earlier records and then this record, or if memory runs out.
     pub(crate) fn take(&mut self, number: u32, line: &Line) -> Result<(), FileCause>
         ensures read { OnOk result (TakesNext K.keeps self.old number line.now self.new) }
         ensures err { IfErr result (RefusesUnended K.keeps K.wants self.old line.now) }

@@ -1,4 +1,4 @@
-//! Checks whether a source holds a CIF file, and counts its records and changes.
+//! Checks whether the text of a source is a CIF file, and counts the file's records and changes.
 ghost use Rattle.std.specs.Prelude.{◌≡◌, ◌-◌, ◌^◌, ◌<◌, ◌≤◌, [], IfOk, IsOk, Err};
 ghost use Rattle.cif_device.specs.Device.{CountsFailure, IsEnd, Reads};
 ghost use Rattle.cif_file.specs.SourceRead.{CountsText, RefusesText, ReadsNoFurther};

@@ -50,7 +50,7 @@ impl Made {
     }
 }
 
-/// Notes of no change if places are to be noted, and otherwise None.
+/// Returns empty notes if places are to be noted, and otherwise `None`.
 fn first_notes(alloc: Global, noted: bool) -> Option<Notes>
     ensures { AreNotesOf [] result }
 {

@@ -37,7 +37,8 @@ impl Opened {
         self.progress.advance(kind, line)
     }
 
-    /// This schedule, if its terminus was read, so that its journey is complete.
+    /// Returns this schedule if its terminus was read, which means that its journey is complete.
+    /// Otherwise returns `None`.
     pub(crate) fn over(&self) -> Option<Opened>
         ensures { MatchOption result (is_over_by (progress_meant self.now.progress).stage ≡ false)
             (λ over. (over ≡ self.now) ×
@@ -51,7 +52,7 @@ impl Opened {
     }
 
     /// Makes the change of the schedule, which puts these lines under the schedule's key or deletes
-    /// this key.
+    /// this key. Returns an error if the allocator refuses memory.
     pub(crate) fn change(self, alloc: Global, lines: &[Line]) -> Result<Change, AllocError>
         ensures { IfOk result (λ change. change_meant change ≡ record {
           number = self.number;
@@ -72,7 +73,8 @@ impl Opened {
     }
 }
 
-/// Copies the lines, and allocates no more than they need.
+/// Copies the lines, and allocates only the memory that they need. Returns an error if the
+/// allocator refuses memory.
 pub(crate) fn body_of(alloc: Global, lines: &[Line]) -> Result<Lines, AllocError>
     ensures { IfOk result (λ body. body ≡ lines.now) }
 {

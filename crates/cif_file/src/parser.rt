@@ -36,7 +36,7 @@ fn extend(partial: &mut ArrayVec<u8, MOST_PARTIAL>, more: &[u8]) -> bool
 }
 
 impl<K: Keeper> FileReading<K> {
-    /// The state before the first byte. The file may have at most `limit` records.
+    /// Makes a reader that has read no byte. The file may have at most `limit` records.
     pub(crate) fn new(keeper: K, limit: u32) -> FileReading<K>
         requires limit { limit ≤ MOST_RECORDS }
         requires none { K.keeps keeper [] [] }
@@ -176,8 +176,8 @@ impl FileParser {
 
     /// Takes the next piece of the file. Returns the fault of a bad record once its line feed or
     /// its 82nd byte has arrived. If memory runs out, returns `Memory` at the record that needed
-    /// it, and no record up to this one is at fault. In both cases the record isn't complete in the
-    /// earlier pieces. After a fault, each later call returns the same fault and takes nothing.
+    /// it, and no record up to this one is at fault. In both cases the earlier pieces don't contain
+    /// the whole record. After a fault, each later call returns the same fault and takes nothing.
     pub fn feed(&mut self, piece: &[u8]) -> Result<(), FileFault>
         ensures read { GoesOn (HasRead self.old) piece.now (HasRead self.new) }
         ensures ok { OnOk result (TellsNoFault (HasRead self.old) piece.now) }

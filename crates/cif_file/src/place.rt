@@ -1,4 +1,4 @@
-//! The place and the day of a docker, as a type.
+//! The place and the day of a docker, as a type for proofs.
 ghost use Rattle.std.specs.Prelude.{ℕ, List};
 
 use std::marker::Brand;

@@ -1,4 +1,4 @@
-//! Reads the CIF file that a source holds.
+//! Reads a CIF file from a source.
 ghost use Rattle.std.specs.Prelude.{◌≡◌, ◌≢◌, ℕ, ◌-◌, ◌^◌, ◌<◌, ◌≤◌, List, [], length, IfOk, IsOk, Err};
 ghost use Rattle.docker_model.specs.file.Text.{lines_of};
 ghost use Rattle.cif_device.specs.Device.{CountsFailure, IsEnd};
@@ -20,9 +20,10 @@ use cif_line::{Day, FeedFault, PIECE, Source, Taker, Tiploc, feed_all};
 use std::alloc::Global;
 use std::marker::Brand;
 
-/// Reads a source to its end and returns the file that it holds, of at most `limit` records.
-/// Reading stops after the piece in which the first fault is found. A piece has at most 65,536
-/// bytes, so an endless source isn't read beyond the piece with the first record above the limit.
+/// Reads a source to its end, and returns its text as a CIF file of at most `limit` records. Stops
+/// after the piece in which the first fault is found, and returns the fault. A piece has at most
+/// 65,536 bytes, so an endless source isn't read beyond the piece with the first record above the
+/// limit.
 pub fn read_file<S: Source>(alloc: Global, source: &mut S, limit: u32) -> Result<CifFile, ReadFault>
     requires failures { S.failures source.old < 2 ^ 64 - 1 }
     requires limit { limit ≤ MOST_RECORDS }
@@ -168,7 +169,7 @@ pub(crate) fn read_source<S: Source, K: Keeper>(
     }
 }
 
-/// Ends the input. Returns what the keeper kept of the file, or the fault.
+/// Ends the input. Returns what the keeper kept of the file, or the fault of the text.
 fn ended_of<K: Keeper>(reading: FileReading<K>) -> Result<Ended<K>, ReadFault>
     ensures ok { IfOk result (EndsBy K.keeps reading) }
     ensures file { (limit : ℕ) (text : List ℕ) → IsReading K.keeps reading limit text →

@@ -27,7 +27,7 @@ impl<K: Keeper> Records<K> {
     ghost use Rattle.cif_change.specs.Cause.{cause_meant};
     ghost use Rattle.cif_file.specs.ParserRead.{HasCounted, CountsNext, FaultsNext, IsLongNext, IsRefusedNext, EndsCounted, EndsUnended};
 
-    /// The state before the first record. The file may have at most `limit` records.
+    /// Makes a reader that has read no record. The file may have at most `limit` records.
     pub(crate) fn new(keeper: K, limit: u32) -> Records<K>
         requires limit { limit ≤ MOST_RECORDS }
         requires none { K.keeps keeper [] [] }
@@ -81,8 +81,9 @@ impl<K: Keeper> Records<K> {
         self.refused(FileCause::Length)
     }
 
-    /// The fault of the next line, which isn't a record for this cause. If the line is also above
-    /// the limit or after the trailer, the limit or the trailer is the cause instead.
+    /// The fault of the next line, which isn't a record. `cause` says why. If the line is above the
+    /// limit, the cause of the fault is `TooMany` instead, and if it comes after the trailer,
+    /// `After`.
     fn refused(&self, cause: FileCause) -> FileFault
         ensures { (limit : ℕ) (records : List (List ℕ)) →
             HasCounted K.keeps self.now limit records →
@@ -101,7 +102,7 @@ impl<K: Keeper> Records<K> {
         }
     }
 
-    /// Ends the input. Returns the file, or the fault that there is no trailer.
+    /// Ends the input. Returns the file, or the fault `NoEnd` if there is no trailer.
     pub(crate) fn finish(self) -> Result<Ended<K>, FileFault>
         ensures ok { IfOk result (EndsCounted K.keeps self) }
         ensures err { IfErr result (EndsUnended K.keeps self) }

@@ -30,7 +30,8 @@ pub(crate) enum Single<'a> {
 pub(crate) struct SingleChanges {
     /// The deletion of a TIPLOC's old code, if an amendment gives it another code.
     pub first: Option<Change>,
-    /// The change that each record of these kinds makes. It comes last.
+    /// The change that every record of these kinds makes. It comes after the other change, if there
+    /// is one.
     pub last: Change,
 }
 
@@ -59,8 +60,8 @@ fn by_itself(change: Change) -> SingleChanges
     }
 }
 
-/// The changes of a TIPLOC amendment. If the amendment gives the TIPLOC another code, first the old
-/// code is deleted, and then the new code is put.
+/// The changes of a TIPLOC amendment. If the amendment gives the TIPLOC another code, the first
+/// change deletes the old code, and the last change puts the new code.
 fn changes_amended(number: u32, view: &TiplocRecord<'_>) -> SingleChanges
     requires { HasKind tiploc_amend view.now }
     ensures changes { listed result ≡ changes_of_record number view.now [] }

@@ -90,8 +90,8 @@ impl Thinned {
         }
     }
 
-    /// Receives a change after which the docker needs nothing of the schedule's key. If an earlier
-    /// change to this key was kept, a deletion is kept. Otherwise nothing is kept.
+    /// Receives a change after which the docker doesn't need the schedule with this key. If an
+    /// earlier change to the key was kept, a deletion is kept. Otherwise nothing is kept.
     fn delete(&mut self, number: u32, key: Key) -> Result<(), AllocError>
         ensures { OnOk result ((place : List ℕ) (day : ℕ) (whole : model.Change)
             → whole.number ≡ number → whole.key ≡ key_meant key

@@ -23,8 +23,9 @@ pub(crate) enum Unit<'a> {
     Trailer,
 }
 
-/// Reads a record as the beginning of a unit, or as the trailer. The cause is `Place` if no unit
-/// begins with a record of this kind, and otherwise the leftmost bad field.
+/// Reads a record as the beginning of a unit, or as the trailer. Returns the cause `Place` if no
+/// unit begins with a record of this kind and it isn't the trailer. Otherwise, if a field is bad,
+/// returns the cause `Field` with the column of the leftmost bad field.
 pub(crate) fn unit_of(kind: Kind, line: &Line) -> Result<Unit<'_>, FileCause>
     requires record { IsRecord line.now }
     requires kind { HasKind (meaning kind) line.now }

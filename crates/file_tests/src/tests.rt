@@ -217,7 +217,7 @@ fn changes_are(rt: &impl Abort, alloc: Global, records: &[&[u8]], wanted: &[Chan
     same(rt, changes.as_slice(), wanted);
 }
 
-/// Asserts that the changes of the file with these records come from the records with these
+/// Asserts that the changes of the file with these records are made by the records with these
 /// numbers.
 fn changes_stand_at(rt: &impl Abort, alloc: Global, records: &[&[u8]], numbers: &[u32]) {
     let changes = changes(rt, alloc, records);
@@ -236,7 +236,7 @@ fn deletion(key: &Key) -> Change {
     }
 }
 
-/// The change with which the second record puts this body at a timing point.
+/// The change with which the second record puts this body under the key of a timing point.
 fn put(key: &Key, body: [u8; 63]) -> Change {
     Change {
         number: 2,

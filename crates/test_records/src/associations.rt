@@ -48,6 +48,6 @@ pub const AA_X: &[u8] =
 pub const AA_OTHER: &[u8] =
     b"AANC40001C400022406102406101000000XXNCOLWELL  TP                               P";
 
-/// C40002 is the next working of C40001 at Colwell; it starts the day after 31 December 2059.
+/// C40002 is the next working of C40001 at Colwell, and starts on the day after 31 December 2059.
 pub const AA_LAST: &[u8] =
     b"AANC40001C400025912315912310010000NPNCOLWELL  TP                               P";

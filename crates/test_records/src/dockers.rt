@@ -4,7 +4,7 @@
 /// The heading of the docker of Ashfeld on 10 June 2024.
 pub const AT_ASHFELD: &[u8] = b"DOCKER ASHFELD 2024-06-10                               ";
 
-/// The heading of the docker of Ashfeld on 10 June, under the new code and the new description.
+/// The heading of the docker of Ashfeld on 10 June, with Ashfeld's new code and new description.
 pub const AT_ASHFLDN: &[u8] = b"DOCKER ASHFLDN 2024-06-10 ASHFIELD NEW                  ";
 
 /// The heading of the docker of Colwell on 10 June.

@@ -8,7 +8,7 @@ pub const TI: &[u8] =
 pub const TI_BLANK: &[u8] =
     b"TIASHFELD                                                                       ";
 
-/// The body that the insert puts.
+/// The body that the insert `TI` puts.
 pub const BODY_OF_TI: [u8; 63] =
     *b"         ASHFIELD CENTRAL                                      ";
 
@@ -16,7 +16,7 @@ pub const BODY_OF_TI: [u8; 63] =
 pub const TA: &[u8] =
     b"TAASHFELD         ASHFIELD NEW                                          ASHFLDN ";
 
-/// The body that the amendment puts at the new code.
+/// The body that the amendment `TA` puts under the new code.
 pub const BODY_OF_TA: [u8; 63] =
     *b"         ASHFIELD NEW                                          ";
 

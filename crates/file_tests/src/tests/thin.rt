@@ -1,4 +1,4 @@
-//! The changes of a file that are kept for the docker of one place on one day.
+//! Which changes of a file are kept for the docker of one place on one day.
 
 use super::compare::same_in;
 use cif_file::{Act, Body, read_thin};

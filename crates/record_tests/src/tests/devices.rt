@@ -5,8 +5,8 @@ use super::compare::{prints, same};
 use cif_line::{Bytes, Endless, Failed, Fuse, Kept, Memory, Sink, Source, write_all};
 use std::process::Abort;
 
-// Asserts that a device has failed this many times. The contract of the device's next call requires
-// that one more failure can be counted.
+// Asserts that a device has failed this many times. The clause is there for the device's next call,
+// whose contract requires that one more failure can be counted.
 fn failures_are(rt: &impl Abort, failures: u64, wanted: u64)
     ensures { failures ≡ wanted }
 {

@@ -1,4 +1,5 @@
--- A record after the trailer is refused for the trailer. For any other record, the cause follows from the record's kind and fields.
+-- A record after the trailer is refused with the cause `After`. For any other record, the cause
+-- follows from the record's kind and fields.
 use Rattle.std.proofs.Common.{◌∙◌, sym}
 use Rattle.std.proofs.lemmas.Bool.{false≢true}
 use Rattle.cif_file.proofs.AnswerLemmas.{if_err_by}

@@ -78,7 +78,8 @@ returns-clause-no_further g c =
     no_further g.K.Keeper.keeps c.args.limit (g.S.Source.left c.args.source.now) (g.S.Source.left c.feed_all.new.source)
     (c.in-Err-Refused.ensures.no_further c.args.limit [] start)
 
--- `auto` proves these goals too. The proofs are written out so that a wrong body fails without a long search.
+-- The tactic `auto` proves these goals too. Here they are proved by hand, so that the prover
+-- refuses a wrong body without a long search.
 pub returns-in-Err-Source-clause-memory : goal.returns-in-Err-Source-clause-memory
 returns-in-Err-Source-clause-memory g c = search rules
 

@@ -1,4 +1,5 @@
--- `auto` proves these goals too. The proofs are written out so that a wrong body fails without a long search.
+-- The tactic `auto` proves these goals too. Here they are proved by hand, so that the prover
+-- refuses a wrong body without a long search.
 use Rattle.std.proofs.Common.{rules}
 use Rattle.cif_file.proofs.file.CifFile.into_changes.Goals as goal
 

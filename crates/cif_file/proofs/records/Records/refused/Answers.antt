@@ -1,4 +1,5 @@
--- A line beyond the limit is refused for the limit, a line after the trailer for the trailer, and any other line because it isn't a record.
+-- A line beyond the limit is refused with the cause `TooMany`, and a line after the trailer with
+-- the cause `After`. Any other line is refused because it isn't a record.
 use Rattle.std.proofs.Common.{◌≡◌, ap, subst, refl, true, false}
 use Rattle.std.specs.Prelude.{◌↔◌}
 use Rattle.docker_model.specs.file.File.{IsFile}
