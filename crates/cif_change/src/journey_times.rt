@@ -96,7 +96,7 @@ pub(crate) fn times_at(kind: Kind, line: &Line) -> Result<LineTimes, FieldFault>
     }
 }
 
-/// The time of an origin: its departure. The error is the leftmost bad field.
+/// The time of an origin: its departure. The error has the column of the leftmost bad field.
 fn origin_times(line: &Line) -> Result<LineTimes, FieldFault>
     requires kind { HasKind origin_location line.now }
     ensures ok { IsOk result ↔ HasGoodFields line.now }
@@ -112,7 +112,7 @@ fn origin_times(line: &Line) -> Result<LineTimes, FieldFault>
 }
 
 /// The times of an intermediate location: its arrival, pass and departure. A time that isn't given
-/// is left out. The error is the leftmost bad field.
+/// is left out. The error has the column of the leftmost bad field.
 fn call_times(line: &Line) -> Result<LineTimes, FieldFault>
     requires kind { HasKind intermediate_location line.now }
     ensures ok { IsOk result ↔ HasGoodFields line.now }
@@ -127,7 +127,7 @@ fn call_times(line: &Line) -> Result<LineTimes, FieldFault>
     })
 }
 
-/// The time of a terminating location: its arrival. The error is the leftmost bad field.
+/// The time of a terminus: its arrival. The error has the column of the leftmost bad field.
 fn terminus_times(line: &Line) -> Result<LineTimes, FieldFault>
     requires kind { HasKind terminating_location line.now }
     ensures ok { IsOk result ↔ HasGoodFields line.now }

@@ -52,7 +52,7 @@ impl Memo {
     }
 
     /// Remembers the index of a place. The index is written to the first free slot of the place. If
-    /// none of its slots is free, the index replaces the first slot.
+    /// no slot of the place is free, the index replaces the index in the first slot.
     pub(crate) fn set(&mut self, place: &[u8; 7], index: u32) {
         let first = slot_of(place);
         for step in 0..NEAR {

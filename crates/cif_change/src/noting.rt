@@ -14,8 +14,8 @@ use crate::places::{is_location, tiploc_in};
 use cif_line::{Line, Memory};
 
 /// Notes the places that a row with this key and this body names. Returns the piece of `numbers`
-/// that belongs to the row. Returns `Memory` if the allocator refuses memory, or if the length of
-/// `numbers` doesn't fit in 32 bits.
+/// that belongs to the row. Returns `Memory` if the allocator refuses memory, or if a list gets too
+/// long for an index of 32 bits.
 pub(crate) fn piece_of(
     names: &mut PlaceNames,
     numbers: &mut Vec<u32>,

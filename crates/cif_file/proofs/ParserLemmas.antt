@@ -324,7 +324,7 @@ refused_over keeps records limit taken cause fault counted number over told = re
 }
 
 -- a line within the limit that isn't a record is refused with the cause `After` if it follows the
--- trailer, and otherwise with the cause for which it isn't a record
+-- trailer. Otherwise the cause is the reason why it isn't a record
 pub refused_within : {K : Type 0} (keeps : Keeps K) (records : Records K) (limit : ℕ) (taken : Lines) (cause : Option model.FileCause) (fault : FileFault)
     (ended : Bool) → HasCounted keeps records limit taken
     → fault.number ≡ records.next → records.next ≤ records.limit

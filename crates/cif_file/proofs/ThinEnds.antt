@@ -1,4 +1,5 @@
--- Lemmas on what the reader returns at the end of a file if it kept only what a place and a day need.
+-- Lemmas on what the reader returns at the end of a file if it kept only what the docker of a place
+-- on a day needs.
 use Rattle.std.proofs.Common.{◌≡◌, ℕ, ◌∙◌, ◌≤◌, List, subst, sym, arith}
 use Rattle.std.specs.Prelude.{Option}
 use Rattle.docker_model.specs.file.File.{most_records}

@@ -6,12 +6,12 @@ use cif_change::FileCause;
 use std::error::Error;
 use std::fmt;
 
-/// The fault of a text that isn't a CIF file: a record and a cause. Also used if memory ran out at
-/// a record.
+/// The fault of a text that isn't a CIF file: a record and a cause. The type is also used if memory
+/// ran out at a record.
 #[derive(Clone, Copy, PartialEq, Eq, Debug)]
 pub struct FileFault {
-    /// The number of the record at fault, counted from 1. If memory ran out, the number is the
-    /// record at which it ran out.
+    /// The number of the record at fault, counted from 1. If memory ran out, this is the number of
+    /// the record at which it ran out.
     pub number: u32,
     /// What is wrong with this record.
     pub cause: FileCause,

@@ -9,7 +9,7 @@ use std::marker::Model;
 pub const NO_END: u16 = 65535;
 
 /// An end date, as its end number: the day number of the last day, or 65535 for no end. In the
-/// order of end dates, no end comes last.
+/// order of end dates, 65535 comes last.
 #[derive(Clone, Copy, PartialEq, Eq, PartialOrd, Ord, Debug)]
 pub struct Until {
     number: u16,

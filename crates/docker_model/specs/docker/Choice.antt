@@ -11,8 +11,8 @@ use Rattle.docker_model.specs.state.Order.{IsAtMost}
 use Rattle.docker_model.specs.state.Table.{Table}
 
 -- whether a day is from the first date to the last date, both included, and the day's weekday is
--- marked in the days run. The first date, the last date and the days run are fields of a schedule
--- or an association, of six, six and seven bytes
+-- marked in the days run. The first date and the last date are fields of six bytes, and the days
+-- run are a field of seven bytes, all of one schedule or one association
 abbrev pub runs_within : List ℕ → List ℕ → List ℕ → ℕ → Bool
 runs_within first last days day =
     nat_le (date_number first) day && nat_le day (end_number last) && runs_on_weekday days (weekday_of day)
