@@ -57,7 +57,7 @@ only x z among = by (Contains-cons x [] z among)
 not_above_itself : (stamp : FileStamp) → IsAtMost file_stamp_cmp stamp stamp
 not_above_itself stamp above = let tied = tied_itself file_stamp_total stamp in cc
 
--- Says that a ledger with only this item has a floor, and that the floor keeps the item.
+-- Says that the item is kept under the floor of a ledger with only this item.
 abbrev OneFloor : stamps.LedgerItem → Type 0
 OneFloor item = (floor : Option FileStamp) × IsFloor (item ∷ []) floor × IsKept floor item.stamp
 
@@ -104,7 +104,7 @@ one_item item before ledger none pushed =
     let all : ledger ≡ item ∷ [] = pushed ∙ ap (λ (xs : List LedgerItem). xs ++ item ∷ []) none in
     ap (map item_meant) all
 
--- rows that changes make with a stamp equal to the item's are the rows made with the item's stamp
+-- if a file stamp is the stamp of a ledger item, the rows that changes make with the file stamp are the rows made with the item's stamp
 pub made_stamped : (item : LedgerItem) (stamp : code.FileStamp) → file_stamp_meant stamp ≡ (item_meant item).stamp → (all : List model.Change)
     → (made : List (Key × Entry)) → map row_meant made ≡ map (made_by (file_stamp_meant stamp)) all
     → map row_meant made ≡ map (made_by (item_meant item).stamp) all
@@ -203,14 +203,14 @@ valid_of_made item all lines item_is all_is is_file few state is =
     (subst (λ (i : stamps.LedgerItem). IsMadeState i (changes lines) state) item_is (subst (λ (a : List model.Change). IsMadeState item a state) all_is is))
     is_file few
 
--- the state that the kept changes of a file make satisfies `IsStateOfChanges`
+-- the state made from a file's ledger item and its kept changes satisfies `IsStateOfChanges`, which `State::of_thin` promises
 pub kept_state : (item : stamps.LedgerItem) (kept : List model.Change) (lines : List (List ℕ)) (state : State) → item ≡ ledger_item_of lines
     → IsMadeState item kept state → IsStateOfChanges lines kept state
 kept_state item kept lines state item_is is =
     let of = subst (λ (i : stamps.LedgerItem). IsMadeState i kept state) item_is is in
     record { horizon = of.horizon; ledger = of.ledger; ascending = of.ascending; entries = of.entries }
 
--- the state that the kept changes of a file make is valid if these changes are enough for a place and a day
+-- the state that the kept changes of a file make is valid if these changes are a thinning for a place and a day
 pub valid_of_kept : (place : List ℕ) (day : ℕ) (item : stamps.LedgerItem) (all kept : List model.Change) (lines : List (List ℕ))
     → item ≡ ledger_item_of lines → IsFile lines → length lines ≤ most_records → all ≡ changes lines → IsThinning place day all kept → MakeValid item kept
 valid_of_kept place day item all kept lines item_is is_file few all_are thinning state is =

@@ -1,4 +1,4 @@
--- Lemmas on filtering a list by the test whether the floor keeps an element.
+-- Lemmas on filtering a list by the test whether the file stamp of an element isn't below the floor.
 use Rattle.std.proofs.Common.{◌≡◌, arith, List, [], ◌∷◌, length, map, refl, ap, sym, ◌∙◌, subst, Contains, Bool, true, false, cond, Some, None}
 use Rattle.std.specs.Prelude.{filter, Option, ◌↔◌, IsTrue}
 use Rattle.std.specs.declared.cmp.Ordering.TheVariants.{Less, Equal, Greater}
@@ -56,7 +56,7 @@ filter-map f test (x ∷ xs) = by (test (f x)) (filter-map f test xs)
     by true same = ap (λ zs. f x ∷ zs) same
     by false same = same
 
--- whether a comparison is less or equal
+-- whether the result of a comparison is `Less` or `Equal`
 not_above : Ordering → Bool
 not_above Less = true
 not_above Equal = true
@@ -93,7 +93,7 @@ says_kept floor stamp false told = by (keeps floor stamp) refl
     by false h = refl
     by true h = told.1 (keeps_is floor stamp h)
 
--- the lemmas for elements that a floor keeps and a function converts
+-- the lemmas for the elements that aren't below a floor, after a function has converted them
 module _ {A B : Type 0} (f : A → B) (cmp : B → B → Ordering) (floor : Option FileStamp) (stamp : B → FileStamp) (xs ys : List A)
     (is : ys ≡ filter (λ x. keeps floor (stamp (f x))) xs) where
   as_meant : map f ys ≡ filter (λ v. keeps floor (stamp v)) (map f xs)

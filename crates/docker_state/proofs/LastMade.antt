@@ -57,7 +57,7 @@ pub sorted_made : (xs : List Made) → IsSorted by_made xs → AreSorted (rows_i
 sorted_made xs up = from_far xs
     (λ i j d before within. sorted_far (λ x y. is_lt (by_made x y)) (ranks_by by_made_total (λ m. m)) xs up i j d (omega arith) within)
 
--- the last numbered rows, without their numbers, are the last rows
+-- the last numbered row of each key, without its number, is the last row of the key
 pub last_is : (made : List Made) → rows_in (last_made made) ≡ last_rows (rows_in made)
 last_is [] = refl
 last_is (m ∷ []) = refl
@@ -83,7 +83,7 @@ last_among (m ∷ next ∷ more) z last = by (is_made_of_key (Some next) (key_me
     by true rest inside = cons-Contains m (next ∷ more) z (rest inside)
     by false rest inside = cases rest (Contains-cons m (last_made (next ∷ more)) z inside)
 
--- there are at most as many last rows as rows
+-- there are at most as many last rows as there are rows
 pub last_len : (made : List Made) → length (numbers_in (last_made made)) ≤ length made
 last_len made = let one = length-map (last_made made) (λ (m : Made). m.1) in let two = fewer made in omega arith
   where
@@ -159,7 +159,7 @@ numbered_more file changes change made after m pushed made_is count are z among 
     by (inl before) = item_kept (items_put changes) item ((row_meant z.0).0, (row_meant z.0).1.op) z.1 (are z before)
     by (inr new) = last (Contains-cons {A = Made} m [] z new)
 
--- there are as many keys with ops as there are changes
+-- the list of keys with ops is as long as the list of changes
 pub noted_len : (changes : List Change) (count : ℕ) → count ≡ length changes → count ≡ length (items_put (map change_meant changes))
 noted_len changes count len =
     let one = length-map changes change_meant in

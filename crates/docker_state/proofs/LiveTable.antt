@@ -21,7 +21,7 @@ SameRow a b = a ≡ b
 abbrev pub PutThere : List (Key × Entry) → Key → Body → Type 0
 PutThere entries key body = (entry : Entry) × Contains entries (key, entry) × (entry.op ≡ put_with body)
 
--- each key and body of the walk is put by an entry
+-- for each key and body that the walk returns, there is an entry that puts the body under the key
 pub from_live : (entries : List (Key × Entry)) (key : Key) (body : Body) → Contains (live_rows entries) (key, body) → PutThere entries key body
 from_live [] key body among = absurd (nil-Contains (key, body) among)
 from_live (first ∷ entries) key body among = by first.1.op refl (from_live entries key body) among
@@ -44,7 +44,7 @@ from_live (first ∷ entries) key body among = by first.1.op refl (from_live ent
         cases (inl same) = here other is same
         cases (inr behind) = later (rest behind)
 
--- the walk has each key and body that an entry puts
+-- the walk returns each key and body that an entry puts
 pub to_live : (entries : List (Key × Entry)) (key : Key) (entry : Entry) (body : Body) → entry.op ≡ put_with body → Contains entries (key, entry)
     → Contains (live_rows entries) (key, body)
 to_live [] key entry body is among = absurd (nil-Contains (key, entry) among)

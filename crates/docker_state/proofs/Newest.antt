@@ -15,13 +15,13 @@ use Rattle.cif_laws.proofs.lists.Membership.{Contains-cons, Contains-map, Contai
 use Rattle.cif_laws.proofs.orders.AtMost.{at_most_below, at_most_or, at_most_trans, level}
 use Rattle.cif_laws.proofs.orders.Orders.{file_stamp_total}
 
--- if a ledger item is below a second item, its stamp isn't above the stamp of the second
+-- if a ledger item is below a second item, its stamp isn't above the stamp of the second item
 stamp_at_most : (a b : LedgerItem) → IsBelow ledger_item_cmp a b → IsAtMost file_stamp_cmp a.stamp b.stamp
 stamp_at_most a b below = λ above.
     let bad : Greater ≡ Less =
     sym (λ i. ordering_then (above i) (ordering_then (nat_cmp a.indicator b.indicator) (bytes_cmp a.last_reference b.last_reference))) ∙ below in cc
 
--- if a ledger item is below a second item, any stamp above the stamp of the second is above the stamp of the first
+-- if a ledger item is below a second item, any stamp above the second item's stamp is also above the first item's stamp
 below_with : (a b : LedgerItem) (stamp : FileStamp) → IsBelow ledger_item_cmp a b → IsBelow file_stamp_cmp b.stamp stamp
     → IsBelow file_stamp_cmp a.stamp stamp
 below_with a b stamp before low = by (at_most_or file_stamp_total stamp a.stamp)

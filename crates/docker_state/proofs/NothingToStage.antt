@@ -42,8 +42,7 @@ none_of_more own floor row rows first others key entry among = by (Contains-cons
     by (inl same) = subst (λ (it : Key × Entry). ¬ IsToStage own floor it.0 it.1) same first
     by (inr behind) = others key entry behind
 
--- for rows of the code too: if neither the first row nor any row after it has to be staged, no row
--- has to be staged
+-- the same lemma for rows of the code's type: if neither the first row nor any row after it has to be staged, no row has to be staged
 pub none_of_rest : {A : Type 0} (meant : A → Key × Entry) (own : State) (floor : Option FileStamp) (rows behind : List A) (row : A) → rows ≡ row ∷ behind
     → ¬ IsToStage own floor (meant row).0 (meant row).1 → HasNoneToStage own floor (map meant behind) → HasNoneToStage own floor (map meant rows)
 none_of_rest meant own floor rows behind row is first others =

@@ -20,11 +20,11 @@ use Rattle.docker_state.specs.Live.{live_rows, put_before}
 use Rattle.docker_state.specs.PlaceRows.{is_call, is_link, is_here, row_here, rows_here}
 use Rattle.docker_state.proofs.LiveTable.{ascends, live_walks}
 
--- whether a row is linked at the place, if `links` is true, or calls there otherwise
+-- whether a row is at the place: an association there if `links` is true, and otherwise a schedule that calls there
 abbrev passes : Bool → List ℕ → Row → Bool
 passes links place row = is_here links place row.0 row.1
 
--- the rows at a place are the live rows that pass this test
+-- the rows at a place are the live rows for which `passes` is true
 pub rows_here_are : (links : Bool) (place : List ℕ) (rows : List (Key × Entry)) → rows_here links place rows ≡ filter (passes links place) (live_rows rows)
 rows_here_are links place [] = refl
 rows_here_are links place (row ∷ rows) = by row.1.op (rows_here_are links place rows)
@@ -121,6 +121,6 @@ module _ (state : State) (valid : IsValid state) (place : List ℕ) where
     );
   })
 
-  -- as many live schedules call at the place as rows are found for calls
+  -- the number of rows found for calls is the number of live schedules that call at the place
   pub calls_counted : (count : ℕ) → count ≡ length (rows_here false place state.entries) → IsCallingCount (live_table state) place count
   calls_counted count is = (rows_here false place state.entries, calling_sifted, sym is)

@@ -35,7 +35,7 @@ abbrev pub HasKeptRows : List (Key × Entry) → List (Key × Entry) → Option 
 HasKeptRows rows joined floor =
     (row : Keyed) → Contains (map row_meant rows) row ↔ (Contains (map row_meant joined) row × IsKept floor row.1.stamp.file)
 
--- the lines of a body that belongs under its key are records
+-- if a put's body belongs under its key, the lines of the body are records
 pub op_records : (key : model.Key) (op : ops.Op) → IsOpOf key op → HasRecords op
 op_records key deleted good = tt
 op_records key lapsed good = tt

@@ -22,12 +22,12 @@ IsIndexIfAny rows index = IfSome index (IsIndexOf rows)
 abbrev pub HasNotedIfAny : List Item → Option Notes → Type 0
 HasNotedIfAny items notes = IfSome notes (HasNoted items)
 
--- Says that there is memory for the index of these rows, unless nothing is noted or nothing was
--- reserved.
+-- Says that the reserved memory is enough for the index of these rows, or that nothing is noted, or
+-- that nothing was reserved.
 abbrev pub HasRoomIfAny : List (model.Key × ops.Entry) → Option Notes → Option Room → Type 0
 HasRoomIfAny rows notes room = IfSome notes (λ noted. IfSome room (HasRoomFor rows noted.names.list.items))
 
--- Says that the rows are at these indexes among the noted rows, or that nothing is noted.
+-- Says that the rows are at these indexes among the noted rows, or that there are no notes.
 abbrev pub ArePickedNotes : List ℕ → List (model.Key × ops.Entry) → Option Notes → Type 0
 ArePickedNotes order rows notes = IfSome notes (λ noted. (items : List Item) × HasNoted items noted × ArePicked items order (items_of rows))
 

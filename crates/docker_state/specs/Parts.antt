@@ -12,8 +12,7 @@ use Rattle.docker_state.specs.declared.item.LedgerItem.{LedgerItem}
 use Rattle.docker_state.specs.Indexed.{HasNotedIfAny}
 use Rattle.docker_state.specs.Meaning.{row_meant, state_meant}
 
--- Says that the parts are a valid state and that, if there are notes, these are the notes of its
--- rows.
+-- Says that the parts make a valid state. Any notes are the notes of its rows.
 pub record AreParts (ledger : List LedgerItem) (rows : List (Kept × Row)) (notes : Option Notes) : Type 0 where
   pub valid : IsValid (state_meant 0 ledger rows)
   pub noted : HasNotedIfAny (items_of (map row_meant rows)) notes

@@ -23,8 +23,8 @@ is_link place (association_key key) (tiploc_body bytes) = false
 is_link place (association_key key) (schedule_body lines) = false
 is_link place (association_key key) (association_body line) = bytes_eq key.location place
 
--- whether a row with this key and body is at the place: linked there if the flag is true, and
--- otherwise calling there
+-- whether a row with this key and body is at the place: an association there if the flag is true,
+-- and otherwise a schedule that calls there
 abbrev pub is_here : Bool → List ℕ → Key → Body → Bool
 is_here true place key body = is_link place key body
 is_here false place key body = is_call place key body

@@ -43,7 +43,8 @@ rows_in made = map (λ (m : Made). m.0) made
 abbrev pub numbers_in : List Made → List ℕ
 numbers_in made = map (λ (m : Made). m.1) made
 
--- Says that each row's number is the index, in a list of keys with ops, of the row's key and op.
+-- Says that each row's key and op are in a list of keys with ops, at the index that is the row's
+-- number.
 abbrev pub AreNumbered : List Item → List Made → Type 0
 AreNumbered items made = (m : Made) → Contains made m → slice_get items m.1 ≡ Some ((row_meant m.0).0, (row_meant m.0).1.op)
 

@@ -53,16 +53,17 @@ abbrev pub IsAboveStaged : List (model.Key × ops.Entry) → model.Key → Type 
 IsAboveStaged staged key =
     (other : model.Key × ops.Entry) → Contains staged other → key_cmp other.0 key ≡ Less
 
--- Says that the ledger has an item, or that the floor doesn't keep the item.
+-- Says that the ledger has an item, or that the item is below the floor.
 abbrev pub HasIfKept : List stamps.LedgerItem → stamps.LedgerItem → Option stamps.FileStamp → Type 0
 HasIfKept ledger item floor = IsKept floor item.stamp → Contains ledger item
 
--- Says that the ledger has each of these items that the floor keeps.
+-- Says that the ledger has each of these items that isn't below the floor.
 abbrev pub HasKeptItems : List stamps.LedgerItem → List stamps.LedgerItem → Option stamps.FileStamp → Type 0
 HasKeptItems ledger items floor =
     (item : stamps.LedgerItem) → Contains items item → HasIfKept ledger item floor
 
--- Says that no entry is staged, and that the ledger has each received item that the floor keeps.
+-- Says that no entry is staged, and that the ledger has each received item that isn't below the
+-- floor.
 abbrev pub HasNothingNew : List stamps.LedgerItem → Staging → Type 0
 HasNothingNew ledger staging =
     (staging.staged ≡ []) × HasKeptItems ledger staging.items staging.floor

@@ -26,9 +26,9 @@ fn are_below(ledger: &[LedgerItem], floor: &Option<FileStamp>) -> bool
     }
 }
 
-/// Whether these entries add nothing to a state. An entry adds nothing if the floor doesn't keep
-/// it, or if the state has the same or a greater entry of its key. The keys of the rows must
-/// ascend.
+/// Whether these entries add nothing to a state. An entry adds nothing if it is below the floor, or
+/// if the state has the same or a greater entry of its key. If the keys of the rows ascend, each
+/// lookup begins near the last one.
 fn none_to_stage(own: &State, rows: &[(Key, Entry)], floor: &Option<FileStamp>) -> bool
     ensures { IsTrue result
         → HasNoneToStage own.now (floor_meant floor.now) (map row_meant rows.now) }
@@ -55,8 +55,8 @@ fn brings_none(own: &State, other: &State, floor: &Option<FileStamp>) -> bool
 impl State {
     /// Whether the join with another state is this state under the greater of the two horizons.
     /// True only if this state has each ledger item of the other state and, for each entry of the
-    /// other state, the same or a greater entry. Items and entries below the floor of both states
-    /// don't count.
+    /// other state, the same or a greater entry. Items and entries below the common floor of the
+    /// two states don't count.
     pub(crate) fn covers(&self, other: &State) -> bool
         ensures { IsTrue result
             → IsJoin self.now other.now (raise_horizon other.now.horizon self.now) }

@@ -43,8 +43,8 @@ pub(crate) fn common_floor(first: Option<FileStamp>, second: Option<FileStamp>) 
     }
 }
 
-/// Whether a floor keeps the file with this stamp and the file's entries: the stamp isn't below the
-/// floor. Returns true if there is no floor.
+/// Whether a file stamp isn't below a floor, so that the file and its entries are kept. Returns
+/// true if there is no floor.
 pub(crate) fn is_kept(floor: &Option<FileStamp>, stamp: &FileStamp) -> bool
     ensures { IsTrue result ↔ IsKept (floor_meant floor.now) (file_stamp_meant stamp.now) }
 {

@@ -18,8 +18,8 @@ use docker_join::{Entry, Op};
 use state_index::{Index, Notes, Piece, Room, note_row, notes_of_rows};
 use std::alloc::Global;
 
-/// The index of rows, made from their notes. Returns `None` if there are no notes. Returns `Memory`
-/// if the allocator refuses.
+/// Makes the index of rows from their notes, which list the places of each row. Returns `None` if
+/// there are no notes. Returns `Memory` if the allocator refuses.
 pub(crate) fn index_of_notes(
     alloc: Global,
     notes: Option<Notes>,
@@ -37,7 +37,7 @@ pub(crate) fn index_of_notes(
     }
 }
 
-/// The index of rows. Returns `None` if no index is wanted. Returns `Memory` if the allocator
+/// Makes the index of rows. Returns `None` if no index is wanted. Returns `Memory` if the allocator
 /// refuses.
 pub(crate) fn index_if(
     alloc: Global,
@@ -53,8 +53,8 @@ pub(crate) fn index_if(
     index_of_notes(alloc, Some(notes), rows)
 }
 
-/// Notes the next row, a key with its op, if rows are noted. If the call returns `Memory`, the row
-/// isn't noted.
+/// Adds the next row, a key with its op, to the notes. Does nothing if there are no notes. If the
+/// call returns `Memory`, the notes are unchanged.
 pub(crate) fn note_if(notes: &mut Option<Notes>, key: &Key, op: &Op) -> Result<(), Memory>
     ensures ok { IsOk result → (items : List Item) → HasNotedIfAny items notes.old
         → HasNotedIfAny (items ++ (key_meant key.now, op_meant op.now) ∷ []) notes.new }
@@ -67,8 +67,8 @@ pub(crate) fn note_if(notes: &mut Option<Notes>, key: &Key, op: &Op) -> Result<(
     }
 }
 
-/// Reserves room for the index of the rows that noted changes make, one for each key. Returns
-/// `None` if changes aren't noted. Returns `Memory` if the allocator refuses.
+/// Reserves memory for the index of the rows that noted changes make. The changes make one row for
+/// each key. Returns `None` if there are no notes. Returns `Memory` if the allocator refuses.
 pub(crate) fn room_for_notes(alloc: Global, notes: &Option<Notes>) -> Result<Option<Room>, Memory>
     ensures { (changes : List model.Change) (rows : List (model.Key × ops.Entry))
         → AreNotesOf changes notes.now → AreAscending rows → AreMadeBy changes rows
@@ -83,9 +83,9 @@ pub(crate) fn room_for_notes(alloc: Global, notes: &Option<Notes>) -> Result<Opt
     }
 }
 
-/// Makes the index of the rows in the memory that was reserved for it, if rows were noted. `order`
-/// gives the number of each row among all noted rows. `pieces` must be empty and have room for a
-/// piece of each row.
+/// Makes the index of the rows in the memory that was reserved for it. Returns `None` if nothing
+/// was reserved or noted. `order` gives the number of each row among all noted rows. `pieces` must
+/// be empty and have room for one piece per row.
 pub(crate) fn picked_index(
     room: Option<Room>,
     notes: Option<Notes>,

@@ -69,7 +69,7 @@ pub(crate) fn union_of(
     items
 }
 
-/// Keeps only the items that a floor keeps.
+/// Removes the items that are below a floor. Without a floor all items stay.
 pub(crate) fn kept_items(mut items: Vec<LedgerItem>, floor: &Option<FileStamp>) -> Vec<LedgerItem>
     requires { IsStrictlyAscending ledger_item_cmp (map item_meant items.items) }
     ensures ascending { IsStrictlyAscending ledger_item_cmp (map item_meant result.items) }
@@ -80,14 +80,14 @@ pub(crate) fn kept_items(mut items: Vec<LedgerItem>, floor: &Option<FileStamp>) 
     items
 }
 
-/// Whether a floor keeps this item.
+/// Whether an item isn't below a floor. Returns true if there is no floor.
 fn is_kept_item(floor: &Option<FileStamp>, item: &LedgerItem) -> bool
     ensures { IsTrue result ↔ IsKept (floor_meant floor.now) (item_meant item.now).stamp }
 {
     is_kept(floor, &item.stamp())
 }
 
-/// Whether a ledger has all of these items, apart from the items that the floor doesn't keep.
+/// Whether a ledger has each of these items that isn't below the floor.
 pub(crate) fn has_kept_items(
     ledger: &[LedgerItem],
     items: &[LedgerItem],
@@ -106,7 +106,7 @@ pub(crate) fn has_kept_items(
     true
 }
 
-/// Whether a ledger has this item, or the floor doesn't keep the item.
+/// Whether a ledger has this item, or the item is below the floor.
 fn has_if_kept(ledger: &[LedgerItem], item: &LedgerItem, floor: &Option<FileStamp>) -> bool
     requires { IsStrictlyAscending ledger_item_cmp (map item_meant ledger.now) }
     ensures { IsTrue result

@@ -42,8 +42,8 @@ pub(crate) fn entry_near<'a>(
     }
 }
 
-/// Whether a key is below the key of the row at this index, or this is the index just after the
-/// last row.
+/// Whether a key is below the key of the row at this index, or the index is just after the last
+/// row.
 fn is_below_at(rows: &[(Key, Entry)], at: usize, key: &Key) -> bool
     ensures { IsTrue result → IsBelowAt (key_meant key.now) rows.now at }
 {

@@ -20,8 +20,8 @@ use state_index::Notes;
 use std::alloc::Global;
 use std::marker::Model;
 
-/// The parts of a state that were added: first ledger items, then entries, each in ascending order.
-/// After each addition the parts are a valid state.
+/// The parts of a state that were added so far: first ledger items, then entries, both in ascending
+/// order. After each addition the parts make a valid state.
 #[derive(Debug, Drop)]
 pub struct Parts {
     ledger: Vec<LedgerItem>,
@@ -133,8 +133,8 @@ impl Parts {
         state_of(0, ledger, entries, notes)
     }
 
-    /// Makes the state from the parts, under a horizon. No entry may have to lapse under this
-    /// horizon, so no end date is read. The call fails for the same reasons as `finish`.
+    /// Makes the state from the parts, under a horizon. The caller ensures that no body ended
+    /// before the horizon, so no end date is read. The call fails for the same reasons as `finish`.
     pub fn finish_under(self, horizon: Day) -> Result<State, Memory>
         requires { IsValid (under_horizon horizon self) }
         ensures { IfOk result (λ state. state ≡ under_horizon horizon self) }
@@ -148,8 +148,8 @@ impl Parts {
     }
 }
 
-/// Makes the state with this horizon, these ledger items and these entries. It has an index if the
-/// places of the entries were noted.
+/// Makes the state with this horizon, these ledger items and these entries. The state has an index
+/// if the places of the entries were noted.
 fn state_of(
     horizon: u16,
     ledger: Vec<LedgerItem>,

@@ -19,7 +19,7 @@ pub(crate) enum Walk<'a> {
 }
 
 impl<'a> Walk<'a> {
-    /// The next live row at the place, with its index.
+    /// The next live row at the place, with its index among all rows.
     fn next(&mut self) -> Option<(usize, &'a Key, &'a Body)>
         ensures { YieldsFirstBy (λ row. (key_meant row.1.now, body_meant row.2.now))
             rows_walked self.old result self.new }
@@ -31,9 +31,9 @@ impl<'a> Walk<'a> {
     }
 }
 
-/// An iterator over the live rows at a place, in key order. It returns the index, the key and the
-/// body of each row. No clause says that the index is right. A caller may use the index as a hint
-/// where to look first, but no result may depend on it.
+/// An iterator over the live rows at a place, in key order. For each row it returns the row's index
+/// among all rows, the key and the body. No clause says that the row's index is right. A caller may
+/// use it as a hint where to look first, but no result may depend on it.
 #[derive(Clone, Debug, Drop)]
 pub struct Numbered<'a> {
     walk: Walk<'a>,
@@ -88,7 +88,7 @@ impl<'a> PlaceRows<'a> {
         }
     }
 
-    /// An iterator over the same rows that also returns the index of each row, from 0.
+    /// An iterator over the same rows that also returns each row's index among all rows, from 0.
     pub fn numbered(self) -> Numbered<'a>
         ensures { result ≡ self.entry }
     {

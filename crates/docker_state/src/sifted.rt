@@ -11,8 +11,9 @@ use cif_line::Tiploc;
 use docker_join::{Entry, Op};
 use std::marker::Model;
 
-/// Walks over all rows. Returns the live rows at a place, in key order, each as its index, key and
-/// body. No clause says that the index is right.
+/// An iterator that walks over all rows and returns the live rows at a place, in key order. For
+/// each row it returns the row's index among all rows, the key and the body. No clause says that
+/// the row's index is right.
 #[derive(Clone, Debug, Drop)]
 pub(crate) struct SiftedRows<'a> {
     count: usize,
@@ -34,8 +35,8 @@ impl<'a> Model for SiftedRows<'a> {
 }
 
 impl<'a> SiftedRows<'a> {
-    /// The walk over these rows: over the associations at the place if `links` is true, and
-    /// otherwise over the schedules that call there.
+    /// An iterator over the associations at the place if `links` is true, and otherwise over the
+    /// schedules that call there.
     pub(crate) fn of(rows: &'a [(Key, Entry)], place: &Tiploc, links: bool) -> SiftedRows<'a>
         ensures { result ≡ rows_here links place.now (map row_meant rows.entry.now) }
     {
@@ -68,7 +69,7 @@ impl<'a> Iterator for SiftedRows<'a> {
     }
 }
 
-/// How many of these rows are live and call at a place.
+/// How many of these rows are live schedules that call at a place.
 pub(crate) fn count_calls(rows: &[(Key, Entry)], place: &Tiploc) -> usize
     ensures { result ≡ length (rows_here false place.now (map row_meant rows.now)) }
 {
@@ -100,8 +101,8 @@ fn found<'a>(row: &'a (Key, Entry), place: &Tiploc, links: bool) -> Option<(&'a 
     }
 }
 
-/// Whether a live key with this body is at the place: linked there if `links` is true, and
-/// otherwise calling there.
+/// Whether a live key with this body is at the place. If `links` is true, it must be an association
+/// there, and otherwise a schedule that calls there.
 fn is_here(links: bool, place: &Tiploc, key: &Key, body: &Body) -> bool
     ensures { result ≡ is_here links place.now (key_meant key.now) (body_meant body.now) }
 {

@@ -122,8 +122,8 @@ impl Staging {
         Ok(())
     }
 
-    /// Whether no entry is staged, and this ledger already has each received item that the floor
-    /// keeps.
+    /// Whether no entry is staged, and this ledger already has each received item that isn't below
+    /// the floor.
     fn has_nothing_new(&self, ledger: &[LedgerItem]) -> bool
         requires { IsStrictlyAscending ledger_item_cmp (map item_meant ledger.now) }
         ensures { IsTrue result ↔ HasNothingNew (map item_meant ledger.now) self.now }
@@ -145,7 +145,7 @@ pub(crate) fn is_to_stage(
         ↔ IsToStage state.now (floor_meant floor.now) (key_meant key.now) (entry_meant entry.now) }
 {
     // If the entry's file is newer than every known file, the entry is greater than any of ours.
-    // Then ours doesn't have to be found.
+    // Then our entry of its key doesn't have to be looked up.
     if is_above_all(state.ledger(), &entry.stamp.file) {
         return is_kept(floor, &entry.stamp.file);
     }
@@ -158,10 +158,11 @@ pub(crate) fn is_to_stage(
 impl State {
     /// Joins the state with the received ledger items and entries. The ledger becomes the union of
     /// both ledgers, and each staged entry is written at its key. Entries and items below the floor
-    /// of both are dropped, and bodies that end before this state's horizon lapse. The entries may
-    /// have been offered to another state with the same floor: a greater entry of this state then
-    /// stays, and the result is still the join. If nothing is staged and no item is new, nothing is
-    /// done. If memory runs out, the state is unchanged, and what was received is dropped.
+    /// of both ledgers are dropped, and bodies that end before this state's horizon lapse. The
+    /// entries may have been offered to another state with the same floor: a greater entry of this
+    /// state then stays, and the result is still the join. If nothing is staged and no item is new,
+    /// nothing is done. If memory runs out, the state is unchanged, and what was received is
+    /// dropped.
     pub fn commit(&mut self, staging: Staging) -> Result<(), Memory>
         requires floor { IsFloor (self.old.ledger ++ staging.items) staging.floor }
         ensures join { IsOk result

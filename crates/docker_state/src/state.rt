@@ -137,8 +137,8 @@ impl State {
     }
 
     /// The state that the kept changes of a file make, for the docker of one place on one day. For
-    /// that place and day, this state has the same docker as the state of the whole file. It must
-    /// not be used for anything else. If memory runs out, the kept changes are dropped.
+    /// that place and day, this state has the same docker as the state of the whole file. The state
+    /// must not be used for anything else. If memory runs out, the kept changes are dropped.
     pub fn of_thin(alloc: Global, file: ThinFile) -> Result<State, Memory>
         ensures { (records : List (List ℕ)) → IsOfRecords file.file records
             → IfOk result (IsStateOfChanges records file.kept) }
@@ -251,9 +251,9 @@ impl State {
     }
 
     /// Sets a horizon: each live entry that ends before this day lapses. A lapsed entry loses its
-    /// body and keeps its stamp, so that no older file can put it again. A day that isn't after the
-    /// present horizon changes nothing. The call may allocate one byte per row while it runs. If
-    /// the allocator refuses, the call only takes longer.
+    /// body and keeps its stamp, so that no older file can put a body under its key again. A day
+    /// that isn't after the present horizon changes nothing. The call may allocate one byte per row
+    /// while it runs. If the allocator refuses, the call only takes longer.
     pub fn set_horizon(&mut self, day: Day)
         ensures raised { self.new ≡ raise_horizon day self.old }
         ensures summary { (files : List (List (List ℕ))) (horizon : ℕ)
@@ -391,8 +391,8 @@ impl State {
         Live::of(rows_of_uid(self.entries.as_slice(), uid, near))
     }
 
-    /// The index of the join with another state, if both states have an index. The new index is
-    /// made before any row is moved. Returns `Memory` if the allocator refuses.
+    /// The index of the join with another state. Returns `None` unless both states have an index.
+    /// The new index is made before any row is moved. Returns `Memory` if the allocator refuses.
     fn index_of_join(&self, alloc: Global, other: &State) -> Result<Option<Index>, Memory>
         ensures { IfOk result (λ index. (joined : states.State) → IsJoin self.now other.now joined
             → IsIndexIfAny joined.entries index) }
@@ -501,7 +501,7 @@ impl State {
             entries: right,
             index: their_index,
         } = other;
-        // Both old indexes are dropped before a row is placed.
+        // Both old indexes are dropped before any row is moved.
         drop(their_index);
         let left = lapsed_under(rows, own, theirs);
         let right = lapsed_under(right.into_rows(), theirs, own);

@@ -12,9 +12,9 @@ use cif_file::{Body, Key};
 use cif_line::Stp;
 use std::marker::Model;
 
-/// An iterator over the rows at a place that count, in key order. It returns the index, the key and
-/// the body of each row. No clause says that the index is right: it is only a hint for a later
-/// search.
+/// An iterator over the rows at a place that count, in key order. For each row it returns the row's
+/// index among all rows, the key and the body. No clause says that the row's index is right: it is
+/// only a hint for a later search.
 #[derive(Clone, Debug, Drop)]
 pub struct TimetableRows<'a> {
     rows: Numbered<'a>,
@@ -33,7 +33,7 @@ impl<'a> Model for TimetableRows<'a> {
 }
 
 impl<'a> TimetableRows<'a> {
-    /// An iterator over the rows among these that count: all, or only the permanent ones.
+    /// An iterator over the rows that count: over all these rows, or only over the permanent ones.
     pub(crate) fn of(rows: Numbered<'a>, permanent: bool) -> TimetableRows<'a>
         ensures { result ≡ counted_rows (counts permanent) rows.entry }
     {
@@ -79,7 +79,8 @@ impl<'a> Model for UidSchedules<'a> {
 }
 
 impl<'a> UidSchedules<'a> {
-    /// An iterator over the rows among these that count: all, or only the permanent ones.
+    /// An iterator over the schedules that count: over all these rows, or only over the permanent
+    /// ones.
     pub(crate) fn of(rows: Live<'a>, permanent: bool) -> UidSchedules<'a>
         ensures { result ≡ counted_rows (counts permanent) rows.entry }
     {

@@ -85,7 +85,7 @@ fn first_after(rows: &[(Key, Entry)], uid: &Uid) -> Option<usize>
     rows.iter().position(|row| !to_uid(&row.0, uid).is_le())
 }
 
-/// Compares a key with the keys of a UID's schedules.
+/// Compares a key with the keys of a UID's schedules. Returns `Equal` for a schedule of the UID.
 fn to_uid(key: &Key, uid: &Uid) -> Ordering
     ensures { result ≡ to_uid (key_meant key.now) uid.now }
 {

@@ -131,7 +131,7 @@ second_more : (front all first second : List Spot) → AreOfBoth all first secon
 second_more front all first second told =
     turned (front ++ all) (front ++ second) first (first_more front all second first (turned all first second told))
 
--- whether the floor keeps an entry that comes from the same file as a row's entry
+-- whether the entry of a row isn't below the floor
 abbrev pub keeps : Option FileStamp → Keyed → Bool
 keeps floor pair = is_kept floor pair.1.stamp.file
 

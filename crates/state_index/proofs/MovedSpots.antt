@@ -55,7 +55,7 @@ module _ (moves : List (Option ℕ)) where
   pub moved_ascends : AreRising moves → (spots : List Spot) → IsStrictlyAscending spot_cmp spots → IsStrictlyAscending spot_cmp (moved_spots moves spots)
   moved_ascends rise spots up = chosen_ascends (moved_spot moves) spot_cmp spot_cmp (moved_below rise) spots up
 
-  -- if all spots of one list are in another, all moved spots of the first are moved spots of the other
+  -- if all spots of one list are in a second list, all moved spots of the first list are moved spots of the second list
   pub moved_same : (spots others : List Spot) → ((spot : Spot) → Contains spots spot → Contains others spot) → (spot : Spot)
       → Contains (moved_spots moves spots) spot → Contains (moved_spots moves others) spot
   moved_same spots others same spot among =

@@ -30,8 +30,8 @@ abbrev pub LapsesTo : List (model.Key × ops.Entry) → Option FileStamp → ℕ
 LapsesTo entries floor horizon key entry =
     (before : ops.Entry) × Contains entries (key, before) × IsKept floor before.stamp.file × (lapse_entry horizon before ≡ entry)
 
--- Says that these rows are the join of two tables, without the entries that the floor doesn't keep,
--- and with the horizon applied.
+-- Says that these rows are the join of two tables, without the entries below the floor, and with
+-- the horizon applied.
 pub record AreJoined (first second : List (Key × Entry)) (floor : Option FileStamp) (horizon : ℕ) (joined : List (model.Key × ops.Entry)) : Type 0 where
   pub whole : List (Key × Entry)
   pub is_join : IsJoinOfRows (ord_max (on entry_meant entry_cmp)) first second whole

@@ -5,17 +5,17 @@ pub use Rattle.cif_change.specs.Noted.{Item, items_of, items_put, Keeps, if_aske
 pub use Rattle.cif_change.specs.Noted.{ArePicked}
 use Rattle.state_index.specs.declared.posting.Posting.{Posting}
 
--- the posting for a noted number of the row at index `at`; `ranks` gives the index of the place for
--- each number
+-- the posting of the row at index `at`, for the place with this provisional number; `ranks` gives
+-- the index of the place for each number
 abbrev pub posting_of : List ℕ → ℕ → ℕ → Posting
 posting_of ranks at number = record { place = get_or ranks number 0; at = at }
 
--- the index of the last row whose piece was taken, given the number of rows and the remaining
--- pieces
+-- the index of the row whose piece of the notes was taken last, given the number of rows and the
+-- remaining pieces
 abbrev pub row_before : ℕ → List Piece → ℕ
 row_before rows left = rows - length left - 1
 
--- the postings of the rows whose pieces remain, given the number of rows
+-- the postings of the rows whose pieces of the notes remain, given the number of rows
 abbrev pub noted_postings : Bool → List ℕ → List ℕ → ℕ → List Piece → List Posting
 noted_postings links ranks numbers rows [] = []
 noted_postings links ranks numbers rows (piece ∷ pieces) =

@@ -30,7 +30,7 @@ pub record HasRoomFor (rows : List (model.Key × ops.Entry)) (names : List (List
   pub calls : HasSlots (length room.places.items) (length (spots_of call_places rows)) room.calls
   pub links : HasSlots (length room.places.items) (length (spots_of link_places rows)) room.links
 
--- Says that all places of the first list are in the second.
+-- Says that all places of the first list are in the second list.
 abbrev pub Includes : List (List ℕ) → List (List ℕ) → Type 0
 Includes few many = (place : List ℕ) → Contains few place → Contains many place
 
@@ -43,7 +43,7 @@ pub record IsRoom (names : List (List ℕ)) (most_calls most_rows : ℕ) (room :
   pub calls : HasSlots (length room.places.items) most_calls room.calls
   pub links : HasSlots (length room.places.items) most_rows room.links
 
--- Says that each row has the key of some change and the op that this change leaves.
+-- Says that each row has the key of some change, and the op that this change results in.
 abbrev pub AreMadeBy : List model.Change → List (model.Key × ops.Entry) → Type 0
 AreMadeBy changes rows = (row : model.Key × ops.Entry) → Contains rows row
     → Contains {X = model.Key × ops.Op} (map (λ (change : model.Change). (change.key, op_of change.act)) changes) (row.0, row.1.op)

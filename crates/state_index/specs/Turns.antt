@@ -56,8 +56,8 @@ abbrev pub turns_of : List (Key × Entry) → List (Key × Entry) → List AtKey
 turns_of [] ys = map in_second ys
 turns_of (x ∷ xs) ys = turns_from x (turns_of xs) ys
 
--- whether a floor keeps the entries of the file with this stamp: the stamp isn't below the floor.
--- Without a floor everything is kept
+-- whether a file stamp isn't below a floor, so that the file's entries are kept; true if there is
+-- no floor
 abbrev pub is_kept : Option FileStamp → FileStamp → Bool
 is_kept None stamp = true
 is_kept (Some floor) stamp = not (is_gt (file_stamp_cmp floor stamp))
@@ -69,7 +69,7 @@ is_put lapsed = false
 is_put (put_with body) = true
 
 -- the index that a winning entry gets in the join, if `at` rows come before the entry. It is none
--- if the floor doesn't keep the entry, or if the entry isn't live once the horizon is applied
+-- if the entry is below the floor, or if it isn't live once the horizon is applied
 abbrev pub goes : Option FileStamp → ℕ → ℕ → Entry → Option ℕ
 goes floor horizon at entry =
     if is_kept floor (entry_meant entry).stamp.file && is_put (lapse horizon (entry_meant entry).op) then Some at else None

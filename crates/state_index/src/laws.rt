@@ -9,8 +9,9 @@ ghost use Rattle.state_index.specs.declared.index.Index.{Index};
 ghost use Rattle.state_index.specs.Spots.{IsIndexOf, call_spots, link_spots};
 ghost use Rattle.state_index.specs.Tables.{calling_rows, linked_rows};
 
-/// The spots in an index of a state's rows are the two indexes of the state's live table: where
-/// schedules call, and where associations are.
+/// An index of a state's rows has the two indexes of the state's live table: where schedules call,
+/// and where associations are. A spot is a posting with the TIPLOC itself instead of the TIPLOC's
+/// index.
 pub fn indexes_of_rows()
     ensures calls { (state : State) (index : Index)
         → AreAscending state.entries → IsIndexOf state.entries index
@@ -20,7 +21,8 @@ pub fn indexes_of_rows()
         → IsLinkedIndex (live_table state) (linked_rows state.entries (link_spots index)) }
 {}
 
-/// Two indexes of the same rows have the same spots.
+/// Two indexes of the same rows have the same spots. A spot is a posting with the TIPLOC itself
+/// instead of the TIPLOC's index.
 pub fn one_index_of_rows()
     ensures calls { (rows : List (Key × Entry)) (first second : Index)
         → IsIndexOf rows first → IsIndexOf rows second → call_spots first ≡ call_spots second }

@@ -14,7 +14,7 @@ use docker_join::{Entry, FileStamp, Op};
 use std::alloc::Global;
 
 /// The index in the join of each row of two tables. It is `None` if the other table's entry at the
-/// key wins, if the floor doesn't keep the entry, or if the entry isn't live once the horizon is
+/// key wins, if the row's entry is below the floor, or if the entry isn't live once the horizon is
 /// applied.
 #[derive(Debug, Drop)]
 pub struct Moves {
@@ -39,10 +39,9 @@ impl Moves {
         Ok(Moves { first, second })
     }
 
-    /// Finds the index that each row of two tables has in their join. The join lacks the entries
-    /// that the floor doesn't keep, and entries in it lapse under the horizon. The horizon is a day
-    /// number, counted from 0 for 1960-01-01. There must be room for the moves of all rows.
-    /// Allocates nothing.
+    /// Finds the index that each row of two tables has in their join. The join has no entries below
+    /// the floor, and its entries lapse under the horizon. The horizon is a day number, counted
+    /// from 0 for 1960-01-01. There must be room for the moves of all rows. Allocates nothing.
     pub fn of_tables(
         self,
         first: &[(Key, Entry)],
@@ -82,8 +81,8 @@ impl Moves {
         moves
     }
 
-    /// Notes the moves of the one or two rows of a turn, before which the join has `at` rows.
-    /// Returns how many rows the join has after the turn.
+    /// Records the moves of a turn's rows, which are one or two rows of one key. Before the turn
+    /// the join has `at` rows. Returns how many rows the join has after the turn.
     fn take(&mut self, turn: Turn<'_>, floor: &Option<FileStamp>, horizon: u16, at: u32) -> u32
         requires few { at + 1 < 2 ^ 32 }
         requires first_room { vec_len self.old.first + length (firsts (turn_meant turn ∷ []))
@@ -143,7 +142,7 @@ fn wins(one: &Entry, other: &Entry) -> bool
 }
 
 /// The index that a winning entry gets in the join, if `at` rows come before it. Returns `None` if
-/// the floor doesn't keep the entry, or if it isn't live once the horizon is applied.
+/// the entry is below the floor, or if it isn't live once the horizon is applied.
 fn index_of(entry: &Entry, floor: &Option<FileStamp>, horizon: u16, at: u32) -> Option<u32>
     ensures { result ≡ goes (floor_meant floor.now) horizon at entry.now }
 {
@@ -166,8 +165,8 @@ fn index_after(entry: &Entry, floor: &Option<FileStamp>, at: u32) -> u32
     }
 }
 
-/// Whether a floor keeps the entries of the file with this stamp: the stamp isn't below the floor.
-/// Without a floor everything is kept.
+/// Whether a file stamp isn't below a floor, so that the file's entries are kept. Returns true if
+/// there is no floor.
 fn is_kept(floor: &Option<FileStamp>, stamp: &FileStamp) -> bool
     ensures { result ≡ is_kept (floor_meant floor.now) (file_stamp_meant stamp.now) }
 {

@@ -19,9 +19,9 @@ use cif_change::{Body, Key};
 use docker_join::{Entry, Op};
 use std::marker::Model;
 
-/// An iterator over the live rows at a place, in key order. It returns the index, the key and the
-/// body of each row. No clause says that the index is right. A caller may use the index as a hint
-/// where to look first, but no result may depend on it.
+/// An iterator over the live rows at a place, in key order. For each row it returns the row's index
+/// among all rows, the key and the body. No clause says that the row's index is right. A caller may
+/// use it as a hint where to look first, but no result may depend on it.
 #[derive(Clone, Debug, Drop)]
 pub struct Numbered<'a> {
     rows: &'a [(Key, Entry)],
@@ -85,7 +85,7 @@ impl<'a> PlaceRows<'a> {
         }
     }
 
-    /// An iterator over the same rows that also returns the index of each row, from 0.
+    /// An iterator over the same rows that also returns each row's index among all rows, from 0.
     pub fn numbered(self) -> Numbered<'a>
         ensures { result ≡ self.entry }
     {
@@ -109,7 +109,8 @@ impl<'a> Iterator for PlaceRows<'a> {
     }
 }
 
-/// The row of a posting, if it is live: its op is a put.
+/// The key and the body of a posting's row. Returns `None` if the row isn't live: its op isn't a
+/// put.
 fn live_at<'a>(rows: &'a [(Key, Entry)], posting: &Posting) -> Option<(&'a Key, &'a Body)>
     ensures { option_map (λ row. (key_meant row.0.now, body_meant row.1.now)) result
         ≡ live_at_posting (map row_meant rows.entry.now) posting.now }

@@ -17,7 +17,8 @@ use std::alloc::Global;
 pub struct Room {
     /// The TIPLOCs that the rows name, in ascending order and without duplicates.
     pub places: Vec<[u8; 7]>,
-    /// The index in `places` for each provisional number of the notes.
+    /// For each provisional number that the notes give to a place, the index of the place in
+    /// `places`.
     pub ranks: Vec<u32>,
     /// Memory for sorting the calls.
     pub calls: Slots,
