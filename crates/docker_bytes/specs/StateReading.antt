@@ -67,7 +67,7 @@ pub record IsWanting (format : Format) (limit : ℕ) (text piece : List ℕ) (at
   pub item_at : at ≡ length (items_before format before)
 
 -- says what it means that a parser returns this fault for a piece that follows a text: a part is
--- bad, or the state needs a byte at the limit. The cause `None` means that memory ran out
+-- bad, or the state goes past the limit. The cause `None` means that memory ran out
 abbrev pub IsCauseSoFar : Format → ℕ → List ℕ → List ℕ → ℕ → Option model.StateCause → Type 0
 IsCauseSoFar format limit text piece at None = IsWanting format limit text piece at
 IsCauseSoFar format limit text piece at (Some cause) =

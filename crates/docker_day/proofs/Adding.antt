@@ -2,18 +2,18 @@
 use Rattle.std.proofs.Common.{◌≡◌, Bool, true, false, cond, List, [], ◌++◌, sym, ◌∙◌, append-nil}
 use Rattle.docker_model.specs.docker.DockerLine.{DockerLine}
 
--- if the test passes, `after` is `before` with the lines `more` appended
+-- if the test passes, appending the lines `more` is appending the conditional lines `cond test more []`
 pub added_if : (test : Bool) (more before after : List DockerLine) → test ≡ true → after ≡ before ++ more → after ≡ before ++ cond test more []
 added_if test more before after is same = same ∙ (λ i. before ++ cond (sym is i) more [])
 
--- if the test fails, the lines are unchanged
+-- if the test fails, appending the conditional lines `cond test more []` changes nothing
 pub not_added : (test : Bool) (more before : List DockerLine) → test ≡ false → before ≡ before ++ cond test more []
 not_added test more before is = sym (append-nil before) ∙ (λ i. before ++ cond (sym is i) more [])
 
--- a list of docker lines that are kept only if the test passes is unchanged if the test passes
+-- if the test passes, the conditional lines `cond test told []` are the lines `told`
 pub told_if : (test : Bool) (told lines : List DockerLine) → test ≡ true → lines ≡ told → lines ≡ cond test told []
 told_if test told lines is same = same ∙ (λ i. cond (sym is i) told [])
 
--- a list of docker lines that are kept only if the test passes is empty if the test fails
+-- if the test fails, there are no conditional lines `cond test told []`
 pub untold : (test : Bool) (told : List DockerLine) → test ≡ false → [] ≡ cond test told []
 untold test told is = λ i. cond (sym is i) told []

@@ -36,7 +36,7 @@ part_of_back first second third front back one (n, short, taken) =
           (both_taken first second third front (take n back) one taken),
     )
 
--- a proposition that holds also holds on condition that the result is an error
+-- if a proposition is true, it is also true on condition that the result is an error
 pub on_any_err : {A E : Type 0} (result : Result A E) {P : Type 0} → P → OnErr result P
 on_any_err (Ok a) holds = tt
 on_any_err (Err e) holds = holds
@@ -67,8 +67,7 @@ pub last_failed : {A E : Type 0} (result : Result A E) (before between after : �
 last_failed result before between after none same more =
     counts_error result before after (on_ok_weaker result (λ is. is ∙ none) same) (on_err_weaker result (λ is. is ∙ ap (λ n. n + 1) none) more)
 
--- a text consists of three parts: `front`, `middle` and `back`. The written bytes `a`, `b` and `c`
--- equal these three parts
+-- the lemmas for a text that consists of three parts: `front`, `middle` and `back`. The written bytes `a`, `b` and `c` equal these three parts
 module _ (first second third last : Option (List ℕ)) (a b c front middle back : List ℕ) (a_is : a ≡ front) (b_is : b ≡ middle) (c_is : c ≡ back) where
   -- if the sink gains each of the three parts, it gains the whole text
   pub all_taken : Takes first a second → Takes second b third → Takes third c last → Takes first (front ++ middle ++ back) last

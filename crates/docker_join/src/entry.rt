@@ -31,9 +31,9 @@ pub enum Op {
 }
 
 impl Op {
-    /// Applies a horizon, given as a day number. A put whose end number is below the horizon lapses
-    /// and loses its body. Any other op is unchanged: a deletion, a lapsed op, or a put of a TIPLOC
-    /// or of a body without an end.
+    /// Applies a horizon, given as a day number. A put whose body ended before the horizon lapses
+    /// and loses its body. Any other op is unchanged. The body of a TIPLOC has no end, so it never
+    /// lapses.
     pub fn lapse(self, horizon: u16) -> Op
         ensures { op_meant result ≡ lapse horizon (op_meant self) }
     {
@@ -44,7 +44,7 @@ impl Op {
         }
     }
 
-    /// Whether this is a put whose end number is below the horizon.
+    /// Whether this is a put whose body ended before the horizon.
     fn ends_before(&self, horizon: u16) -> bool
         ensures { lapse horizon (op_meant self.now) ≡
             (if result then lapsed else op_meant self.now) }

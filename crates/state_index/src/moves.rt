@@ -14,8 +14,8 @@ use docker_join::{Entry, FileStamp, Op};
 use std::alloc::Global;
 
 /// The index in the join of each row of two tables. It is `None` if the other table's entry at the
-/// key wins, if the row's entry is below the floor, or if the entry isn't live once the horizon is
-/// applied.
+/// key wins, or if the row's entry is below the floor. It is also `None` if the entry isn't live
+/// once the horizon is applied.
 #[derive(Debug, Drop)]
 pub struct Moves {
     /// For each row of the first table, its index in the join.

@@ -9,7 +9,7 @@ use Rattle.cif_device.proofs.DeviceLemmas.{counts_error}
 use Rattle.cif_device.specs.Device.{CountsFailure, Takes, TakesPart}
 use Rattle.state_text.specs.Written.{Gathers, Gives, Flushes}
 
--- the bytes that a sink has taken, or None if contracts don't know them
+-- the bytes that a sink has taken, or `None` for a sink whose contract doesn't say which bytes it has taken
 abbrev Told : Type 0
 Told = Option (List ℕ)
 

@@ -1,4 +1,4 @@
--- The horizon that was read is set after a state's parts are complete.
+-- Lemmas on setting the horizon that was read, after a state's parts are complete.
 use Rattle.std.proofs.Common.{◌≡◌, ℕ, ap, sym, ◌∙◌, subst}
 use Rattle.std.specs.Prelude.{max}
 use Rattle.docker_model.specs.state.State.{State, IsValid, IsJoin, lapse_state, raise_horizon}

@@ -17,8 +17,8 @@ pub enum StateCause {
     /// The ledger item isn't above the previous item, or the entry's key isn't above the previous
     /// key.
     Order,
-    /// The ledger item is a full extract above the first item. With this extract, the ledger would
-    /// not keep its first item.
+    /// The ledger item is a full extract above the first item. With this extract, the first item
+    /// would be below the floor.
     Floor,
     /// The tag isn't 1, 2 or 3.
     Tag,

@@ -1,5 +1,5 @@
-//! The entries that a keeper was given, for proofs. They take no memory, and their methods do
-//! nothing at run time.
+//! The entries that a keeper was given, as a value that exists only for proofs. The value takes no
+//! memory, and its methods do nothing at run time.
 ghost use Rattle.std.specs.Prelude.{◌≡◌, List, [], ◌∷◌, ◌++◌};
 ghost use Rattle.std.specs.Borrow.{ftrue};
 ghost use Rattle.docker_model.specs.file.Change as model;

@@ -22,7 +22,7 @@ pub trait Keeper: Drop + Sized {
     ghost given: { Self → State };
 
     /// Takes the next ledger item. Returns `Memory` if there is no memory for the item. No clause
-    /// says what the keeper contains after that.
+    /// says what the keeper contains after an error.
     fn item(&mut self, item: LedgerItem) -> Result<(), Memory>
         requires before_entries { (given self.old).entries ≡ [] }
         requires ledger { IsLedger ((given self.old).ledger ++ item_meant item ∷ []) }
@@ -30,7 +30,7 @@ pub trait Keeper: Drop + Sized {
             → given self.new ≡ with_item (given self.old) (item_meant item) };
 
     /// Takes the next entry, with its key. Returns `Memory` if there is no memory for the entry. No
-    /// clause says what the keeper contains after that.
+    /// clause says what the keeper contains after an error.
     fn entry(&mut self, key: Key, entry: Entry) -> Result<(), Memory>
         requires few { length (given self.old).entries < 2 ^ 64 - 1 }
         requires here { IsStampHere (given self.old) (key_meant key) (entry_meant entry).stamp }

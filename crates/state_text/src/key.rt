@@ -70,7 +70,7 @@ fn schedule_key(bytes: &[u8]) -> Option<Key>
     }))
 }
 
-/// Reads a key of the kind that the tag gives. Returns `None` if no record can have this key.
+/// Reads a key of the tag's kind. Returns `None` if no record can have this key.
 fn key_in(tag: Tag, bytes: &[u8]) -> Option<Key>
     requires { length bytes.now ≡ key_width (tag_meant tag) }
     ensures { MatchOption result (¬ IsGoodKey (key_in (tag_meant tag) bytes.now))

@@ -20,8 +20,9 @@ use std::alloc::Global;
 use std::marker::{Brand, PhantomData};
 use std::mem;
 
-/// The state that receives the parts of one text, as a type. It exists only for clauses. Since it
-/// is part of the keeper's type, no call can change which state it is.
+/// A type that stands for the state that receives the parts of one text. It exists only for
+/// clauses. Since the type is part of the keeper's type, no call can replace the receiving state by
+/// another one.
 pub trait Receiver {
     ghost use Rattle.docker_model.specs.state.State as states;
 
