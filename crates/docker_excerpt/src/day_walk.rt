@@ -53,7 +53,7 @@ impl DayWalk {
         self.day
     }
 
-    /// Passes the next entry, which has this key. If memory runs out, the entry is dropped and
+    /// Moves past the next entry, which has this key. If memory runs out, the entry is dropped and
     /// doesn't count as passed.
     pub(crate) fn entry(&mut self, given: &Given, key: Key, entry: Entry) -> Result<(), Memory>
         requires passed { HasPassed self.old given.now.entries }
@@ -75,7 +75,7 @@ impl DayWalk {
     }
 
     /// Ends the walk and returns the excerpt's entries with their keys, in the order of the keys.
-    /// Returns `Memory` if the last run of schedules can't be kept.
+    /// Returns `Memory` if there is no room for the last run of schedules.
     pub(crate) fn finish(self) -> Result<Vec<(Key, Entry)>, Memory>
         ensures { IfOk result (λ rows. (state : states.State) → HasPassed self state.entries
             → map row_meant rows.items ≡ (excerpt_on self.walk.place self.day state).entries) }

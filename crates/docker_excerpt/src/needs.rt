@@ -32,8 +32,8 @@ pub(crate) fn name_in(key: &Key, op: &Op) -> Option<Uid>
     }
 }
 
-/// Whether a schedule of this UID belongs to the run: the run isn't empty, and its schedules have
-/// this UID.
+/// Whether a schedule of this UID belongs to a run, which consists of consecutive schedules of one
+/// UID. The result is false if the run is empty or has another UID.
 pub(crate) fn goes_on(run: &[(Key, Entry)], uid: &Uid) -> bool
     ensures { result ≡ goes_on (map row_meant run.now) uid.now }
 {
@@ -43,7 +43,7 @@ pub(crate) fn goes_on(run: &[(Key, Entry)], uid: &Uid) -> bool
     }
 }
 
-/// Whether a UID is among these sorted names. The call is a binary search.
+/// Whether a UID is among these sorted UIDs, found by binary search.
 pub(crate) fn has_name(names: &[Uid], uid: &Uid) -> bool
     requires { IsSorted bytes_cmp names.now }
     ensures { (result ≡ true) ↔ Contains names.now uid.now }

@@ -51,7 +51,7 @@ impl ExcerptWalk {
         self.place
     }
 
-    /// Passes the next entry, which has this key. If memory runs out, the entry is dropped and
+    /// Moves past the next entry, which has this key. If memory runs out, the entry is dropped and
     /// doesn't count as passed.
     pub(crate) fn entry(&mut self, given: &Given, key: Key, entry: Entry) -> Result<(), Memory>
         requires walked { HasWalked self.old given.now.entries }
@@ -68,7 +68,7 @@ impl ExcerptWalk {
         }
     }
 
-    /// Passes a TIPLOC or an association. The entry is kept if it is at the place.
+    /// Moves past a TIPLOC or an association. The entry is kept if it is at the place.
     fn single(&mut self, given: &Given, key: Key, entry: Entry) -> Result<(), Memory>
         requires walked { HasWalked self.old given.now.entries }
         requires above { IsAboveEntries (state_of_entries given.now.entries) (key_meant key) }
@@ -89,7 +89,7 @@ impl ExcerptWalk {
         Ok(())
     }
 
-    /// Passes a schedule, which belongs to the current run or begins the next run.
+    /// Moves past a schedule, which belongs to the current run or begins the next run.
     fn schedule(&mut self, given: &Given, key: ScheduleKey, entry: Entry) -> Result<(), Memory>
         requires { HasWalked self.old given.now.entries }
         ensures ok { IsOk result → HasWalked self.new
@@ -138,7 +138,7 @@ impl ExcerptWalk {
         Ok(())
     }
 
-    /// Sorts the names of associated trains, if no run has begun yet.
+    /// Sorts the UIDs of associated trains, if no run has begun yet.
     fn sort_names(&mut self, given: &Given)
         requires { HasWalked self.old given.now.entries }
         ensures walked { HasWalked self.new given.now.entries }
@@ -175,7 +175,7 @@ impl ExcerptWalk {
     }
 
     /// Ends the walk and returns the excerpt's entries with their keys, in the order of the keys.
-    /// Returns `Memory` if the last run can't be kept.
+    /// Returns `Memory` if there is no room for the last run.
     pub(crate) fn finish(self) -> Result<Vec<(Key, Entry)>, Memory>
         ensures { IfOk result (λ rows. (state : states.State) → HasWalked self state.entries
             → map row_meant rows.items ≡ (excerpt_for self.place state).entries) }

@@ -1,4 +1,4 @@
--- A live table has only one list of timing points, and a state has only one text of what it knows.
+-- A live table has only one list of timing points, and a state has only one text that lists what it knows.
 use Rattle.std.proofs.Common.{◌≡◌, ℕ, ◌≤◌, List, refl, ap, sym, ◌∙◌, subst, Contains, Some, None, arith}
 use Rattle.std.specs.Prelude.{Option}
 use Rattle.docker_model.specs.state.State.{State, live_table}
@@ -14,7 +14,7 @@ pub one_places : (live : Table) (text other : List ℕ) → IsPlacesText live te
 one_places live text other one two =
     one.text_is ∙ ap places_text (one_rows live one.rows two.rows one.are two.are) ∙ sym two.text_is
 
--- two greatest numbers of a list are equal
+-- the greatest number of a list is unique
 one_greatest : (numbers : List ℕ) (first second : Option ℕ) → IsGreatest numbers first → IsGreatest numbers second → first ≡ second
 one_greatest numbers None None one two = refl
 one_greatest numbers None (Some b) one two = absurd (nil-Contains b (subst (λ ns. Contains ns b) one two.0))

@@ -15,13 +15,14 @@ use docker_state::State;
 use fixed_text::put;
 use itoa::Buffer;
 
-/// The text of what a state knows. Its capacity is enough for all lines, whatever the counts.
+/// The text that lists what a state knows. Its capacity is enough for all lines, whatever the
+/// counts.
 pub type KnownText = ArrayVec<u8, 187>;
 
-/// The text of what a state knows. It has a line for the horizon, and one line each for the numbers
-/// of live schedules, associations and timing points. If there is a full extract, the newest one
-/// has a line. If a live schedule has a last day, the greatest last day has a line. The call counts
-/// all entries, and allocates nothing.
+/// The text that lists what a state knows. It has a line for the horizon, and one line each for the
+/// numbers of live schedules, associations and timing points. If there is a full extract, the
+/// newest one has a line. If a live schedule has a last day, the greatest last day has a line. The
+/// call counts all entries, and allocates nothing.
 pub fn known_text(state: &State) -> KnownText
     ensures { IsKnownText state.now result.items }
 {

@@ -1,4 +1,4 @@
-//! Tests compare values by a call of these functions, which end the test if the values differ. The
+//! Tests compare values by calling these functions, which end the test if the values differ. The
 //! assertions are in separate functions, so each assertion is proved once for all tests.
 use std::fmt::Debug;
 use std::process::Abort;

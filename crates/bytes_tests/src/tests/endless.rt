@@ -19,11 +19,11 @@ use test_records::{AA_JOIN, BS, HD, LO, LT, ZZ};
 /// The limit for a text if the test doesn't set one.
 const MOST_BYTES: u64 = 1_099_511_627_776;
 
-/// Like `HEAD`, with the greatest count of lines.
+/// The head of a schedule's entry, with the greatest count of lines.
 const HEAD_OF_MOST: &[u8] =
     b"\x03C10001\x5b\xf1P\x5b\xf0\x04\xecDFROC1A\x00\x00\x00\x02\x01\xff\xff\xff\xfe";
 
-/// Like `HEAD`, with a count of lines that is one above the greatest.
+/// The head of a schedule's entry, with a count of lines that is one above the greatest.
 const HEAD_ABOVE_MOST: &[u8] =
     b"\x03C10001\x5b\xf1P\x5b\xf0\x04\xecDFROC1A\x00\x00\x00\x02\x01\xff\xff\xff\xff";
 
@@ -76,8 +76,8 @@ pub(super) fn refused_each_way(
     refused_by(rt, alloc, &mut own, before, text, limit, fault, 4096);
 }
 
-/// Asserts that a text without end is refused: it begins with `front`, and then repeats `again`.
-/// The text is read `step` bytes at a time, and then received.
+/// Asserts that a text without end is refused. The text begins with `front`, and then repeats
+/// `again`. It is read `step` bytes at a time, and then received.
 fn refused_endless_by(
     rt: &impl Abort,
     alloc: Global,
@@ -304,7 +304,7 @@ fn old_texts_without_end(rt: HostRuntime) {
     refused_old_endless(&rt, alloc, items.as_slice(), &[0], 1_000, long);
 }
 
-/// Like `HUGE`, for texts in the older format.
+/// Texts in the older format with a huge count, each with the offset and cause of its fault.
 const OLD_HUGE: &[Row] = &[
     (
         &[OLD_MARK, MOST, ITEM, ONE, HEAD, BS, LO, LT],

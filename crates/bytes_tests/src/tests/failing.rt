@@ -108,7 +108,7 @@ fn fails_at(rt: &impl Abort, alloc: Global, text: &[u8], call: u64, joined: &[u8
     text_is(rt, alloc, &own, joined);
 }
 
-/// Asserts that a text is read and received if its source fails only after the last call.
+/// Asserts that a text is read and received from a source that would fail only after the last call.
 fn passes(rt: &impl Abort, alloc: Global, text: &[u8], joined: &[u8]) {
     let mut source = Fuse::new(Bytes::new(text, 4096), 313);
     let state_read = read_state(alloc, &mut source, 1000).expect(rt, "a state");

@@ -18,7 +18,7 @@ pub(super) const MOST: &[u8] = b"\xff\xff\xff\xff\xff\xff\xff\xff";
 /// The ledger item of the file of 9 June.
 pub(super) const ITEM: &[u8] = b"\x5b\xf0\x04\xecDFROC1AUDFROC1Z";
 
-/// Like `ITEM`, with a day number above the greatest day number.
+/// A ledger item with a day number above the greatest day number.
 pub(super) const ITEM_LATE: &[u8] = b"\x8e\xad\x04\xecDFROC1AUDFROC1Z";
 
 /// The ledger item of an update of 5 June.
@@ -103,18 +103,18 @@ pub(super) const ASHFELD_HEAD: &[u8] = b"\x01ASHFELD\x5b\xf0\x04\xecDFROC1A\x00\
 /// The op of a lapsed entry.
 pub(super) const LAPSED: &[u8] = b"\x02";
 
-/// Like `HEAD`, with a tag that isn't valid.
+/// The head of a schedule's entry, with a tag that isn't valid.
 pub(super) const HEAD_OF_NO_TAG: &[u8] =
     b"\x04C10001\x5b\xf1P\x5b\xf0\x04\xecDFROC1A\x00\x00\x00\x02\x01\x00\x00\x00\x03";
 
-/// Like `HEAD`, with the stamp of a file that isn't in the ledger.
+/// The head of a schedule's entry, with the stamp of a file that isn't in the ledger.
 pub(super) const HEAD_OF_NO_FILE: &[u8] =
     b"\x03C10001\x5b\xf1P\x5b\xf0\x04\xecDFROC1B\x00\x00\x00\x02\x01\x00\x00\x00\x03";
 
-/// Like `HEAD`, with an op that isn't valid.
+/// The head of a schedule's entry, with an op that isn't valid.
 pub(super) const HEAD_OF_NO_OP: &[u8] =
     b"\x03C10001\x5b\xf1P\x5b\xf0\x04\xecDFROC1A\x00\x00\x00\x02\x03\x00\x00\x00\x03";
 
-/// Like `HEAD`, with the op of a lapsed entry.
+/// The head of a schedule's entry, with the op of a lapsed entry.
 pub(super) const HEAD_LAPSED: &[u8] =
     b"\x03C10001\x5b\xf1P\x5b\xf0\x04\xecDFROC1A\x00\x00\x00\x02\x02\x00\x00\x00\x03";

@@ -47,7 +47,7 @@ fn deletion_first(rt: HostRuntime) {
     shows(&rt, alloc, files, "BRAYTON", "2024-06-10", &[]);
 }
 
-/// If two changes with equal stamps set the same schedule, the change with the later end date
+/// If two changes with equal stamps put the same schedule, the change with the later end date
 /// counts.
 #[test]
 fn later_end_of_equal_stamps(rt: HostRuntime) {
@@ -56,7 +56,7 @@ fn later_end_of_equal_stamps(rt: HostRuntime) {
     at_ashfeld(&rt, rt.alloc(), &[first, second], &[LEAVES_0850]);
 }
 
-/// If two changes with equal stamps set the same schedule until the same end date, the change with
+/// If two changes with equal stamps put the same schedule with the same end date, the change with
 /// the greater bytes counts.
 #[test]
 fn greater_bytes_of_equal_stamps(rt: HostRuntime) {
@@ -65,7 +65,7 @@ fn greater_bytes_of_equal_stamps(rt: HostRuntime) {
     at_ashfeld(&rt, rt.alloc(), &[first, second], &[LEAVES_0905]);
 }
 
-/// If one of two changes with equal stamps sets a schedule and the other change deletes it, the
+/// If one of two changes with equal stamps puts a schedule and the other change deletes it, the
 /// schedule stays.
 #[test]
 fn put_before_deletion_of_equal_stamps(rt: HostRuntime) {

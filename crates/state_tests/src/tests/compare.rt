@@ -1,5 +1,5 @@
-//! A function with which the tests compare values. It ends the test if the values differ. It is a
-//! function of its own, so that its assertion is proved only once for all tests.
+//! Tests compare values by calling this function, which ends the test if the values differ. The
+//! assertion is in a separate function, so the assertion is proved once for all tests.
 use std::fmt::Debug;
 use std::process::Abort;
 

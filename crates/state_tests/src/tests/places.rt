@@ -59,9 +59,9 @@ fn found_is(rt: &impl Abort, alloc: Global, state: &State, tiploc: &str, lines: 
     same(rt, found.as_slice(), wanted.as_slice());
 }
 
-/// A file with the schedules C30001 and C30002, which call at Colwell, one of them twice, and with
-/// an association of the two trains at Colwell. Its state has three rows: the association, C30001
-/// and C30002.
+/// A file with the schedules C30001 and C30002, which both call at Colwell, and with an association
+/// of the two trains there. C30001 calls twice. The file's state has three rows: the association,
+/// C30001 and C30002.
 const FILE: &[&[u8]] = &[
     HD,
     BS_C30001,
@@ -104,7 +104,8 @@ const AT_ELM: &[&[u8]] = &[
     LT_DUNMERE_1100,
 ];
 
-/// What is found at Colwell after C10001 was put and C30002 deleted: rows 1 and 3 of the four rows.
+/// What is found at Colwell after C10001 was put and C30002 deleted: the rows with the indexes 0
+/// and 2. The state then has four rows.
 const LEFT_AT_COLWELL: &[&[u8]] = &[
     b"calls 2: C30001 23537",
     BS_C30001,
