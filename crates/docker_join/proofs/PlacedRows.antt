@@ -101,14 +101,14 @@ module _ {E : Type 0} where
   below_higher [] highs row below above = tt
   below_higher (low ∷ lows) highs row below above = (above_lower low row highs below.0.0 above, below_higher lows highs row below.1 above)
 
-  -- ascending rows are all above a row if the first of them is
+  -- if the first of a list of ascending rows is above a row, all rows of the list are above it
   above_row : (rows : List (Key × E)) (row d : Key × E) → AreAscending rows → (0 < length rows → row_cmp (get_or rows 0 d) row ≡ Greater) → Above row rows
   above_row [] row d up over = tt
   above_row (x ∷ rows) row d up over =
       let below : row_cmp row x ≡ Less = key_total.antisymm (key_meant row.0) (key_meant x.0) ∙ ap ordering_reverse (over (omega arith)) in
       (below, above_lower row x rows below up.0)
 
-  -- ascending rows are all below a row if the last of them is
+  -- if the last of a list of ascending rows is below a row, all rows of the list are below it
   below_row : (rows : List (Key × E)) (last : ℕ) (row d : Key × E) → AreAscending rows
       → (0 < length rows → (last + 1 ≡ length rows) × (row_cmp (get_or rows last d) row ≡ Less)) → AllBelow rows (row ∷ [])
   below_row [] last row d up under = tt
@@ -121,7 +121,7 @@ module _ {E : Type 0} where
       let rest = below_row (y ∷ rows) last row d up.1 (λ _. (omega arith, known.1)) in
       ((key_total.trans (key_meant x.0) (key_meant y.0) (key_meant row.0) up.0.0 rest.0.0, tt), rest)
 
-  -- cutting the concatenation of two lists so that the second part is as long as the second list results in the two lists
+  -- if the concatenation of two lists is cut so that the second part is as long as the second list, the two parts are the two lists
   parts : (front back : List (Key × E)) (m : ℕ) → m ≡ length back
       → (drop (length (front ++ back) - m) (front ++ back) ≡ back) × (take (length (front ++ back) - m) (front ++ back) ≡ front)
   parts front back m size =

@@ -27,10 +27,10 @@ pub fn lapse_rows(rows: &mut [(Key, Entry)], horizon: u16) -> bool
     some
 }
 
-/// Joins the rows of two tables in the first vector, which must have room for the rows of both.
-/// Allocates nothing. The rows of the second table are placed one by one, from the last to the
-/// first. A row of the first table moves only if it comes after a row of the second. Such rows move
-/// in blocks, and only a few keys of each block are compared.
+/// Joins the rows of two tables in the first vector, which must have room for the rows of both
+/// tables. Allocates nothing. The rows of the second table are placed one by one, from the last to
+/// the first. A row of the first table moves only if it comes after a row of the second table.
+/// These rows move in blocks, and only a few keys of each block are compared.
 pub fn join_rows<E: Pick>(first: Vec<(Key, E)>, mut second: Vec<(Key, E)>) -> Vec<(Key, E)>
     requires first { AreAscending first.items }
     requires second { AreAscending second.items }
@@ -74,7 +74,8 @@ fn place<E: Pick>(rows: &mut VecDeque<(Key, E)>, left: usize, row: (Key, E)) -> 
     }
 }
 
-/// Takes the last row of the ring, if a row is left and the last row has this key.
+/// Removes the last row of the ring buffer and returns it, if a row is still to be placed and the
+/// last row has this key.
 fn take_level<E>(rows: &mut VecDeque<(Key, E)>, left: usize, key: &Key) -> Option<(Key, E)>
     requires { left ≤ deque_len rows.old }
     ensures taken { IsTaken (key_meant key.now) (deque_len rows.old) left rows.old.items
@@ -92,7 +93,7 @@ fn take_level<E>(rows: &mut VecDeque<(Key, E)>, left: usize, key: &Key) -> Optio
     rows.pop_back()
 }
 
-/// Whether the last row of the ring has this key.
+/// Whether the last row of the ring buffer has this key.
 fn is_level<E>(rows: &VecDeque<(Key, E)>, key: &Key) -> bool
     requires { 0 < deque_len rows.now }
     ensures { (d : _) → result
@@ -102,7 +103,7 @@ fn is_level<E>(rows: &VecDeque<(Key, E)>, key: &Key) -> bool
 }
 
 /// Whether a row has a key greater than this key. The row is given by its distance from the end of
-/// the ring, which is 1 for the last row.
+/// the ring buffer, which is 1 for the last row.
 fn is_above<E>(rows: &VecDeque<(Key, E)>, back: usize, key: &Key) -> bool
     requires { (0 < back) × (back ≤ deque_len rows.now) }
     ensures { (d : _) → result

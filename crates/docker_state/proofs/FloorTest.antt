@@ -62,7 +62,7 @@ not_above Less = true
 not_above Equal = true
 not_above Greater = false
 
--- whether a floor keeps a stamp: it isn't below the floor, or there is no floor
+-- whether a stamp is kept under a floor: the stamp isn't below the floor, or there is no floor
 pub keeps : Option FileStamp → FileStamp → Bool
 keeps None stamp = true
 keeps (Some floor) stamp = not_above (file_stamp_cmp floor stamp)
@@ -84,7 +84,7 @@ is_keeps (Some floor) stamp kept = by (file_stamp_cmp floor stamp) kept
     by Equal below = refl
     by Greater below = absurd (below refl)
 
--- if a test passes if and only if the floor keeps the stamp, the test equals `keeps floor stamp`
+-- if a test passes if and only if the stamp is kept under the floor, the test equals `keeps floor stamp`
 pub says_kept : (floor : Option FileStamp) (stamp : FileStamp) (b : Bool) → IsTrue b ↔ IsKept floor stamp → b ≡ keeps floor stamp
 says_kept floor stamp true told = sym (is_keeps floor stamp (told.0 refl))
 says_kept floor stamp false told = by (keeps floor stamp) refl
@@ -99,11 +99,11 @@ module _ {A B : Type 0} (f : A → B) (cmp : B → B → Ordering) (floor : Opti
   as_meant : map f ys ≡ filter (λ v. keeps floor (stamp v)) (map f xs)
   as_meant = ap (map f) is ∙ filter-map f (λ v. keeps floor (stamp v)) xs
 
-  -- if the converted elements ascend, so do the converted elements that the floor keeps
+  -- if the converted elements ascend, so do the converted elements that aren't below the floor
   pub kept_ascends : IsStrictlyAscending cmp (map f xs) → IsStrictlyAscending cmp (map f ys)
   kept_ascends up = subst (IsStrictlyAscending cmp) (sym as_meant) (filter_ascends cmp (λ v. keeps floor (stamp v)) (map f xs) up)
 
-  -- the converted elements that are left are exactly the converted elements that the floor keeps
+  -- the converted elements that the filter leaves are exactly the converted elements that aren't below the floor
   pub kept_members : (z : B) → Contains (map f ys) z ↔ (Contains (map f xs) z × IsKept floor (stamp z))
   kept_members z = (
     λ among. let found = filter_back (λ v. keeps floor (stamp v)) (map f xs) z (subst (λ zs. Contains zs z) as_meant among) in

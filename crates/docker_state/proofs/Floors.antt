@@ -18,7 +18,7 @@ module _ (left right : List LedgerItem) where
       by (inl here) = one item here full
       by (inr here) = other item here full
 
-  -- if only the first ledger has a full extract, the floor of both ledgers together is the floor of the first
+  -- if only the first ledger has a full extract, the floor of both ledgers together is the floor of the first ledger
   pub left_full : (stamp : stamps.FileStamp) → IsGreatestFull left stamp → HasNoFull right → IsGreatestFull (left ++ right) stamp
   left_full stamp one other = record {
     full = one.full;
@@ -32,7 +32,7 @@ module _ (left right : List LedgerItem) where
       by item full (inl here) = one.greatest item here full
       by item full (inr here) = absurd (other item here full)
 
-  -- if only the second ledger has a full extract, the floor of both ledgers together is the floor of the second
+  -- if only the second ledger has a full extract, the floor of both ledgers together is the floor of the second ledger
   pub right_full : (stamp : stamps.FileStamp) → HasNoFull left → IsGreatestFull right stamp → IsGreatestFull (left ++ right) stamp
   right_full stamp one other = record {
     full = other.full;

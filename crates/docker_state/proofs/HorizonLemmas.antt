@@ -25,7 +25,7 @@ module _ (own day : ℕ) (low : own ≤ day) (ledger : List LedgerItem) (rows af
       (λ i. record { horizon = day; ledger = map item_meant ledger; entries = lapsed i })
       ∙ ap (λ h. lapse_state h (state_meant own ledger rows)) (sym (max-eq_right low))
 
-  -- raising the horizon of a valid state gives a valid state
+  -- a valid state is still valid after its horizon is raised
   pub raised_valid : IsDay day → IsValid (state_meant own ledger rows) → IsValid (state_meant day ledger after)
   raised_valid within valid = subst IsValid (sym rows_raised) (raised_is_valid day (state_meant own ledger rows) within valid)
 

@@ -1,4 +1,4 @@
--- Lemmas on the search that finds whether a ledger has all items of a list. The ledger may lack the items that the floor doesn't keep.
+-- Lemmas on the search that finds whether a ledger has all items of a list, apart from the items below the floor.
 use Rattle.std.proofs.Common.{◌≡◌, ◌+◌, ℕ, ◌<◌, ◌≤◌, List, map, Bool, true, length, get_or, ◌∙◌, subst, arith}
 use Rattle.std.specs.Prelude.{Option, ◌↔◌, IsTrue}
 use Rattle.std.specs.List.{AllWithin}
@@ -10,7 +10,7 @@ use Rattle.docker_state.specs.Staging.{HasIfKept, HasKeptItems}
 
 -- the lemmas for looking up each item of a list in the ledger
 module _ {A : Type 0} (f : A → LedgerItem) (ledger : List LedgerItem) (floor : Option FileStamp) (items : List A) where
-  -- once the search has passed the last item of the list, the ledger has each item of the list that the floor keeps
+  -- once the search has passed the last item of the list, the ledger has each item of the list that isn't below the floor
   pub has_all : (at : ℕ) → length items ≤ at → AllWithin (λ item. HasIfKept ledger (f item) floor) items 0 at → HasKeptItems ledger (map f items) floor
   has_all at whole each item among kept =
       let found = Contains-map f items item among in
@@ -18,7 +18,8 @@ module _ {A : Type 0} (f : A → LedgerItem) (ledger : List LedgerItem) (floor :
       subst (λ (v : A). HasIfKept ledger (f v) floor) found.1.2 (each found.1.0 found.0 (omega arith) (let within = found.1.1 in omega arith)) in
       subst (λ (v : LedgerItem). HasIfKept ledger v floor) found.2 here kept
 
-  -- let the ledger have the kept items among the first n items, and the next item if it is kept. Then the ledger has the kept items among the first n + 1 items
+  -- let the ledger have each of the first n items that isn't below the floor, and also the next item unless it is below the floor. Then the ledger has each of
+  -- the first n + 1 items that isn't below the floor
   pub one_more_has : (at : ℕ) (item : A) → at < length items → item ≡ get_or items at item → (b : Bool) → IsTrue b ↔ HasIfKept ledger (f item) floor → b ≡ true
       → AllWithin (λ v. HasIfKept ledger (f v) floor) items 0 at → AllWithin (λ v. HasIfKept ledger (f v) floor) items 0 (at + 1)
   one_more_has at item within is b tells has before =

@@ -15,13 +15,13 @@ use Rattle.cif_laws.proofs.lists.Membership.{Contains-cons, Contains-map, Contai
 use Rattle.cif_laws.proofs.orders.AtMost.{at_most_below, at_most_or, at_most_trans, level}
 use Rattle.cif_laws.proofs.orders.Orders.{file_stamp_total}
 
--- if a ledger item is below a second item, its stamp isn't above the stamp of the second item
+-- of two ledger items, the lower item's stamp isn't above the higher item's stamp
 stamp_at_most : (a b : LedgerItem) → IsBelow ledger_item_cmp a b → IsAtMost file_stamp_cmp a.stamp b.stamp
 stamp_at_most a b below = λ above.
     let bad : Greater ≡ Less =
     sym (λ i. ordering_then (above i) (ordering_then (nat_cmp a.indicator b.indicator) (bytes_cmp a.last_reference b.last_reference))) ∙ below in cc
 
--- if a ledger item is below a second item, any stamp above the second item's stamp is also above the first item's stamp
+-- of two ledger items, any stamp above the higher item's stamp is also above the lower item's stamp
 below_with : (a b : LedgerItem) (stamp : FileStamp) → IsBelow ledger_item_cmp a b → IsBelow file_stamp_cmp b.stamp stamp
     → IsBelow file_stamp_cmp a.stamp stamp
 below_with a b stamp before low = by (at_most_or file_stamp_total stamp a.stamp)
@@ -67,7 +67,7 @@ above_each meant items before last stamp file b are up file_is is told item amon
     (subst (λ (one : FileStamp). IsBelow file_stamp_cmp one stamp) file_is (less_is (file_stamp_cmp file stamp) (sym is ∙ told)))
     item (subst (λ (all : List LedgerItem). Contains all item) same among)
 
--- if an entry's file is newer than all known files, the entry has to be staged if and only if the floor keeps it
+-- if an entry's file is newer than all known files, the entry has to be staged if and only if it isn't below the floor
 pub newest_tells : (own : State) → IsValid own → (floor : Option FileStamp) (key : Key) (entry : Entry)
     → ((item : LedgerItem) → Contains own.ledger item → IsBelow file_stamp_cmp item.stamp entry.stamp.file)
     → (b : Bool) → IsTrue b ↔ IsKept floor entry.stamp.file → IsTrue b ↔ IsToStage own floor key entry

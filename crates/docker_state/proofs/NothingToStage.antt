@@ -52,8 +52,8 @@ none_of_rest meant own floor rows behind row is first others =
 pub untold : {P : Type 0} (b : Bool) → b ≡ false → IsTrue b ↔ P → ¬ P
 untold b fails tells holds = let bad : false ≡ true = sym fails ∙ tells.1 holds in cc
 
--- Suppose a state has all items of another state that the floor keeps, and none of the other's
--- entries has to be staged. Then the state is the join of both, under the greater horizon.
+-- Suppose a state has each item of another state that isn't below the floor, and no entry of the other state has to be staged. Then the first state is the join
+-- of the two states, under the greater horizon.
 pub covered : (own other : State) → IsValid own → IsValid other → (floor : Option FileStamp) → IsFloor (own.ledger ++ other.ledger) floor
     → HasKeptItems own.ledger other.ledger floor → HasNoneToStage own floor other.entries → IsJoin own other (raise_horizon other.horizon own)
 covered own other valid valid_too floor is_floor has none =

@@ -18,7 +18,7 @@ use Rattle.docker_state.specs.declared.item.LedgerItem.{LedgerItem}
 use Rattle.docker_state.specs.Indexed.{HasNotedIfAny}
 use Rattle.docker_state.specs.Meaning.{item_meant, row_meant, state_meant}
 
--- appending a good entry, with a key above all others, to a valid state gives a valid state
+-- if a good entry, with a key above all other keys, is appended to a valid state, the state is still valid
 pub valid_with_entry : (ledger : List LedgerItem) (rows : List (Key × Entry)) (state : State) → state_meant 0 ledger rows ≡ state
     → IsValid (state_meant 0 ledger rows)
     → (key : Key) (entry : Entry) → IsStampHere state (key_meant key) (entry_meant entry).stamp → IsOpOf (key_meant key) (entry_meant entry).op

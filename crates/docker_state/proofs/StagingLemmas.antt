@@ -32,7 +32,7 @@ in_first xs x among = by (Contains-append_cases xs [] x among)
     by (inl here) = here
     by (inr none) = absurd (nil-Contains x none)
 
--- the lemmas for a state that has each received item that the floor keeps
+-- the lemmas for a state that has each received item that isn't below the floor
 module _ (own : State) (valid : IsValid own) (items : List LedgerItem) (floor : Option FileStamp) (is_floor : IsFloor (own.ledger ++ items) floor)
     (has : HasKeptItems own.ledger items floor) where
   -- the floor of both ledgers together is the floor of our own ledger
@@ -122,7 +122,7 @@ to_stage_tells own valid floor key entry mine is b tells =
       λ to. tells.1 (subst (λ (o : Option ops.Entry). IsKept floor entry.stamp.file × IsGreaterThan o entry) (sym is) (told.0 to)),
     )
 
--- if the floor keeps a received entry, the entry has to be staged if and only if our entry of its key is less
+-- if a received entry isn't below the floor, the entry has to be staged if and only if our entry of its key is less
 pub below_tells : (Kept : Type 0) → Kept → (to : Ordering) (b : Bool) → b ≡ is_lt to → IsTrue b ↔ (Kept × (to ≡ Less))
 below_tells Kept kept Less b same = (λ _. (kept, refl), λ _. same)
 below_tells Kept kept Equal b same =
@@ -142,7 +142,7 @@ none_in : {A : Type 0} (xs : List A) → (length xs == 0) ≡ true → xs ≡ []
 none_in [] empty = refl
 none_in (x ∷ xs) empty = absurd (let size : length (x ∷ xs) ≡ 0 = eqb-true (length (x ∷ xs)) 0 empty in omega arith)
 
--- if no entry is staged, nothing new was received if and only if the ledger has each item that the floor keeps
+-- if no entry is staged, nothing new was received if and only if the ledger has each received item that isn't below the floor
 pub nothing_new_tells : (ledger : List LedgerItem) (staging : Staging) (empty : Bool) → empty ≡ (length staging.staged == 0) → empty ≡ true
     → (b : Bool) → IsTrue b ↔ HasKeptItems ledger staging.items staging.floor → IsTrue b ↔ HasNothingNew ledger staging
 nothing_new_tells ledger staging empty size is b tells =

@@ -1,5 +1,5 @@
-//! Ledgers, the sorted lists of a state's known files: their union, and the items that a floor
-//! keeps.
+//! Ledgers, the sorted lists of a state's known files: their union, and the removal of the items
+//! below a floor.
 ghost use Rattle.std.specs.Prelude.{◌≡◌, ◌+◌, ◌≤◌, ◌↔◌, ◌++◌, [], length, map, vec_len, vec_capacity, IfSome, IsTrue, Contains};
 ghost use Rattle.docker_model.specs.state.Stamp.{file_stamp_cmp, ledger_item_cmp, IsKept};
 ghost use Rattle.docker_model.specs.state.Order.{IsBelow, IsStrictlyAscending};
@@ -21,8 +21,8 @@ pub(crate) fn room_for(alloc: Global, first: usize, second: usize) -> Option<Vec
     Vec::with_capacity(alloc, first.checked_add(second)?).ok()
 }
 
-/// The union of two ledgers: their items in ascending order, without duplicates. It is written to a
-/// vector that must have room for the items of both.
+/// The union of two ledgers: their items in ascending order, without duplicates. The union is
+/// written to a vector that must have room for all items of the two ledgers.
 pub(crate) fn union_of(
     mut first: &[LedgerItem],
     mut second: &[LedgerItem],

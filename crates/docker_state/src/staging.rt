@@ -100,9 +100,9 @@ impl Staging {
         self.staged.is_empty()
     }
 
-    /// Offers the next entry of the state being received. The entry is staged if the floor keeps it
-    /// and the state has no equal or greater entry of the same key. If memory runs out, the entry
-    /// isn't staged and nothing changes.
+    /// Offers the next entry of the state being received. The entry is staged if it isn't below the
+    /// floor and the state has no equal or greater entry of the same key. If memory runs out, the
+    /// entry isn't staged and nothing changes.
     pub fn offer(&mut self, state: &State, key: Key, entry: Entry) -> Result<(), Memory>
         requires floor { IsFloor (state.now.ledger ++ self.old.items) self.old.floor }
         requires above { IsAboveStaged self.old.staged (key_meant key) }
@@ -132,8 +132,8 @@ impl Staging {
     }
 }
 
-/// Whether an entry has to be staged: the floor keeps it, and the state has no equal or greater
-/// entry of the same key. The state's entry is first looked for at index `near`.
+/// Whether an entry has to be staged: it isn't below the floor, and the state has no equal or
+/// greater entry of the same key. The state's entry is first looked for at index `near`.
 pub(crate) fn is_to_stage(
     state: &State,
     floor: &Option<FileStamp>,

@@ -474,7 +474,7 @@ impl State {
     }
 
     /// The join of any two states. The rows of the other state are placed among the rows of this
-    /// one, in the same memory. Only the rows after the first placed row move.
+    /// state, in the same memory. Only the rows after the first placed row move.
     fn join_rows(self, alloc: Global, other: State) -> Result<State, (State, State)>
         ensures ok { IfOk result (IsJoin self other) }
         ensures err { IfErr result (λ both. (both.0 ≡ self) × (both.1 ≡ other)) }
@@ -554,13 +554,14 @@ impl Merge for State {
     ghost idempotent = { join_idempotent };
 
     /// The join of two states: the union of their ledgers, and for each key the greater entry.
-    /// Items and entries below the floor of both are left out, and the entries lapse under the
-    /// greater horizon. If one state has all that the other would bring, the join is that state
-    /// under the greater horizon, and the other's memory is freed. For example, one state may be
-    /// made from a full extract that is newer than all files of the other state. Then no row of the
-    /// other state is read. If memory runs out, both states are returned unchanged. The join has an
-    /// index if both states have one. In this case both are also returned if together they have
-    /// more than 4,294,967,295 rows or places, which are numbered in 32 bits.
+    /// Items and entries below the greater of the two floors are left out, and the entries lapse
+    /// under the greater horizon. If one state has all that the other would bring, the join is that
+    /// state under the greater horizon, and the memory of the other state is freed. For example,
+    /// one state may be made from a full extract that is newer than all files of the other state.
+    /// Then no row of the other state is read. If memory runs out, both states are returned
+    /// unchanged. The join has an index if both states have one. In this case both states are also
+    /// returned if together they have more than 4,294,967,295 rows or places, which are numbered in
+    /// 32 bits.
     fn join(self, alloc: Global, other: State) -> Result<State, (State, State)>
         ensures ok { IfOk result (IsJoin self other) }
         ensures err { IfErr result (λ both. (both.0 ≡ self) × (both.1 ≡ other)) }

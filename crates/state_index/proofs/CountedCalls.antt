@@ -1,4 +1,4 @@
--- A place has as many postings of calls as there are live schedules that call there.
+-- A place has as many postings of calls as there are live schedules that call there. A spot is a posting with the TIPLOC itself instead of the TIPLOC's index.
 use Rattle.std.proofs.Common.{◌≡◌, ℕ, suc, List, [], ◌∷◌, ◌++◌, length, refl, ap, sym, ◌∙◌, subst, Some, None, Contains}
 use Rattle.std.specs.Prelude.{Option, slice_get, option_map, option_and_then}
 use Rattle.std.specs.List.{cons_option}

@@ -1,4 +1,5 @@
--- Lemmas that bound the number of spots of rows by counts over the rows, or over the changes that make the rows.
+-- Lemmas that bound the number of spots of rows by counts over the rows, or over the changes that make the rows. A spot is a TIPLOC with the index of a row
+-- there.
 use Rattle.std.proofs.Common.{◌≡◌, ℕ, ◌+◌, ◌≤◌, List, [], ◌∷◌, ◌++◌, map, length, refl, ap, sym, ◌∙◌, subst, inl, inr, ◌⊎◌, Contains, arith}
 use Rattle.std.specs.declared.cmp.Ordering.TheVariants.{Less, Equal}
 use Rattle.std.specs.Ordering.{on}

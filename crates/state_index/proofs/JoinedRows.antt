@@ -1,4 +1,5 @@
--- The rows of a join are the winning rows of a walk over both tables. The moves give each row's index in the join.
+-- The rows of a join are the winning rows of a walk over both tables. The moves have each row's index in the join. A spot is a TIPLOC with the index of a row
+-- there.
 use Rattle.std.proofs.Common.{◌≡◌, ℕ, List, [], ◌∷◌, map, refl, ap, sym, ◌∙◌, subst, Bool, true, false, cond, ◌⊎◌, Some, None, Contains}
 use Rattle.std.specs.Prelude.{Option, ◌↔◌, filter, not}
 use Rattle.std.specs.List.{AllByRecursion}
@@ -73,7 +74,7 @@ keyed_total : IsTotalOrder (on (λ (row : Keyed). row.0) key_cmp)
 keyed_total = on_total (λ (row : Keyed). row.0) key_total
 
 module _ (floor : Option FileStamp) (horizon : ℕ) where
-  -- `kept_lapsed` is exactly the list of the entries that the floor keeps, with the horizon applied
+  -- `kept_lapsed` is exactly the list of the entries that aren't below the floor, with the horizon applied
   members_are : (entries : List Keyed) (key : model.Key) (entry : ops.Entry) → Contains (kept_lapsed floor horizon entries) (key, entry)
       ↔ LapsesTo entries floor horizon key entry
   members_are entries key entry = (
@@ -87,7 +88,7 @@ module _ (floor : Option FileStamp) (horizon : ℕ) where
         (filter_forth (keeps floor) entries (key, told.0) told.1 (is_keeps floor told.0.stamp.file told.2))),
   )
 
-  -- the winning rows that the floor keeps, with the horizon applied, are the rows of the join
+  -- the winning rows that aren't below the floor, with the horizon applied, are the rows of the join
   pub joined_is : (first second : List Row) (joined : List Keyed) → AreAscending first → AreAscending second → AreJoined first second floor horizon joined
       → joined ≡ kept_lapsed floor horizon (map row_meant (map winner (turns_of first second)))
   joined_is first second joined up_first up_second is =

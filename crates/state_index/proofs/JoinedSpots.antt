@@ -1,4 +1,4 @@
--- The spots of joined rows are the spots of both tables, moved to the new indexes of their rows.
+-- The spots of joined rows are the spots of both tables, moved to the new indexes of their rows. A spot is a TIPLOC with the index of a row there.
 use Rattle.std.proofs.Common.{◌≡◌, ℕ, ◌+◌, List, [], ◌∷◌, ◌++◌, map, length, refl, ap, sym, ◌∙◌, subst}
 use Rattle.std.proofs.Common.{inl, inr, ◌⊎◌, Bool, true, false, cond, Some, None, Contains, arith}
 use Rattle.std.specs.Prelude.{Option, ◌↔◌, ◌<◌, ◌≤◌, slice_get, ◌&&◌, option_map, option_and_then, filter}
@@ -83,7 +83,7 @@ module _ (places : Places) where
           ∙ (λ i. moved_row (front ++ move ∷ moves) (length front) move (behind_front front move moves) (places row.0 row.1.op) i
           ++ (sym (λ j. moved_spots (append_assoc front (move ∷ []) moves j) (spots_from places (longer j) rows)) ∙ later) i)
 
-  -- moving the spots of the rows gives the spots of each row at its new index
+  -- if the spots of the rows are moved, each row's spots are at the row's new index
   pub moved_along : (moves : List (Option ℕ)) (rows : List Keyed) → length moves ≡ length rows → moved_spots moves (spots_of places rows) ≡ along moves rows
   moved_along moves rows size = along_from [] moves rows size
 

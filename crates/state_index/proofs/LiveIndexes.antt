@@ -1,5 +1,5 @@
--- The spots of a state's rows determine the indexes of its live table. The rows at a place's spots are exactly the schedules that call there and the
--- associations that are linked there.
+-- The spots of a state's rows determine the indexes of its live table. A spot is a TIPLOC with the index of a row there. The rows at a place's spots are
+-- exactly the schedules that call there and the associations that are linked there.
 use Rattle.std.proofs.Common.{◌≡◌, ℕ, List, [], ◌∷◌, ◌++◌, map, refl, ap, sym, ◌∙◌, subst, Some, None, Contains}
 use Rattle.std.specs.Prelude.{Option, slice_get, option_and_then}
 use Rattle.std.specs.List.{filter_map, cons_option}

@@ -1,4 +1,5 @@
--- Lemmas on moving spots to the indexes that their rows have in a join. The moved spots keep their order, and they are the spots of the joined rows.
+-- Lemmas on moving spots to the indexes that their rows have in a join. A spot is a TIPLOC with the index of a row there. The moved spots keep their order, and
+-- they are the spots of the joined rows.
 use Rattle.std.proofs.Common.{◌≡◌, ℕ, List, refl, ap, sym, ◌∙◌, inl, inr, ◌⊎◌, Some, None, Contains}
 use Rattle.std.specs.Prelude.{Option, ◌↔◌, slice_get, option_map, option_and_then}
 use Rattle.std.specs.declared.cmp.Ordering.{Ordering}

@@ -1,4 +1,4 @@
--- The postings made from noted rows have exactly the spots of these rows.
+-- The postings made from noted rows have exactly the spots of these rows. A spot is a posting with the TIPLOC itself instead of the TIPLOC's index.
 use Rattle.std.proofs.Common.{◌≡◌, ℕ, zero, suc, ◌+◌, ◌≤◌, List, [], ◌∷◌, ◌++◌, map, take, drop, length}
 use Rattle.std.proofs.Common.{refl, ap, sym, ◌∙◌, subst, Bool, true, false, Some, None, arith, get_or}
 use Rattle.std.specs.Prelude.{Option, slice_get, option_map}
@@ -154,7 +154,7 @@ links_walk names sorted ranks numbers are count rows pieces count_is noted walk 
 
 -- ---- the memory for an index
 
--- memory for many postings is also memory for fewer
+-- memory for many postings is also memory for fewer postings
 less_slots : (places few many : ℕ) (slots : Slots) → few ≤ many → HasSlots places many slots → HasSlots places few slots
 less_slots places few many slots less has = record {
   none = has.none;

@@ -1,4 +1,4 @@
--- The moves of a table's rows keep their order.
+-- The moves of a table's rows, which are the rows' indexes in a join, keep their order.
 use Rattle.std.proofs.Common.{◌≡◌, ℕ, zero, suc, ◌+◌, ◌≤◌, List, [], ◌∷◌, Bool, true, false, cond, Some, None, arith}
 use Rattle.std.specs.Prelude.{Option, slice_get, ⊤, ◌&&◌}
 use Rattle.docker_model.specs.state.Stamp.{FileStamp}

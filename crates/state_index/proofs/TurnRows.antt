@@ -1,4 +1,5 @@
--- Lemmas on the turns of a walk over two tables: which rows they have, which rows win, and where the winning rows are in the join.
+-- Lemmas on the turns of a walk over two tables. A turn has the rows with one key, and the row with the greater entry wins. The lemmas say which rows the turns
+-- have, and where the winning rows are in the join.
 use Rattle.std.proofs.Common.{◌≡◌, ℕ, suc, ◌+◌, ◌≤◌, List, [], ◌∷◌, map, length, refl, ap, Bool, true, false, cond, None, arith}
 use Rattle.std.specs.Prelude.{Option, ⊤}
 use Rattle.std.specs.List.{AllByRecursion}

@@ -1,4 +1,5 @@
--- The index that each row of two tables has in their join.
+-- The index that each row of two tables has in their join, and the spots with these new indexes. A
+-- spot is a TIPLOC with the index of a row there.
 use Rattle.std.specs.Prelude.{◌≡◌, ℕ, ◌+◌, ◌<◌, ◌≤◌, ◌^◌, [], ◌↔◌, ◌⊎◌, List, map, slice_get, Option, Some, option_map, option_and_then, Contains}
 use Rattle.std.specs.List.{filter_map}
 use Rattle.std.specs.Vec.{vec_len, vec_capacity}
@@ -70,8 +71,8 @@ abbrev pub HasMovedSpots : Places → List (model.Key × ops.Entry) → List (mo
 HasMovedSpots places first second joined moves = (spot : Spot) → Contains (spots_of places joined) spot
     ↔ (Contains (moved_spots moves.first.items (spots_of places first)) spot ⊎ Contains (moved_spots moves.second.items (spots_of places second)) spot)
 
--- Says that these moves give, for each row of two tables, the row's index in the join of the
--- tables.
+-- Says that these moves are right: for each row of two tables, they have the row's index in the
+-- join of the tables.
 pub record AreMoves (first second joined : List (model.Key × ops.Entry)) (moves : Moves) : Type 0 where
   pub first_rise : AreRising moves.first.items
   pub second_rise : AreRising moves.second.items

@@ -1,4 +1,5 @@
--- The live rows at the indexes that spots and postings give.
+-- The live rows to which spots and postings refer. A spot is a TIPLOC with the index of a row
+-- there.
 use Rattle.std.specs.Prelude.{◌≡◌, ℕ, Bool, false, List, ◌++◌, map, Contains, Option, Some, None, slice_get, option_and_then}
 use Rattle.std.specs.List.{filter_map}
 use Rattle.std.specs.Option.{is_some}
@@ -17,7 +18,7 @@ live_row row = option_and_then (λ body. Some (row.0, body)) (body_of row.1.op)
 abbrev pub live_at : List (Key × Entry) → Spot → Option Row
 live_at rows spot = option_and_then live_row (slice_get rows spot.at)
 
--- the live rows at the indexes that spots give, in the order of the spots
+-- the live rows to which the spots refer, in the order of the spots
 abbrev pub rows_at_spots : List (Key × Entry) → List Spot → List Row
 rows_at_spots rows spots = filter_map (live_at rows) spots
 
@@ -25,11 +26,12 @@ rows_at_spots rows spots = filter_map (live_at rows) spots
 abbrev pub live_at_posting : List (Key × Entry) → Posting → Option Row
 live_at_posting rows posting = option_and_then live_row (slice_get rows posting.at)
 
--- the live rows at the indexes that postings give, in the order of the postings
+-- the live rows to which the postings refer, in the order of the postings
 abbrev pub rows_at_postings : List (Key × Entry) → List Posting → List Row
 rows_at_postings rows postings = filter_map (live_at_posting rows) postings
 
--- Says that a piece of the postings has all postings of the place with this index, and no others.
+-- Says that a piece of the postings has all postings of the place with this index, and no other
+-- postings.
 pub record IsPieceOf (rank : ℕ) (postings piece : List Posting) : Type 0 where
   pub before : List Posting
   pub behind : List Posting
@@ -38,7 +40,7 @@ pub record IsPieceOf (rank : ℕ) (postings piece : List Posting) : Type 0 where
   pub here : (posting : Posting) → Contains piece posting → posting.place ≡ rank
   pub none_behind : (posting : Posting) → Contains behind posting → ¬ (posting.place ≡ rank)
 
--- Says that a piece of the spots has all spots of this place, and no others.
+-- Says that a piece of the spots has all spots of this place, and no other spots.
 pub record IsPieceAt (place : List ℕ) (spots piece : List Spot) : Type 0 where
   pub before : List Spot
   pub behind : List Spot

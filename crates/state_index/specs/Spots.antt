@@ -1,5 +1,5 @@
 -- Defines what an index of rows contains: the spots of all calls of live schedules, and the spots
--- of all live associations.
+-- of all live associations. A spot is a TIPLOC with the index of a row there.
 use Rattle.std.specs.Prelude.{ℕ, ◌+◌, ◌↔◌, List, [], ◌∷◌, ◌++◌, map, Contains, Option, option_map, slice_get}
 use Rattle.std.specs.List.{filter_map}
 use Rattle.docker_model.specs.file.Change.{Key}

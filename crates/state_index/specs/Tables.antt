@@ -1,4 +1,5 @@
--- Converts spots to rows of the two indexes that the definitions give a live table.
+-- Converts spots to the rows of the two indexes that the definitions have for a live table: where
+-- schedules call, and where associations are. A spot is a TIPLOC with the index of a row there.
 use Rattle.std.specs.Prelude.{ℕ, List, Option, Some, None, slice_get, option_and_then}
 use Rattle.std.specs.List.{filter_map}
 use Rattle.docker_model.specs.file.Change.{Key, association_key, schedule_key}

@@ -1,4 +1,4 @@
--- A walk over the rows of two tables, key by key. It gives the index of each row in the join.
+-- A walk over the rows of two tables, key by key. The walk finds the index of each row in the join.
 use Rattle.std.specs.Prelude.{ℕ, ◌+◌, Bool, true, false, ◌&&◌, not, if◌then◌else◌, List, [], ◌∷◌, map, Option, Some, None}
 use Rattle.std.specs.declared.cmp.Ordering.{Ordering}
 use Rattle.std.specs.declared.cmp.Ordering.TheVariants.{Less, Equal, Greater}

@@ -97,8 +97,8 @@ impl Index {
         keep_put(&mut self.links, rows, &puts);
     }
 
-    /// Makes the index of the join of two tables from the indexes of the two. The time is linear in
-    /// their sizes. Returns `Memory` if the allocator refuses.
+    /// Makes the index of the join of two tables from the tables' indexes. The time is linear in
+    /// the sizes of these two indexes. Returns `Memory` if the allocator refuses.
     pub fn of_join(
         alloc: Global,
         first: &Index,

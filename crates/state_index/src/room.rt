@@ -12,7 +12,7 @@ use crate::slots::Slots;
 use cif_change::{Memory, Notes};
 use std::alloc::Global;
 
-/// What making an index needs: the ordered places, and memory for the postings.
+/// The ordered places and the memory that are needed to make an index.
 #[derive(Debug, Drop)]
 pub struct Room {
     /// The TIPLOCs that the rows name, in ascending order and without duplicates.

@@ -1,4 +1,5 @@
--- Lemmas on pieces that are written, one after the other, to a sink through a buffer.
+-- Lemmas on pieces that are written, one after the other, to a sink through a buffer. A piece is gathered once its bytes are in the buffer or have gone from
+-- the buffer to the sink.
 use Rattle.std.proofs.Common.{◌≡◌, ℕ, suc, ◌+◌, ◌<◌, ◌≤◌, List, [], ◌∷◌, ◌++◌, length, take, drop, get_or, map, refl, ap, sym, ◌∙◌}
 use Rattle.std.proofs.Common.{subst, arith, append_assoc, append-nil, length-append, Some, None, Ok, Err, Result}
 use Rattle.std.specs.Prelude.{Option, IsErr, IsErrAnd, OnOk, OnErr}

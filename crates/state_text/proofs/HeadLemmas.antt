@@ -41,7 +41,7 @@ is_tag tag.Tiploc = inl refl
 is_tag tag.Assoc = inr (inl refl)
 is_tag tag.Schedule = inr (inr refl)
 
--- writing a put's key, stamp and op gives the bytes from which they were read
+-- the bytes that are written for a put's key, stamp and op are the bytes from which they were read
 pub put_text : (number : ℕ) (bytes key rest stamp op : List ℕ) → IsTag number → bytes ≡ key ++ rest → rest ≡ stamp ++ op → length key ≡ key_width number
     → length stamp ≡ 15 → length op ≡ 1 → slice_index op 0 ≡ 1 → ((i : ℕ) → get_or bytes i 0 < 256)
     → key_text (key_in number key) ++ stamp_bytes (stamp_in stamp) ++ 1 ∷ [] ≡ number ∷ bytes

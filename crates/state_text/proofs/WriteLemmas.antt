@@ -1,4 +1,5 @@
--- The text of a state is the concatenation of the pieces in which it is written.
+-- The text of a state is the concatenation of the pieces in which it is written. A piece is gathered once its bytes are in the buffer or have gone from the
+-- buffer to the sink.
 use Rattle.std.proofs.Common.{◌≡◌, ℕ, ◌+◌, ◌<◌, List, [], ◌∷◌, ◌++◌, length, map, get_or, ap, sym, ◌∙◌, subst}
 use Rattle.std.proofs.Common.{arith, append_assoc, append-nil, All, Ok, Err, Result}
 use Rattle.std.specs.Prelude.{Option, IsErrAnd}

@@ -21,7 +21,7 @@ IsLineRefusal count lines line (Some bad_body) = ¬ BeginUpTo count (lines ++ li
 IsLineRefusal count lines line _ = ⊥
 
 -- says that these are the first lines of a schedule with this key, and that the schedule doesn't
--- lapse in the state
+-- lapse under the state's horizon
 abbrev pub AreLinesIn : State → model.ScheduleKey → List (List ℕ) → Type 0
 AreLinesIn state key lines = AreLinesOf key lines × HaveNotToLapse state lines
 

@@ -63,8 +63,8 @@ abbrev pub begins_part : EntryPart → Bool
 begins_part before_tag = true
 begins_part _ = false
 
--- whether the next part isn't inside an entry. The tag, with which an entry begins, doesn't count
--- as inside
+-- whether the next part begins an item of the text. The result is false for the parts of an entry
+-- after its tag, and true at the end of the text
 abbrev pub begins_item : Before → Bool
 begins_item (in_entry count state part) = begins_part part
 begins_item _ = true

@@ -12,7 +12,7 @@ use std::fmt;
 pub enum StateCause {
     /// The text doesn't begin with the mark of its format.
     Mark,
-    /// No file's header can give this ledger item.
+    /// This ledger item can't come from the header of any file.
     Item,
     /// The ledger item isn't above the previous item, or the entry's key isn't above the previous
     /// key.

@@ -15,7 +15,7 @@ use docker_state::LedgerItem;
 /// The number of minutes in a day.
 const MINUTES: u16 = 1440;
 
-/// Reads a ledger item. Returns `None` if no file's header can give this item.
+/// Reads a ledger item. Returns `None` if the item can't come from the header of any file.
 fn item_in(bytes: &[u8]) -> Option<LedgerItem>
     requires { length bytes.now ≡ ITEM }
     ensures { MatchOption result (¬ IsGoodItem (item_in bytes.now))

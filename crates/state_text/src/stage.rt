@@ -12,7 +12,7 @@ use crate::format::{
 use cif_file::{Key, ScheduleKey};
 use docker_join::Stamp;
 
-/// The kind of an entry's key, which the entry's tag gives.
+/// The kind of an entry's key. In the text, the entry's tag says which kind it is.
 #[derive(Clone, Copy, Debug)]
 pub enum Tag {
     /// A TIPLOC.
@@ -90,8 +90,8 @@ impl Stage {
         }
     }
 
-    /// Whether the next part isn't inside an entry. The tag, with which an entry begins, doesn't
-    /// count as inside.
+    /// Whether the next part begins an item of the text. The result is false for the parts of an
+    /// entry after its tag. At the end of the text the result is true.
     pub fn begins_item(&self) -> bool
         ensures { (state : states.State) (lines : List (List ℕ)) →
             result ≡ begins_item (stage_meant self.now state lines) }

@@ -50,8 +50,8 @@ group_cmp a b =
 abbrev pub GroupLinks : Type 0
 GroupLinks = BTreeMap Group Link
 
--- says that for each group at the place, the map holds the association chosen on the day, or
--- nothing if none is chosen
+-- says that for each group at the place, the map has the association chosen on the day, or nothing
+-- if none is chosen
 abbrev pub AreDayLinks : Table → List ℕ → ℕ → GroupLinks → Type 0
 AreDayLinks live place day best =
     (group : Group) → group.location ≡ place → (rows : List Row) → AreRowsOf live rows → get group_cmp best group ≡ link_in rows group day

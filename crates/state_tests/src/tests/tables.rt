@@ -13,7 +13,8 @@ fn key(rt: &impl Abort, code: &str) -> Key {
     Key::Tiploc(Tiploc::from_text(code).expect(rt, "a TIPLOC"))
 }
 
-/// A table with one timing point, which has the entry with this number.
+/// A table with one timing point. The timing point has the entry with this number, which is one of
+/// the nine entries in `entries.rt`.
 fn one_row(rt: &impl Abort, alloc: Global, code: &str, place: u8) -> Table<Entry> {
     let mut rows = Vec::new(alloc);
     rows.push((key(rt, code), entry(rt, place)))
@@ -21,7 +22,8 @@ fn one_row(rt: &impl Abort, alloc: Global, code: &str, place: u8) -> Table<Entry
     Table::from_rows(rows)
 }
 
-/// A table with these timing points, each with the entry of the given number.
+/// A table with these timing points. Each timing point has the entry with the given number, which
+/// is one of the nine entries in `entries.rt`.
 fn table(rt: &impl Abort, alloc: Global, rows: &[(&str, u8)]) -> Table<Entry> {
     let mut all = Table::new(alloc);
     for (code, place) in rows {
@@ -31,7 +33,8 @@ fn table(rt: &impl Abort, alloc: Global, rows: &[(&str, u8)]) -> Table<Entry> {
     all
 }
 
-/// Asserts that a timing point has the entry with this number.
+/// Asserts that a timing point has the entry with this number, which is one of the nine entries in
+/// `entries.rt`.
 fn entry_is(rt: &impl Abort, table: &Table<Entry>, code: &str, place: u8) {
     same(rt, table.get(&key(rt, code)), Some(&entry(rt, place)));
 }
