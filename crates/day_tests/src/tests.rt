@@ -62,7 +62,7 @@ fn joined_back(rt: &impl Abort, alloc: Global, files: &[&[&[u8]]]) -> State {
     joined
 }
 
-/// The text of a docker in a sink, or `None` if memory runs out.
+/// A sink with the text of a docker, or `None` if memory runs out.
 fn written(alloc: Global, docker: &Docker<'_>) -> Option<Kept> {
     let mut kept = Kept::new(alloc, 10_000).ok()?;
     write_docker(docker, &mut kept).ok()?;

@@ -56,8 +56,7 @@ memory_or_not cause.Long = inr (λ same. cc)
 memory_or_not cause.Memory = inl refl
 memory_or_not cause.Horizon = inr (λ same. cc)
 
--- a read fault that is a fault of the text equals the parser's fault, whose cause isn't out of
--- memory
+-- if the read fault is a fault of the text, it equals the parser's fault, and the cause of the parser's fault isn't out of memory
 not_memory : {A : Type 0} (found told : StateFault) (result : ReadFault) → (found.cause ≡ cause.Memory → result ≡ fault.Memory)
     → (found.cause ≢ cause.Memory → result ≡ fault.State found)
     → ◌≡◌ {A = Result A ReadFault} (Err result) (Err (fault.State told)) → (found ≡ told) × (found.cause ≢ cause.Memory)
@@ -319,8 +318,7 @@ ends_whole {A = A} format limit initial next parser failed failed_now IsMade IsR
     by (Err fault.Memory) is =
         record { few = read.few; outcome = inr (inr (is.0, record { text = all.text; held = all.held; is = is.1 })); failures = read.failures }
 
--- if `IsMade` implies `IsRead`, and reading ends with a value for which `IsMade` holds, then it
--- ends with a value for which `IsRead` holds
+-- if `IsMade` implies `IsRead`, and reading ends with a value for which `IsMade` holds, then reading ends with a value for which `IsRead` holds
 pub ends_with : {S A E : Type 0} (wants : Wanting) (why : E → Option ReadFault) (left : S → Option (List ℕ)) (failures : S → ℕ) (format : Format) (limit : ℕ)
     (IsMade IsRead : A → Type 0) (source source_now : S) (result : Result A E) → ((made : A) → IsMade made → IsRead made)
     → EndsReadingBy wants why left failures format limit IsMade source source_now result

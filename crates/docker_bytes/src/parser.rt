@@ -84,7 +84,7 @@ impl<K: Keeper> Parser<K> {
         }
     }
 
-    /// The number of bytes that were read. No fault may have been returned.
+    /// The number of bytes that were read. The parser must not have returned a fault.
     pub(crate) fn offset(&self) -> u64
         requires { self.now.fault ≡ None }
         ensures { (format : formats.Format) (limit : ℕ) (text : List ℕ) →

@@ -85,7 +85,7 @@ fn add_events<'a>(
     }
 }
 
-/// Like `add_events`. `detail` has the train's origin and destination.
+/// Like `add_events`, for a train whose origin and destination are in `detail`.
 fn add_there<'a>(
     lines: &mut Vec<DockerLine<'a>>,
     train: &ScheduleView<'a>,

@@ -56,8 +56,7 @@ module _ (place : List ℕ) (day : ℕ) (lines : List (List ℕ)) (is_file : IsF
     list = (thin_state_list place day lines is_file few kept thinning part of (summary_of lines) (summary_is lines) docker.lines).1 made.list;
   }
 
--- if the entries of the kept changes' state are replaced by the entries of the whole file, the
--- result is the file's state
+-- take the state of the kept changes, and replace its entries by the entries of the whole file. The result is the file's state
 pub given_is_state : (file : FileRead) (lines : List (List ℕ)) → IsOfRecords file lines → (kept : List Change) (part : State)
     → IsStateOfChanges lines kept part → (entries : List (Key × Entry)) → entries ≡ (state_of_read file).entries
     → with_entries part entries ≡ state_of_read file

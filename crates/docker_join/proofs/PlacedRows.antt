@@ -19,7 +19,7 @@ use Rattle.docker_join.specs.RowLaws.{same_rows}
 use Rattle.docker_join.specs.Placing.{left_rows, is_level_at, IsRunAbove, IsJoinWith, IsPlaced}
 use Rattle.docker_join.proofs.MergedRows.{row_out, walk_from, walk, walk_joins, Above, above_lower}
 
--- Says that each row of the first list is below each row of the second.
+-- Says that each row of the first list is below each row of the second list.
 abbrev AllBelow : {E : Type 0} → List (Key × E) → List (Key × E) → Type 0
 AllBelow lows highs = AllByRecursion (λ low. Above low highs) lows
 
@@ -251,7 +251,7 @@ below_is Less under other = refl
 below_is Equal under other = cc
 below_is Greater under other = cc
 
--- the lemmas on one step, in which the last `run` rows of the ring are moved to its front and then one more row is placed
+-- the lemmas on one step, in which the last `run` rows of the ring buffer are moved to its front and then one more row is placed
 module _ {E : Type 0} (picked : E → E → E) (old : List (Key × E)) (n left run later : ℕ) (size : n ≡ length old) (left_in : left ≤ n) (row : Key × E)
     (is_run : IsRunAbove (key_meant row.0) old n left run) (turned_rows : List (Key × E)) (turned_is : turned_rows ≡ drop (n - run) old ++ take (n - run) old)
     (later_is : later ≡ left - run) where
@@ -357,7 +357,7 @@ module _ {E : Type 0} (picked : E → E → E) (old : List (Key × E)) (n left r
       (new_is ∙ ap (λ xs. (top.0, picked top.1 row.1) ∷ xs) both.0)
       (sym (length-take-le (later - 1) a (omega arith))) level)
 
--- when no row of the second table remains, the remaining rows of the first followed by the placed rows are the join
+-- when no row of the second table remains, the remaining rows of the first table, followed by the placed rows, are the join
 pub all_placed : {E : Type 0} (picked : E → E → E) (first second rows rest turned out : List (Key × E)) (n left : ℕ) → n ≡ length rows → rest ≡ []
     → AreAscending (left_rows left rows) → IsJoinWith picked first second left rows rest → out ≡ turned
     → turned ≡ drop (n - left) rows ++ take (n - left) rows → IsJoinOfRows picked first second out
@@ -381,7 +381,7 @@ none_yet {E = E} picked first second rows left same size =
       },
     )
 
--- if no row could be popped from the second table, none remains
+-- if no row could be popped from the second table, the table has no row left
 pub none_popped : {A : Type 0} (P Q : Type 0) (popped : Option A) (rows : List A) (n : ℕ) → ((x : A) → popped ≡ Some x → ⊥) → n ≡ length rows
     → MatchOption popped ((n ≡ 0) × P) (λ _. Q) → rows ≡ []
 none_popped P Q None [] n never size done = refl

@@ -6,8 +6,8 @@ use std::alloc::Global;
 /// A type whose values can be joined. For valid values the join is commutative, associative and
 /// idempotent, as long as it doesn't run out of memory.
 ///
-/// The programs join only states. The library also implements the trait, with the same laws, for
-/// file stamps, stamps, entries and tables.
+/// The programs join only states. The crates also implement the trait, with the same laws, for file
+/// stamps, stamps, entries and tables.
 pub trait Merge: Sized {
     // Says that a value is valid. The laws hold for valid values.
     ghost is_valid: { Self → Type 0 };

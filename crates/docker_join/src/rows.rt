@@ -1,5 +1,5 @@
 //! The rows of tables: their lapse under a horizon, and the join of two tables' rows in the memory
-//! of the first.
+//! of the first table.
 ghost use Rattle.std.specs.Prelude.{◌≡◌, ◌+◌, ◌<◌, ◌≤◌, true, false, map, vec_len, vec_capacity, MatchOption};
 ghost use Rattle.std.specs.VecDeque.{deque_len, deque_capacity};
 ghost use Rattle.cif_change.specs.Meaning.{key_meant};

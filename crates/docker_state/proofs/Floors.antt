@@ -10,7 +10,7 @@ use Rattle.cif_laws.proofs.orders.AtMost.{at_most_trans}
 use Rattle.docker_join.specs.Greater.{IsGreater}
 
 module _ (left right : List LedgerItem) where
-  -- if neither ledger has a full extract, both together have none
+  -- if neither ledger has a full extract, the two ledgers together have no full extract
   pub neither_full : HasNoFull left → HasNoFull right → HasNoFull (left ++ right)
   neither_full one other item among full = by (Contains-append_cases left right item among)
     where

@@ -86,7 +86,7 @@ live_has state key body is = by (find_in state.entries key)
     by (inl found) = (found.0.1, found.2, put_of found.0.1.op body (sym (live_at state key found.0 found.1) ∙ is))
     by (inr gone) = absurd (let none : None ≡ Some body = sym (live_none state key gone.0) ∙ is in cc)
 
--- in a valid state, the walk has a key with a body if and only if this body is live under the key
+-- in a valid state, the walk returns a key with a body if and only if this body is live under the key
 pub live_walks : (state : State) → IsValid state → (walked : List (Key × Body)) → walked ≡ live_rows state.entries
     → (key : Key) (body : Body) → Contains walked (key, body) ↔ (live_table state key ≡ Some body)
 live_walks state valid walked walked_is key body = (

@@ -27,7 +27,7 @@ below_brings_none own other valid floor below key entry among to =
     let item = Contains-map (λ (item : LedgerItem). item.stamp) other.ledger entry.stamp.file good.stamp.in_ledger in
     below item.0 item.1 (subst (IsKept floor) (sym item.2) to.kept)
 
--- if there are no rows, none has to be staged
+-- if there are no rows, no row has to be staged
 pub none_of_no_row : {A : Type 0} (meant : A → Key × Entry) (own : State) (floor : Option FileStamp) (rows : List A) → length rows ≡ 0
     → HasNoneToStage own floor (map meant rows)
 none_of_no_row meant own floor [] none = λ key entry among. absurd (nil-Contains (key, entry) among)
@@ -48,7 +48,7 @@ pub none_of_rest : {A : Type 0} (meant : A → Key × Entry) (own : State) (floo
 none_of_rest meant own floor rows behind row is first others =
     subst (λ xs. HasNoneToStage own floor (map meant xs)) (sym is) (none_of_more own floor (meant row) (map meant behind) first others)
 
--- if a test passes if and only if a property holds, and the test fails, the property doesn't hold
+-- if a test fails, and the test passes if and only if a property holds, the property doesn't hold
 pub untold : {P : Type 0} (b : Bool) → b ≡ false → IsTrue b ↔ P → ¬ P
 untold b fails tells holds = let bad : false ≡ true = sym fails ∙ tells.1 holds in cc
 

@@ -55,7 +55,7 @@ pub rows_sorted : (xs : List (Key × Entry)) → IsSorted by_entry xs → AreSor
 rows_sorted xs up = from_far xs
     (λ i j d before within. sorted_far (λ x y. is_lt (by_entry x y)) (ranks_by by_entry_total (λ m. m)) xs up i j d (omega arith) within)
 
--- the greatest entry of a key in one list of rows is also its greatest entry in any list with the same rows
+-- the greatest entry of a key among some rows is the key's greatest entry in any list with the same rows
 along : (xs ys : List (model.Key × ops.Entry)) → ((pair : model.Key × ops.Entry) → Contains xs pair → Contains ys pair)
     → ((pair : model.Key × ops.Entry) → Contains ys pair → Contains xs pair)
     → (key : model.Key) (entry : ops.Entry) → IsGreatestAmong xs key entry → IsGreatestAmong ys key entry

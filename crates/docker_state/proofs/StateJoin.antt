@@ -25,7 +25,7 @@ use Rattle.docker_join.proofs.MeantOrder.{ascending_meant, meant_ascending}
 use Rattle.docker_state.proofs.LapsedTables.{joined_lapses}
 use Rattle.docker_state.proofs.TableJoin.{Keyed, higher, joined_greatest, greatest_joined}
 
--- Says that a ledger is the union of two others: it has exactly their items.
+-- Says that a ledger is the union of two other ledgers: it has exactly their items.
 abbrev pub HasUnion : List LedgerItem → List LedgerItem → List LedgerItem → Type 0
 HasUnion union first second =
     (item : stamps.LedgerItem) → Contains (map item_meant union) item ↔ Contains (map item_meant first ++ map item_meant second) item

@@ -37,7 +37,7 @@ by_key a b = key_cmp a.0 b.0
 abbrev pub file_of : Keyed → FileStamp
 file_of pair = pair.1.stamp.file
 
--- Says that the rows of the code have, at a key, an entry that is converted to this entry.
+-- Says that the code's rows have a value at this key, and that this value is converted to this entry.
 abbrev pub ValueMeant : List (Key × Entry) → model.Key → ops.Entry → Type 0
 ValueMeant rows key entry = (value : Entry) × (value_at rows key ≡ Some value) × (entry_meant value ≡ entry)
 
@@ -127,7 +127,7 @@ module _ (first second joined : List (Key × Entry)) (up_first : AreAscending fi
           let level_with : w ≡ there.0 = same_value w there.0 (value_at second key) is_b there.1 in
           subst (λ e. IsAtMost entry_cmp e (entry_meant value)) (ap entry_meant level_with ∙ there.2) greater.second
 
-  -- each entry of the join is the greatest of its key
+  -- each entry of the join is the greatest entry of its key
   pub joined_greatest : (key : model.Key) (entry : ops.Entry) → Contains (map row_meant joined) (key, entry) → IsGreatestAmong Both key entry
   joined_greatest key entry among =
       let there = value_in joined is.ascends key entry among in

@@ -1,4 +1,4 @@
--- The rows of a timetable are good rows, since all live rows of its state are.
+-- The rows of a timetable are good rows, since all live rows of a valid state are good rows.
 use Rattle.std.proofs.Common.{◌≡◌, List, refl, ap, sym, ◌∙◌, subst, Bool, true, false}
 use Rattle.docker_model.specs.file.Change.{Key}
 use Rattle.docker_model.specs.state.State.{State, IsValid, live_table}

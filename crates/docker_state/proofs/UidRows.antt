@@ -91,7 +91,7 @@ parted_up_to uid rows up = parted is_le (refl, λ same. refl) refl uid rows up
 
 -- ---- a walk back finds the UID's first schedule
 
--- if a row isn't before the UID's schedules, no later row is
+-- if a row isn't before the UID's schedules, no later row is before them
 module _ (uid : List ℕ) (rows : List (Key × Entry)) (up : AreAscending rows) (first : ℕ) (within : first < length rows)
     (here : (d : Key × Entry) → is_before uid (get_or rows first d) ≡ false) where
   rest_behind : (k : ℕ) (d : Key × Entry) → first ≤ k → k < length rows → is_before uid (get_or rows k d) ≡ false

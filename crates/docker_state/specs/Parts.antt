@@ -17,7 +17,7 @@ pub record AreParts (ledger : List LedgerItem) (rows : List (Kept × Row)) (note
   pub valid : IsValid (state_meant 0 ledger rows)
   pub noted : HasNotedIfAny (items_of (map row_meant rows)) notes
 
--- the state with its horizon replaced by this one
+-- the state with this horizon in place of its own
 abbrev pub under_horizon : ℕ → State → State
 under_horizon horizon state = record { horizon = horizon; ledger = state.ledger; entries = state.entries }
 

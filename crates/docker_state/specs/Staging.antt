@@ -28,7 +28,7 @@ staging_meant floor items rows = record {
   staged = map row_meant rows;
 }
 
--- a staging with one more entry staged
+-- `staging` with one more staged entry
 abbrev pub with_staged : Staging → model.Key → ops.Entry → Staging
 with_staged staging key entry = record {
   floor = staging.floor;

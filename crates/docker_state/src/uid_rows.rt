@@ -27,7 +27,7 @@ pub(crate) fn rows_of_uid<'a>(
 }
 
 /// How many rows come before the UID's schedules. If the row at index `near` is one of these
-/// schedules, a walk back finds the first. Otherwise a binary search does.
+/// schedules, a walk back finds the first of them. Otherwise a binary search finds it.
 fn rows_before(rows: &[(Key, Entry)], uid: &Uid, near: usize) -> usize
     requires { AreAscending rows.now }
     ensures within { result ≤ length rows.now }

@@ -31,7 +31,7 @@ fused {A} {B} {C} f g (x ∷ xs) = by (f x) (fused f g xs)
     by None rest = rest
     by (Some y) rest = ap (cons_option (g y)) rest
 
--- there are at most as many moved postings as postings
+-- moving postings results in at most as many postings
 pub moved_few : (ranks : List ℕ) (moves : List (Option ℕ)) (postings : List Posting) → length (moved_postings ranks moves postings) ≤ length postings
 moved_few ranks moves [] = omega arith
 moved_few ranks moves (posting ∷ postings) = by (moved_posting ranks moves posting) (moved_few ranks moves postings)
@@ -81,7 +81,7 @@ module _ (names others : List (List ℕ)) (ranks : List ℕ) (are : AreRanks oth
       ∙ (λ i. filter_map (λ posting. same_move posting i) postings)
       ∙ sym (fused (posting_spot names) (moved_spot moves) postings)
 
-  -- the place of a moved posting is the rank of its old place, and its row the index of its old row in the join
+  -- a moved posting has the new index of its old place, and the new index of its old row
   went : (posting moved : Posting) → moved_posting ranks moves posting ≡ Some moved
       → (slice_get ranks posting.place ≡ Some moved.place) × (slice_get moves posting.at ≡ Some (Some moved.at))
   went posting moved is = by (slice_get ranks posting.place) refl (slice_get moves posting.at) refl is

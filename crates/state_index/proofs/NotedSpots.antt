@@ -165,7 +165,7 @@ less_slots places few many slots less has = record {
   room = (let all = has.room in omega arith);
 }
 
--- memory for at least as many calls and links as the rows have is memory for their index
+-- memory for at least as many calls and links as the rows have is enough for their index
 fits : (rows : List Keyed) (names : List (List ℕ)) (calls count : ℕ) (room : Room) → IsRoom names calls count room
     → length (spots_of call_places rows) ≤ calls → length (spots_of link_places rows) ≤ count → length rows ≤ count → HasRoomFor rows names room
 fits rows names calls count room is few_calls few_links few_rows = record {
@@ -200,7 +200,7 @@ pieces_fit names numbers (item ∷ items) (piece ∷ pieces) are =
         taken (suc n) [] = omega arith
         taken (suc n) (x ∷ xs) = let rest = taken n xs in omega arith
 
--- memory for all noted numbers is memory for the index of the noted rows
+-- memory for as many calls as there are noted numbers is enough for the index of the noted rows
 pub room_of_rows : (rows : List Keyed) (notes : Notes) (calls count : ℕ) (room : Room) → calls ≡ length notes.numbers.items → count ≡ length notes.pieces.items
     → IsRoom notes.names.list.items calls count room → HasNoted (items_of rows) notes → HasRoomFor rows notes.names.list.items room
 room_of_rows rows notes calls count room calls_is count_is is has =
@@ -213,7 +213,7 @@ room_of_rows rows notes calls count room calls_is count_is is has =
     let all = places_of_rows rows in
     fits rows notes.names.list.items calls count room is (omega arith) (omega arith) (omega arith)
 
--- memory for all noted numbers is memory for the index of the rows that the noted changes make
+-- memory for as many calls as there are noted numbers is enough for the index of the rows that the noted changes make
 pub room_of_changes : (changes : List model.Change) (rows : List Keyed) (notes : Notes) (calls count : ℕ) (room : Room) → calls ≡ length notes.numbers.items
     → count ≡ length notes.pieces.items → IsRoom notes.names.list.items calls count room → HasNoted (items_put changes) notes → AreAscending rows
     → AreMadeBy changes rows → HasRoomFor rows notes.names.list.items room

@@ -1,5 +1,4 @@
--- Postings and their spots. A posting gives its place as an index in a list of places, and its spot
--- gives the TIPLOC itself.
+-- Postings and their spots. A posting has its place as an index in a list of places, and its spot has the TIPLOC itself.
 use Rattle.std.proofs.Common.{◌≡◌, ℕ, List, [], ◌∷◌, ◌++◌, refl, ap, sym, ◌∙◌, subst, Some, None, Contains, Bool, true, false, cond, append-nil}
 use Rattle.std.specs.Prelude.{Option, ◌↔◌, filter, slice_get, option_map, option_and_then}
 use Rattle.std.specs.List.{cons_option}
@@ -24,7 +23,7 @@ use Rattle.state_index.proofs.Positions.{Keyed, some_is, at_member, at_ascends, 
 none_some : {A : Type 0} (a : A) → None ≡ Some a → ⊥
 none_some a h = cc
 
--- the spot of a posting has the name of the posting's place, and the posting's row
+-- the spot of a posting has the TIPLOC of the posting's place, and the posting's row
 pub spot_named : (names : List (List ℕ)) (posting : Posting) (spot : Spot) → posting_spot names posting ≡ Some spot
     → (slice_get names posting.place ≡ Some spot.place) × (spot.at ≡ posting.at)
 spot_named names posting spot is = by (slice_get names posting.place) refl is
@@ -127,7 +126,7 @@ same_spots names postings others same spot among =
     let found = chosen_from (posting_spot names) postings spot among in
     chosen_to (posting_spot names) others found.0 spot (same found.0 found.1) found.2
 
--- if postings have the spots of the rows, sorting the postings and removing repeated ones gives the rows' postings
+-- if postings have the spots of the rows, they become the rows' postings when they are sorted and repeated postings are removed
 pub postings_made : (places : Places) (rows : List Keyed) (names : List (List ℕ)) (made postings : List Posting) → IsStrictlyAscending bytes_cmp names
     → spots_in names made ≡ spots_of places rows → IsStrictlyAscending posting_cmp postings
     → ((posting : Posting) → Contains postings posting ↔ Contains made posting)

@@ -48,7 +48,7 @@ ends_more rows key body =
     by None = append-nil (ends_of rows)
     by (Some day) = refl
 
--- a correct tally of the rows `rows`, before one more row is counted
+-- the lemmas for a correct tally of the rows `rows`, when one more row is counted
 module _ (rows : List Row) (tally : Tally) (body : Body) (is : IsTallyOf rows tally) where
   same_count : (tag count : ℕ) (key : Key) → count ≡ count_of tag rows → ◌≡◌ {A = ℕ} (one_if tag key) 0 → count ≡ count_of tag (rows ++ (key, body) ∷ [])
   same_count tag count key told none = let more = count_more tag rows key body in omega arith
@@ -92,7 +92,7 @@ module _ (rows : List Row) (tally : Tally) (body : Body) (is : IsTallyOf rows ta
 
 -- ---- the greater of two days
 
--- a list of days whose greatest day is `one`, and a day `other` that is added to the list
+-- the lemmas for a list of days whose greatest day is `one`, when the day `other` is added
 module _ (days : List ℕ) (one other : ℕ) (is : IsGreatest days (Some one)) where
   later_wins : one ≤ other → IsGreatest (days ++ other ∷ []) (Some other)
   later_wins below =

@@ -61,8 +61,8 @@ part_longer a x y e part =
     let within : part.0 ≤ length x = omega arith in
     (part.0, omega arith, subst (λ xs. Takes a xs e) (sym (take-append-le part.0 x y within)) part.2)
 
--- let the buffer first hold b. If p was gathered, and then a proper prefix of the held bytes and q
--- was taken, a proper prefix of b ++ p ++ q was taken in all
+-- let the buffer hold b at first, and let p be gathered. If the sink then takes a proper prefix of the buffer's bytes and q, it has taken a proper prefix of b
+-- ++ p ++ q in all
 gathers_part : (a : Told) (b p : List ℕ) (c : Told) (d q : List ℕ) (e : Told)
     → Gathers a b p c d → TakesPart c (d ++ q) e → TakesPart a (b ++ (p ++ q)) e
 gathers_part a b p c d q e first part =

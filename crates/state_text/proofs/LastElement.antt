@@ -41,7 +41,7 @@ module _ {A K : Type 0} (key : A → K) (cmp : K → K → Ordering) (total : Is
       by (inl same) = subst (λ z. IsBelow cmp (key z) k) (sym same) low
       by (inr below) = total.trans (key x) (key last) k below low
 
-  -- whatever is above the last element is above all
+  -- whatever is above the last element is above all elements
   pub above_last : (xs : List A) (last : A) (k : K) (test : Bool) → IsStrictlyAscending (on key cmp) xs → slice_get xs (length xs - 1) ≡ Some last
       → test ≡ is_lt (cmp (key last) k) → IsTrue test ↔ All (λ x. IsBelow cmp (key x) k) xs
   above_last xs last k test up is tested = (

@@ -14,7 +14,7 @@ horizon_meant (Some day) = day
 abbrev pub file_stamps : List LedgerItem → List FileStamp
 file_stamps items = map (λ (item : LedgerItem). item.stamp) items
 
--- the state with its horizon replaced by this one
+-- the state with this horizon in place of its own
 abbrev pub under : ℕ → State → State
 under horizon state = record { horizon = horizon; ledger = state.ledger; entries = state.entries }
 

@@ -42,7 +42,7 @@ impl<R: Receiver> Received<R> {
     }
 
     /// Returns the receiving state, joined with the parts, under the later of the state's horizon
-    /// and the text's. If memory runs out, the state is unchanged.
+    /// and the text's horizon. If memory runs out, the state is unchanged.
     pub(crate) fn join(self, horizon: Option<Day>) -> (State, Result<(), Memory>)
         requires { IsValid (under (horizon_meant horizon) self) }
         ensures ok { IsOk result.1

@@ -18,7 +18,7 @@ use std::alloc::{AllocError, Global};
 use std::marker::Model;
 use std::{mem, slice};
 
-/// The lines of a schedule that were read, in one buffer, and the journey that judges them.
+/// The lines of a schedule that were read, in one buffer, and the `Journey` that judges them.
 #[derive(Debug, Drop)]
 pub struct Gathered {
     journey: Journey,

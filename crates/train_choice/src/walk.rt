@@ -100,8 +100,8 @@ impl<'a> EventWalk<'a> {
     }
 }
 
-/// Returns 1 if `time` is below the last time, because the train then passes midnight between the
-/// two times. Otherwise returns 0.
+/// Returns 1 if `time` is below the previous time, because the train then passes midnight between
+/// the two times. Otherwise returns 0.
 fn fall(last: Option<Time>, time: Time) -> u64
     ensures value { result ≡ fall_at last time }
     ensures few { result ≤ 1 }

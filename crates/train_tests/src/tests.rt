@@ -39,7 +39,7 @@ fn joined(rt: &impl Abort, alloc: Global, files: &[&[&[u8]]]) -> State {
     joined
 }
 
-/// The text for a UID on a day, in a sink.
+/// A sink with the text for a UID on a day.
 fn printed(rt: &impl Abort, alloc: Global, state: &State, word: &str, on: &str) -> Kept {
     let train = find_train(state, &uid(rt, word), day(rt, on)).expect(rt, "an answer");
     let mut kept = Kept::new(alloc, 10_000).expect(rt, "room");

@@ -131,8 +131,8 @@ fn lapsed(rt: &impl Abort, alloc: Global, records: &[&[u8]], day: &str) -> State
     state
 }
 
-/// Asserts the text of the state of the file with C10001's schedule after this horizon is set. The
-/// text has `len` bytes and one entry, which has these parts.
+/// Sets this horizon on the state of the file with C10001's schedule, and asserts the state's text.
+/// The text has `len` bytes and one entry, which has these parts.
 fn has_under(
     rt: &impl Abort,
     alloc: Global,

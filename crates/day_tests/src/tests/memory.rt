@@ -49,7 +49,8 @@ fn counts_are(rt: &impl Abort, state: &State, items: usize, entries: usize, rows
     same(rt, live, rows);
 }
 
-/// The text of a docker in a sink. If memory runs out, the docker is written a second time.
+/// Writes a docker to a sink, and returns the sink. If memory runs out, the docker is written a
+/// second time.
 fn taken(rt: &impl Abort, alloc: Global, docker: &Docker<'_>) -> Kept {
     match written(alloc, docker) {
         Some(kept) => kept,
@@ -57,7 +58,8 @@ fn taken(rt: &impl Abort, alloc: Global, docker: &Docker<'_>) -> Kept {
     }
 }
 
-/// The text of the docker for Colwell. If memory runs out, the docker is made a second time.
+/// Makes the docker for Colwell, and returns a sink with its text. If memory runs out, the docker
+/// is made a second time.
 fn made(rt: &impl Abort, alloc: Global, state: &State) -> Kept {
     let place = place(rt, "COLWELL");
     let day = day(rt, "2024-06-10");

@@ -199,7 +199,7 @@ fn cancelled_association(rt: HostRuntime) {
     keeps(&rt, alloc, files, "COLWELL", "2024-06-10", otherwise);
 }
 
-/// Asserts the lines of the docker and of the permanent docker of Colwell on 10 June. The docker
+/// Asserts the lines at Colwell on 10 June, on the docker and on the permanent docker. The docker
 /// has the arrival of C40001 and the line `now`, and the permanent docker has the lines `wanted`.
 /// The file has C40001, this association, C40002 on 11 June, and the cancellation of C40002.
 fn works_on(rt: &impl Abort, alloc: Global, association: &[u8], now: &[u8], wanted: &[&[u8]]) {
