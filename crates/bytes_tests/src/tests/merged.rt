@@ -84,7 +84,7 @@ const PLAIN: Records = &[HD, BS, LO, LT, ZZ];
 /// The text of the state of `PLAIN`.
 const OF_PLAIN: Records = &[MARK, ONE, ITEM, ONE, HEAD, BS, LO, LT];
 
-/// A file of the next day, which revises the schedule.
+/// A file of the next day, which revises the schedule of C10001.
 const REVISION: Records = &[HD_10B, BS_REVISED, LO_0905, LT_0935, ZZ];
 
 /// The text of the state of `PLAIN` and `REVISION`.
@@ -147,13 +147,14 @@ fn a_late_full_extract(rt: HostRuntime) {
     }
 }
 
-/// A file in which the schedule runs until 21 June and leaves ten minutes earlier.
+/// A file in which the schedule of C10001 runs until 21 June, and leaves ten minutes earlier than
+/// in `PLAIN`.
 const LONGER: Records = &[HD, BS_LONGER, LO_0850, LT, ZZ];
 
-/// A file in which the schedule leaves five minutes later.
+/// A file in which the schedule of C10001 leaves five minutes later than in `PLAIN`.
 const LATER: Records = &[HD, BS, LO_0905, LT, ZZ];
 
-/// A file that deletes the schedule.
+/// A file that deletes the schedule of C10001.
 const DELETION: Records = &[HD, BS_DELETED, ZZ];
 
 /// The text of the state of `LONGER`.

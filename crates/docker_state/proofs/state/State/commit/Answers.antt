@@ -42,7 +42,7 @@ pub of_rows-received-requires-clause-index : goal.of_rows-received-requires-clau
 of_rows-received-requires-clause-index c =
     subst (λ (rows : List (Key × Entry)). IsIndexIfAny (map row_meant rows) c.in_ok-index.index) c.as_slice.ensures.value c.in_ok-index.ensures
 
--- `auto` proves these goals too. The proofs are written out so that a wrong body fails without a long search.
+-- The tactic `auto` proves these goals too. Their proofs are written out so that a wrong body is refused without a long search.
 pub returns-clause-err : goal.returns-clause-err
 returns-clause-err c = search rules
 

@@ -1,4 +1,4 @@
--- `auto` proves these goals too. The proofs are written out so that a wrong body fails without a long search.
+-- The tactic `auto` proves these goals too. Their proofs are written out so that a wrong body is refused without a long search.
 use Rattle.std.proofs.Common.{rules}
 use Rattle.state_text.proofs.schedule.Gathered.has_more.Goals as goal
 
