@@ -14,7 +14,7 @@ use Rattle.cif_change.specs.Meaning.{key_meant}
 use Rattle.docker_join.specs.Rows.{row_cmp, AreAscending, value_at, picked_value, IsJoinOfRows}
 use Rattle.docker_join.specs.RowLaws.{value_here, value_behind, value_above}
 
--- one step of the walk: the lower of two rows, or the pick of both if their keys are equal, followed by the rest of the walk
+-- one step of the walk: the lower of two rows, or the join of the two rows if their keys are equal, followed by the rest of the walk
 abbrev pub row_out : {E : Type 0} → (E → E → E) → Ordering → Key × E → Key × E → List (Key × E) → List (Key × E) → List (Key × E) → List (Key × E)
 row_out picked Less x y less equal greater = x ∷ less
 row_out picked Equal x y less equal greater = (x.0, picked x.1 y.1) ∷ equal
@@ -116,7 +116,7 @@ module _ {E : Type 0} (picked : E → E → E) where
           let none : value_at xs key ≡ None = subst (λ k. value_at xs k ≡ None) (exact_key (key_meant y.0) key is) (value_above (key_meant y.0) xs above) in
           value_here y tail key is ∙ sym (λ i. picked_value picked (none i) (value_here y ys key is i))
 
-  -- if two rows have the same key, the walk that takes the pick of both has the joined value at each key
+  -- if two rows have the same key, the walk that takes the join of the two rows has the joined value at each key
   both_out : (x y : Key × E) (xs ys tail : List (Key × E)) (key : model.Key) → row_cmp x y ≡ Equal → value_at tail key ≡ Both xs ys key
       → value_at ((x.0, picked x.1 y.1) ∷ tail) key ≡ Both (x ∷ xs) (y ∷ ys) key
   both_out x y xs ys tail key level later = by (key_cmp (key_meant x.0) key) refl

@@ -141,7 +141,7 @@ module _ {E : Type 0} (picked : E → E → E) where
       walk_split picked a r rest (row ∷ []) below (below_higher rest r row rest_below above)
       ∙ ap (λ out. walk picked a rest ++ out) (walk_row r row above)
 
-  -- if the first table has the key of the second table's last row, the walk has the pick of both rows just before the greater rows
+  -- if the first table has the key of the second table's last row, the walk has the join of the two rows just before the greater rows
   level_out : (b r rest : List (Key × E)) (own row : Key × E) → row_cmp own row ≡ Equal → AllBelow b (own ∷ []) → Above own r → AllBelow rest (row ∷ [])
       → walk picked (b ++ (own ∷ r)) (rest ++ row ∷ []) ≡ walk picked b rest ++ ((own.0, picked own.1 row.1) ∷ r)
   level_out b r rest own row level below above rest_below =
@@ -191,7 +191,7 @@ module _ {E : Type 0} (picked : E → E → E) where
     };
   }
 
-  -- placing a row whose key the first table doesn't have doesn't change the final join
+  -- placing a row whose key the first table doesn't have doesn't change the final join of the tables
   none_placed : (p a r : List (Key × E)) (row : Key × E) (old new : List (Key × E)) (left later : ℕ)
       → old ≡ p ++ (a ++ r) → left ≡ length (a ++ r) → new ≡ row ∷ (r ++ (p ++ a)) → later ≡ length a
       → (AreAscending (a ++ r) → AllBelow a (row ∷ []) × Above row r) → WalksOn picked old left row new later
@@ -209,7 +209,7 @@ module _ {E : Type 0} (picked : E → E → E) where
             ∙ sym (joined_is old p (a ++ r) (rest ++ row ∷ []) left old_is left_size);
       }
 
-  -- placing the pick of two rows with one key doesn't change the final join
+  -- placing the join of two rows with one key doesn't change the final join of the tables
   level_placed : (p b r : List (Key × E)) (own row : Key × E) (old new : List (Key × E)) (left later : ℕ)
       → old ≡ p ++ (b ++ (own ∷ r)) → left ≡ length (b ++ (own ∷ r)) → new ≡ (own.0, picked own.1 row.1) ∷ (r ++ (p ++ b)) → later ≡ length b
       → row_cmp own row ≡ Equal → WalksOn picked old left row new later

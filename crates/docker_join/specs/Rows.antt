@@ -21,7 +21,7 @@ AreAscending rows = IsStrictlyAscending row_cmp rows
 abbrev pub value_at : {E : Type 0} → List (Key × E) → model.Key → Option E
 value_at rows key = option_map (λ row. row.1) (find (λ row. is_eq (key_cmp (key_meant row.0) key)) rows)
 
--- the joined value of two tables at a key: the pick of both values, or the only value, or none
+-- the joined value of two tables at a key: the join of both values, or the only value, or none
 abbrev pub picked_value : {E : Type 0} → (E → E → E) → Option E → Option E → Option E
 picked_value picked None other = other
 picked_value picked (Some value) None = Some value

@@ -27,7 +27,8 @@ HasNotedIfAny items notes = IfSome notes (HasNoted items)
 abbrev pub HasRoomIfAny : List (model.Key × ops.Entry) → Option Notes → Option Room → Type 0
 HasRoomIfAny rows notes room = IfSome notes (λ noted. IfSome room (HasRoomFor rows noted.names.list.items))
 
--- Says that the rows are at these indexes among the noted rows, or that there are no notes.
+-- Says that the rows are at these indexes among the rows whose places were noted, or that there are
+-- no notes.
 abbrev pub ArePickedNotes : List ℕ → List (model.Key × ops.Entry) → Option Notes → Type 0
 ArePickedNotes order rows notes = IfSome notes (λ noted. (items : List Item) × HasNoted items noted × ArePicked items order (items_of rows))
 

@@ -67,8 +67,9 @@ pub(crate) fn note_if(notes: &mut Option<Notes>, key: &Key, op: &Op) -> Result<(
     }
 }
 
-/// Reserves memory for the index of the rows that noted changes make. The changes make one row for
-/// each key. Returns `None` if there are no notes. Returns `Memory` if the allocator refuses.
+/// Reserves memory for the index of the rows that changes make, given the notes of the changes'
+/// places. The changes make one row for each key. Returns `None` if there are no notes. Returns
+/// `Memory` if the allocator refuses.
 pub(crate) fn room_for_notes(alloc: Global, notes: &Option<Notes>) -> Result<Option<Room>, Memory>
     ensures { (changes : List model.Change) (rows : List (model.Key × ops.Entry))
         → AreNotesOf changes notes.now → AreAscending rows → AreMadeBy changes rows
@@ -84,8 +85,8 @@ pub(crate) fn room_for_notes(alloc: Global, notes: &Option<Notes>) -> Result<Opt
 }
 
 /// Makes the index of the rows in the memory that was reserved for it. Returns `None` if nothing
-/// was reserved or noted. `order` gives the number of each row among all noted rows. `pieces` must
-/// be empty and have room for one piece per row.
+/// was reserved or noted. `order` gives the number of each row among all rows whose places were
+/// noted. `pieces` must be empty and have room for one piece per row.
 pub(crate) fn picked_index(
     room: Option<Room>,
     notes: Option<Notes>,

@@ -1,4 +1,5 @@
--- The postings made from noted rows have exactly the spots of these rows. A spot is a posting with the TIPLOC itself instead of the TIPLOC's index.
+-- The postings made from the notes of rows, which list the rows' places, have exactly the spots of these rows. A spot is a posting with the TIPLOC itself
+-- instead of the TIPLOC's index.
 use Rattle.std.proofs.Common.{◌≡◌, ℕ, zero, suc, ◌+◌, ◌≤◌, List, [], ◌∷◌, ◌++◌, map, take, drop, length}
 use Rattle.std.proofs.Common.{refl, ap, sym, ◌∙◌, subst, Bool, true, false, Some, None, arith, get_or}
 use Rattle.std.specs.Prelude.{Option, slice_get, option_map}
@@ -200,7 +201,7 @@ pieces_fit names numbers (item ∷ items) (piece ∷ pieces) are =
         taken (suc n) [] = omega arith
         taken (suc n) (x ∷ xs) = let rest = taken n xs in omega arith
 
--- memory for as many calls as there are noted numbers is enough for the index of the noted rows
+-- memory for as many calls as there are noted numbers is enough for the index of the rows whose places were noted
 pub room_of_rows : (rows : List Keyed) (notes : Notes) (calls count : ℕ) (room : Room) → calls ≡ length notes.numbers.items → count ≡ length notes.pieces.items
     → IsRoom notes.names.list.items calls count room → HasNoted (items_of rows) notes → HasRoomFor rows notes.names.list.items room
 room_of_rows rows notes calls count room calls_is count_is is has =
@@ -213,7 +214,7 @@ room_of_rows rows notes calls count room calls_is count_is is has =
     let all = places_of_rows rows in
     fits rows notes.names.list.items calls count room is (omega arith) (omega arith) (omega arith)
 
--- memory for as many calls as there are noted numbers is enough for the index of the rows that the noted changes make
+-- memory for as many calls as there are noted numbers is enough for the index of the rows that the changes make
 pub room_of_changes : (changes : List model.Change) (rows : List Keyed) (notes : Notes) (calls count : ℕ) (room : Room) → calls ≡ length notes.numbers.items
     → count ≡ length notes.pieces.items → IsRoom notes.names.list.items calls count room → HasNoted (items_put changes) notes → AreAscending rows
     → AreMadeBy changes rows → HasRoomFor rows notes.names.list.items room

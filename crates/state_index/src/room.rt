@@ -27,9 +27,9 @@ pub struct Room {
 }
 
 impl Room {
-    /// Reserves memory for the index of the noted rows. If changes were noted, the memory is enough
-    /// for the rows that the changes make, one for each key. Returns `Memory` if the allocator
-    /// refuses.
+    /// Reserves memory for the index of the rows whose places were noted. If the places of changes
+    /// were noted, the memory is enough for the rows that the changes make, one for each key.
+    /// Returns `Memory` if the allocator refuses.
     pub fn for_notes(alloc: Global, notes: &Notes) -> Result<Room, Memory>
         ensures rows { (rows : List (model.Key × ops.Entry)) → HasNoted (items_of rows) notes.now
             → IfOk result (HasRoomFor rows notes.now.names.list.items) }
