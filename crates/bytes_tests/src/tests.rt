@@ -232,7 +232,7 @@ type Row = (&'static [&'static [u8]], u64, StateCause);
 /// If the text is cut, its fault is at one of these offsets.
 const BEGINNINGS: [u64; 6] = [0, 4, 6, 14, 33, 41];
 
-/// The greatest of these offsets that isn't above `len`. The offsets ascend from 0.
+/// The greatest of the offsets `places` that isn't above `len`. The offsets ascend from 0.
 fn last_place(places: &[u64], len: usize) -> u64 {
     let mut last = 0;
     for place in places {

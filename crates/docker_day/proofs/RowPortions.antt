@@ -39,7 +39,7 @@ row_passed day key body row before after false is good viewed told never = λ pl
     (sym (told ∙ ap (λ (r : RowView). row_may_run r day) viewed)) i
     ++ gathered (train_in rows) (link_in rows) place day after)
 
--- `AreLeft` is transitive
+-- `AreLeft`, which says that rows stay good and live while a walk moves on, is transitive
 pub left_again : (all rest fewer : List Row) → AreLeft all rest → AreLeft rest fewer → AreLeft all fewer
 left_again all rest fewer first second = record {
   good = λ good. second.good (first.good good);
@@ -70,7 +70,7 @@ pub none_after : (day : ℕ) (all rest fewer : List Row) (so_far : Bool) (found 
 none_after day all rest fewer so_far None left before end after none = passed_again day all rest fewer left (before none) (after (λ bad. cc))
 none_after day all rest fewer so_far (Some may) left before end after none = absurd (end may refl)
 
--- `HaveMoved` is transitive
+-- `HaveMoved`, which says that a walk has added the lines of the rows that it has passed, is transitive
 pub moved_again : (there again : PlaceDay) (all rest fewer : List Row) (first second third : List DockerLine) → again ≡ there
     → HaveMoved there all rest first second → HaveMoved again rest fewer second third → HaveMoved there all fewer first third
 moved_again there again all rest fewer first second third same one two = λ rows are.

@@ -19,7 +19,7 @@ use Rattle.docker_state.specs.Meaning.{item_meant, row_meant, state_meant}
 
 module _ (own day : ℕ) (low : own ≤ day) (ledger : List LedgerItem) (rows after : List (Key × Entry))
     (lapsed : map row_meant after ≡ lapse_entries day (map row_meant rows)) where
-  -- if a later day is applied to the rows as the horizon, the rows are the rows of the state with its horizon raised to that day
+  -- after a later day is applied to the rows as the horizon, they are the rows of the state with its horizon raised to that day
   pub rows_raised : state_meant day ledger after ≡ raise_horizon day (state_meant own ledger rows)
   rows_raised =
       (λ i. record { horizon = day; ledger = map item_meant ledger; entries = lapsed i })
