@@ -1,8 +1,8 @@
 // Preloaded into a program that callgrind runs. It counts memory growths, reads and writes. The run
 // is divided into portions: one ends at each read of standard input, and the last at the end of the
 // run. At the end, the file that COUNTED names gets a line for each portion:
-//   the number of growths, and the most bytes held at once beyond those held when it began;
-//   the greatest single request for memory, less the bytes that were read before it;
+//   the number of growths, and the most bytes in use at a time, without those in use at its start;
+//   the greatest single request for memory, minus the bytes that were read before the request;
 //   the number of reads and of bytes read, and the number of writes and of bytes written.
 // callgrind counts the instructions of each portion.
 #include "../growth/growths.h"
@@ -64,7 +64,7 @@ ssize_t write(int to, const void *bytes, size_t size) {
   return took;
 }
 
-// A second name of the same call.
+// `__write` is another name of `write`.
 ssize_t __write(int to, const void *bytes, size_t size) { return write(to, bytes, size); }
 
 // Looks up the wrapped calls before the program starts, so that the lookups aren't counted.

@@ -8,7 +8,7 @@ import records
 
 UIDS = 3000
 PLACES = 700
-# The number of files in the ledger of a state, before it takes another.
+# The number of files in the ledger of a state, before the state takes another file.
 LEDGER = 200
 # The day of the dockers, and the day that is set as a horizon.
 DAY = "2024-06-12"
@@ -109,7 +109,8 @@ def full():
 
 
 def update(date, reference, turn):
-    """An update that changes some places, and something of every twentieth UID."""
+    """An update that changes some places, some associations, and the schedules of every twentieth
+    UID."""
     parts = [records.header(date, reference)]
     for number in range(20 + turn, 50, 3):
         new = place_of(number).replace("X", "Y") if number % 2 else ""
@@ -133,7 +134,8 @@ def item(number):
 
 
 def ledger(first):
-    """The text of a state that knows only files, with every second number starting with `first`."""
+    """The text of a state without entries. Its files have every second number, starting with
+    `first`."""
     items = [item(first + 2 * number) for number in range(LEDGER)]
     return MARK + LEDGER.to_bytes(8, "big") + b"".join(items) + bytes(8)
 

@@ -4,8 +4,9 @@
 //   FAIL_AT=N    makes call N fail, with EIO or the error that ERROR names
 //   INTERRUPT=1  interrupts each read and each write once before it moves a byte
 //   UNLOCKED=1   makes each lock succeed without locking anything
-// When one of these happens, the name of the call is written to the file that TOLD names. The name
-// of a call is written to the file that WRONG names if the call does one of these:
+// If the library does one of these things to a call, it writes the call's name to the file that
+// TOLD names. If a call makes one of the following mistakes, the library writes the call's name to
+// the file that WRONG names:
 //   it opens a file under the number of a standard stream
 //   it reads a file again after its end
 //   it writes nothing to a file
@@ -81,7 +82,7 @@ static int meets(enum fate fate) {
 
 static int fails(const char *call) { return meets(fate_of(call)); }
 
-// Whether this read or write is interrupted. Every second one is.
+// Whether this read or write is interrupted. Every second read or write is.
 static int is_interrupted(const char *call) {
   static int before;
   before = getenv("INTERRUPT") && !before;
@@ -90,7 +91,7 @@ static int is_interrupted(const char *call) {
   return before;
 }
 
-// Records whether a file has bytes that were written and aren't flushed.
+// Records whether a file has bytes that were written and aren't flushed yet.
 static void mark_unflushed(int fd, int unflushed) {
   if (fd > STDERR_FILENO && fd < FOLLOWED) is_unflushed[fd] = unflushed;
 }
@@ -118,7 +119,7 @@ ssize_t write(int fd, const void *from, size_t size) {
   return meets(fate) ? -1 : NEXT(write)(fd, from, size);
 }
 
-// A second name of the same call.
+// `__write` is another name of `write`.
 ssize_t __write(int fd, const void *from, size_t size) { return write(fd, from, size); }
 
 int open(const char *path, int flags, ...) {

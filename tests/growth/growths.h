@@ -16,8 +16,8 @@
 
 // Whether a growth to this many bytes is refused.
 static int is_refused(size_t size);
-// Gets the result of a growth: a block that had `before` bytes, or NULL if there is no memory.
-// Returns the block.
+// Called with the result of a growth: a block that had `before` bytes, or NULL if there is no
+// memory. Returns the block.
 static void *grown(size_t before, void *block);
 
 void *malloc(size_t size) { return is_refused(size) ? NULL : grown(0, NEXT(malloc)(size)); }

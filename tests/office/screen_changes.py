@@ -83,27 +83,27 @@ def twice(uid, indicator, days, *calls):
 
 EXTRACT = extract(
     *(place(code, name) for code, name in (("ASHFELD", "ASHFELD JUNCTION"), ("BRAYTON", "BRAYTON"), ("CORHAM", "CORHAM EXCHANGE"), ("DUNMERE", "DUNMERE TOWN"))),
-    # 15 is joined by 16, which is cancelled. 17 divides into 18, but not on that day. 20 is the next working of 19, which is cancelled.
+    # Train 15 is joined by 16, which is cancelled. Train 17 divides into 18, but not on that day. Train 20 is the next working of 19, which is cancelled.
     association("T00015", "T00016", "JJ", "P", ALL), association("T00017", "T00018", "VV", "P", ALL), association("T00017", "T00018", "VV", "C", ONCE),
     association("T00019", "T00020", "NP", "P", ALL),
-    # 21 is joined by 22 on that day only. 23 has an overlay of its join that is the same.
+    # Train 21 is joined by 22 on that day only. The join of train 23 has an overlay that is the same.
     association("T00021", "T00022", "JJ", "N", ONCE), association("T00023", "T00024", "JJ", "P", ALL), association("T00023", "T00024", "JJ", "O", ONCE),
     through("T00001", "P", ALL, "0800", "0802"), cancelled("T00001", ONCE),
     through("T00002", "P", ALL, "0810", "0812"), through("T00002", "O", ONCE, "0815H", "0817", "3"),
-    # 3 goes round the junction. 4 runs on that day only. 5 has an overlay with the same call.
+    # Train 3 goes round the junction. Train 4 runs on that day only. Train 5 has an overlay with the same call.
     through("T00003", "P", ALL, "0820", "0822"), train("T00003", "O", ONCE, origin("CORHAM", "0730"), passes("DUNMERE", "0821"), end("BRAYTON", "0930")),
     through("T00004", "N", ONCE, "0830", "0832"),
     through("T00005", "P", ALL, "0840", "0842"), through("T00005", "O", ONCE, "0840", "0842"),
-    # 6 calls twice, and once on that day. 7 is an hour later at each call. 8 has one more call.
+    # Train 6 calls twice, but only once on that day. Train 7 is an hour later at each call. Train 8 has one more call.
     twice("T00006", "P", ALL, ("0850", "1"), ("0950", "1")), twice("T00006", "O", ONCE, ("0951", "1")),
     twice("T00007", "P", ALL, ("1000", "1"), ("1100", "1")), twice("T00007", "O", ONCE, ("1100", "1"), ("1200", "1")),
     twice("T00008", "P", ALL, ("1010", "1")), twice("T00008", "O", ONCE, ("1010", "1"), ("1110", "1")),
-    # 9 stops where it passes permanently, 10 passes where it stops, 11 ends here, and 12 starts here.
+    # On that day, train 9 stops although it permanently passes, train 10 passes although it permanently stops, train 11 ends here, and train 12 starts here.
     train("T00009", "P", ALL, origin("CORHAM", "1230"), passes("ASHFELD", "1300H"), end("BRAYTON", "1330")), through("T00009", "O", ONCE, "1301", "1302", "2"),
     through("T00010", "P", ALL, "1310", "1312"), train("T00010", "O", ONCE, origin("CORHAM", "1230"), passes("ASHFELD", "1311", ""), end("BRAYTON", "1430")),
     through("T00011", "P", ALL, "1320", "1322"), train("T00011", "O", ONCE, origin("CORHAM", "1230"), end("ASHFELD", "1320", "1")),
     through("T00012", "P", ALL, "1330", "1332"), train("T00012", "O", ONCE, origin("ASHFELD", "1332", "1"), end("BRAYTON", "1430")),
-    # 13 has another identity all week. 14 is added for the week, and cancelled on that day.
+    # Train 13 has another identity all week. Train 14 is added for the week, and cancelled on that day.
     through("T00013", "P", ALL, "1340", "1342"), through("T00013", "O", WEEK, "1340", "1342", identity="5Z13"),
     through("T00014", "N", WEEK, "1350", "1352"), cancelled("T00014", ONCE),
     short("T00015", "P", ALL, "1400"), train("T00016", "P", ALL, origin("CORHAM", "1300"), end("ASHFELD", "1355", "5")), cancelled("T00016", ONCE),
@@ -111,18 +111,18 @@ EXTRACT = extract(
     train("T00019", "P", ALL, origin("CORHAM", "1330"), end("ASHFELD", "1420", "5")), cancelled("T00019", ONCE), short("T00020", "P", ALL, "1430"),
     short("T00021", "P", ALL, "1440"), train("T00022", "P", ALL, origin("CORHAM", "1330"), end("ASHFELD", "1435", "5")),
     short("T00023", "P", ALL, "1450"), train("T00024", "P", ALL, origin("CORHAM", "1330"), end("ASHFELD", "1445", "5")),
-    # 25 comes after midnight, and is cancelled for the week. 26 is moved across midnight. 27 starts before midnight, and is later all week.
+    # Train 25 comes after midnight, and is cancelled for the week. Train 26 is moved across midnight. Train 27 starts before midnight, and is later all week.
     train("T00025", "P", ALL, origin("CORHAM", "2330"), stop("ASHFELD", "0020", "0022"), end("BRAYTON", "0100")), cancelled("T00025", WEEK),
     train("T00026", "P", ALL, origin("CORHAM", "2310"), stop("ASHFELD", "2350", "2351"), end("BRAYTON", "0030")),
     train("T00026", "O", ONCE, origin("CORHAM", "2310"), stop("ASHFELD", "0010", "0011"), end("BRAYTON", "0050")),
     train("T00027", "P", ALL, origin("CORHAM", "2300"), stop("ASHFELD", "0030", "0032"), end("BRAYTON", "0110")),
     train("T00027", "O", WEEK, origin("CORHAM", "2300"), stop("ASHFELD", "0035", "0037", "4"), end("BRAYTON", "0110")),
-    # 28 arrives before midnight and departs after it, and is cancelled.
+    # Train 28 arrives before midnight and departs after it, and is cancelled.
     train("T00028", "P", ALL, origin("CORHAM", "2320"), stop("ASHFELD", "2358", "0003"), end("BRAYTON", "0030")), cancelled("T00028", ONCE),
-    # 30 passes, and takes another route on that day.
+    # Train 30 permanently passes, and takes another route on that day.
     train("T00030", "P", ALL, origin("CORHAM", "1230"), passes("ASHFELD", "1500H"), end("BRAYTON", "1530")),
     train("T00030", "O", ONCE, origin("CORHAM", "1230"), end("BRAYTON", "1530")),
-    # 29 has ended before, and has a cancellation all the same.
+    # The schedule of train 29 has already ended, but train 29 has a cancellation on that day.
     through("T00029", "P", "2406032406101111111", "1500", "1502"), cancelled("T00029", ONCE),
 )
 # What the page shows of the rows that differ: the time, what happens, the UID, and the text of the change.
@@ -152,7 +152,7 @@ TOLD = [
     ("23:50", "arrives", "T00026", "calls here on Thursday 13 June at 00:10"), ("23:51", "departs", "T00026", "calls here on Thursday 13 June at 00:10"),
     ("23:58", "arrives", "T00028", "cancelled"),
 ]
-# The same for the next day, as a page shows it that isn't of today.
+# The same for the page of the next day, which isn't today.
 TOLD_NEXT = [
     ("00:03", "departs", "T00028", "cancelled"),
     ("00:10", "arrives", "T00026", "was on Wednesday 12 June at 23:50"), ("00:11", "departs", "T00026", "was on Wednesday 12 June at 23:50"),
@@ -173,7 +173,7 @@ SIZES = ((1920, 1080), (1366, 768), (768, 1024), (390, 844), (320, 640))
 
 
 def is_gone(words):
-    """Whether a row with this text stands for a train that isn't there."""
+    """Whether a row with this text is of a train that isn't on the docker of the day."""
     return words != "" and not words.startswith(("was", "added"))
 
 
@@ -241,7 +241,8 @@ class Differing(Changed):
             self.assertEqual([is_gone(row[-1]) for _, row in rows], ["gone" in kind for kind, _ in rows])
 
     def test_all(self):
-        """Each permanent line is on the day's docker, or the page says what became of it; and the other way round. Only the STP indicator may differ."""
+        """A line without a note is on both dockers, the day's and the permanent one, and every other line has a note on its difference. Only the STP indicator
+        may differ without a note."""
         def bare(row):
             return row[:-1]
 
@@ -250,7 +251,7 @@ class Differing(Changed):
             plain = [bare(row[:-1]) for row in rows if not row[-1]]
             base = [bare(row) for row in self.base_rows(day)]
             self.assertEqual([row for row in plain if row not in base], [])
-            # A train whose lines are equal isn't mentioned.
+            # A train without a note has the same lines on both dockers.
             spoken = {row[-4] for row in rows if row[-1]}
             own, others = ([row for row in some if row[-2] not in spoken] for some in (plain, base))
             self.assertEqual(own, others)
@@ -282,7 +283,7 @@ class Differing(Changed):
         self.assertEqual(told_of(rows_of_page(self.page(f"/DUNMERE/{DAY}"))), [("08:21", "passes", "T00003", "added")])
 
     def test_not_covered(self):
-        """If something is missing of a day, no page says that nothing differs."""
+        """If data of a day is missing, no page says that nothing differs."""
         for day in ("2024-06-05", "2024-12-20"):
             page = self.page(f"/ASHFELD/{day}")
             self.assertIn('<p class="warning"', page)
@@ -290,7 +291,7 @@ class Differing(Changed):
         self.assertNotIn("Nothing differs", self.page("/ASHFELD/2024-12-20/changes"))
 
     def test_wall(self):
-        """Among the next trains, cancelled ones stand in their places, today and tomorrow."""
+        """In the list of the next trains, cancelled trains are listed at their permanent times, today and tomorrow."""
         wall = self.browser(1920, 1080)
         wall.open(self.address("/ASHFELD"))
         seen = wall.run("""return [...document.querySelectorAll('#docker tr[data-at]')].filter(row => row.getBoundingClientRect().height)

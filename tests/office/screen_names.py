@@ -140,7 +140,7 @@ class Names(Stated):
         return made.cdp("DOM.getOuterHTML", nodeId=root["nodeId"])["outerHTML"]
 
     def test_address(self):
-        """An address may choose, even without cookies. A page that only asks for a newer version doesn't change the choice."""
+        """An address may choose names or codes, even without cookies. If a page only asks for a newer version of itself, the choice doesn't change."""
         path = f"/ASHFELD/{DAY}"
         status, headers, body = self.ask(f"{path}?show=codes")
         self.assertIn(b'title="Brayton">BRAYTON<', body)
@@ -158,7 +158,7 @@ class Names(Stated):
             self.assertIn(b'title="BRAYTON">Brayton<', body)
 
     def test_renewal(self):
-        """Codes stay codes when a new docker comes."""
+        """If a page shows codes, a new docker is also shown with codes."""
         own = self.folder / "kept.state"
         shutil.copy(self.state, own)
         self.addCleanup(os.replace, own, self.state)
@@ -234,8 +234,8 @@ class Search(Stated):
         return re.findall(r'<li><a href="/([^"]*)"', body[body.index('id="found"'):])
 
     def test_order(self):
-        """First come equal CRS or TIPLOC codes, then names that begin with the text, then names with a word that does, then any part. Among equals the busier
-        place is first."""
+        """First come places whose CRS or TIPLOC equals the text, then names that begin with it, then names with a word that begins with it, then all that
+        contain it. Among equals the busier place is first."""
         self.assertEqual(self.found("ash"), ["ELSTOW", "ASHFELD", "CORASH", "FASHION", "ASHX", "BRASHLY"])
         self.assertEqual(self.found("ashx"), ["ASHX"])
         self.assertEqual(self.found("ASHFELD"), ["ASHFELD"])

@@ -1,7 +1,8 @@
 // Preloaded into a program, to run something else just before one of its calls of the file system.
 // The wrapped calls are counted from 1. Before the call whose number is in MEET_AT, the shell runs
 // the line in MEET. The file that CALLS names gets a line for each call, with its name and the
-// names of its files. Where the shell ran, it gets a line `met` with the shell's status.
+// names of its files. When the shell has run, the file also gets a line `met` with the shell's
+// status.
 #define _GNU_SOURCE
 #include <dlfcn.h>
 #include <errno.h>
@@ -51,7 +52,7 @@ ssize_t write(int fd, const void *from, size_t size) {
   return NEXT(write)(fd, from, size);
 }
 
-// A second name of the same call.
+// `__write` is another name of `write`.
 ssize_t __write(int fd, const void *from, size_t size) { return write(fd, from, size); }
 
 int open(const char *path, int flags, ...) {

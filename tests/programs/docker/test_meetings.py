@@ -200,7 +200,8 @@ GIVES = "timeout 5 sh -c 'cat elsewhere >{}' >/dev/null 2>&1 &"
 
 @each("name, line", BECOMES_PIPE)
 def test_take_of_what_a_pipe_gives_into_a_state_that(meeting, name, line):
-    """STATE becomes a pipe before it is read. The pipe gives a state, and gets nothing."""
+    """STATE becomes a pipe before it is read. The program reads a state from the pipe, and writes
+    nothing to it."""
     taking = command_of(f"take {name} revised")
     NAMES.make()
     calls = calls_of(meeting, taking)

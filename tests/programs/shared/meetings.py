@@ -136,8 +136,9 @@ class Losing(typing.NamedTuple):
         return range(calls.index(first) + 2, last + 2)
 
     def at(self, number, line):
-        """STATE goes at this call. If a pipe is there, it may get no byte. The test holds both ends
-        of the pipe, so that no program waits for it."""
+        """STATE goes away or becomes something else at this call. If a pipe is there, the program
+        may not write to it. The test holds both ends of the pipe, so that no program waits for
+        it."""
         wanted = self.names.left_by(line)
         self.names.make()
         pipe = os.open("pipe", os.O_RDWR | os.O_NONBLOCK)

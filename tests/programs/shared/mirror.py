@@ -41,7 +41,8 @@ def ran(text, command, *words):
 
 @functools.cache
 def by_docker(text, command, *words):
-    """The same as `ran`. The words name files that no command changes."""
+    """Like `ran`, but remembers the result. So the words may only name files that no command
+    changes."""
     return ran(text, command, *words)
 
 
