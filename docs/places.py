@@ -1,4 +1,4 @@
-"""Where the names of the crates stand: definitions, functions with their clauses, and wrong bodies."""
+"""Finds where the definitions, the functions with their clauses, and the wrong bodies of the crates are."""
 import collections
 import dataclasses
 import functools
@@ -173,7 +173,7 @@ def file_of(crate, module):
 
 
 def taken(text):
-    """What a text takes by its `use` lines: names with their definitions, and names of files with the definitions in them."""
+    """What a text imports by its `use` lines: names with their definitions, and names of files with the definitions in them."""
     names, files = {}, {}
     for crate, module, listed, other in USE.findall(text):
         known = defined_in(file_of(crate, module))
@@ -202,7 +202,7 @@ def cited_in(text, names, files):
 
 
 def contract_of(text, begin):
-    """A function's head with its clauses: what stands before its body."""
+    """A function's head with its clauses: everything before its body."""
     lines, has_clause = [], False
     indent = re.match(" *", text[begin:]).group()
     for line in text[begin:].split("\n"):
@@ -216,7 +216,7 @@ def contract_of(text, begin):
 
 
 def is_open(head, owner, text):
-    """Whether a function can be called from outside its file. One of a trait can if the trait can."""
+    """Whether a function can be called from outside its file. A function of a trait can be called if the trait is visible there."""
     of_trait = owner[0] and re.search(rf"^pub trait {owner[0]}\b", text, re.M)
     return bool(of_trait or re.match(r"\s*pub (?:const )?fn ", head))
 

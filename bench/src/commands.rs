@@ -1,5 +1,5 @@
-//! Time and memory of an office's commands, compared with `wc -l` on the bytes that each reads, and
-//! with a plain program, which has to give the same bytes.
+//! Time and memory of an office's commands. They are compared with `wc -l` on the bytes that each
+//! command reads, and with a plain program, which has to write the same bytes.
 
 use crate::measure::{machine, run, Input, Spent};
 use std::collections::HashMap;
@@ -8,8 +8,8 @@ use std::io::{copy, BufRead, BufReader, Error, Result, Seek, SeekFrom, Write};
 
 const ROUNDS: usize = 5;
 
-/// A command: what STATE is before it, its words, the files that it reads, and the total size of
-/// the texts of the states that it has in memory.
+/// A command: the state that STATE holds before it, its words, and the files that it reads. Also
+/// the total size of the texts of the states that it has in memory.
 struct Job<'a> {
     name: &'static str,
     before: Option<&'a str>,
@@ -170,8 +170,8 @@ fn busiest(extract: &str) -> Result<(String, String)> {
 }
 
 /// Runs both programs in turn. They have to print the same and leave the same STATE. This process
-/// itself holds no state in memory, because the peak of a process that it starts begins with its
-/// own.
+/// itself holds no state in memory, because the measured peak of a process is at least the memory
+/// of the process that started it.
 fn measure(job: &mut Job, programs: [&[&str]; 2], own: &str) -> Result<()> {
     let mut counting = 0.0;
     for path in &job.reads {

@@ -15,7 +15,8 @@ const ROUNDS: usize = 5;
 /// How many of the busiest places have their dockers printed, one after another.
 const PLACES: usize = 200;
 
-/// The number of random requests. Next to it, after how many of them memory is measured first.
+/// The number of random requests, and the number of requests after which memory is measured for the
+/// first time.
 const REQUESTS: usize = 10_000;
 const EARLY: usize = 100;
 

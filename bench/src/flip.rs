@@ -35,10 +35,11 @@ const DECIDING: [usize; 36] = [
 const TELLING: &[u8] = b"  00112345999ABCDFHILNNOOPPRSTUXZ";
 
 impl Flip {
-    /// Draws a byte and its new value, in one of four ways that are equally likely. The byte may be
-    /// anywhere. It may be in a record of a kind that is drawn first. It may be in such a record,
-    /// at a column that decides something in some kind of record. Or it is in a time of a call
-    /// after midnight, or in the same column of one of the two records after it.
+    /// Draws a byte and its new value, in one of four ways that are equally likely. The first way
+    /// draws from all bytes. The second draws a kind of record, and then a byte of such a record.
+    /// The third is like the second, but draws only from the columns that decide something in some
+    /// kind of record. The fourth draws from the times of a call after midnight, or from the same
+    /// columns of one of the two next records.
     pub fn draw(text: &[u8], random: &mut Random) -> Flip {
         let mut offset = random.below(text.len());
         let identity = *random.pick(&IDENTITIES);

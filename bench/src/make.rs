@@ -323,7 +323,7 @@ pub fn update(schedules: usize, base: u64, seed: u64, day: i32, out: &str) -> Re
     for base in some(&mut random, 1 + schedules / 8 / 10, uids) {
         extract.changed_association(base, &mut random)?;
     }
-    // Later UIDs than the full extract has are new trains.
+    // UIDs after the last UID of the full extract are new trains.
     for number in some(&mut random, 1 + schedules / 50, uids + uids / 100 + 1) {
         extract.changed_schedule(number, seed, &mut random)?;
     }
@@ -364,7 +364,7 @@ impl Extract {
         let mut random = self.plans.random(base, 5);
         let transaction = random.weigh(&[(97, b'N'), (2, b'R'), (1, b'D')]);
         self.put_association(transaction, &association)?;
-        // Some don't hold on certain days, because of a cancellation or an overlay.
+        // Some associations don't apply on certain days, because of a cancellation or an overlay.
         if random.chance(12.0) {
             let stp = *random.pick(b"CCO");
             if let Some(change) = Plans::change(std::slice::from_ref(&association.schedule), stp, &mut random) {

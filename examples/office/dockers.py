@@ -43,7 +43,7 @@ UNKNOWN = 5
 NO_REQUEST = 2
 # The statuses of an answer which say that the request isn't known, if the words were good.
 LACKING = (UNKNOWN, NO_REQUEST)
-# The lists that are asked for once until STATE changes. If a desk doesn't know `permanent`, that is kept too.
+# The lists that are requested once until STATE changes. If a desk doesn't know `permanent`, this fact is remembered too.
 LISTS = (("files",), ("known",), ("places",))
 # How many bytes of requests are sent together. Every pipe has room for as many.
 TOGETHER = 4096
@@ -284,7 +284,7 @@ class Desk(Reader):
         return self.tried(lambda: [answer for part in together(requests) for answer in self.exchange(part)], len(requests))
 
     def tried(self, asks, number):
-        """This number of answers. They are asked for again if the process ends. If that fails too, each answer is the fault."""
+        """Reads this number of answers. If the process ends, all requests are sent again. If that fails too, each answer is the fault."""
         with self.turn:
             for _ in range(2):
                 try:

@@ -23,7 +23,7 @@ const FLOOR: f64 = 0.02;
 const ROUNDS: usize = 2;
 const MOST_ROUNDS: usize = 6;
 
-/// A command: what STATE is before it, and its words.
+/// A command: the state that STATE holds before it, and its words.
 struct Command {
     name: &'static str,
     before: Option<&'static str>,

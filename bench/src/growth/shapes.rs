@@ -115,8 +115,9 @@ fn leaves(out: &mut Out, uid: &[u8; 6], first: usize, stp: u8) -> Result<()> {
     out.put(&end(b"LT", b"BEYOND", 1300))
 }
 
-/// The first day and the STP indicator of the key with this number in one UID or group. When that
-/// is full, the next one begins: the last number says how many are full.
+/// The first day and the STP indicator of the key with this number. A UID or a group has room for a
+/// limited number of keys, and when it is full, the next one begins. The last number says how many
+/// are full.
 fn of_one(number: usize) -> (usize, u8, usize) {
     (number / 3 % FIRSTS, STPS[number % 3], number / 3 / FIRSTS)
 }
@@ -202,8 +203,8 @@ fn many_places(out: &mut Out, rows: usize, _: bool) -> Result<()> {
     calls(out, rows, letters::<7>)
 }
 
-/// Places that share one slot of the memo in which `cif_change` keeps where it last found a place.
-/// The slot is given by the highest sixteen bits of a product.
+/// Places that share one slot of the memo in which `cif_change` remembers where it last found a
+/// place. The highest sixteen bits of a product determine the slot.
 fn one_slot(out: &mut Out, rows: usize, _: bool) -> Result<()> {
     let slot = |code: &[u8; 7]| {
         let [a, b, c, d, e, f, g] = *code;
@@ -287,8 +288,8 @@ fn base_of_schedules(out: &mut Out, rows: usize, newer: bool) -> Result<()> {
 
 // ---------------------------------------------------------------- ledgers
 
-/// The text of a state that knows this many files, each of which deleted a TIPLOC. If `between`,
-/// its files lie between the files of the other state.
+/// The text of a state that knows this many files, each of which deleted a TIPLOC. If `between` is
+/// set, the moments of its files lie between the moments of the other state's files.
 pub fn ledger(files: usize, between: bool) -> Vec<u8> {
     let count = (files as u64).to_be_bytes();
     // Two files per minute, from 1984 on.

@@ -1,6 +1,6 @@
 //! Fields of records, as numbers and bytes.
 
-/// The day number that stands for no end: of an end date, or of something without an end date.
+/// The day number for no end: for the end date 999999, and for a body without an end date.
 pub const NO_END: u16 = 65_535;
 
 /// The number of the last day, 2059-12-31.

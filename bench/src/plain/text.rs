@@ -87,7 +87,8 @@ impl<R: Read> Reader<R> {
         Ok(bytes)
     }
 
-    /// The number of items or entries to come, which is an item itself.
+    /// The number of ledger items or of entries that follow. The number is an item of the text
+    /// itself.
     fn count(&mut self) -> Result<u64, Stop> {
         self.item = self.source.used;
         Ok(u64::from_be_bytes(self.bytes()?))

@@ -18,7 +18,7 @@ DAYS = 3
 ORDER = "APJVND"
 # The word for a missing event of a call.
 EVENTS = {"A": "arrival", "P": "pass", "D": "departure"}
-# What a page says of a train that isn't here, or not at a time: one that stops, and one that passes.
+# What a page says of a train that isn't here, or isn't here at a certain time: first for a train that stops, then for a train that passes.
 NOT = ("doesn’t call", "doesn’t pass")
 
 

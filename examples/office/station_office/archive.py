@@ -65,7 +65,7 @@ def archived(office):
 
 
 def free_name(folder, name):
-    """This name, or a similar one that no file in a folder has, packed or not."""
+    """This name, or, if a file in the folder has the name, packed or not, a similar name that no file has."""
     name = re.sub(r"[\x00-\x1f\x7f]", "_", name)
     numbers = ("", *(f".{number}" for number in range(2, 10000)))
     return next(name + number for number in numbers if not any((folder / f"{name}{number}{end}").exists() for end in ("", ".zst", ".why")))

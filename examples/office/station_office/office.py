@@ -16,7 +16,7 @@ from .faults import Fault
 
 # How many bytes a command writes for each byte of STATE: the packed copy, and the draft of the new STATE.
 ROOM = 1.25
-# How many bytes a command writes in any case. Next to it, about how many bytes unpacking gives for each byte of a packed file.
+# How many bytes a command writes in any case, and about how many bytes unpacking gives for each byte of a packed file.
 LEAST, UNPACKED = 16384, 10
 
 
@@ -66,7 +66,7 @@ class Office:
 
     @contextlib.contextmanager
     def reporting(self):
-        """Reports a fault of the statements inside; what follows them is done all the same."""
+        """Reports a fault of the statements inside the block. The statements after the block are carried out all the same."""
         try:
             yield
         except Fault as fault:

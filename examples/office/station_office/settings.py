@@ -33,7 +33,7 @@ def number(name, default):
 
 
 def clock(word=None):
-    """The time in Great Britain, as in extracts; or the time that a word gives."""
+    """The British time, as in extracts; or the time that a word of --now gives."""
     if word is not None:
         try:
             return datetime.datetime.fromisoformat(word).replace(tzinfo=None)
