@@ -108,7 +108,7 @@ fn kind(line: &Line) -> Option<Kind> {
     })
 }
 
-/// The place in a file at which the next record comes.
+/// Where in a file the next record comes, for example between two units.
 #[derive(Clone, Copy, PartialEq, Eq)]
 enum Place {
     Start,
@@ -126,8 +126,8 @@ pub struct Judge {
     place: Place,
     /// Whether the schedule may be without a journey.
     journey_optional: bool,
-    /// Whether the schedule is a deletion. Then only the kinds and places of its lines after BS are
-    /// checked.
+    /// Whether the schedule is a deletion. If so, only the kinds and the order of its lines after
+    /// BS are checked.
     deletion: bool,
     /// The half minutes of the journey's last event (0 before the first), and how often the times
     /// have fallen so far.

@@ -80,7 +80,7 @@ fn job(words: &[&str]) -> Option<Result<u8>> {
     })
 }
 
-/// Measures a desk. This program is the plain program.
+/// Measures a desk. For comparison it runs the plain program, which is a part of this program.
 fn desk_tables(
     [docker, desk, state_times]: [&str; 3],
     path: &str,

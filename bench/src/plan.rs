@@ -32,7 +32,7 @@ fn runs(days: u8, day: i32) -> bool {
     days >> ((day + 4) % 7) & 1 == 1
 }
 
-/// The first and the last day within a range that are days run.
+/// The first day and the last day of a range on which the schedule runs.
 fn trim(days: u8, first: i32, last: i32) -> Option<(i32, i32)> {
     let first = (first..=last).find(|&day| runs(days, day))?;
     let last = (first..=last).rev().find(|&day| runs(days, day))?;

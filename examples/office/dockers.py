@@ -94,13 +94,13 @@ def fields(line, columns):
 
 
 def extracts_of(text):
-    """The files in a text of `files`."""
+    """The files in an answer to `files`."""
     lines = text.decode("ascii").split("\n")[:-1]
     return [Extract(*fields(line, FILE)) for line in lines]
 
 
 def coverage_of(text):
-    """The days in a text of `known`."""
+    """The days in an answer to `known`."""
     found = {line[NAME[0] - 1:NAME[1]].strip(): line[VALUE - 1:] for line in text.decode("ascii").splitlines()}
     horizon, full = found.get("HORIZON", "NONE"), found.get("FULL")
     return Coverage(None if horizon == "NONE" else horizon, full and full[:10], found.get("LAST"), int(found["SCHEDULES"]))

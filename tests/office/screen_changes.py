@@ -189,7 +189,7 @@ def told_of(rows):
 
 
 def without_short_term(text):
-    """An extract without its associations and schedules that aren't permanent."""
+    """An extract without its short-term associations and schedules."""
     kept, is_kept = [], True
     for line in text.splitlines(keepends=True):
         if line[:2] in ("AA", "BS"):

@@ -199,7 +199,7 @@ class Alive(Seen):
             self.assertEqual(self.ask(path, headers={"Accept-Encoding": "gzip", "If-None-Match": packed[1]["ETag"]})[0::2], (304, b""))
 
 
-# The parts of names.
+# The parts from which names of places are made: beginnings, middles and ends.
 HEADS = ("ASH", "BAR", "BRAD", "CHAT", "COL", "DON", "EAST", "FARN", "GRAN", "HAR", "KINGS", "LANG", "MAL", "NEW", "NOR", "OAK", "PEN", "RAD", "SAND", "STAN", "THORN", "WAL", "WEST", "YAR")
 TAILS = ("BOROUGH", "BRIDGE", "BURY", "BY", "CASTER", "COMBE", "FIELD", "FORD", "GATE", "HAM", "HURST", "LEY", "MERE", "MINSTER", "MOUTH", "PORT", "STEAD", "STOKE", "THORPE", "TON", "WELL", "WORTH")
 ENDS = ("", "", " JN", " NORTH JN", " SOUTH JN", " CENTRAL", " PARK", " ROAD", " SIDINGS", " DN LOOP", " UP LOOP", " FRT TERMINAL", " TOWN", " SIGNAL 47", " T&RSMD")
@@ -228,7 +228,7 @@ class Busy(Office):
 
             key, head = f"{drawn.choice('CGLWY')}{number:05}", f"POO{drawn.randrange(1, 6)}{drawn.choice('ABCFHLMNPS')}{drawn.randrange(100):02}"
             text += [record(f"BSN{key}2406032412131111111 {head}", drawn.choice("PPPPPPPN")), *calls(drawn.randrange(1, 25))]
-            # Of twenty trains, one is cancelled on the day, one is at another platform that day, and one all week.
+            # Of twenty trains, one is cancelled on the day, one is at another platform on the day, and one is at another platform all week.
             match drawn.randrange(20):
                 case 0:
                     text.append(record(f"BSN{key}2406122406120010000", "C"))

@@ -27,7 +27,7 @@ pub struct Shape {
 }
 
 pub enum Makes {
-    /// Writes the units of a file, or of a newer one.
+    /// Writes the units of a file, or the units of a newer file.
     File(fn(&mut Out, usize, bool) -> Result<()>),
     /// A ledger with an entry for each of its items. The newer state has items between these.
     Ledger,

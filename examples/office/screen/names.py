@@ -139,7 +139,7 @@ def place_of(line):
 
 
 def names_of(text):
-    """The names in a text of `places`."""
+    """The names in an answer to `places`."""
     return Names([place_of(line) for line in text.decode("ascii").splitlines()], hashlib.sha256(text).digest())
 
 

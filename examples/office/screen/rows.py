@@ -38,7 +38,8 @@ def rows_of(docker, differing):
 
 
 def once_here(docker):
-    """The UIDs with one call on a docker. This call belongs to one train, so a link to it needs no time. A train may also end here while another starts."""
+    """The UIDs that have only one call on a docker. A link to the train of such a UID needs no time. An arrival and a departure are no single call if one train
+    ends here and another train starts here."""
     events = {}
     for line in docker.lines:
         if line.kind in changes.EVENTS:

@@ -15,8 +15,8 @@ HEAD, ITEM, COUNT = 14, 19, 8
 STAMP = 15
 FILE_OF_STAMP = 11
 PUT = 1
-# The length of an entry's key for each tag. A put timing point and a put association have bodies of one size; a put schedule has as many
-# lines of 80 bytes as it says.
+# The length of an entry's key for each tag, and the length of the body of a timing point and of an association. The body of a schedule has its number of lines,
+# and then these lines of 80 bytes.
 KEYS = {1: 7, 2: 23, 3: 9}
 BODIES = {1: 63, 2: 80}
 

@@ -144,7 +144,7 @@ def keeps(office, path, found):
 
 
 def puts_aside(office, path, fault):
-    """Moves a file that isn't taken to its folder, and adds to the fault where the file is and what can be done."""
+    """Moves a file that isn't taken to refused/ or held/, and adds to the fault where the file is and what can be done."""
     place = path
     if path.parent.resolve() == (office.folder / "in").resolve():
         place = archive.puts_aside(office, path, fault.folder, "".join(f"{path}: {line}\n" for line in fault.lines))

@@ -49,7 +49,8 @@ class Session(typing.NamedTuple):
 
 
 CHANGES = ("take tuesday", "merge monday.state")
-# The looks that a save makes come after the look of the start or of a renewal.
+# A save itself also makes looks, but after the look on which it relies. So these looks don't change
+# the numbers here.
 SESSIONS = {
     "that saves what it read": Session(
         (*CHANGES, "save", "renew", "save", "renew", "save"), (1, 1), ((2,), (4,)),

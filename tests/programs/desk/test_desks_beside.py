@@ -147,7 +147,8 @@ def test_another_state_that_comes_just_after_a_save_takes_its_place(overtaking):
 
 
 def save_all(desks):
-    """Has desks save at once until each has saved. A desk that is refused renews first."""
+    """Has several desks save at the same time, until each has saved. A desk whose save is refused
+    renews before its next save."""
     waiting = desks
     while waiting:
         for asked in waiting:
@@ -161,7 +162,7 @@ def save_all(desks):
 
 
 def four_at_once(**options):
-    """Four desks each take a file, and save at once."""
+    """Four desks each take a file, and save at the same time."""
     names = ("monday", "tuesday", "night", "last")
     give(state_of("full"))
     with contextlib.ExitStack() as stack:
@@ -181,7 +182,7 @@ def test_four_desks_that_save_at_once_lose_nothing():
 
 
 def are_unlike(environment):
-    """Whether four desks that save at once lose a change."""
+    """Whether four desks that save at the same time lose a change."""
     try:
         four_at_once(env=environment)
     except AssertionError:

@@ -45,7 +45,8 @@ def desk_on(library, **settings):
 
 
 class Followed:
-    """What a session leads to if its refused requests are left out."""
+    """The states and the texts of STATE that a session goes through if its refused requests are
+    left out."""
 
     def __init__(self, requests, answers, refusals):
         self.mirror, self.refused = Mirror("full"), []
@@ -59,7 +60,7 @@ class Followed:
             self.stored.append(self.mirror.stored)
 
     def tried(self, request):
-        """The answer that a request would get now. The request isn't done."""
+        """The answer that a request would get now. The request isn't carried out."""
         other = Mirror("full")
         other.__dict__.update(self.mirror.__dict__)
         return other.answer(*request)

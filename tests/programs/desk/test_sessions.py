@@ -48,7 +48,7 @@ class Numbers(random.Random):
         return (verb,)
 
     def line_of(self, verb, *words):
-        """A line with this request."""
+        """A line that makes this request."""
         if verb == "nothing":
             return self.choice(NO_REQUESTS)
         line = verb + "".join(" " * self.choice((1, 1, 1, 2, 5)) + word for word in words)

@@ -1,5 +1,5 @@
-"""Several commands on one STATE at once, and a STATE that changes while a `take` waits for its
-file."""
+"""Several commands on one STATE at the same time, and a STATE that changes while a `take` waits for
+its file."""
 import os
 import subprocess
 import time
@@ -14,13 +14,13 @@ pytestmark = [alone, pytest.mark.timeout(600)]
 
 
 def ends_of(processes):
-    """How these commands of `docker` end. They run at once."""
+    """How these commands of `docker` end, which run at the same time."""
     outputs = [process.communicate() for process in processes]
     return [Ended(process.returncode, *output) for process, output in zip(processes, outputs)]
 
 
 def at_once(commands, before):
-    """How these commands of `docker` end if they are started at once."""
+    """How these commands of `docker` end if they are started at the same time."""
     pipes = {"stdin": subprocess.DEVNULL, "stdout": subprocess.PIPE, "stderr": subprocess.PIPE}
     return ends_of([subprocess.Popen([*before, DOCKER, *words], **pipes) for words in commands])
 
@@ -50,8 +50,8 @@ def larger(large, larger_texts):
 
 
 def pairs(rounds, before=()):
-    """Two takes at once. Either both files are known, or one command was refused and only the other
-    command's file is known."""
+    """Two takes at the same time. Either both files are known, or one command was refused and only
+    the other command's file is known."""
     commands = [("take", "office", name) for name in ("large", "larger")]
     wanted = {
         (DONE, DONE): "wanted_all", (DONE, DEVICE): "wanted_large", (DEVICE, DONE): "wanted_larger",
@@ -69,7 +69,7 @@ def test_a_hundred_pairs_of_takes_at_once(larger):
 
 
 def eights(rounds, before=()):
-    """Eight commands at once. The state knows the files of all commands that succeeded."""
+    """Eight commands at the same time. The state knows the files of all commands that succeeded."""
     names = [f"of_day_{day}" for day in range(8)]
     for number in range(1, rounds + 1):
         give(STATE_OF_BOTH, "office")

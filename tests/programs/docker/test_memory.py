@@ -8,7 +8,7 @@ from programs import docker, give, held, in_memory
 from records import place
 from tables import each
 
-# In 64 MB of memory.
+# The words that limit a program to 64 MB of memory.
 LITTLE = in_memory(65536)
 LENGTH = file_refused("1: Length")
 PLACE = place("TI", "ASHFELD", "PLACE")

@@ -145,7 +145,7 @@ def in_reverse():
 
 
 def ended_early(transaction, train):
-    """A permanent schedule that ends before the days of the dockers, and not on a day near them."""
+    """A permanent schedule that ends several days before the days of the dockers."""
     return schedule(transaction, train, ("240601", "240603"), "1111111", "P", version=3)
 
 

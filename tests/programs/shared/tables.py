@@ -1,4 +1,4 @@
-"""Makes cases from tables, and says which cases may not run at once."""
+"""Makes cases from tables, and says which cases may not run at the same time."""
 import pytest
 
 
