@@ -124,7 +124,7 @@ pub struct Judge {
     limit: u64,
     counts: Counts,
     place: Place,
-    /// Whether the schedule may be without a journey.
+    /// Whether the schedule may lack a journey.
     journey_optional: bool,
     /// Whether the schedule is a deletion. If so, only the kinds and the order of its lines after
     /// BS are checked.

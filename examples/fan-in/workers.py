@@ -24,7 +24,7 @@ ZSTD = b"\x28\xb5\x2f\xfd"
 @contextlib.contextmanager
 def unpacked(name):
     """The bytes of a state's file, unpacked if it is packed, as a stream."""
-    # Without a buffer, so that a process that continues reading loses nothing.
+    # The file is opened without a buffer, so that a process that continues reading loses no bytes.
     with open(name, "rb", buffering=0) as file:
         if file.read(4) != ZSTD:
             file.seek(0)

@@ -20,8 +20,8 @@ def record(text, last=" "):
 
 
 def extract(reference, moment, last="", kind="F", schedules=10, prefix="A", departs="0900"):
-    """An extract made at a moment `YYYY-MM-DDTHH:MM`. A full one has the timing points ASHFELD and BRAYTON. It has this number of trains from one to the
-    other."""
+    """An extract made at a moment `YYYY-MM-DDTHH:MM`. A full extract has the timing points ASHFELD and BRAYTON. Each extract has this number of trains from
+    ASHFELD to BRAYTON."""
     at = datetime.datetime.fromisoformat(moment)
     lines = [record(f"HDTPS.UDFROC1.PD240609{at:%d%m%y%H%M}{reference:<7}{last:<7}{kind}A")]
     if kind == "F":

@@ -307,7 +307,7 @@ class Search(Stated):
         self.waited(made, FOUND, ["/MNCRPIC"])
 
     def test_enter(self):
-        """Enter opens the first place found for the text that is typed by then, without waiting."""
+        """Enter opens the first place that is found for the typed text, without waiting."""
         for text, wanted in (("asf", "/ASHFELD"), ("victoria", "/MNCRVIC"), ("ash", "/ELSTOW")):
             made = self.browser(1366, 900)
             made.open(self.address("/"))

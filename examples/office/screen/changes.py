@@ -340,7 +340,8 @@ class Comparison:
         return "altered" if was else "added"
 
     def lines_beside(self, train):
-        """The day before or after this one on which the train is here permanently, and its lines, if this day's schedule is an overlay; otherwise nothing."""
+        """If this day's schedule is an overlay: the day before or after on which the train is here permanently, and its lines on that day. Otherwise
+        nothing."""
         if self.timetable.indicator(*train) == "O":
             for apart in (-1, 1):
                 if found := self.day_beside(apart).before.get(train):

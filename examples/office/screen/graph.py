@@ -34,8 +34,8 @@ class Stay(NamedTuple):
 
 
 def stays_of(docker):
-    """The stays of a day. An arrival and the next departure with the same UID, platform and suffix make one stay, unless the train ends here by its arrival
-    and starts here by its departure."""
+    """The stays of a day. An arrival and the next departure with the same UID, platform and suffix make one stay. But if one train ends here by the arrival,
+    and another train starts here by the departure, there are two stays."""
     stays, waiting = [], {}
     for line in docker.lines:
         stay = Stay(line.platform, line.train, line.uid, line.stp, None, None)
