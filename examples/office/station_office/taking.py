@@ -56,7 +56,7 @@ def takes(office, path):
 
 
 def looks_at(office, path):
-    """The extract in a file. A file that isn't an extract is refused, by docker or because of its first bytes. So is a withdrawn one."""
+    """The extract in a file. A file that isn't an extract is refused, by docker or because of its first bytes. A withdrawn file is refused too."""
     plain = office.unpacked(path)
     with open(plain, "rb") as text:
         head = text.read(512)

@@ -1,5 +1,5 @@
-"""The program with a library that wraps its system calls (tests/device). Each call fails in turn,
-or is the program's last. No state is ever lost."""
+"""The program with a library that wraps its system calls (tests/device). In turn, each call fails,
+or the program is killed at the call. No state is ever lost."""
 import os
 import pathlib
 import signal

@@ -248,7 +248,7 @@ def test_a_draft_of_a_command_at_work():
 
 
 def last_of(calls, *wanted):
-    """The position of the last call that is one of these."""
+    """The position, in the list, of the last call that is one of the wanted calls."""
     return max(at for at, call in enumerate(calls) if call in wanted)
 
 

@@ -1,4 +1,4 @@
-"""Comparisons with expected values, whose failures show both."""
+"""Compares values with expected values. A failure shows both."""
 import os
 import time
 
