@@ -1,5 +1,5 @@
--- How `clap` reads a command whose first word is the name of a subcommand. The definitions of
--- `clap` walk over the words. The walk stops at the subcommand's name.
+-- How `clap` reads a command whose first word is the name of a subcommand. By its definitions,
+-- `clap` walks over the words and stops at the subcommand's name.
 use Rattle.std.proofs.Common.{◌≡◌, ◌∙◌, ◌++◌, cond, true, false, refl, sym, ap, ap₂, List, [], ◌∷◌, Some, None, is_some, codes, option_map}
 use Rattle.std.specs.List.{find, fold}
 use Rattle.std.specs.Option.{option_map_or}
@@ -21,13 +21,13 @@ use Rattle.docker_cmd.proofs.RequiredWords.{built_top}
 abbrev pub built_with : List Shape → App
 built_with subs = record { top = built_top; subs = subs }
 
--- the walk's state after the walk stopped at a subcommand's name and left these words to the
--- subcommand
+-- the state of `clap`'s walk over the words, after the walk stopped at a subcommand's name and left
+-- these words to the subcommand
 abbrev after_name : Text → List Text → Walk
 after_name name words = record (walk_from nothing_held) { stopped = Some (name, words) }
 
--- once the walk has stopped at a subcommand's name, later words add no fault to the faults of the
--- program itself
+-- once `clap`'s walk over the words has stopped at a subcommand's name, later words add no fault to
+-- the faults of the program itself
 no_later_fault : (names : Names) (name : Text) (seen words : List Text) → walk_fault built_top names (after_name name seen) words ≡ []
 unfolding walk_fault walked
 no_later_fault names name seen [] = refl
@@ -38,7 +38,8 @@ or_else_none : (kinds : Kinds) → or_else kinds [] ≡ kinds
 or_else_none [] = refl
 or_else_none (k ∷ kinds) = refl
 
--- all faults of a command, given the faults of the walk and the state in which the walk ended
+-- all faults of a command, given the faults of `clap`'s walk over the words and the state in which
+-- this walk ended
 abbrev faults_at : List Shape → Kinds → Walk → Kinds
 faults_at subs kinds w = or_else kinds
     (or_else (entered_fault (built_with subs) w.stopped)
@@ -66,27 +67,27 @@ module _ (subs : List Shape) (s : Shape) (name : Text) (words : List Text)
   abbrev names : Names
   names = names_of (built_with subs)
 
-  -- the walk recognises the first word as a subcommand's name
+  -- `clap`'s walk over the words recognises the first word as a subcommand's name
   named_met : word_met [] names false idle 1 name nothing_held ≡ (nothing_held, subcommand name)
   named_met = ap (λ o. subcommand_or_other [] o idle 1 name nothing_held) met
 
-  -- the walk stops at the subcommand's name
+  -- `clap`'s walk over the words stops at the subcommand's name
   named_walked : walked [] names (walk_from nothing_held) name ≡ after_name name []
   unfolding walked
   named_walked = ap (λ (p : Held × Step). after_step [] name (walk_from nothing_held) p.0 p.1) named_met
 
-  -- the walk leaves the words after the name to the subcommand
+  -- `clap`'s walk leaves the words after the name to the subcommand
   named_walk : walk [] names nothing_held (name ∷ words) ≡ after_name name words
   named_walk = ap (λ w. fold (walked [] names) w words) named_walked ∙ sym (walk_stopped [] names (walk_from nothing_held) name [] words)
 
-  -- the walk finds no fault in the subcommand's name
+  -- `clap`'s walk finds no fault in the subcommand's name
   named_turn : turn_fault built_top names (walk_from nothing_held) name ≡ []
   named_turn =
       let word_part = ap (λ o. other_fault built_top o name nothing_held) met
       ∙ ap (λ b. cond b (kind.DisplayHelp ∷ kind.InvalidSubcommand ∷ []) []) (and-false (bytes_eq name (codes "help"))) in
       λ i. or_else (word_part i) (step_fault built_top 1 (named_met i).0 (named_met i).1)
 
-  -- the walk over the name and the words after it finds no fault
+  -- `clap`'s walk over the name and the words after it finds no fault
   named_walk_fault : walk_fault built_top names (walk_from nothing_held) (name ∷ words) ≡ []
   unfolding walk_fault
   named_walk_fault = ap₂ or_else named_turn (ap (λ w. walk_fault built_top names w words) named_walked ∙ no_later_fault names name [] words)

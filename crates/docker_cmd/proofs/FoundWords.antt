@@ -7,8 +7,8 @@ use Rattle.clap.specs.Walk.{Row, first_of}
 use Rattle.docker_cmd.specs.Words.{Text, texts}
 use Rattle.docker_cmd.specs.Grammar.{found_words}
 
--- looking up all ids returns `found`, the words of the ids before `i`, followed by the words of the
--- ids from `i` on. The lookup returns None if one of the ids from `i` on has no word
+-- looking up all ids returns the words in `found`, which are the words of the ids before `i`, and
+-- then the words of the ids from `i` on. It returns None if one of the ids from `i` on has no word
 abbrev pub HasFound : List (Bor Text) → List Row → ℕ → List Text → Type 0
 HasFound ids rows i found = found_words (texts ids) rows ≡ option_map (λ rest. found ++ rest) (found_words (texts (drop i ids)) rows)
 
@@ -26,8 +26,8 @@ abbrev with_word : List (Bor Text) → List Row → ℕ → List Text → Option
 with_word ids rows i found here = option_map (λ rest. found ++ rest)
     (option_and_then (λ word. option_map (λ words. word ∷ words) (found_words (texts (drop (i + 1) ids)) rows)) here)
 
--- the result of looking up all ids is made of the words found before id `i`, the word of id `i`,
--- and the words of later ids
+-- looking up all ids returns the words found before id `i`, the word of id `i`, and the words of
+-- later ids, in this order
 one_on : (ids : List (Bor Text)) (rows : List Row) (i : ℕ) (d : Bor Text) (found : List Text) → i < length ids → HasFound ids rows i found
     → found_words (texts ids) rows ≡ with_word ids rows i found (first_of (slice_index_or ids i d).now rows)
 one_on ids rows i d found within has =

@@ -126,7 +126,7 @@ no_name word s none is =
     let never : None ≡ Some s = sym (none_found word subcommands none) ∙ ap subcommand_named is ∙ named_back s in
     cc
 
--- `clap` refuses plain words whose first word isn't a subcommand's name
+-- `clap` refuses a list of plain words if the first word isn't the name of a subcommand
 unnamed_judged : (word : Text) (words : List Text) → list_all is_plain_word (word ∷ words) ≡ true → IsNoneOf word subcommands → Judged (word ∷ words)
 unnamed_judged word words plain none =
     let fault = unnamed_fault leaves word words (both _ _ plain).0 (ap (option_map (λ (s : Text × List Text). s.0)) (none_answers word subcommands none)) in

@@ -150,7 +150,8 @@ pub job_on_line : (old new : Option (List ℕ)) (line : List ℕ) → ReadsLine 
 job_on_line None new line read some = tt
 job_on_line (Some text) new line read some = (line, (read.0, (read.1, some)))
 
--- if exactly a line of at most 256 bytes was read, at most 256 bytes were read from the source
+-- if a line of at most 256 bytes was read and nothing more, at most 256 bytes were read from the
+-- source
 pub reads_few : (old now new : Option (List ℕ)) (line : List ℕ) → Reads old line now → new ≡ now → length line ≤ 256 → ReadsAtMost 256 old new
 reads_few old now new line read same few = record { lost = line; few = few; read = subst (Reads old line) (sym same) read }
 

@@ -13,7 +13,7 @@ use Rattle.clap.specs.Kinds.{or_else}
 use Rattle.clap.proofs.SimpleLemmas.{is_false}
 use Rattle.docker_cmd.specs.Words.{is_plain_word}
 
--- the walk's state between two words, where the next value has this position
+-- the state of `clap`'s walk between two words, where the next value has this position
 abbrev pub at : Held → ℕ → Walk
 at h position = record (walk_from h) { position = position }
 
@@ -54,14 +54,14 @@ plain_fault s names word h plain none =
     ∙ ap (λ flags. Rattle.std.specs.Option.option_map_or (λ fs. Rattle.clap.specs.Faults.bundle_fault s.rules s.args_override_self fs h) flags [])
     (no_short word plain)
 
--- the walk takes a plain word that isn't a subcommand's name as the value at its position
+-- `clap`'s walk takes a plain word that isn't a subcommand's name as the value at its position
 pub plain_walked : (c : List Rule) (names : Names) (position : ℕ) (word : Text) (h : Held) → is_plain_word word ≡ true → subcommand_met names idle word ≡ None
     → walked c names (at h position) word ≡ to_positional c (arg_by_index c position) word (at h position) h
 unfolding walked
 plain_walked c names position word h plain none =
     ap (λ (met : Held × Step). after_step c word (at h position) met.0 met.1) (plain_met c names position word h plain none)
 
--- the only fault of a plain word that isn't a subcommand's name is the fault of its position
+-- a plain word that isn't a subcommand's name can only have a fault because of its position
 pub plain_turn : (s : Shape) (names : Names) (position : ℕ) (word : Text) (h : Held) → is_plain_word word ≡ true → subcommand_met names idle word ≡ None
     → turn_fault s names (at h position) word ≡ step_fault s position h value
 plain_turn s names position word h plain none =
@@ -69,8 +69,8 @@ plain_turn s names position word h plain none =
     let fault = plain_fault s names word h plain none in
     λ i. or_else (fault i) (step_fault s position (met i).0 (met i).1)
 
--- the faults of a walk over a plain word and other words are the word's faults, followed by the
--- other words' faults
+-- the faults of `clap`'s walk over a plain word and other words are the word's faults, followed by
+-- the other words' faults
 pub plain_walk_fault : (s : Shape) (names : Names) (position : ℕ) (word : Text) (rest : List Text) (h : Held) → is_plain_word word ≡ true
     → subcommand_met names idle word ≡ None
     → walk_fault s names (at h position) (word ∷ rest)

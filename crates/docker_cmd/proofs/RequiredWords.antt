@@ -51,7 +51,7 @@ abbrev pub Fresh : List Row → List Text → Type 0
 Fresh rows [] = Unit {0}
 Fresh rows (id ∷ ids) = (has_row id rows ≡ false) × ((word : Text) → Fresh (rows ++ row id word ∷ []) ids)
 
--- the row of each word with its id, in order
+-- the rows of these words: each word is paired with its id, in order
 abbrev pub paired : List Text → List Text → List Row
 paired [] words = []
 paired (id ∷ ids) [] = []
@@ -77,16 +77,17 @@ used_new position id word rows fresh =
     ap (with_values id (reading_by (new_rule id)) CommandLine (word ∷ [])) (at_new id (λ _. []) [] rows fresh ∙ append-nil rows)
     ∙ at_new id (more_values CommandLine (word ∷ [])) (row id word ∷ []) rows fresh
 
--- at the end of the walk, what the walk holds becomes these rows, and no fault is found
+-- at the end of `clap`'s walk over the words, a word that the walk still holds becomes a row, so
+-- that the rows are `rows`, and no fault is found
 record Settles (s : Shape) (h : Held) (rows : List Row) : Type 0 where
   rows_are : settled_rows s.rules h.pending h.rows ≡ rows
   no_fault : settle_fault s.rules s.args_override_self h ≡ []
 
--- what the walk holds: these rows, and a required word that has no row yet
+-- what `clap`'s walk holds between two words: these rows, and a required word that has no row yet
 abbrev holding : List Row → Text → Text → ℕ → Held
 holding rows id word skip = record { rows = rows; pending = Some (id, word ∷ []); skip = skip }
 
--- at the end of the walk, a required word without a row gets its row
+-- at the end of `clap`'s walk, a required word without a row gets its row
 settles_new : (s : Shape) (position : ℕ) (id word : Text) (rows : List Row) (skip : ℕ) → arg_by_id s.rules id ≡ Some (placed position id)
     → has_row id rows ≡ false
     → Settles s (holding rows id word skip) (rows ++ row id word ∷ [])
@@ -96,13 +97,13 @@ settles_new s position id word rows skip found fresh = record {
       ∙ ap (λ b. or_else (cond (b && not s.args_override_self) (kind.ArgumentConflict ∷ []) []) []) fresh;
 }
 
--- the walk takes a required word as the value at its position
+-- `clap`'s walk takes a required word as the value at its position
 at_positional : (c : List Rule) (position : ℕ) (id word : Text) (h : Held)
     → to_positional c (Some (placed position id)) word (at h position) h ≡ at (holding (settled_rows c h.pending h.rows) id word h.skip) (next position)
 at_positional c position id word h =
     ap (λ b. at (pushed id word (cond b h (settled c h))) (next position)) (and-false (is_pending (placed position id) h.pending))
 
--- after a required word, the walk holds this word
+-- after a required word, `clap`'s walk holds this word
 placed_walked : (s : Shape) (position : ℕ) (id word : Text) (h : Held) (rows : List Row) → arg_by_index s.rules position ≡ Some (placed position id)
     → Settles s h rows → is_plain_word word ≡ true → walked s.rules [] (at h position) word ≡ at (holding rows id word h.skip) (next position)
 placed_walked s position id word h rows found settles plain =
@@ -140,7 +141,7 @@ is_short [] words = false
 is_short (id ∷ ids) [] = true
 is_short (id ∷ ids) (word ∷ words) = is_short ids words
 
--- the only fault of the walk over the words is the fault for too many words, if there are more
+-- the only fault of `clap`'s walk over the words is the fault for too many words, if there are more
 -- words than ids
 words_fault : (s : Shape) (position : ℕ) (ids words : List Text) (h : Held) (rows : List Row) → stray_fault s ≡ kind.UnknownArgument ∷ []
     → Fits s.rules position ids → Fresh rows ids
@@ -157,8 +158,8 @@ words_fault s position (id ∷ ids) (word ∷ words) h rows stray fits fresh set
     ∙ words_fault s (next position) ids words (holding rows id word h.skip) (rows ++ row id word ∷ []) stray fits.2 (fresh.1 word)
     (settles_new s position id word rows h.skip fits.1 fresh.0) (both _ _ plain).1
 
--- at the end of the walk over the words, what the walk holds becomes the row of each word with its
--- id
+-- at the end of `clap`'s walk over the words, the rows are the rows of these words, each paired
+-- with its id
 words_held : (s : Shape) (position : ℕ) (ids words : List Text) (h : Held) (rows : List Row) → Fits s.rules position ids → Fresh rows ids
     → Settles s h rows → list_all is_plain_word words ≡ true → Settles s (fold (walked s.rules []) (at h position) words).held (rows ++ paired ids words)
 words_held s position [] [] h rows fits fresh settles plain = subst (Settles s h) (sym (append-nil rows)) settles
@@ -200,8 +201,8 @@ no_default_fault position (id ∷ ids) rows =
     ap (λ b. or_else (cond b [] []) (defaults_fault (with_default rows (placed position id)) rest)) (or-true (has_row id rows))
     ∙ ap (λ rs. defaults_fault rs rest) (same_rows id rows) ∙ no_default_fault (next position) ids rows
 
--- if none of the first rows has an id, the id is given in all rows if and only if it is given in
--- the other rows
+-- if no row in `rows` has an id, this id is given in `rows ++ rest` if and only if it is given in
+-- `rest`
 not_given : (id : Text) (rows rest : List Row) → has_row id rows ≡ false → is_given id (rows ++ rest) ≡ is_given id rest
 not_given id [] rest fresh = refl
 not_given id (r ∷ rows) rest fresh =
@@ -232,22 +233,24 @@ missing position (id ∷ ids) (word ∷ words) rows fresh =
 
 -- ---- the matches and the faults of a subcommand
 
--- the faults if the number of words differs from the number of ids
+-- the faults for a wrong number of words, if there are more words than ids or fewer. If the numbers
+-- are equal, there is no fault
 abbrev pub count_fault : List Text → List Text → Kinds
 count_fault ids words = or_else (surplus_fault ids words) (cond (is_short ids words) (kind.MissingRequiredArgument ∷ []) [])
 
 module _ (name : Text) (ids words : List Text) (fits : Fits (leaf name ids).rules 1 ids) (fresh : Fresh [] ids)
     (plain : list_all is_plain_word words ≡ true) where
-  -- what the walk holds after its last word
+  -- what `clap`'s walk holds after its last word
   end : Held
   end = (walk (leaf name ids).rules [] nothing_held words).held
 
-  -- after the last word, what the walk holds becomes the row of each word with its id
+  -- after the last word, the rows are the rows of all words, each paired with its id
   settles_end : Settles (leaf name ids) end (paired ids words)
   unfolding end
   settles_end = words_held (leaf name ids) 1 ids words nothing_held [] fits fresh (record { rows_are = refl; no_fault = refl }) plain
 
-  -- the subcommand's matches are the rows of the words with their ids
+  -- the rows that `clap` finds for the subcommand are the rows of the words, each paired with its
+  -- id
   pub rows_found : rows_after (leaf name ids).rules [] words ≡ paired ids words
   unfolding end
   rows_found = ap (λ rows. fold with_default rows (leaf name ids).rules) settles_end.rows_are ∙ no_defaults 1 ids (paired ids words)

@@ -16,7 +16,8 @@ use Rattle.docker_cmd.specs.Writes.{Output}
 use Rattle.docker_cmd.specs.Prepared.{DeviceBytes, HasNoSource, HasReadToEnd, HasSecondSource, IsContentOf, IsOfOneFile, IsPreparedFor}
 use Rattle.docker_cmd.specs.Prepared.{IsReadOf, IsStateOf, IsWhyRefused, IsWrittenOf, ReadView, ReadsFew, file_read, office_read, under}
 
--- the state without files and without a horizon is the summary of no files under no horizon
+-- `no_state`, the state without files and without a horizon, is the summary of no files and no
+-- horizon
 no_files : IsSummary [] 0 no_state
 no_files = record {
   horizon_is = refl;
@@ -114,8 +115,7 @@ written_of : (task : TaskView) (first second : DeviceBytes) (read : ReadView) �
 written_of task first second (file_read file) is = ap output_of (checked task is.0)
 written_of task first second (office_read state) is = state_written_of task first second state is
 
--- an output that can be written from a content can still be written after a horizon was set on that
--- content
+-- if an output can be written from what was read, it can still be written after a horizon was set
 still_written : (output : Output) (horizon : Option ℕ) (read : ReadView) → IsWrittenOf output read → IsWrittenOf output (under horizon read)
 still_written output None read is = is
 still_written output (Some day) (file_read file) is = is
@@ -175,8 +175,8 @@ read_of_task asked task first left second second_left read is reads =
 pub some_of_task : (P : Type 0) (asked task : TaskView) → asked ≡ task → ¬ HasNoSource (sources_of task) → HasNoSource (sources_of asked) → P
 some_of_task P asked task is some none = absurd (some (subst (λ t. HasNoSource (sources_of t)) is none))
 
--- if the second source was read only after the first was read successfully, the same holds for
--- equal `Sources`
+-- suppose that the second source of `sources` was read only after the first was read successfully.
+-- Then this is also true of `others`, which equals `sources`
 pub second_for : {First Good Kept : Type 0} (sources others : Sources) → sources ≡ others → First ⊎ (HasSecondSource sources × Good × Kept)
     → First ⊎ (HasSecondSource others × Good × Kept)
 second_for {First} {Good} {Kept} sources others same order = subst (λ s. First ⊎ (HasSecondSource s × Good × Kept)) same order

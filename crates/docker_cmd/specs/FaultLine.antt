@@ -25,7 +25,8 @@ status_of (Office office.Source) = 4
 status_of (Office office.Sink) = 4
 status_of (Office office.Memory) = 3
 
--- the exit status for the result of an office's call: 0 on success, otherwise the fault's status
+-- the exit status if a call to an office has this result: 0 on success, otherwise the fault's
+-- status
 abbrev pub result_status : {A : Type 0} → Result A OfficeFault → ℕ
 result_status (Ok answer) = 0
 result_status (Err fault) = status_of (Office fault)
@@ -43,7 +44,7 @@ abbrev pub state_line : StateFault → List ℕ
 state_line fault =
     codes "docker: state refused: offset " ++ decimal fault.at ++ codes ": " ++ state_text.cause_text fault.cause ++ codes "\n"
 
--- the line that reports a refused day: a day earlier than three days after the horizon
+-- the line that reports a refused day: a day before the third day after the horizon
 abbrev pub day_line : List ℕ
 day_line = codes "docker: day refused: before horizon plus three days\n"
 

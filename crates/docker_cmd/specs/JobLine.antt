@@ -1,4 +1,5 @@
--- The job line and its words.
+-- The job line: the first line of standard input, from which a program that was started without
+-- words reads its words.
 use Rattle.std.specs.Prelude.{◌≡◌, ℕ, ◌==◌, ◌≤◌, Bool, not, if◌then◌else◌, List, [], ◌∷◌, ◌++◌, length, filter, Option, Some, None, ⊤}
 use Rattle.std.specs.List.{AllPass, slice_split}
 use Rattle.docker_model.specs.records.Record.{is_printable}

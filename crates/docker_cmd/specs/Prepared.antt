@@ -121,8 +121,8 @@ pub record IsOfOneFile (left : DeviceBytes) (read : ReadView) : Type 0 where
   pub summary : IsSummary (file ∷ []) 0 state
   pub plain : IsPlainTable (file ∷ []) (live_table state)
 
--- a source should have held a file, but its text has this fault. If that is the second source, the
--- first source held a state
+-- a source should have held a file, but its text has this fault. A second source is read only if
+-- the first source held a state
 abbrev pub RefusesFileOf : Sources → DeviceBytes → DeviceBytes → FileFault → Type 0
 RefusesFileOf no_source first second fault = ⊥
 RefusesFileOf checked_file first second fault = RefusesText most_records first fault
@@ -131,8 +131,8 @@ RefusesFileOf (one_state format) first second fault = ⊥
 RefusesFileOf state_and_file first second fault = HoldsSomeState first × RefusesText most_records second fault
 RefusesFileOf two_states first second fault = ⊥
 
--- a source should have held a state, but its text has this fault. If that is the second source, the
--- first source held a state
+-- a source should have held a state, but its text has this fault. A second source is read only if
+-- the first source held a state
 abbrev pub RefusesStateOf : Sources → DeviceBytes → DeviceBytes → StateFault → Type 0
 RefusesStateOf no_source first second fault = ⊥
 RefusesStateOf checked_file first second fault = ⊥
@@ -304,8 +304,8 @@ GainsOutput prepared old new = GainsText (output_of prepared.job.task) prepared.
 abbrev pub GainsPart : PreparedView → DeviceBytes → DeviceBytes → Type 0
 GainsPart prepared old new = GainsTextPart (output_of prepared.job.task) prepared.read old new
 
--- the output is a docker of a refused day: the state has a horizon, and the day is earlier than
--- three days after the horizon
+-- the output is a docker of a refused day: the state has a horizon, and the day is before the third
+-- day after the horizon
 abbrev pub IsRefusedDocker : Output → ReadView → Type 0
 IsRefusedDocker output (file_read file) = ⊥
 IsRefusedDocker counts_written (office_read state) = ⊥

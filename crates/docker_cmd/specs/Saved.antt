@@ -14,20 +14,22 @@ use Rattle.docker_cmd.specs.Prepared.{DeviceBytes, most_bytes}
 abbrev pub HoldsFile : DeviceBytes → List (List ℕ) → Type 0
 HoldsFile bytes file = (text : List ℕ) × (bytes ≡ Some text) × IsFileText most_records text file
 
--- there is an earlier version with this number, and a source held the text of that version
+-- `earlier` lists the texts of versions of STATE files, and a source held the version with this
+-- number
 pub record HoldsVersion (earlier : List (List ℕ)) (bytes : DeviceBytes) (number : ℕ) : Type 0 where
   pub there : number < length earlier
   pub held : bytes ≡ Some (slice_index_or earlier number [])
 
--- what a state can gain at once: a file, an earlier version of any STATE file (given by its
--- number), or a horizon
+-- what a state can gain at once: a file, a version of any STATE file (given by its number in a list
+-- of versions), or a horizon
 pub data Gain : Type 0 where
   file_gained : (file : List (List ℕ)) → Gain
   version_gained : (number : ℕ) → Gain
   horizon_gained : (day : ℕ) → Gain
 
 -- the old state became the new state by gaining one thing. Either it was joined with the state of a
--- file or of an earlier version, whose text a source held. Or its horizon was raised to this day
+-- file or of a version in `earlier`, whose text a source held. Or its horizon was raised to this
+-- day
 abbrev pub Gains : List (List ℕ) → Gain → State → State → Type 0
 Gains earlier (file_gained file) old new =
     (held : DeviceBytes) × HoldsFile held file × TakesFile most_records held old new
@@ -35,14 +37,14 @@ Gains earlier (version_gained number) old new =
     (held : DeviceBytes) × HoldsVersion earlier held number × JoinsState dks_2 most_bytes held old new
 Gains earlier (horizon_gained day) old new = IsDay day × (new ≡ raise_horizon day old)
 
--- the old state became the new state by gaining these things, in order
+-- the old state became the new state by gaining all that `gains` lists, in order
 abbrev pub AreGained : List (List ℕ) → List Gain → State → State → Type 0
 AreGained earlier [] old new = new ≡ old
 AreGained earlier (gain ∷ gains) old new =
     (next : State) × Gains earlier gain old next × AreGained earlier gains next new
 
--- this is the text of a state that was read from the earlier version with number `own`, and that
--- then gained these things
+-- this is the text of a state that was read from version number `own` of `earlier`, and that then
+-- gained `gains`
 pub record IsSaved (earlier : List (List ℕ)) (own : ℕ) (gains : List Gain) (text : List ℕ) : Type 0 where
   pub held : DeviceBytes
   pub holds : HoldsVersion earlier held own

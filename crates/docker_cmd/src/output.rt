@@ -18,9 +18,9 @@ use docker_office::{LedgerOffice, Office, OfficeFault, PlaceOffice};
 /// day. `files` lists the files that the office knows. Any other job writes the text of the
 /// office's state.
 ///
-/// Returns `Lapsed` for a docker of a day that is earlier than three days after the state's
-/// horizon. Returns `Memory` if there is no memory for a docker. In both cases nothing is written.
-/// Returns `Sink` if the sink fails; the sink has then gained a proper prefix of the text.
+/// Returns `Lapsed` for a docker of a day before the third day after the state's horizon. Returns
+/// `Memory` if there is no memory for a docker. In both cases nothing is written. Returns `Sink` if
+/// the sink fails; the sink has then gained a proper prefix of the text.
 pub fn emit<K: Sink>(prepared: &Prepared<'_>, sink: &mut K) -> Result<(), OfficeFault>
     requires { K.failures sink.old < 2 ^ 64 - 1 }
     ensures ends { EndsEmitting K.taken K.failures (output_of prepared.now.job.task)

@@ -139,8 +139,9 @@ module _ (earlier : List (List ℕ)) where
         (λ day same. day_asked setting.may_write step.line step.request day are.1.0.asks same) are.1.0.does gained.1.1.0)
         (gained_steps step.after last steps gained.1.0 are.1.1 gained.1.1.1.0)))
 
-    -- the text that is saved after a list of steps is the text of a state. This state was read from
-    -- the first version, and then gained what the steps gained
+    -- if STATE held version number `own` of `earlier` when the session began, `save` stores the
+    -- text of a state that was read from that version and then gained what the steps before `save`
+    -- gained
     pub places_version : (first before after : SessionView) (steps : List Step) (old : List Event) (own : ℕ) (gains : List Gain) (answer : List ℕ)
         → (begins : BeginsAt setting.name old first) → HoldsVersion earlier begins.held own → AreSteps setting first steps before
         → GainedBy setting earlier steps gains → Saves setting before (done_with answer) after → IsPlaced setting earlier own gains before after

@@ -52,7 +52,7 @@ then_closed name held left old opened_now new opens closes = then old opened_now
 
 -- ---- how a saving ends
 
--- if the state's text was stored and the file was then looked at, the saving succeeded
+-- if the state's text was stored and the file was then looked at, `save` succeeded
 pub saved_then : (names_bytes : Bool) (name : Text) (look : ℕ) (own state : State) (old middle new : List Event)
     → IsStored names_bytes name look (state_text dks_2 own) old middle → new ≡ middle ++ looked name ∷ [] → own ≡ state
     → EndsSaving names_bytes name look (state_text dks_2 state) old new (Ok tt)

@@ -93,7 +93,7 @@ module _ (setting : Setting) (before after : SessionView) where
   state_known events old heard hears is =
       known_joined old heard before.desk.state hears.joins.received after.desk.state is hears.of hears.joins.join
 
-  -- a saving doesn't change the state
+  -- `save` doesn't change the state
   pub same_saved : (result : Result ⊤ OfficeFault) → after.desk ≡ desk_by result before.desk → after.desk.state ≡ before.desk.state
   same_saved (Ok done) same = ap (λ (desk : DeskView). desk.state) same
   same_saved (Err fault) same = ap (λ (desk : DeskView). desk.state) same

@@ -142,8 +142,8 @@ reads_whole old now new line first feed good short = by old new (reads_on old no
         let same : text ≡ (line ++ 10 ∷ []) ++ rest = cc in
         (rest, (record { whole = same ∙ append_assoc line (10 ∷ []) rest; line_text = is_text }, refl))
 
--- if the source ends after printable bytes, the bytes are a cut line, or no line if there are no
--- bytes
+-- if the source ends after printable bytes, these bytes were read as a cut line. If there were no
+-- bytes, no line was read
 pub reads_cut : (old now new : Option (List ℕ)) (line : List ℕ) → Reads old line now → IsEnd now → new ≡ now → ArePrintable line
     → ReadsAsked old (cut_or_end line) new
 reads_cut old now new [] read end same good = at_end old now new read end same

@@ -1,5 +1,5 @@
--- At every point of a session, the look from which the next draft is made is good. It comes
--- directly before an opening of the state's file, or directly after a draft replaced that file.
+-- At every point of a session, the look on which the next draft is based is good. It comes directly
+-- before an opening of the state's file, or directly after a draft replaced that file.
 use Rattle.std.proofs.Common.{◌≡◌, ℕ, ◌+◌, List, [], ◌∷◌, ◌++◌, length, sym, ◌∙◌, ap, subst, arith, append_assoc, length-append, Some, None, Ok, Err, inl, inr}
 use Rattle.std.specs.Prelude.{Option, Result, ⊤, Bool}
 use Rattle.docker_cmd.specs.OfficeFault.{OfficeFault}
@@ -61,7 +61,7 @@ module _ (name : Text) where
       → IsGoodLook name new look_now
   good_same old new more look look_now grown same good = subst (IsGoodLook name new) (sym same) (good_more old new more look grown good)
 
-  -- after a renewal, the look is still good
+  -- after `renew`, the look is still good
   good_renewed : (old new : List Event) (read : Option Reading) (result : Result Compared OfficeFault) (own after : DeskView) (look look_now : ℕ)
       → new ≡ old ++ looked name ∷ opening_of name read → EndsRenewing own after result read → look_now ≡ look_by result (length old) look
       → IsGoodLook name old look → IsGoodLook name new look_now
@@ -71,7 +71,7 @@ module _ (name : Text) where
   good_renewed old new read (Err fault) own after look look_now grown ends same good =
       good_same old new (looked name ∷ opening_of name read) look look_now grown same good
 
-  -- after a saving that failed, the look is still good
+  -- after a `save` that failed, the look is still good
   good_unsaved : (names_bytes : Bool) (text : List ℕ) (old new : List Event) (from look look_now : ℕ) → FailsToStore names_bytes name from text old new
       → look_now ≡ look → IsGoodLook name old look → IsGoodLook name new look_now
   good_unsaved names_bytes text old new from look look_now (inl grown) same good =
@@ -96,7 +96,7 @@ module _ (name : Text) where
   good_saved names_bytes text old new (Err (office.State fault)) from look look_now never same good = absurd never
 
 module _ (setting : Setting) where
-  -- the look of this point is good
+  -- at this point of a session, the look on which the next draft is based is good
   abbrev pub LooksWell : SessionView → Type 0
   LooksWell session_view = IsGoodLook setting.name session_view.history session_view.look
 

@@ -20,15 +20,16 @@ written_whole own text new none whole =
     let same : ◌≡◌ {A = Option (List ℕ)} (Some new) (Some text) =
     subst (λ (front : List ℕ). ◌≡◌ {A = Option (List ℕ)} (Some new) (Some (front ++ text))) none whole in cc
 
--- an answer that has the permanent docker for a day that isn't refused is an answer to `permanent`
+-- if a day isn't refused, an answer that has the permanent docker for this day, or that reports
+-- that memory ran out, is an answer to `permanent`
 pub told_docker : (state : State) (place : List ℕ) (day : ℕ) (answer : AnswerView) → ¬ IsDayRefused state.horizon day
     → TellsDocker (permanent_table (live_table state)) place day answer → IsPermanentAnswer state place day answer
 told_docker state place day (done_with text) allowed told = (told, allowed)
 told_docker state place day (refused_for fault) allowed same = subst (IsDockerRefused state day) (sym same) allowed
 told_docker state place day no_request allowed never = never
 
--- two states that know the same files print the same permanent docker for each place and each day
--- that is refused under neither horizon
+-- two states that know the same files print the same permanent docker for each place, and for each
+-- day that neither state's horizon refuses
 pub one_permanent : (first second : Known) (one two : State) → IsKnown first one → IsKnown second two → HaveSameFiles first.files second.files
     → (place : List ℕ) (day : ℕ) → ¬ IsDayRefused one.horizon day → ¬ IsDayRefused two.horizon day → (text other : List ℕ)
     → IsDockerText (permanent_table (live_table one)) place day text → IsDockerText (permanent_table (live_table two)) place day other → text ≡ other

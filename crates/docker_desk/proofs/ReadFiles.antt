@@ -1,5 +1,5 @@
--- How a desk's `take`, `merge`, `renew` and its first reading of a state end. The proofs use how
--- the office's reading ends.
+-- How a desk's `take`, `merge` and `renew`, and its first reading of a state, end. Each ending
+-- follows from how the office's reading ended.
 use Rattle.std.proofs.Common.{◌≡◌, ◌≢◌, ◌+◌, ◌∙◌, ℕ, ap, arith, refl, subst, sym, Some, Ok, Err, IsErr, true, false}
 use Rattle.std.specs.Prelude.{Result, ⊤, Bool, List, ◌++◌, Option, None, IfSome, Vec, option_map}
 use Rattle.cif_device.specs.Device.{Reads}
@@ -81,14 +81,16 @@ refuses_to_receive left left_now (office.File fault) why = why
 refuses_to_receive left left_now office.Lapsed why = why
 refuses_to_receive left left_now office.Sink why = why
 
--- if an office received or refused a state, the desk's receiving ends in the same way
+-- if an office received or refused the state that a file held, the desk's receiving from this file
+-- ended in the same way
 pub receives : (left left_now : Bytes) (old new : State) (result : Result ⊤ OfficeFault)
     → IsOutcome WantsMemory why_unread dks_2 most_bytes (λ _. JoinsState dks_2 most_bytes left old new) left left_now result
     → (IsErr result → new ≡ old) → EndsReceiving old new result (Some (reading left left_now))
 receives left left_now old new (Ok done) outcome kept = outcome
 receives left left_now old new (Err fault) outcome kept = (refuses_to_receive left left_now fault outcome, kept refl)
 
--- if an office reloaded or refused a state, the desk's reloading ends in the same way
+-- if an office reloaded or refused the state that a file held, the desk's reloading from this file
+-- ended in the same way
 pub reloads : (left left_now : Bytes) (new : State) (result : Result ⊤ OfficeFault)
     → IsOutcome WantsMemory why_unread dks_2 most_bytes (λ _. ReadsState dks_2 most_bytes left new) left left_now result
     → EndsReloading new result (Some (reading left left_now))
@@ -123,14 +125,14 @@ found_held (Some text) None compared.Same state left held is = let never : ⊥ =
 found_held (Some text) (Some it) compared.Other state left held is = λ same. is (sym held ∙ same)
 found_held (Some text) None compared.Other state left held is = absurd is
 
--- if the copying source was read no further than the result needs, the file was read no further
--- than the result needs
+-- if the source that copies a file was read no further than the result needs, the file was read no
+-- further than the result needs
 pub stops_as : (held left seen seen_left : Bytes) → ReadsFewOfState dks_2 seen seen_left → seen ≡ held → left ≡ seen_left
     → StopsInState (reading held left)
 stops_as held left seen seen_left stops same same_left =
     subst (λ (bytes : Bytes). ReadsFewOfState dks_2 bytes left) same (subst (ReadsFewOfState dks_2 seen) (sym same_left) stops)
 
--- if reading the copying source ended with a fault, the comparison ended with this fault
+-- if reading the source that copies a file ended with a fault, the comparison ended with this fault
 pub refuses_as : (held left seen seen_left : Bytes) (old new : State) (fault : OfficeFault)
     → IsWhyUnread WantsMemory dks_2 most_bytes seen seen_left (why_unread fault) → new ≡ old → seen ≡ held → left ≡ seen_left
     → EndsComparing old new (Err fault) (Some (reading held left))

@@ -103,12 +103,13 @@ module _ (may_write : Bool) (line : List ℕ) (word : Text) (v : Verb) (first : 
       let one : Some v ≡ Some (verb_of request) = found ∙ ap verb_named (first ∙ is.name) ∙ named_back (verb_of request) in
       cc
 
-  -- if the verb of a line isn't allowed, the line isn't a request
+  -- if the verb of a line requires a desk that may write, and this desk may not, the line isn't a
+  -- request
   pub not_allowed : ((is_writing v ≡ true → may_write ≡ true) → ⊥) → AsksFor may_write line None
   not_allowed never = λ request is. never (subst (λ u. is_writing u ≡ true → may_write ≡ true) (of_request request is) is.allowed)
 
-  -- if the verb of a line is allowed, the line's request is the one that the rest of the line makes
-  -- with the verb
+  -- if the desk may carry out requests with the verb of a line, the line's request is the one that
+  -- the verb and the rest of the line make
   pub asked_by : (rest : List ℕ) (request : Option RequestView) → rest ≡ after_word line → (is_writing v ≡ true → may_write ≡ true) → FitsRest v rest request
       → AsksFor may_write line request
   asked_by rest None behind allowed fits = λ request is. fits request (of_request request is) (subst (HasRest request) (sym behind) is.rest)

@@ -18,7 +18,7 @@ FoundCameFrom =
     → IsFoundFor state uid day (Some found) → CameFrom files found
 
 -- if the files have a plain table, the schedule that is found in their summary, if any, is the
--- schedule chosen on this table. This holds for each day from the horizon on
+-- schedule chosen from this table. This holds for each day from the horizon on
 abbrev pub FoundIsPlain : Type 0
 FoundIsPlain =
     (files : Files) (horizon : ℕ) (state : State) (table : Table) (uid : List ℕ) (day : ℕ) (found : Option Stamped) → IsSummary files horizon state
@@ -26,7 +26,7 @@ FoundIsPlain =
     → IsChosenOn table uid day (option_map (λ (it : Stamped). it.schedule) found)
 
 -- if a text shows the schedule that a state has for a UID on a day, this schedule came from a known
--- file. If the known files have a plain table, it is the schedule that this table has
+-- file. If the known files have a plain table, it is also the schedule chosen from this table
 pub train_known : FoundCameFrom → FoundIsPlain → (known : Known) (state : State) (uid : List ℕ) (day : ℕ) (text : List ℕ) → IsKnown known state
     → IsTrainText state uid day text → state.horizon ≤ day → IsTrainOf known uid day text
 train_known came_from is_plain known state uid day text is train from = record {

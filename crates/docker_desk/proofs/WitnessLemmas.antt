@@ -58,7 +58,7 @@ ended_well InputFailed unsaved none = let never : ⊥ = omega (arith, none) in a
 ended_well InputEndless unsaved none = let never : ⊥ = omega (arith, none) in absurd never
 ended_well OutputFailed unsaved none = let never : ⊥ = omega (arith, none) in absurd never
 
--- if the words of a session are one word, this word names the state's file
+-- if a session has only one word, this word names the state's file
 named_so : (word name : Text) (may_write : Bool) → word ∷ [] ≡ session_words name may_write → name ≡ word
 named_so word name false same = cc
 named_so word name true same = let never : ⊥ = cc in absurd never
@@ -100,8 +100,8 @@ empty_told = ap (λ (zero : List ℕ). zero ++ codes " " ++ zero ++ codes " " ++
     zero_told : decimal 0 ≡ 48 ∷ []
     zero_told = decimal_digit 0 (omega arith)
 
--- after the answer to `files` was written for the state of no files, the output lists no files or
--- reports that memory ran out
+-- if the state knows no files, the answer to `files` makes the output list no files or report that
+-- memory ran out
 answered : (output : Bytes) (state : State) (answer : AnswerView) → state ≡ no_state → IsFilesAnswer state answer
     → Takes (Some []) (answer_bytes answer ++ []) output → IsAnswered output
 answered output state (done_with text) same is takes =
@@ -119,7 +119,7 @@ held_there : (text name : Text) (held left : Bytes) → name ≡ codes "S"
 held_there text name held left same met =
     (subst (λ (n : Text). IsShelfHistory (placed (codes "S") (Some text) ∷ looked n ∷ opened n held ∷ closed left ∷ [])) same met).1.1.0.0
 
--- a file that holds the text of the state of no files holds this state
+-- a file that holds the text of `no_state`, the state without files, holds this state
 holds_none : (text : List ℕ) → text ≡ state_text dks_2 no_state → length text ≤ 100 → IsValid no_state → HoldsState dks_2 most_bytes (Some text) no_state
 holds_none text is few valid = record {
   text = text;
@@ -171,8 +171,8 @@ module _ (text : List ℕ) (holds : HoldsState dks_2 most_bytes (Some text) no_s
       let line : step.line ≡ whole_line asked_line = cc in one_step its first last step begins named line are met takes
   all_steps its first last (step ∷ next ∷ steps) begins named lines are met takes = let never : ⊥ = cc in absurd never
 
--- a session on the state of no files, with `files` as its only line, answers that there are no
--- files, or that memory ran out
+-- if STATE holds the text of a state without files, and `files` is the only line of the input, the
+-- session answers that there are no files, or that memory ran out
 pub files_answered : (text : List ℕ) (old new : HostView) (status : ℕ) → HoldsState dks_2 most_bytes (Some text) no_state
     → old.history ≡ placed (codes "S") (Some text) ∷ [] → old.input ≡ Some (codes "files\n") → old.output ≡ Some []
     → IsShelfHistory new.history → status ≡ 0 → Serves (codes "S" ∷ []) true old new status → IsAnswered new.output

@@ -141,8 +141,8 @@ words_none text none = (words_behind_spaces text ∙ ap words_in none, ap (befor
 
 -- ---- removing spaces one by one
 
--- if a text begins with a space, removing this space doesn't change what is left without leading
--- spaces
+-- if a text begins with a space, the text without its leading spaces is the same before and after
+-- this space is removed
 pub space_leads : (text : List ℕ) → position_or_len is_space text < length text → before_first is_space text ≡ []
     → without_spaces text ≡ without_spaces (after_first is_space text)
 space_leads [] here none = absurd (omega (arith, here))

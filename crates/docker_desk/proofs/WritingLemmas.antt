@@ -1,4 +1,4 @@
--- One write after another.
+-- What a sink has taken after two writes, one after the other.
 use Rattle.std.proofs.Common.{◌≡◌, ℕ, ◌+◌, List, ◌++◌, ◌-◌, arith, length, take, drop, Option, None}
 use Rattle.std.proofs.Common.{Some, ap, sym, subst, ◌∙◌, append_assoc, length-append, slice_range}
 use Rattle.std.specs.Prelude.{option_map}

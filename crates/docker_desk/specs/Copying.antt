@@ -29,7 +29,7 @@ KeepsMore old bytes None = ⊤
 KeepsMore None bytes (Some new) = ⊥
 KeepsMore (Some old) bytes (Some new) = new ≡ old ++ bytes
 
--- these bytes, followed by the byte that differs, if there is one
+-- the bytes of `front`, followed by the byte `other` if there is one
 abbrev pub with_other : Text → Option ℕ → Text
 with_other front None = front
 with_other front (Some other) = front ++ other ∷ []

@@ -30,8 +30,8 @@ pub record DeskView : Type 0 where
   pub state : State
   pub unsaved : Bool
 
--- this is the fault for which a docker is refused: `Lapsed` if its day is refused under the state's
--- horizon, otherwise `Memory`
+-- this is the fault for which a docker is refused: `Lapsed` if the state's horizon refuses its day,
+-- otherwise `Memory`
 abbrev pub IsDockerRefused : State → ℕ → OfficeFault → Type 0
 IsDockerRefused state day office.Lapsed = IsDayRefused state.horizon day
 IsDockerRefused state day office.Memory = ¬ IsDayRefused state.horizon day
@@ -206,15 +206,14 @@ abbrev pub unsaved_by : Result ⊤ OfficeFault → Bool → Bool
 unsaved_by (Ok done) unsaved = true
 unsaved_by (Err fault) unsaved = unsaved
 
--- the number of the look after a request: `look` if the request succeeded, otherwise the earlier
--- number
+-- the number of the look after a request: `look` if the request succeeded, otherwise `before`
 abbrev pub look_by : {A : Type 0} → Result A OfficeFault → ℕ → ℕ → ℕ
 look_by (Ok done) look before = look
 look_by (Err fault) look before = before
 
 -- ---- how a text is stored
 
--- storing a text in the named file, by a draft from the look with this number, ended with this
+-- storing a text in the named file, by a draft based on the look with this number, ended with this
 -- result. Either the draft replaced the file, or a device failed, or there was no memory for a
 -- draft
 abbrev pub EndsStoring : (names_bytes : Bool) (name : Text) (look : ℕ) (text : List ℕ)

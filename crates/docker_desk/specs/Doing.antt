@@ -37,7 +37,7 @@ pub record Joins (name : Text) (Stops : Reading → Type 0)
 
 -- carrying out `renew` at the point `before` gave this answer and ended at the point `after`. The
 -- state's file is looked at and then opened once, and the desk's state is joined with the state
--- that the file then held. If `renew` succeeds, later drafts are made from this look
+-- that the file then held. If `renew` succeeds, later drafts are based on this look
 pub record Renews (setting : Setting) (before : SessionView) (answer : AnswerView) (after : SessionView)
     : Type 0 where
   pub result : Result Compared OfficeFault
@@ -52,8 +52,8 @@ desk_by (Ok done) desk = record desk { unsaved = false }
 desk_by (Err fault) desk = desk
 
 -- carrying out `save` at the point `before` gave this answer and ended at the point `after`. A
--- draft is made from the look of `before`. If the draft replaces the file, the file is looked at
--- again, and later drafts are made from the second look
+-- draft is made that is based on the look of `before`. If the draft replaces the file, the file is
+-- looked at again, and later drafts are based on the second look
 pub record Saves (setting : Setting) (before : SessionView) (answer : AnswerView) (after : SessionView)
     : Type 0 where
   pub result : Result ⊤ OfficeFault
@@ -63,8 +63,8 @@ pub record Saves (setting : Setting) (before : SessionView) (answer : AnswerView
   pub desk : after.desk ≡ desk_by result before.desk
   pub look : after.look ≡ look_by result (length before.history + 2) before.look
 
--- the point after a horizon was set: the state has the later of the two horizons, and the unsaved
--- flag is set
+-- the point after a horizon was set: the state has the later of `day` and its own horizon, and the
+-- unsaved flag is set
 abbrev pub with_horizon : ℕ → SessionView → SessionView
 with_horizon day before =
     record before { desk = record { state = raise_horizon day before.desk.state; unsaved = true } }
@@ -123,8 +123,8 @@ pub record DoesLine (setting : Setting) (line : LineView) (before : SessionView)
   pub does : DoesAsked setting request before answer after
   pub counted : IsCounted (answer_status answer) before.failures after.failures
 
--- these steps follow one another. The first begins at the first point, and the last ends at the
--- second point
+-- these steps follow one another. The first step begins at the point `before`, and the last step
+-- ends at the point `after`
 abbrev pub AreSteps : Setting → SessionView → List Step → SessionView → Type 0
 AreSteps setting before [] after = after ≡ before
 AreSteps setting before (step ∷ steps) after =

@@ -1,5 +1,5 @@
--- What a session knows. At each point its state is the summary of known files under a known
--- horizon.
+-- What a session knows. At each point its state is the summary of the files and the horizon that
+-- the session knows.
 use Rattle.std.specs.Prelude.{◌≡◌, ◌↔◌, ℕ, List, [], ◌∷◌, ◌++◌, Option, Some, None, option_map, ⊤}
 use Rattle.docker_model.specs.file.File.{most_records}
 use Rattle.docker_model.specs.state.State.{State, live_table}
@@ -25,12 +25,12 @@ use Rattle.docker_desk.specs.SessionViews.{SessionView, Setting, Step}
 use Rattle.docker_desk.specs.Doing.{AreSteps}
 use Rattle.docker_desk.specs.Reading.{Reading, events_of}
 
--- the state is the summary of the known files under the known horizon
+-- the state is the summary of the known files and the known horizon
 pub record IsKnown (known : Known) (state : State) : Type 0 where
   pub good : IsGoodKnown dks_2 known
   pub is : IsStateOf known state
 
--- for each day that isn't refused under the state's horizon, the state and this table have the same
+-- for each day that the state's horizon doesn't refuse, the state and this table have the same
 -- dockers without the short-term plan
 abbrev pub KeepsAs : State → Table → Type 0
 KeepsAs state table = (place : List ℕ) (day : ℕ) (text : List ℕ) → ¬ IsDayRefused state.horizon day
@@ -150,8 +150,8 @@ pub record GainsFile (name : Text) (before after : SessionView) (gains : List Ga
   pub holds : HoldsFile read.held file
   pub gains_are : gains ≡ file_gained file ∷ []
 
--- a file was opened, and the opening added these events to the history. The file held an earlier
--- version of any STATE file. The state gained this version and nothing else
+-- a file was opened, and the opening added these events to the history. The file held a version in
+-- `earlier`. The state gained this version and nothing else
 pub record GainsVersion (events : Reading → List Event) (earlier : List Text) (before after : SessionView)
     (gains : List Gain) : Type 0 where
   pub read : Reading
@@ -160,8 +160,8 @@ pub record GainsVersion (events : Reading → List Event) (earlier : List Text) 
   pub holds : HoldsVersion earlier read.held number
   pub gains_are : gains ≡ version_gained number ∷ []
 
--- this is what the state gained by a request that succeeded: a file, an earlier version of any
--- STATE file, a horizon, or nothing
+-- this is what the state gained by a request that succeeded: a file, a version in `earlier`, a
+-- horizon, or nothing
 abbrev pub GainsDone : Setting → List Text → RequestView → SessionView → SessionView → List Gain → Type 0
 GainsDone setting earlier (print_request place day) before after gains = gains ≡ []
 GainsDone setting earlier (permanent_request place day) before after gains = gains ≡ []
@@ -189,16 +189,16 @@ GainsAsked setting earlier (Some request) before no_request after gains = gains 
 GainsAsked setting earlier None before answer after gains = gains ≡ []
 
 -- this is what the state gained by these steps, in order. Contracts know which bytes were in each
--- file that `take`, `merge` or `renew` read. Each file that `merge` or `renew` read held an earlier
--- version of any STATE file
+-- file that `take`, `merge` or `renew` read. Each file that `merge` or `renew` read held a version
+-- in `earlier`
 abbrev pub GainedBy : Setting → List Text → List Step → List Gain → Type 0
 GainedBy setting earlier [] gains = gains ≡ []
 GainedBy setting earlier (step ∷ steps) gains = (now : List Gain) × ((more : List Gain)
     × (GainsAsked setting earlier step.request step.before step.answer step.after now
     × (GainedBy setting earlier steps more × (gains ≡ now ++ more))))
 
--- a draft replaced the state's file. Its text is the text of a state that was read from the earlier
--- version with number `own`, and that then gained these things
+-- a draft replaced the state's file. The draft holds the text of a state that was read from version
+-- number `own` of `earlier`, and that then gained `gains`
 pub record IsPlaced (setting : Setting) (earlier : List Text) (own : ℕ) (gains : List Gain)
     (before after : SessionView) : Type 0 where
   pub text : Text
@@ -218,8 +218,8 @@ pub record KnowsAt (setting : Setting) (known : Known) (state : State) : Type 0 
   pub has : last.desk.state ≡ state
 
 -- this text shows a train's schedule, or says that the train has no schedule that day. A schedule
--- that is shown came from a known file. If the known files have a plain table, the schedule is the
--- one that this table has for the train on that day
+-- that is shown came from a known file. If the known files have a plain table, the schedule is also
+-- the one chosen from this table for the train on that day
 pub record IsTrainOf (known : Known) (uid : List ℕ) (day : ℕ) (text : List ℕ) : Type 0 where
   pub found : Option Stamped
   pub text_is : text ≡ train_text uid day found

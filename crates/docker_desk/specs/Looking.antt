@@ -1,4 +1,4 @@
--- What is true of the look from which a session makes its next draft.
+-- What is true of the look on which a session's next draft is based.
 use Rattle.std.specs.Prelude.{◌≡◌, ℕ, ◌+◌, List, ◌∷◌, ◌++◌, length, ◌⊎◌}
 use Rattle.docker_host.specs.History.{Bytes, Event, Text, closed, looked, opened, placed}
 
@@ -22,7 +22,7 @@ pub record IsAfterPlacing (name : Text) (history : List Event) (look : ℕ) : Ty
   pub number : look ≡ length earlier + 1
 
 -- this look directly precedes an opening of the file, or directly follows the replacement of the
--- file by a draft. So if a draft from this look replaces a text, the desk has read or written that
--- text, unless the text arrived after the look
+-- file by a draft. So if a draft based on this look replaces a text, the desk has read or written
+-- that text, unless the text arrived after the look
 abbrev pub IsGoodLook : Text → List Event → ℕ → Type 0
 IsGoodLook name history look = IsBeforeOpening name history look ⊎ IsAfterPlacing name history look

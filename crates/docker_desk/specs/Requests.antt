@@ -168,7 +168,7 @@ abbrev pub AsksFor : Bool → List ℕ → Option RequestView → Type 0
 AsksFor may_write line (Some request) = IsRequestOf may_write line request
 AsksFor may_write line None = (request : RequestView) → ¬ IsRequestOf may_write line request
 
--- the rest of a line, after this verb, makes this request; None says that the rest makes no request
+-- this verb and this rest of a line make this request; None says that they make no request
 abbrev pub FitsRest : Verb → List ℕ → Option RequestView → Type 0
 FitsRest verb rest (Some request) = (verb_of request ≡ verb) × HasRest request rest
 FitsRest verb rest None = (request : RequestView) → verb_of request ≡ verb → ¬ HasRest request rest

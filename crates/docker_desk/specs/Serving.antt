@@ -49,7 +49,7 @@ EndsOpening desk_in (Err fault) read = IsWhyNot RefusesToReceive fault read
 
 -- this is the first point of a session. The state's file was looked at, opened, read no further
 -- than the result needs, and closed. The desk has the state that the file held. The next draft is
--- made from this look
+-- based on this look
 pub record BeginsAt (name : Text) (old : List Event) (first : SessionView) : Type 0 where
   pub held : Bytes
   pub left : Bytes
@@ -148,8 +148,8 @@ pub record IsServed (words : List Text) (names_bytes : Bool) (old new : HostView
   pub ends : EndsWithStatus ending (may_write && last.desk.unsaved) status (faults_of old)
       (faults_of new)
 
--- a run of the program with these words. Either they aren't the words of a session, or the start
--- was refused, or the lines of the input were answered
+-- the program was run with these words. Either they aren't the words of a session, or the start was
+-- refused, or the lines of the input were answered
 abbrev pub Serves : List Text → Bool → HostView → HostView → ℕ → Type 0
 Serves words names_bytes old new status =
     IsMisused words old new status

@@ -7,7 +7,7 @@ use cif_line::{Failed, Source};
 use std::alloc::Global;
 use std::marker::{Brand, Model, PhantomData};
 
-/// A ghost value for contracts: the bytes that a source held when its copying began. These bytes
+/// A ghost value for contracts: the bytes that a source held when the copying began. These bytes
 /// are part of the copying source's type, so no call can change them.
 pub(crate) trait Begun {
     ghost use Rattle.std.specs.Prelude.{List, Option, ℕ};

@@ -25,9 +25,9 @@ use state_lists::{KnownText, known_text, print_places};
 use std::alloc::Global;
 use std::marker::Model;
 
-/// A desk: an office, and whether the office's state may differ from the state that STATE's file
-/// was last seen to hold. The desk also keeps the text of its last answer to `known`, until the
-/// office's state may change.
+/// A desk: an office, and whether the office's state may differ from the state that STATE was last
+/// seen to hold. The desk also keeps the text of its last answer to `known`, until the office's
+/// state may change.
 #[derive(Debug, Drop)]
 pub struct Desk {
     alloc: Global,
@@ -61,9 +61,9 @@ impl Desk {
         }
     }
 
-    /// Whether the desk's state may differ from the state that STATE's file was last seen to hold.
-    /// If so, the desk has taken, received or renewed something, or set a horizon, since the file
-    /// was read or saved.
+    /// Whether the desk's state may differ from the state that STATE was last seen to hold.
+    /// If so, the desk has taken a file, received a state, been renewed, or set a horizon since
+    /// STATE was last read or saved.
     pub fn is_unsaved(&self) -> bool
         ensures { result ≡ self.now.unsaved }
     {
@@ -71,7 +71,7 @@ impl Desk {
     }
 
     /// Returns the text of the docker of a timing point on a day. The answer is a refusal if the
-    /// day is earlier than three days after the horizon, or if memory ran out.
+    /// day is before the third day after the horizon, or if memory ran out.
     pub fn print(&self, place: &Tiploc, day: Day) -> Answer
         ensures { IsDockerAnswer self.now.state place.now day (answer_meant result) }
     {
@@ -238,10 +238,11 @@ impl Desk {
         }
     }
 
-    /// Stores the text of the desk's state in the named file, by a draft from the look `seen`. On
-    /// success, looks at the file again, and `seen` becomes the result of the new look. If the call
-    /// fails, the desk and `seen` are unchanged. The fault is `Sink` if the draft can't be made or
-    /// written or can't replace the file, and `Memory` if there is no memory to make the draft.
+    /// Stores the text of the desk's state in the named file, by a draft based on the look `seen`.
+    /// On success, looks at the file again, and `seen` becomes the result of the new look. If the
+    /// call fails, the desk and `seen` are unchanged. The fault is `Sink` if the draft can't be
+    /// made or written or can't replace the file, and `Memory` if there is no memory to make the
+    /// draft.
     pub fn save<D: Folder>(
         &mut self,
         name: &str,
@@ -269,7 +270,7 @@ impl Desk {
     }
 }
 
-/// Returns the text of what an office knows: the kept text, or a new one if no text is kept.
+/// Returns the text of what an office knows: `kept`, or a new text if `kept` is `None`.
 fn text_of_known(kept: Option<KnownText>, office: &Office) -> KnownText
     requires { IfSome kept (λ text. IsKnownText office.now text.items) }
     ensures { IsKnownText office.now result.items }

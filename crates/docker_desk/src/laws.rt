@@ -34,9 +34,9 @@ ghost use Rattle.docker_desk.specs.declared.ending.Ending.TheVariants.{Ended};
 use docker_train::laws::{found_train_is_plain, train_came_from_a_file};
 use state_lists::laws::{one_known_text, one_places_text};
 
-/// Suppose that the file of a session's state held the text of the summary of some files under a
+/// Suppose that, when a session began, STATE held the text of the summary of some files and a
 /// horizon. Then the first state of the session is that summary. Each later state is the summary of
-/// these files and of all that was taken and received until then, under the greatest horizon.
+/// these files and of all that was taken and received until then, with the greatest horizon.
 pub fn known_files_fix_sessions()
     ensures begins { (name : List ℕ) (old : List Event) (first : SessionView) (start : Known)
         (sent : State) → (begins : BeginsAt name old first)
@@ -49,7 +49,7 @@ pub fn known_files_fix_sessions()
         → KnowsAt setting known state → IsKnown known state }
 {}
 
-/// Each point of a session has a look, from which the next draft is made. Either the look directly
+/// Each point of a session has a look, on which the next draft is based. Either the look directly
 /// precedes an opening of the state's file, whose text was then read. Or the look directly follows
 /// a replacement of the file with the desk's own text. So a text that arrived between the look and
 /// the reading is never overwritten unread. Either the desk has read that text, or the file was
@@ -80,8 +80,8 @@ pub fn known_texts_are_heard()
         → (new : Known) × AreLearned setting old steps new }
 {}
 
-/// Each text with which a desk replaces its state's file is the text of the summary of what the
-/// desk then knew.
+/// If a desk replaces its state's file, the new text is the text of a summary: the summary of what
+/// the desk then knew.
 pub fn saves_tell_what_is_known()
     ensures { (setting : Setting) (text : List ℕ) (before after : SessionView) (known : Known)
         → IsKnown known before.desk.state
@@ -89,10 +89,9 @@ pub fn saves_tell_what_is_known()
         → PlacesKnown setting before after known }
 {}
 
-/// What a desk saves is a version of its state's file. Its text is the text of a state that was
-/// read from an earlier version, and that then gained what the steps before the saving gained.
-/// `earlier` lists the texts of all earlier versions of any state's file. `own` is the number of
-/// the version that was read first.
+/// What a desk saves is a new version of its state's file: the text of a state that was read from
+/// version number `own` of `earlier`, and that then gained what the steps before `save` gained.
+/// `earlier` lists the texts of all earlier versions of any state's file.
 pub fn saves_are_versions()
     ensures { (setting : Setting) (first before after : SessionView) (steps : List Step)
         (old : List Event) (earlier : List (List ℕ)) (own : ℕ) (gains : List Gain)
@@ -112,16 +111,16 @@ pub fn each_point_is_a_last_one()
         × AreSteps setting first earlier between × AreSteps setting between later last }
 {}
 
-/// The state of an office at the end of a run is the summary of what the office knows. The same
-/// holds for the state of a desk.
+/// At the end of a run, the state of an office is the summary of what the office knows. So laws
+/// that require this of the state of a desk also apply to the state of an office.
 pub fn offices_know_as_desks()
     ensures { (known : Known) (state : State) → EndsWith known state → IsKnown known state }
 {}
 
-/// Two sessions that know the same files under the same horizon have equal states, and so equal
-/// texts. Two sessions that know the same files, even under different horizons, print the same
-/// docker for each timing point and each day that is refused under neither horizon. Both facts are
-/// also true of a session and an office of a run.
+/// Two sessions that know the same files and the same horizon have equal states, and so equal
+/// texts. Two sessions that know the same files, even with different horizons, print the same
+/// docker for each timing point and each day that neither horizon refuses. The same is true of a
+/// session and an office of a run.
 pub fn known_files_fix_states()
     ensures state { (first second : Known) (one two : State) → IsKnown first one
         → IsKnown second two → AreOneKnowledge first second → one ≡ two }
@@ -143,10 +142,10 @@ pub fn dockers_are_of_the_plain_table()
         → (plain : Table) × IsPlainTable known.files plain × PrintsAs state plain }
 {}
 
-/// Two sessions that know the same files, even under different horizons, have the same dockers
-/// without the short-term plan. This holds for each timing point and each day that is refused under
-/// neither horizon. The same is true of a session and an office of a run. If no two of the files
-/// have the same moment, these are the dockers of the plain table without its short-term entries.
+/// Two sessions that know the same files, even with different horizons, have the same dockers
+/// without the short-term plan, for each timing point and each day that neither horizon refuses.
+/// The same is true of a session and an office of a run. If no two of the files have the same
+/// moment, these dockers are the dockers of the plain table without its short-term entries.
 pub fn known_files_fix_permanent_answers()
     ensures docker { (first second : Known) (one two : State) → IsKnown first one
         → IsKnown second two → HaveSameFiles first.files second.files → (place : List ℕ) (day : ℕ)
@@ -159,7 +158,7 @@ pub fn known_files_fix_permanent_answers()
 {}
 
 /// Each schedule that `train` shows came from a known file. If no two known files have the same
-/// moment, `train` shows the schedule that the plain table of these files has for the UID on the
+/// moment, `train` shows the schedule chosen from the plain table of these files for the UID on the
 /// day.
 pub fn trains_came_from_known_files()
     ensures { (known : Known) (state : State) (uid : List ℕ) (day : ℕ) (text : List ℕ)
@@ -172,8 +171,9 @@ pub fn trains_came_from_known_files()
     found_train_is_plain();
 }
 
-/// Two sessions that know the same files under the same horizon have the same list of timing points
-/// and the same text of what is known. The same is true of a session and an office of a run.
+/// Two sessions that know the same files and the same horizon have the same list of timing points,
+/// and the same text as the answer to `known`. The same is true of a session and an office of a
+/// run.
 pub fn known_files_fix_lists()
     ensures places { (first second : Known) (one two : State) → IsKnown first one
         → IsKnown second two → AreOneKnowledge first second → (text other : List ℕ)
@@ -183,13 +183,13 @@ pub fn known_files_fix_lists()
         → IsKnownText one text → IsKnownText two other → text ≡ other }
 {
     // These calls are made only for their contracts. By these contracts, a state has only one list
-    // of timing points, and only one text of what is known.
+    // of timing points, and only one text that answers `known`.
     one_places_text();
     one_known_text();
 }
 
-/// If no two files that a session knows have the same moment, the session lists the same timing
-/// points as their plain table without its lapsed entries.
+/// If no two files that a session knows have the same moment, these files have a plain table. The
+/// session lists the timing points of this table without its lapsed entries.
 pub fn places_are_of_the_plain_table()
     ensures { (known : Known) (state : State) → IsKnown known state
         → HaveDistinctMoments known.files → (plain : Table) × IsPlainTable known.files plain

@@ -19,8 +19,8 @@ use std::mem;
 /// output for each line of the input, and returns the exit status. The sink of faults gains a line
 /// only if the session can't begin, a stream fails, or changes weren't saved.
 ///
-/// The laws in `laws` say what the answers are in terms of the known files, and from which look
-/// each draft is made.
+/// The laws in `laws` say what the answers are in terms of the known files, and on which look each
+/// draft is based.
 pub fn serve<S: Source, D: Folder, K: Sink, L: Sink>(
     alloc: Global,
     words: &[&str],

@@ -121,7 +121,7 @@ impl Verb {
         self.row().writes
     }
 
-    /// Whether the verb's requests are allowed, given whether the desk may write.
+    /// Whether the verb's requests are allowed to a desk that may write, or may not.
     fn is_allowed(self, may_write: bool) -> bool
         ensures { (result ≡ true) ↔ (is_writing self ≡ true → may_write ≡ true) }
     {

@@ -7,8 +7,8 @@ ghost use Rattle.docker_desk.specs.Desk.{EndsStoring};
 use docker_cmd::{Office, OfficeFault};
 use docker_host::{Folder, OpenFault};
 
-/// Makes a draft from a look at the named file, writes the text of the office's state to the draft,
-/// and replaces the file with the draft.
+/// Makes a draft based on a look at the named file, writes the text of the office's state to the
+/// draft, and replaces the file with the draft.
 pub(crate) fn store_office<D: Folder>(
     office: &Office,
     name: &str,

@@ -1,9 +1,9 @@
 //! What changes in a session: the desk and the look.
 use crate::desk::Desk;
 
-/// A session: the desk, and the result of the look from which the next draft is made. That look was
-/// made right before the opening at which the state was last read or renewed, or right after the
-/// last saving.
+/// A session: the desk, and the result of the look on which the next draft is based. That look was
+/// made right before the opening at which the state was last read or renewed, or right after `save`
+/// last replaced the file.
 #[derive(Drop)]
 pub struct Session<T> {
     /// The desk.

@@ -2,8 +2,8 @@ use Rattle.std.proofs.Common.{◌≡◌, ◌≤◌, ◌+◌, length}
 use Rattle.docker_desk.specs.Answers.{line_count}
 use Rattle.docker_desk.proofs.answers.line_feeds.Given as goal
 
--- the number of line feeds already counted, plus their number in the rest of the text, is their
--- number in the whole text
+-- the number of line feeds counted so far, plus the number of line feeds in the rest of the text,
+-- is the number of line feeds in the whole text
 abbrev pub invariant-loop-byte : goal.invariant-loop-byte
 invariant-loop-byte l = record {
   all : l.count + line_count l.rest ≡ line_count l.fn.text;
