@@ -25,7 +25,8 @@ DOCKER ASHFELD 2024-06-10
 END                                                     
 ";
 
-/// The docker of Ashfeld on 10 June that a desk prints if it knows the revision.
+/// The docker of Ashfeld on 10 June that a desk prints if it knows the revision of the morning
+/// train.
 pub(crate) const ANSWER_0905: &str = "\
 0 3 171
 DOCKER ASHFELD 2024-06-10                               
@@ -40,7 +41,7 @@ DOCKER ASHFELD 2024-06-18
 END                                                     
 ";
 
-/// The answer to a request for a day that is refused under the horizon.
+/// The answer to a request for a day that the horizon refuses.
 pub(crate) const DAY_REFUSED: &str = "\
 1 1 52
 docker: day refused: before horizon plus three days
@@ -64,7 +65,7 @@ pub(crate) const DEVICE_UNSAVED: &str = "docker: device failed\ndesk: changes no
 /// A desk's answer to `files` if it knows the morning train.
 pub(crate) const FILES: &str = "0 1 34\n2024-06-09 2100 DFROC1A U DFROC1Z\n";
 
-/// A desk's answer to `files` if it knows both the morning train and the revision.
+/// A desk's answer to `files` if it knows both the morning train and its revision.
 pub(crate) const BOTH_FILES: &str = "\
 0 2 68
 2024-06-09 2100 DFROC1A U DFROC1Z

@@ -13,7 +13,7 @@ pub(crate) const MORNING: Parts = &[HD, BS, LO, LT, ZZ];
 /// A file of 10 June that revises the morning train to leave five minutes later.
 pub(crate) const REVISION: Parts = &[HD_10B, BS_REVISED, LO_0905, LT, ZZ];
 
-/// The file of the revision, without its trailer.
+/// The file `REVISION`, without its trailer.
 pub(crate) const OPEN: Parts = &[HD_10B, BS_REVISED, LO_0905, LT];
 
 /// The mark of a state's text, and no horizon.
@@ -31,15 +31,16 @@ const TWO: &[u8] = b"\0\0\0\0\0\0\0\x02";
 
 const FOUR: &[u8] = b"\0\0\0\0\0\0\0\x04";
 
-/// The ledger items of the morning train's file and of the revision.
+/// The ledger items of the files `MORNING` and `REVISION`.
 const ITEM: &[u8] = b"\x5b\xf0\x04\xecDFROC1AUDFROC1Z";
 
 const ITEM_LATER: &[u8] = b"\x5b\xf1\x04\xecDFROC1BUDFROC1A";
 
-/// The entries of C10001 in the morning train's file and in the revision, without their ops.
+/// The entry of C10001 in the file `MORNING`, without its op.
 const ENTRY: &[u8] = b"\x03C10001\x5b\xf1P\x5b\xf0\x04\xecDFROC1A\0\0\0\x02";
 
-/// The entry of the overlay of C10001 in the morning train's file, without its op.
+/// Two more entries of C10001, without their ops: the entry of its overlay at record 5 of the
+/// update of 9 June, and the entry of its revision in the update of 10 June.
 const ENTRY_OVERLAY: &[u8] = b"\x03C10001\x5b\xf1O\x5b\xf0\x04\xecDFROC1A\0\0\0\x05";
 
 const ENTRY_LATER: &[u8] = b"\x03C10001\x5b\xf1P\x5b\xf1\x04\xecDFROC1B\0\0\0\x02";
@@ -101,7 +102,7 @@ pub(crate) const BOTH_STATE: Parts = &[
     LT,
 ];
 
-/// The state that knows the morning train, under a horizon after its last day: 67 bytes.
+/// The state that knows the morning train, and a horizon after the train's last day: 67 bytes.
 pub(crate) const LAPSED_STATE: Parts = &[MARK_15, ONE, ITEM, ONE, ENTRY, LAPSED];
 
 /// The ledger item of a full extract of 9 June 2024, 21:00.
@@ -123,7 +124,8 @@ const WITHOUT_CODES: &[u8] = b"\x01         CORHAM EXCHANGE                     
 
 const DELETED: &[u8] = b"\0";
 
-/// The state that knows these timing points and the morning train. Brayton is deleted.
+/// The state that knows the timing points Ashfeld, Brayton and Corham, and the morning train.
+/// Brayton is deleted.
 pub(crate) const PLACES_STATE: Parts = &[
     MARK,
     ONE,

@@ -14,7 +14,8 @@ use docker_office::{StateCause, StateFault};
 use std::alloc::Global;
 use std::process::Abort;
 
-/// Returns a desk that has read the morning train and taken its revision, and hasn't saved.
+/// Returns a desk that has read the state of the morning train and taken the revision, but hasn't
+/// saved.
 fn desk_with_revision(rt: &impl Abort, alloc: Global) -> Desk {
     let mut desk = desk_of(rt, alloc, MORNING_STATE);
     let file = file_text(rt, alloc, REVISION);
@@ -149,8 +150,8 @@ fn a_file_that_is_no_state_any_more(rt: HostRuntime) {
     ends(&rt, alloc, desk, false, MORNING_STATE);
 }
 
-/// Asserts that a save leaves the file and the desk unchanged if the folder fails at this call, and
-/// that the next save succeeds.
+/// Asserts that `save` leaves the file and the desk unchanged if the folder fails at this call, and
+/// that the next `save` succeeds.
 fn fails_once(rt: &impl Abort, alloc: Global, fails: Fails) {
     let mut folder = shelf_of(rt, alloc, MORNING_STATE);
     let mut seen = folder.look("S");

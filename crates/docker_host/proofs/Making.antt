@@ -10,15 +10,15 @@ use denote.RattleType.{Valss}
 use denote.Steps.{nothing}
 use denote.Struct.Struct.{Shape, Struct, within}
 
--- the declaration of a struct without other fields
+-- the declaration of a struct that has only ghost fields
 abbrev pub no_fields : Shape
 no_fields = record { name = []; args = []; types = []; fields = [] }
 
--- the value of a struct without other fields
+-- the value of a struct that has only ghost fields
 abbrev pub empty_struct : Val
 empty_struct = vstruct vnil
 
--- a struct without other fields can be made from nothing, since its ghost fields own nothing
+-- a struct that has only ghost fields can be made from nothing, since ghost fields own nothing
 pub made_of_nothing : {M : Type 1} {𝓤 : Ura M} {𝓛 : Logic 𝓤} {K : Type 0} {Γ : List (Item 𝓤)} {G : Goal 𝓤 𝓛.H} → K
     → Step K 𝓛 (‵ (fsep ((Struct no_fields).own_val tt (empty_struct ∷ [])) ftrue) ∷ Γ) G Γ G
 made_of_nothing k = step (λ rest.

@@ -20,10 +20,10 @@ pub data Event : Type 0 where
   unopened : (name : Text) → Event
   -- an opened file was closed when these bytes were still to be read
   closed : (left : Bytes) → Event
-  -- a draft for the named file was made from the look that is the event with this number, counted
-  -- from 0
+  -- a draft for the named file was made. It is based on the look that is the event with this
+  -- number, counted from 0
   drafted : (name : Text) (look : ℕ) → Event
-  -- no draft for the named file could be made from the look that is the event with this number
+  -- no draft for the named file could be made, based on the look that is the event with this number
   undrafted : (name : Text) (look : ℕ) → Event
   -- a draft replaced the named file. From then on the file holds these bytes
   placed : (name : Text) (bytes : Bytes) → Event

@@ -4,8 +4,8 @@ use Rattle.docker_host.specs.History.{Text, Event}
 use Rattle.docker_host.specs.Shelf.{Texts, no_texts, with_text, after_events, AreMet}
 use Rattle.docker_host.specs.declared.shelf.Place.{Place}
 
--- the text of each name on a shelf with these places. If several places have the same name, the
--- text of the first place counts
+-- the text of each name on a shelf with these files. If several files have the same name, the text
+-- of the first of them counts
 abbrev pub texts_of : List Place → Texts
 texts_of [] = no_texts
 texts_of (place ∷ places) = with_text (string_bytes place.name) place.text.items (texts_of places)

@@ -96,14 +96,14 @@ pub trait Folder {
     // bytes of real files.
     ghost names_bytes: { Bool };
 
-    /// Looks at the named file. A draft for the file can be made from the result.
+    /// Looks at the named file. A draft for the file can be based on the result.
     fn look(&mut self, name: &str) -> Self::Seen
         ensures asked { history self.new ≡ history self.old ++ looked name.now ∷ [] }
         ensures look { look_of result ≡ length (history self.old) }
         ensures no_failure { failures self.new ≡ failures self.old };
 
     /// Opens the named file for reading from its first byte. The bytes left in the opened file are
-    /// the bytes that the file holds at this point in the history.
+    /// the bytes that the file holds when it is opened.
     fn open(&mut self, name: &str) -> Result<Self::File, OpenFault>
         requires { failures self.old < 2 ^ 64 - 1 }
         ensures asked { IfOk result (λ file.
@@ -123,8 +123,8 @@ pub trait Folder {
         ensures asked { history self.new ≡ history self.old ++ closed (Self.File.left file) ∷ [] }
         ensures counted { failures self.new ≡ failures self.old + Self.File.failures file };
 
-    /// Makes an empty draft for the named file, from the result of a look. Fails if the file under
-    /// the name is no longer the file that the look saw.
+    /// Makes an empty draft for the named file, based on the result of a look. Fails if the file
+    /// under the name is no longer the file that the look saw.
     fn create<'a>(
         &mut self,
         name: &'a str,

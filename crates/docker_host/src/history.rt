@@ -41,9 +41,9 @@ pub enum Note<'a> {
     Closed(&'a [u8]),
     /// An opened file was closed. Contracts don't know its bytes.
     ClosedUnnamed,
-    /// A draft for a named file was made from the look at this position of the history.
+    /// A draft for a named file was made. It is based on the look at this position of the history.
     Drafted(&'a str, &'a Position),
-    /// No draft for a named file could be made from the look at this position of the history.
+    /// No draft for a named file could be made, based on the look at this position of the history.
     Undrafted(&'a str, &'a Position),
     /// A draft replaced a named file. From then on the file holds these bytes.
     Placed(&'a str, &'a [u8]),
@@ -74,7 +74,7 @@ impl History {
         History {}
     }
 
-    /// Returns the position before the next event.
+    /// Returns the position that the next event will have: the number of events until now.
     pub fn position(&self) -> Position
         ensures { result.at ≡ length self.now.events }
     {

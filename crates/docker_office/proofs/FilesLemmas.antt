@@ -46,7 +46,7 @@ minute_at items i item all below at =
     let good : IsGoodItem (item_meant item) = subst IsGoodItem same (all i (item_meant item) (omega arith)) in
     good.minute
 
--- these lemmas assume that the lines of the items before item `i` have been written
+-- the lemmas of this module assume that the lines of the items before item `i` have been written
 module _ (items : List LedgerItem) (i : ℕ) (item : LedgerItem) (line : List ℕ) (first now next : Option (List ℕ)) (below : i < length items)
     (at : item ≡ get_or items i item) (line_is : line ≡ ended (file_text (item_meant item))) (so_far : Takes first (text_of (take i items)) now) where
   following : suc i ≡ i + 1
@@ -95,7 +95,7 @@ all_taken items i first now end so_far = subst (λ xs. Takes first (text_of xs) 
     all =
         sym (append-nil (take i items)) ∙ ap (λ rest. take i items ++ rest) (sym (drop_of_length-le items end)) ∙ take-append-drop i items
 
--- whatever is true is also true if the result is an error
+-- what is true in any case is also true if the result is an error
 pub on_err : {A E : Type 0} (answer : Result A E) (P : Type 0) → P → OnErr answer P
 on_err (Ok a) P holds = tt
 on_err (Err e) P holds = holds

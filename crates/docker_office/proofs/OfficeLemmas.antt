@@ -104,7 +104,7 @@ taken_whole {A} limit IsMade left left_now failures failures_now read (Err fault
 -- ---- states
 
 -- if a file was read, the join of the office's state with the file's state is the office's state
--- after a take
+-- after the office took the file
 pub takes_file : (limit : ℕ) (left : Option (List ℕ)) (read : FileRead) (old own new : State) → ReadsText limit left read
     → ((file : List (List ℕ)) → IsOfRecords read file → IsSummary (file ∷ []) 0 own) → IsJoin old own new → TakesFile limit left old new
 takes_file limit left read old own new reads summary join = record {
@@ -135,8 +135,8 @@ takes_whole limit left read state reads few told =
       joined = join_of_nothing state (subst IsValid (sym same) (summary_valid lines reads.of_text.is_text.is (omega arith)));
     }
 
--- after a take, the office's state is the summary of the files known before and of the file that
--- was taken
+-- after an office took a file, its state is the summary of the files known before and of the file
+-- that was taken
 pub knows_file_too : (limit : ℕ) (left : Option (List ℕ)) (old new : State) (files : List (List (List ℕ))) (horizon : ℕ) → TakesFile limit left old new
     → IsSummary files horizon old → KnowsFileToo limit left files horizon new
 knows_file_too limit left old new files horizon takes is = record {

@@ -37,8 +37,8 @@ pub record TakesFile (limit : ℕ) (left : Option (List ℕ)) (old new : State) 
 abbrev pub WantsForFile : ℕ → Option (List ℕ) → Option (List ℕ) → Type 0
 WantsForFile limit old new = WantsMemory most_at_once limit old new ⊎ HoldsFile limit old
 
--- says that `new` is the summary, under this horizon, of these files and of the file whose text the
--- source held
+-- says that `new` is the summary of these files, of the file whose text the source held, and of
+-- this horizon
 pub record KnowsFileToo (limit : ℕ) (left : Option (List ℕ)) (files : List (List (List ℕ))) (horizon : ℕ) (new : State) : Type 0 where
   pub text : List ℕ
   pub held : Held left text
@@ -55,7 +55,7 @@ pub record HoldsState (format : Format) (limit : ℕ) (left : Option (List ℕ))
 
 -- says that joining preserves summaries. Suppose that `old` is the summary of a set of files, and
 -- that the source held the text of the summary of another set. Then `new` is the summary of both
--- sets under the greater horizon
+-- sets with the greater horizon
 abbrev pub JoinsSummaries : ℕ → Option (List ℕ) → State → State → Type 0
 JoinsSummaries limit left old new =
     (files others : List (List (List ℕ))) (g h : ℕ) (sent : State) → IsSummary files g old → IsSummary others h sent → HoldsState dks_2 limit left sent

@@ -1,4 +1,4 @@
--- How an office's reading of a state or a file ends.
+-- How reading a state or a file ends for an office.
 use Rattle.std.specs.Prelude.{◌≡◌, ℕ, ◌+◌, Option, Some, None, Result, Ok, Err, ⊤}
 use Rattle.cif_file.specs.SourceRead.{ReadsNoFurther, RefusesText}
 use Rattle.cif_device.specs.Device.{IsEnd}
@@ -24,7 +24,7 @@ why_unread (File fault) = None
 why_unread Lapsed = None
 why_unread Sink = None
 
--- says how an office's reading of a state's text has ended
+-- says how reading a state's text has ended for an office
 abbrev pub EndsReadingState : {S A : Type 0} → (S → BytesLeft) → (S → ℕ) → Format → ℕ → (A → Type 0) → S → S → Result A OfficeFault → Type 0
 EndsReadingState left failures format limit IsMade source source_now result =
     EndsReadingBy WantsMemory why_unread left failures format limit IsMade source source_now result
@@ -61,7 +61,7 @@ pub record StopsTaking (limit : ℕ) (left left_now : BytesLeft) (Outcome Counte
   pub outcome : Outcome
   pub failures : Counted
 
--- says how the taking of a file with at most `limit` records has ended
+-- says how taking a file with at most `limit` records has ended for an office
 abbrev pub EndsTakingFile : {S A : Type 0} → (S → BytesLeft) → (S → ℕ) → ℕ → (A → Type 0) → S → S → Result A OfficeFault → Type 0
 EndsTakingFile left failures limit IsMade source source_now result =
     StopsTaking limit (left source) (left source_now) (IsTakingOutcome limit IsMade (left source) (left source_now) result)

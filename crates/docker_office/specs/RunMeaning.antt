@@ -67,7 +67,7 @@ IsRunReply (Refused NoOffice) = ⊤
 IsRunReply (Refused NoMessage) = ⊤
 IsRunReply (Refused (Office why)) = IsRunRefusal why
 
--- converts the result of an office's call to the reply to the event
+-- the reply that an event gets if the call to its office has this result
 abbrev pub reply_for : Result Unit OfficeFault → Reply
 reply_for (Ok unit) = Done
 reply_for (Err why) = Refused (Office why)

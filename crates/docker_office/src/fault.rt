@@ -15,7 +15,7 @@ pub enum OfficeFault {
     /// out of memory.
     #[error("state refused: {0}")]
     State(StateFault),
-    /// The state has a horizon, and the day is earlier than three days after the horizon.
+    /// The state has a horizon, and the day is before the third day after the horizon.
     #[error("day refused: before horizon plus three days")]
     Lapsed,
     /// The source failed.

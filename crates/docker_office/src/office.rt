@@ -22,7 +22,7 @@ use std::alloc::Global;
 use std::marker::Model;
 use std::mem;
 
-/// An office: the state of the files that it knows, under its horizon. `noted` says whether the
+/// An office, with the state of the files and the horizon that it knows. `noted` says whether the
 /// states that the office reads get an index.
 #[derive(Debug, Drop)]
 pub struct Office {
@@ -192,8 +192,8 @@ impl Office {
 
     /// Prints the docker of a timing point and a day. The docker is made before its first byte is
     /// written, so nothing is written on `Lapsed` or `Memory`. Returns `Lapsed` if the state has a
-    /// horizon and the day is earlier than three days after the horizon. On `Sink` the sink has
-    /// gained a proper prefix of the text.
+    /// horizon and the day is before the third day after the horizon. On `Sink` the sink has gained
+    /// a proper prefix of the text.
     pub fn print<K: Sink>(&self, place: &Tiploc, day: Day, sink: &mut K) -> Result<(), OfficeFault>
         requires { K.failures sink.old < 2 ^ 64 - 1 }
         ensures ok { IsOk result

@@ -89,9 +89,8 @@ impl PlaceOffice {
 
     /// Prints the docker of the office's timing point and day, which is the same as the docker of
     /// the whole state. The docker is made before its first byte is written, so nothing is written
-    /// on `Lapsed` or `Memory`. Returns `Lapsed` if the state has a horizon and the day is earlier
-    /// than three days after the horizon. On `Sink` the sink has gained a proper prefix of the
-    /// text.
+    /// on `Lapsed` or `Memory`. Returns `Lapsed` if the state has a horizon and the day is before
+    /// the third day after the horizon. On `Sink` the sink has gained a proper prefix of the text.
     pub fn print<K: Sink>(&self, sink: &mut K) -> Result<(), OfficeFault>
         requires { K.failures sink.old < 2 ^ 64 - 1 }
         ensures ok { IsOk result → PrintsDocker self.now.state self.now.place self.now.day

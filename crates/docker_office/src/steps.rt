@@ -233,7 +233,7 @@ fn text_at(messages: &[Kept], message: usize) -> &[u8]
     messages[message].bytes()
 }
 
-/// Converts the result of an office's call to the reply to the event.
+/// Returns the reply that an event gets if the call to its office has this result.
 fn reply_to(answer: Result<(), OfficeFault>) -> Reply
     ensures { result ≡ reply_for answer }
 {

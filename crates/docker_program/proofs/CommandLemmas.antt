@@ -32,7 +32,7 @@ use Rattle.docker_program.specs.Program.{AsksFor}
 use Rattle.docker_program.specs.Sources.{SourcesRead}
 use Rattle.docker_program.specs.Commands.{HoldsKnown, IsKnownText, Knows, MayStore, Prints, PrintsKnown, Run, Stores, WritesKnown, of_file, of_horizon}
 
--- the state is the summary of the known files under the known horizon
+-- the state is the summary of the known files and the known horizon
 pub record IsKnown (known : Known) (state : State) : Type 0 where
   pub good : IsGoodKnown dks_2 known
   pub is : IsStateOf known state
@@ -108,7 +108,7 @@ known_file file state is few summary = record {
   is = summary;
 }
 
--- the state of no files is the summary of `nothing`: no files and no horizon
+-- `no_state` is the summary of `nothing`: no files and no horizon
 pub known_nothing : IsKnown nothing no_state
 known_nothing = record {
   good = nothing_good dks_2;

@@ -43,7 +43,7 @@ abbrev behind : List Text → List Text
 behind [] = []
 behind (word ∷ words) = words
 
--- if the first word is `check`, the task is a check
+-- if the first word is `check`, the task is `check_task`
 check_named : (task : TaskView) (words more : List Text) → codes "check" ∷ more ≡ name_of (subcommand_of task) ∷ words → task ≡ check_task
 check_named check_task words more same = refl
 check_named new_task words more same = let other : ◌≡◌ {A = ℕ} 99 110 = ap first_of same in let never : ⊥ = omega arith in absurd never
@@ -55,7 +55,7 @@ check_named files_task words more same = let other : ◌≡◌ {A = ℕ} 99 102 
 check_named (horizon_task day) words more same = let other : ◌≡◌ {A = ℕ} 99 104 = ap first_of same in let never : ⊥ = omega arith in absurd never
 check_named migrate_task words more same = let other : ◌≡◌ {A = ℕ} 99 109 = ap first_of same in let never : ⊥ = omega arith in absurd never
 
--- if the first word is `take`, the task is a take
+-- if the first word is `take`, the task is `take_task`
 take_named : (task : TaskView) (words more : List Text) → codes "take" ∷ more ≡ name_of (subcommand_of task) ∷ words → task ≡ take_task
 take_named take_task words more same = refl
 take_named new_task words more same = let other : ◌≡◌ {A = ℕ} 116 110 = ap first_of same in let never : ⊥ = omega arith in absurd never
@@ -118,7 +118,7 @@ check_printed extract old new put empty met performs = by (run_done run performs
 some_one : (one two : List ℕ) → ◌≡◌ {A = Bytes} (Some one) (Some two) → one ≡ two
 some_one one two same = cc
 
--- the same as `check_printed`, if the words, the status and the host after the run are given by
+-- the same as `check_printed`, if the words, the status and the host after the command are given by
 -- equations
 pub check_result : (extract text : List ℕ) (words : List Text) (old shown new : HostView) (status : ℕ)
     → words ≡ codes "check" ∷ file_name ∷ [] → status ≡ 0 → shown ≡ new
@@ -213,7 +213,7 @@ take_left state extract old new put met performs = by (run_done run performs)
         let none = subst (λ (j : JobView). stored_by j ≡ None) (take_job state_name file_name job prints.reads.asks.0) prints.unstored in
         absurd (none_some state_name (sym none))
 
--- the same as `take_left`, if the words, the status and the host after the run are given by
+-- the same as `take_left`, if the words, the status and the host after the command are given by
 -- equations
 pub take_result : (state extract : List ℕ) (words : List Text) (old shown new : HostView) (status : ℕ)
     → words ≡ codes "take" ∷ state_name ∷ file_name ∷ [] → status ≡ 0 → shown ≡ new

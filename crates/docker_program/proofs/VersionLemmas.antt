@@ -35,7 +35,7 @@ texts_of versions = map (λ (version : Version). version.text) versions
 abbrev AreKnown : List Known → List (List ℕ) → Type 0
 AreKnown knowns texts = AllZip (IsKnownText dks_2) knowns texts
 
--- if a source held an earlier version, it held the text of the summary of what that version knows
+-- if a source held a version in `texts`, it held the text of the summary of what this version knows
 version_held : (knowns : List Known) (texts : List (List ℕ)) (bytes : Bytes) (number : ℕ) → AreKnown knowns texts → HoldsVersion texts bytes number
     → HoldsKnown dks_2 bytes (known_at knowns number)
 version_held knowns texts bytes number are holds =

@@ -1,5 +1,5 @@
 -- What commands know: files and a horizon. Each state, docker or list of files that a command
--- stores or prints is made from the summary of the known files under the known horizon. The same
+-- stores or prints is made from the summary of the known files and the known horizon. The same
 -- holds for each state that a desk saves.
 use Rattle.std.specs.Prelude.{◌≡◌, ◌⊎◌, ◌<◌, ℕ, Bool, List, [], ◌∷◌, ◌++◌, length, map, slice_index_or, Some, None, ⊤}
 use Rattle.docker_model.specs.state.Lapse.{IsDayRefused}
@@ -31,7 +31,7 @@ abbrev pub history_read : List Event → JobView → SourcesRead → List Event
 history_read before job read =
     with_files_read (names_of job) read (with_look_at (stored_by job) before)
 
--- a run of a command: its words, and its devices before and after. `names_bytes` says whether
+-- a command that was run: its words, and its devices before and after. `names_bytes` says whether
 -- contracts know which bytes the folder's drafts have taken
 pub record Run : Type 0 where
   pub words : List Text
@@ -122,18 +122,18 @@ of_file file = record { files = file ∷ []; horizon = 0 }
 abbrev pub of_horizon : ℕ → Known
 of_horizon day = record { files = []; horizon = day }
 
--- this is the text of the summary of the known files under the known horizon
+-- this is the text of the summary of the known files and the known horizon
 pub record IsKnownText (format : Format) (known : Known) (text : List ℕ) : Type 0 where
   pub good : IsGoodKnown format known
   pub is : IsMessageOf format known text
 
--- a source held the text of the summary of the known files under the known horizon
+-- a source held the text of the summary of the known files and the known horizon
 abbrev pub HoldsKnown : Format → Bytes → Known → Type 0
 HoldsKnown format bytes known =
     (text : List ℕ) × (bytes ≡ Some text) × IsKnownText format known text
 
 -- a command has this knowledge, given what its sources held. It knows the files and the horizons of
--- the states that it read, the file that it took or printed, and the horizon that it set
+-- the states that it read, the file that it took or made a docker from, and the horizon that it set
 abbrev pub Knows : TaskView → Bytes → Bytes → Known → Type 0
 Knows new_task first second known = known ≡ nothing
 Knows check_task first second known = ⊥
@@ -150,7 +150,7 @@ Knows (horizon_task day) first second known =
 Knows migrate_task first second known = HoldsKnown dks_1 first known
 
 -- this text is the docker at this timing point for this day, made from the summary of what is
--- known. The day isn't refused under the known horizon
+-- known. The known horizon doesn't refuse the day
 pub record PrintsKnown (known : Known) (place : List ℕ) (day : ℕ) (text : List ℕ) : Type 0 where
   pub good : IsGoodKnown dks_2 known
   pub allowed : ¬ IsDayRefused known.horizon day
@@ -223,7 +223,7 @@ AreMade earlier [] = ⊤
 AreMade earlier (version ∷ versions) = IsMade earlier version.origin version.text
     × AreMade (earlier ++ version.text ∷ []) versions
 
--- what the earlier version with this number knows
+-- what the version with this number knows, given what each version in `earlier` knows
 abbrev pub known_at : List Known → ℕ → Known
 known_at earlier number = slice_index_or earlier number nothing
 

@@ -56,7 +56,7 @@ pub record IsNotAsked (words : List Text) (old new : HostView) (Why : Type 0) : 
 
 -- the changes to the folder and to standard input while a job's sources were opened, read and
 -- closed. `now` is the folder's history after the closing. If the job writes a file, the history
--- before includes the look at this file
+-- before the opening includes the look at this file
 abbrev pub reading : HostView → HostView → JobView → Bytes → List Event → Asking
 reading old new job rest now =
     asking (with_look_at (stored_by job) old.history) now rest new.input
@@ -67,12 +67,12 @@ abbrev pub EndsReading : HostView → HostView → (Asking → JobView → Type 
     → JobView → Bytes → Type 0
 EndsReading old new Holds job rest = Holds (reading old new job rest new.history) job
 
--- how a job replaces its file: the draft is made from the first look of this run
+-- how a job replaces its file: the draft is based on the look with which the program began
 abbrev pub from_first_look : Bool → HostView → Drafting
 from_first_look names_bytes old = drafting (length old.history) names_bytes
 
--- the changes to the output device during the run, and the changes to the folder since the history
--- `before`
+-- the changes to the output device since the program was started, and the changes to the folder
+-- since the history `before`
 abbrev pub writing : HostView → HostView → List Event → Written
 writing old new before = written old.output new.output before new.history
 
@@ -146,9 +146,9 @@ Tells (Some fault) old new = TellsText (fault_line fault) old new
 abbrev pub failures_of : HostView → ℕ
 failures_of host = host.input_failures + host.folder_failures + host.output_failures
 
--- a run of the program with these words ends with this status. The fields give the fault that ended
--- the run, if any, the requests to the folder, and what was written. `names_bytes` says whether
--- contracts know which bytes the folder's drafts have taken
+-- the program was started with these words, and ended with this status. The fields give the fault
+-- that ended the program, if any, the requests to the folder, and what was written. `names_bytes`
+-- says whether contracts know which bytes the folder's drafts have taken
 pub record Performs (words : List Text) (names_bytes : Bool) (old new : HostView)
     (status : ℕ) : Type 0 where
   pub ending : Option Fault

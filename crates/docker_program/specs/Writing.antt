@@ -1,5 +1,5 @@
--- How a job writes its output: to the output device, or to a file by a draft. A draft is a new
--- file. Once the draft holds the whole output, it replaces the old file.
+-- How a job writes its output: to the output device, or to a file. For a file, the job makes a
+-- draft, which is a new file. Once the draft holds the whole output, it replaces the old file.
 use Rattle.std.specs.Prelude.{◌≡◌, ◌⊎◌, ℕ, Bool, List, Option, Some, None, Result, Ok, Err, ⊤}
 use Rattle.docker_host.specs.Asked.{IsDropped, IsStored, IsUndrafted, IsUnplaced}
 use Rattle.docker_host.specs.History.{Bytes, Event}
@@ -22,7 +22,7 @@ abbrev pub written : (output output_now : Bytes) (before now : List Event) → W
 written output output_now before now =
     record { output = output; output_now = output_now; before = before; now = now }
 
--- how a file is replaced. `look` is the number of the look from which the draft is made, counted
+-- how a file is replaced. `look` is the number of the look on which the draft is based, counted
 -- from 0 among the events. `names_bytes` says whether contracts know which bytes the folder's
 -- drafts have taken
 pub record Drafting : Type 0 where

@@ -22,9 +22,9 @@ pub fn commands_store_or_print()
     ensures undone { (run : Run) (status : ℕ) → IsRun run status → status ≢ 0 → IsUndone run }
 {}
 
-/// Suppose that STATE held the text of the summary of some files under a horizon. Suppose also that
-/// the command took a file, or merged the text of such a summary. If the command stores a text,
-/// this is the text of the summary of all these files, under the greatest horizon. If the command
+/// Suppose that STATE held the text of the summary of some files and a horizon. Suppose also that
+/// the command took a file, or merged the text of another summary. If the command stores a text,
+/// this is the text of the summary of all these files, with the greatest horizon. If the command
 /// prints, it prints the docker of that summary, or the list of its files.
 pub fn commands_keep_summaries()
     ensures stored { (run : Run) (job : JobView) (read : SourcesRead) (text : List ℕ)
@@ -40,7 +40,7 @@ pub fn commands_keep_summaries()
 
 /// Each version of a STATE file is the text of the summary of what the version knows. The list of
 /// versions determines what each version knows: the list records how each version was made, and
-/// from which earlier versions of any office. So versions that know the same files under the same
+/// from which earlier versions of any office. So versions that know the same files and the same
 /// horizon are equal, byte for byte. Each docker printed from a version is the docker of the
 /// summary of what that version knows.
 pub fn versions_are_summaries()
@@ -57,9 +57,9 @@ pub fn versions_are_summaries()
         → read.first ≡ Some version → PrintsKnown known place day text }
 {}
 
-/// Two texts of the summary of the same files under the same horizon are equal, byte for byte. Two
-/// offices that know the same files print equal dockers, for each timing point and each day that is
-/// refused under neither horizon.
+/// If two texts are the texts of summaries of the same files and the same horizon, they are equal,
+/// byte for byte. Two offices that know the same files print equal dockers, for each timing point
+/// and each day that neither office's horizon refuses.
 pub fn known_files_fix_texts()
     ensures text { (one two : Known) (text other : List ℕ) → IsKnownText dks_2 one text
         → IsKnownText dks_2 two other → AreOneKnowledge one two → text ≡ other }

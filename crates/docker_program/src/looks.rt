@@ -12,7 +12,7 @@ use docker_host::Folder;
 pub(crate) struct Looked<'a, T> {
     /// The file's name.
     pub(crate) name: &'a str,
-    /// The result of the look, from which a draft of the file can be made.
+    /// The result of the look, on which a draft for the file can be based.
     pub(crate) seen: T,
 }
 

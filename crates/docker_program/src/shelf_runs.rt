@@ -74,7 +74,7 @@ pub fn take_on_a_shelf(alloc: Global, state: &[u8], extract: &[u8], room: usize)
 mod tests {
     use super::{check_on_a_shelf, take_on_a_shelf};
 
-    /// An update with one train from Ashfeld to Brayton.
+    /// An update extract with one train from Ashfeld to Brayton.
     const EXTRACT: &str = "\
 HDTPS.UDFROC1.PD2406090906242100DFROC1ADFROC1ZUA                                \n\
 BSNC100012406102406141111100 POO1A10                                           P\n\

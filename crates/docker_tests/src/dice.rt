@@ -1,4 +1,4 @@
-//! Pseudo-random numbers, which are the same in each run of the tests.
+//! Pseudo-random numbers, which are the same each time the tests run.
 ghost use Rattle.std.specs.Prelude.{◌<◌};
 
 /// A linear congruential generator. It returns the upper bits of its numbers.

@@ -10,7 +10,7 @@ use test_records::printed::{ASHFELD_0900, ASHFELD_0905, NONE_AT_ASHFELD, NONE_ON
 /// in this order.
 type Row = (&'static [File], &'static str, &'static str, &'static str);
 
-/// The docker of Ashfeld if the morning train leaves ten minutes earlier.
+/// The docker of Ashfeld if the morning train leaves ten minutes earlier than usual.
 const ASHFELD_0850: &str = "\
 DOCKER ASHFELD 2024-06-10                               
 0850  D 1A10 C10001 P   1   SL      0850 ASHFELD BRAYTON

@@ -42,7 +42,7 @@ pub(crate) const FIFTH: File = &[HD_5A, BS_C10003, BS, LO, LT, ZZ];
 /// A full extract of 7 June with C10002 as its only train.
 pub(crate) const SEVENTH: File = &[HD_7B, BS_C10002, LO_1000, LT_1030, ZZ];
 
-/// An update of 9 June, in which C10001 runs two hours later.
+/// An update of 9 June, in which C10001 runs two hours later than in `MORNING`.
 pub(crate) const NINTH: File = &[HD_9C, BS, LO_1100, LT_1130, ZZ];
 
 /// The update of 9 June, without its trailer.
@@ -57,7 +57,7 @@ pub(crate) const EIGHTH: File = &[HD_8A, BS, LO, LT, ZZ];
 /// A new timing point.
 pub(crate) const PLACE: File = &[HD, TI, ZZ];
 
-/// A file of 10 June that gives this timing point a new code.
+/// A file of 10 June that gives the timing point of `PLACE` a new code.
 pub(crate) const RENAMED: File = &[HD_10B, TA, ZZ];
 
 /// A file with a train, its overlay on two days, its cancellation on a third day, and then these
@@ -128,10 +128,11 @@ pub(crate) const IDENTITY: File = &[
     ZZ,
 ];
 
-/// A file in which the morning train runs until a later day and leaves ten minutes earlier.
+/// A file in which the morning train runs until a later day than in `MORNING`, and leaves ten
+/// minutes earlier.
 pub(crate) const LONGER: File = &[HD, BS_LONGER, LO_0850, LT, ZZ];
 
-/// A file in which the morning train leaves five minutes later.
+/// A file in which the morning train leaves five minutes later than in `MORNING`.
 pub(crate) const LATER: File = &[HD, BS, LO_0905, LT, ZZ];
 
 /// A file that deletes the morning train. It has the same header as the morning train's file.

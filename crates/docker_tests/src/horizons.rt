@@ -15,7 +15,8 @@ fn set(rt: &impl Abort, office: &mut Office, date: &str) {
 }
 
 /// A row: a horizon to set, the size of the state's text after the horizon is set, a day that is
-/// refused, and the day after it. The last column is the docker of this later day. It has no lines.
+/// refused, and the day after it. The last column is the docker of the later day, which has no
+/// lines.
 type Row = (
     &'static str,
     usize,

@@ -44,7 +44,7 @@ fn spaces_around_words(rt: HostRuntime) {
     words_are(&rt, &job, &["state", "stdin"]);
 }
 
-/// Returns a line with the subcommand `day`, this number of spaces, and then this end.
+/// Returns a line with the subcommand `day`, this number of spaces, and then the bytes `end`.
 fn line_of(rt: &impl Abort, alloc: Global, spaces: usize, end: &[u8]) -> Vec<u8> {
     let mut line = Vec::new(alloc);
     line.extend_from_slice(b"day").expect(rt, "room");
@@ -57,8 +57,8 @@ fn line_of(rt: &impl Abort, alloc: Global, spaces: usize, end: &[u8]) -> Vec<u8>
     line
 }
 
-/// Asserts that the line with this number of spaces and this end is refused for this fault, or that
-/// it names a job if there is no fault.
+/// Asserts that the line with this number of spaces and these last bytes is refused for this fault,
+/// or that it names a job if there is no fault.
 fn fault_is(
     rt: &impl Abort,
     alloc: Global,

@@ -14,7 +14,7 @@ use std::process::Abort;
 /// The number of offices.
 pub(crate) const OFFICES: usize = 3;
 
-/// The files that an office may take. Offices refuse the first two.
+/// The files that an office may take. Offices refuse the first two files.
 pub(crate) const FILES: [File; 18] = [
     OPEN,
     THREE_NIGHTS,
@@ -164,7 +164,7 @@ impl Known {
         self.raise(other.horizon);
     }
 
-    /// Returns the state of the known files under the known horizon.
+    /// Returns the state of the known files and the known horizon.
     fn state(&self, rt: &impl Abort, alloc: Global, texts: &[Vec<u8>]) -> State {
         let mut state = State::empty(alloc);
         for (text, known) in texts.iter().zip(self.files.iter()) {
@@ -179,7 +179,7 @@ impl Known {
         state
     }
 
-    /// Returns the text of the state of the known files under the known horizon.
+    /// Returns the text of the state of the known files and the known horizon.
     pub(crate) fn text(&self, rt: &impl Abort, alloc: Global, texts: &[Vec<u8>]) -> Kept {
         let state = self.state(rt, alloc, texts);
         let room = usize::try_from(encoded_len(&state)).expect(rt, "a length");

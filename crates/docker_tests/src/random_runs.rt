@@ -224,7 +224,7 @@ fn known_at_end(
     known
 }
 
-/// Asserts that this text is the text of the state of the known files, under the known horizon.
+/// Asserts that this text is the text of the state of the known files and the known horizon.
 fn is_of_known(
     rt: &impl Abort,
     alloc: Global,

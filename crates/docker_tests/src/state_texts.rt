@@ -105,7 +105,7 @@ pub(crate) const MORNING_STATE: Parts = train_after!(MARK, ONE, ITEM, ONE);
 /// The state of an office that knows the morning train, as a text in the older format: 309 bytes.
 pub(crate) const OLD_STATE: Parts = train_after!(OLD_MARK, ONE, ITEM, ONE);
 
-/// The state of an office that knows the morning train, under a horizon after the train's last day:
+/// The state of an office that knows the morning train, and a horizon after the train's last day:
 /// 67 bytes.
 pub(crate) const LAPSED_STATE: Parts = &[MARK_15, ONE, ITEM, ONE, ENTRY, PASSED];
 

@@ -21,7 +21,7 @@ const STATE: &[u8] = b"DKS2\0\0\0\0\0\0\0\0\0\x01\x5b\xf0\x04\xecDFROC1AUDFROC1Z
 /// The text of the state of an office that knows the update of 9 June, in the older format.
 const OLD: &[u8] = b"DKS1\0\0\0\0\0\0\0\x01\x5b\xf0\x04\xecDFROC1AUDFROC1Z\0\0\0\0\0\0\0\0";
 
-/// The text of the state of an office that knows the update of 9 June, under the horizon of 15 June
+/// The text of the state of an office that knows the update of 9 June, and the horizon of 15 June
 /// 2024, day 23542.
 const RAISED: &[u8] =
     b"DKS2\x5b\xf6\0\0\0\0\0\0\0\x01\x5b\xf0\x04\xecDFROC1AUDFROC1Z\0\0\0\0\0\0\0\0";

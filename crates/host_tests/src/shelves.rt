@@ -1,4 +1,4 @@
-//! Tests of shelves, which are files in memory: the texts that they hold, and the calls at which
+//! Tests of shelves, which are folders in memory: the texts that they hold, and the calls at which
 //! they fail.
 
 use crate::compare::same;

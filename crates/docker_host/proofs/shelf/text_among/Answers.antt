@@ -1,4 +1,4 @@
--- The function returns the text of the first place with this name, or `None` if no place has the
+-- The function returns the text of the first file with this name, or `None` if no file has the
 -- name.
 use Rattle.std.proofs.Common.{sym, ap, ◌∙◌}
 use Rattle.std.specs.Str.{bytes_eq}
