@@ -15,7 +15,7 @@ ASHFELD ASF 87701 ASHFELD JUNCTION                    1
 CORHAM            CORHAM EXCHANGE                     0
 ";
 
-/// The answer to `places` for the same state, after the morning train has lapsed.
+/// The answer to `places` for the state `PLACES_STATE`, after the morning train has lapsed.
 const PLACES_LAPSED: &str = "\
 0 2 112
 ASHFELD ASF 87701 ASHFELD JUNCTION                    0

@@ -39,8 +39,8 @@ const ITEM_LATER: &[u8] = b"\x5b\xf1\x04\xecDFROC1BUDFROC1A";
 /// The entry of C10001 in the file `MORNING`, without its op.
 const ENTRY: &[u8] = b"\x03C10001\x5b\xf1P\x5b\xf0\x04\xecDFROC1A\0\0\0\x02";
 
-/// Two more entries of C10001, without their ops: the entry of its overlay at record 5 of the
-/// update of 9 June, and the entry of its revision in the update of 10 June.
+/// Two more entries of C10001, without their ops: its overlay at record 5 of the update of 9 June,
+/// and its revision in the update of 10 June.
 const ENTRY_OVERLAY: &[u8] = b"\x03C10001\x5b\xf1O\x5b\xf0\x04\xecDFROC1A\0\0\0\x05";
 
 const ENTRY_LATER: &[u8] = b"\x03C10001\x5b\xf1P\x5b\xf1\x04\xecDFROC1B\0\0\0\x02";

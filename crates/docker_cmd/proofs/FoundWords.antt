@@ -1,4 +1,4 @@
--- Looking up the words of several ids, one id after another.
+-- Looking up the words of several arguments by their ids, one id after another.
 use Rattle.std.proofs.Common.{◌≡◌, ◌∙◌, ◌<◌, ◌+◌, ℕ, List, [], ◌∷◌, ◌++◌, length, drop, Some, None, option_map, refl, sym, ap, append_assoc, slice_index_or}
 use Rattle.std.specs.Prelude.{Option, option_and_then}
 use Rattle.std.specs.Borrow.{Bor}

@@ -66,7 +66,8 @@ module _ (s : Subcommand) (words : List Text) (plain : list_all is_plain_word wo
       let k = known s in
       named_fault leaves (leaf_of s) (name_of s) words k.met k.under ∙ leaf_fault (name_of s) (ids_of s) words k.fits k.fresh plain
 
-  -- after a subcommand's name, the words are looked up at the subcommand's ids, in order
+  -- after a subcommand's name, the words are looked up by the ids of the subcommand's arguments, in
+  -- order
   found_at_name : found_in (subcommand_of docker_app (name_of s ∷ words)) ≡ found_at (name_of s) (paired (ids_of s) words)
   found_at_name =
       let k = known s in

@@ -9,7 +9,7 @@ use Rattle.docker_office.specs.declared.fault.OfficeFault.{OfficeFault}
 use Rattle.docker_office.specs.declared.fault.OfficeFault.TheVariants as office
 use Rattle.docker_cmd.specs.Prepared.{DeviceBytes, EndsEmitting, docker_written, office_read}
 
--- if an office prints a docker as the office's contract says, the writing of the docker ends as the
+-- if an office prints a docker as the office's contract says, writing the docker ends as the
 -- contract of `emit` says
 pub docker_ends : {K : Type 0} (taken : K → DeviceBytes) (failures : K → ℕ) (state : State) (place : List ℕ) (day : ℕ) (old new : K)
     (result : Result ⊤ OfficeFault)

@@ -121,14 +121,14 @@ suit migrate_task words is = is
 
 -- ---- looking up words at ids
 
--- looking up one word at its id finds this word
+-- looking up one word by the id of its argument finds this word
 one_found : (a : Text) → ((x : Text) → found_words (a ∷ []) (paired (a ∷ []) (x ∷ [])) ≡ Some (x ∷ []))
     → (words : List Text) → length words ≡ 1 → found_words (a ∷ []) (paired (a ∷ []) words) ≡ Some words
 one_found a found [] one = absurd (omega (arith, one))
 one_found a found (x ∷ []) one = found x
 one_found a found (x ∷ y ∷ words) one = absurd (omega (arith, one))
 
--- looking up two words at their ids finds these words
+-- looking up two words by the ids of their arguments finds these words
 two_found : (a b : Text) → ((x y : Text) → found_words (a ∷ b ∷ []) (paired (a ∷ b ∷ []) (x ∷ y ∷ [])) ≡ Some (x ∷ y ∷ []))
     → (words : List Text) → length words ≡ 2 → found_words (a ∷ b ∷ []) (paired (a ∷ b ∷ []) words) ≡ Some words
 two_found a b found [] two = absurd (omega (arith, two))
@@ -136,7 +136,7 @@ two_found a b found (x ∷ []) two = absurd (omega (arith, two))
 two_found a b found (x ∷ y ∷ []) two = found x y
 two_found a b found (x ∷ y ∷ z ∷ words) two = absurd (omega (arith, two))
 
--- looking up three words at their ids finds these words
+-- looking up three words by the ids of their arguments finds these words
 three_found : (a b c : Text) → ((x y z : Text) → found_words (a ∷ b ∷ c ∷ []) (paired (a ∷ b ∷ c ∷ []) (x ∷ y ∷ z ∷ [])) ≡ Some (x ∷ y ∷ z ∷ []))
     → (words : List Text) → length words ≡ 3 → found_words (a ∷ b ∷ c ∷ []) (paired (a ∷ b ∷ c ∷ []) words) ≡ Some words
 three_found a b c found [] three = absurd (omega (arith, three))
@@ -155,7 +155,7 @@ abbrev pub leaves : List Shape
 leaves = map leaf_of subcommands
 
 -- the facts about one subcommand. Its ids differ from each other and are in the right positions.
--- `clap` recognises its name. Looking up its words at their ids finds them
+-- `clap` recognises its name. Looking up its words by their ids finds them
 pub record IsKnown (s : Subcommand) : Type 0 where
   pub fits : Fits (leaf_of s).rules 1 (ids_of s)
   pub fresh : Fresh [] (ids_of s)

@@ -35,7 +35,8 @@ docker_app = record {
   subs = map shape_of subcommands;
 }
 
--- the first value at each of these ids, in order; None if any of the ids has no value
+-- the first value that `clap` found for each of these ids, in order; None if any of the ids has no
+-- value
 abbrev pub found_words : List Text → List Row → Option (List Text)
 found_words [] rows = Some []
 found_words (id ∷ ids) rows = option_and_then (λ word. option_map (λ words. word ∷ words) (found_words ids rows)) (first_of id rows)
@@ -44,7 +45,7 @@ found_words (id ∷ ids) rows = option_and_then (λ word. option_map (λ words. 
 abbrev pub pair_of : Subcommand → List Text → Subcommand × List Text
 pair_of subcommand words = (subcommand, words)
 
--- the subcommand with this name, and the words that `clap` found at its ids
+-- the subcommand with this name, and the words that `clap` found for its ids
 abbrev pub found_at : Text → List Row → Option (Subcommand × List Text)
 found_at name rows = option_and_then (λ subcommand. option_map (pair_of subcommand) (found_words (ids_of subcommand) rows)) (subcommand_named name)
 

@@ -30,8 +30,8 @@ const MOST_WORDS: usize = 128;
 type LineWords<'a> = ArrayVec<&'a str, MOST_WORDS>;
 
 /// Returns the job that the first line of a source names. On success the source is left just after
-/// the line feed. Fails with `Usage` if there is no such line, or if the line names no job. Fails
-/// with `Memory` only if the line names a job. Reads at most 256 bytes.
+/// the line feed. Fails with `Usage` if the source doesn't begin with a job line, or if the line
+/// names no job. Fails with `Memory` only if the line names a job. Reads at most 256 bytes.
 pub fn job_line<S: Source>(alloc: Global, source: &mut S) -> Result<Job, JobFault>
     requires { S.failures source.old < 2 ^ 64 - 1 }
     ensures job { IfOk result (λ job. ReadsJob (S.left source.old) job (S.left source.new)) }

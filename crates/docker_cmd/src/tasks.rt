@@ -40,7 +40,8 @@ pub enum Subcommand {
 pub(crate) struct Row<'a> {
     /// The subcommand's name.
     name: &'a str,
-    /// The names of the words after the subcommand, as the usage line shows them. All are required.
+    /// The names of the words after the subcommand, as the usage line shows them. All words are
+    /// required.
     ids: &'a [&'a str],
     /// What the subcommand reads, in the order of its words.
     reads: Sources,

@@ -24,7 +24,7 @@ use Rattle.docker_desk.specs.Answering.{answers_of, lines_of}
 use Rattle.docker_desk.specs.Learning.{IsKnown}
 use Rattle.docker_desk.specs.SessionViews.{Step}
 
--- two states are equal if they are the summaries of the same files under the same horizon
+-- two states are equal if they are the summaries of the same files and the same horizon
 pub one_state : (first second : Known) (one two : State) → IsKnown first one → IsKnown second two → AreOneKnowledge first second → one ≡ two
 one_state first second one two left right same =
     summary_unique first.files second.files same.0 second.horizon one two (subst (λ h. IsSummary first.files h one) same.1 left.is) right.is

@@ -25,7 +25,7 @@ use Rattle.docker_desk.proofs.HeardLemmas.{held_after_look, held_once}
 use Rattle.docker_desk.proofs.KnownLemmas.{day_asked, never_unasked, same_refused, same_saved}
 
 module _ (earlier : List (List ℕ)) where
-  -- if the state is unchanged, the list of what it gained is empty
+  -- if a state is unchanged, it gained an empty list of things
   gained_none : (gains : List Gain) (old new : State) → gains ≡ [] → new ≡ old → AreGained earlier gains old new
   gained_none gains old new none same = subst (λ g. AreGained earlier g old new) (sym none) same
 
@@ -33,8 +33,7 @@ module _ (earlier : List (List ℕ)) where
   gained_one : (gain : Gain) (gains : List Gain) (old new : State) → gains ≡ gain ∷ [] → Gains earlier gain old new → AreGained earlier gains old new
   gained_one gain gains old new one gained = subst (λ g. AreGained earlier g old new) (sym one) (new, gained, refl)
 
-  -- if a state gained the things in one list and then the things in another, it gained the things
-  -- in the concatenation of both lists
+  -- if a state gained the list `gains` and then the list `more`, it gained the list `gains ++ more`
   gained_both : (gains more : List Gain) (old now new : State) → AreGained earlier gains old now → AreGained earlier more now new
       → AreGained earlier (gains ++ more) old new
   gained_both [] more old now new first second = subst (λ s. AreGained earlier more s new) first second
@@ -114,8 +113,8 @@ module _ (earlier : List (List ℕ)) where
     gained_done save_request text gains days does gained =
         gained_none gains _ _ gained (same_saved setting before after does.result does.desk)
 
-    -- after a line is answered, the state has gained what the line's request adds. It has gained
-    -- nothing if the request was refused, or if the line makes no request
+    -- after a line is answered, the state has gained what the line's request adds. The state has
+    -- gained nothing if the request was refused, or if the line makes no request
     gained_asked : (request : Option RequestView) (answer : AnswerView) (gains : List Gain) → ((day : ℕ) → request ≡ Some (horizon_request day) → IsDay day)
         → DoesAsked setting request before answer after → GainsAsked setting earlier request before answer after gains
         → AreGained earlier gains before.desk.state after.desk.state
@@ -139,9 +138,9 @@ module _ (earlier : List (List ℕ)) where
         (λ day same. day_asked setting.may_write step.line step.request day are.1.0.asks same) are.1.0.does gained.1.1.0)
         (gained_steps step.after last steps gained.1.0 are.1.1 gained.1.1.1.0)))
 
-    -- if STATE held version number `own` of `earlier` when the session began, `save` stores the
-    -- text of a state that was read from that version and then gained what the steps before `save`
-    -- gained
+    -- suppose that STATE held version number `own` of `earlier` when the session began. Then `save`
+    -- stores the text of a state that was read from that version and then gained what the steps
+    -- before `save` gained
     pub places_version : (first before after : SessionView) (steps : List Step) (old : List Event) (own : ℕ) (gains : List Gain) (answer : List ℕ)
         → (begins : BeginsAt setting.name old first) → HoldsVersion earlier begins.held own → AreSteps setting first steps before
         → GainedBy setting earlier steps gains → Saves setting before (done_with answer) after → IsPlaced setting earlier own gains before after

@@ -81,16 +81,16 @@ refuses_to_receive left left_now (office.File fault) why = why
 refuses_to_receive left left_now office.Lapsed why = why
 refuses_to_receive left left_now office.Sink why = why
 
--- if an office received or refused the state that a file held, the desk's receiving from this file
--- ended in the same way
+-- if an office received or refused a state, the desk's call to receive this state ends in the same
+-- way
 pub receives : (left left_now : Bytes) (old new : State) (result : Result ⊤ OfficeFault)
     → IsOutcome WantsMemory why_unread dks_2 most_bytes (λ _. JoinsState dks_2 most_bytes left old new) left left_now result
     → (IsErr result → new ≡ old) → EndsReceiving old new result (Some (reading left left_now))
 receives left left_now old new (Ok done) outcome kept = outcome
 receives left left_now old new (Err fault) outcome kept = (refuses_to_receive left left_now fault outcome, kept refl)
 
--- if an office reloaded or refused the state that a file held, the desk's reloading from this file
--- ended in the same way
+-- if an office reloaded or refused a state, the desk's call to reload this state ends in the same
+-- way
 pub reloads : (left left_now : Bytes) (new : State) (result : Result ⊤ OfficeFault)
     → IsOutcome WantsMemory why_unread dks_2 most_bytes (λ _. ReadsState dks_2 most_bytes left new) left left_now result
     → EndsReloading new result (Some (reading left left_now))

@@ -171,8 +171,8 @@ module _ (text : List ℕ) (holds : HoldsState dks_2 most_bytes (Some text) no_s
       let line : step.line ≡ whole_line asked_line = cc in one_step its first last step begins named line are met takes
   all_steps its first last (step ∷ next ∷ steps) begins named lines are met takes = let never : ⊥ = cc in absurd never
 
--- if STATE holds the text of a state without files, and `files` is the only line of the input, the
--- session answers that there are no files, or that memory ran out
+-- suppose that STATE holds the text of a state without files, and that `files` is the only line of
+-- the input. Then the session answers that there are no files, or that memory ran out
 pub files_answered : (text : List ℕ) (old new : HostView) (status : ℕ) → HoldsState dks_2 most_bytes (Some text) no_state
     → old.history ≡ placed (codes "S") (Some text) ∷ [] → old.input ≡ Some (codes "files\n") → old.output ≡ Some []
     → IsShelfHistory new.history → status ≡ 0 → Serves (codes "S" ∷ []) true old new status → IsAnswered new.output

@@ -227,8 +227,8 @@ EndsStoring names_bytes name look text old new (Err office.Lapsed) = ⊥
 EndsStoring names_bytes name look text old new (Err (office.File fault)) = ⊥
 EndsStoring names_bytes name look text old new (Err (office.State fault)) = ⊥
 
--- saving a text in the named file ended with this result. The text is stored, and if its draft
--- replaced the file, the file is looked at again
+-- saving a text in the named file ended with this result. A draft with the text is made, and if the
+-- draft replaced the file, the file is looked at again
 abbrev pub EndsSaving : (names_bytes : Bool) (name : Text) (look : ℕ) (text : List ℕ)
     (old new : List Event) → Result ⊤ OfficeFault → Type 0
 EndsSaving names_bytes name look text old new (Ok done) =

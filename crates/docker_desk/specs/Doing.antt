@@ -24,7 +24,7 @@ answer_of (Err fault) = refused_for fault
 
 -- carrying out `take` or `merge` at the point `before` gave this answer and ended at the point
 -- `after`. The named file is opened once, and the bytes that it held at that moment determine the
--- outcome. `Stops` limits how far the file is read, and `Ends` gives the outcome
+-- outcome. `Stops` limits how far the file is read, and `Ends` says what the outcome is
 pub record Joins (name : Text) (Stops : Reading → Type 0)
     (Ends : State → State → Result ⊤ OfficeFault → Option Reading → Type 0)
     (before : SessionView) (answer : AnswerView) (after : SessionView) : Type 0 where

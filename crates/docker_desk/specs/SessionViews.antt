@@ -19,7 +19,7 @@ setting name may_write names_bytes =
     record { name = name; may_write = may_write; names_bytes = names_bytes }
 
 -- a point of a session: what the desk knows, and the number of the look on which the next draft is
--- based. A point also records the folder's earlier events, and the folder's failure count
+-- based. A point also records the folder's history and its failure count
 pub record SessionView : Type 0 where
   pub desk : DeskView
   pub look : ℕ

@@ -89,9 +89,9 @@ pub fn saves_tell_what_is_known()
         → PlacesKnown setting before after known }
 {}
 
-/// What a desk saves is a new version of its state's file: the text of a state that was read from
-/// version number `own` of `earlier`, and that then gained what the steps before `save` gained.
-/// `earlier` lists the texts of all earlier versions of any state's file.
+/// What a desk saves is a new version of its state's file. Its text is the text of a state that was
+/// read from version number `own` of `earlier`, and that then gained what the steps before `save`
+/// gained. `earlier` lists the texts of all earlier versions of any state's file.
 pub fn saves_are_versions()
     ensures { (setting : Setting) (first before after : SessionView) (steps : List Step)
         (old : List Event) (earlier : List (List ℕ)) (own : ℕ) (gains : List Gain)
@@ -119,8 +119,8 @@ pub fn offices_know_as_desks()
 
 /// Two sessions that know the same files and the same horizon have equal states, and so equal
 /// texts. Two sessions that know the same files, even with different horizons, print the same
-/// docker for each timing point and each day that neither horizon refuses. The same is true of a
-/// session and an office of a run.
+/// docker for each timing point and each day that neither horizon refuses. The law is also true if
+/// an office of a run takes the place of one session.
 pub fn known_files_fix_states()
     ensures state { (first second : Known) (one two : State) → IsKnown first one
         → IsKnown second two → AreOneKnowledge first second → one ≡ two }
@@ -144,8 +144,9 @@ pub fn dockers_are_of_the_plain_table()
 
 /// Two sessions that know the same files, even with different horizons, have the same dockers
 /// without the short-term plan, for each timing point and each day that neither horizon refuses.
-/// The same is true of a session and an office of a run. If no two of the files have the same
-/// moment, these dockers are the dockers of the plain table without its short-term entries.
+/// The law is also true if an office of a run takes the place of one session. If no two of the
+/// files have the same moment, these dockers are the dockers of the plain table without its
+/// short-term entries.
 pub fn known_files_fix_permanent_answers()
     ensures docker { (first second : Known) (one two : State) → IsKnown first one
         → IsKnown second two → HaveSameFiles first.files second.files → (place : List ℕ) (day : ℕ)
@@ -172,8 +173,8 @@ pub fn trains_came_from_known_files()
 }
 
 /// Two sessions that know the same files and the same horizon have the same list of timing points,
-/// and the same text as the answer to `known`. The same is true of a session and an office of a
-/// run.
+/// and the same text as the answer to `known`. The law is also true if an office of a run takes the
+/// place of one session.
 pub fn known_files_fix_lists()
     ensures places { (first second : Known) (one two : State) → IsKnown first one
         → IsKnown second two → AreOneKnowledge first second → (text other : List ℕ)

@@ -18,8 +18,8 @@ pub type RequestLine = ArrayVec<u8, LONGEST>;
 pub enum Asked {
     /// A whole line: at most 255 printable bytes, ended by a line feed. The line feed isn't kept.
     Line(RequestLine),
-    /// A bad line: it has more than 255 bytes, or a byte that isn't printable. It was read up to
-    /// and including its line feed.
+    /// A bad line: it has more than 255 bytes, or a byte that isn't printable. The line was read up
+    /// to and including its line feed.
     Bad,
     /// A cut line: the bytes after the last line feed of the source.
     Cut,

@@ -253,7 +253,7 @@ fn permanent_request(rest: &str) -> Option<Request<'_>>
 }
 
 /// Returns the timing point and the day that the rest of the line names, or `None` if the rest
-/// isn't exactly these two words.
+/// isn't exactly a timing point and a day.
 fn place_and_day(rest: &str) -> Option<(Tiploc, Day)>
     ensures some { IfSome result (λ it. OfTwo (ArePlaceAndDay it.0 it.1) (words_in rest.now)) }
     ensures none { IsNone result → (place : List ℕ) (day : ℕ)

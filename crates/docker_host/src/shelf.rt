@@ -22,21 +22,21 @@ pub struct Place {
 /// The calls at which a shelf fails.
 #[derive(Clone, Copy, PartialEq, Eq, Debug)]
 pub enum Fails {
-    /// No call.
+    /// No call fails.
     Never,
-    /// Opening a file.
+    /// Opening a file fails.
     AtOpen,
-    /// Opening a file, because memory runs out.
+    /// Opening a file fails, because memory runs out.
     AtOpenForMemory,
-    /// Each read of an opened file from which this many bytes have been read.
+    /// Each read of an opened file fails once this many bytes have been read from the file.
     AfterReading(usize),
-    /// Making a draft.
+    /// Making a draft fails.
     AtCreate,
-    /// Making a draft, because memory runs out.
+    /// Making a draft fails, because memory runs out.
     AtCreateForMemory,
-    /// Each write to a draft that has taken this many bytes.
+    /// Each write to a draft fails once the draft has taken this many bytes.
     AfterWriting(usize),
-    /// Replacing a file with its draft.
+    /// Replacing a file with its draft fails.
     AtComplete,
 }
 

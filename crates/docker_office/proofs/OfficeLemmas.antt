@@ -183,7 +183,7 @@ state_read place day limit left excerpt reads =
     (record { text = reads.text; held = reads.held; is = reads.of.is })
 
 -- in contracts, an excerpt that was read has the whole state whose text the source held. If
--- contracts know the source's bytes, this is the only such state
+-- contracts know the source's bytes, no other state can be read from the source
 pub one_excerpt : (place : List ℕ) (day limit : ℕ) (left : Option (List ℕ)) (excerpt : Excerpt)
     → ReadsMade (IsExcerptAt place day) dks_2 limit left excerpt → (sent : State) → HoldsState dks_2 limit left sent → excerpt.state ≡ sent
 one_excerpt place day limit left excerpt reads sent holds =

@@ -54,8 +54,8 @@ pub record HoldsState (format : Format) (limit : ℕ) (left : Option (List ℕ))
   pub is : IsStateText format limit text sent
 
 -- says that joining preserves summaries. Suppose that `old` is the summary of a set of files, and
--- that the source held the text of the summary of another set. Then `new` is the summary of both
--- sets with the greater horizon
+-- that the source held the text of the summary of another set. Then `new` is the summary of the
+-- files in both sets, with the greater horizon
 abbrev pub JoinsSummaries : ℕ → Option (List ℕ) → State → State → Type 0
 JoinsSummaries limit left old new =
     (files others : List (List (List ℕ))) (g h : ℕ) (sent : State) → IsSummary files g old → IsSummary others h sent → HoldsState dks_2 limit left sent

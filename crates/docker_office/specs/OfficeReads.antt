@@ -15,7 +15,7 @@ use Rattle.docker_office.specs.declared.fault.OfficeFault.TheVariants.{File, Sta
 -- ---- how reading a state ends
 
 -- converts an office's fault back to the fault of reading a state, or to `None` if the office's
--- fault has another origin
+-- fault doesn't come from reading a state
 abbrev pub why_unread : OfficeFault → Option ReadFault
 why_unread (State fault) = Some (states.State fault)
 why_unread Source = Some states.Source

@@ -45,7 +45,7 @@ reply_meant (Refused NoOffice) = refused no_office
 reply_meant (Refused NoMessage) = refused no_message
 reply_meant (Refused (Office why)) = refused (refusal_meant why)
 
--- says that a text's fault can have this cause. That is so for every cause except out of memory
+-- says that a text's fault can have this cause. Every cause except out of memory is possible
 abbrev pub IsTextCause : Option files.FileCause → Type 0
 IsTextCause None = ⊥
 IsTextCause (Some cause) = ⊤

@@ -165,8 +165,8 @@ impl Office {
     }
 
     /// Sets the horizon: each entry whose body ends before this day lapses. A day that isn't after
-    /// the current horizon changes nothing. The call never fails. It may use one byte of memory per
-    /// row while it works, and takes longer if this memory isn't available.
+    /// the current horizon changes nothing. The call never fails. The call may use one byte of
+    /// memory per row while it works, and takes longer if this memory isn't available.
     pub fn set_horizon(&mut self, day: Day)
         ensures raised { self.new ≡ raise_horizon day self.old }
         ensures summary { (files : List (List (List ℕ))) (horizon : ℕ)

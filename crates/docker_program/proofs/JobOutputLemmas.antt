@@ -1,4 +1,4 @@
--- How the writing of a job's output ends.
+-- How writing a job's output ends.
 use Rattle.std.proofs.Common.{◌≡◌, ◌≢◌, ◌+◌, arith, refl, sym, ◌∙◌, ap, subst, Some, None, Ok, Err, inl, inr, append_assoc}
 use Rattle.std.specs.Prelude.{ℕ, Bool, true, false, List, [], ◌∷◌, ◌++◌, Option, Result, ⊤}
 use Rattle.cif_device.specs.Device.{Takes}

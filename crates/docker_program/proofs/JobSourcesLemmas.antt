@@ -53,7 +53,7 @@ by_reading asked job (Err office.Memory) read = inr (opened_by asked job (Err of
 by_reading asked job (Err office.Lapsed) read = read.reads.ends
 by_reading asked job (Err office.Sink) read = read.reads.ends
 
--- if a file of a job couldn't be opened, the fault of the opening is a result that `ReadsNamed`
+-- if a file of a job couldn't be opened, the fault of that call is a result that `ReadsNamed`
 -- allows
 by_cause : (asked : Asking) (job : JobView) (cause : OpenFault) → FailsToOpen (names_of job) asked.before asked.now → asked.left ≡ asked.rest
     → ReadsNamed asked job (Err (one_of office.Source office.Memory cause))
@@ -144,8 +144,7 @@ counted_beside status before after more all all_now counts is is_now = (
   λ differs. let same : after ≡ before = counts.1 differs in omega arith,
 )
 
--- if a file couldn't be opened, one failure is counted if and only if the opening's cause is
--- `Failed`
+-- if a file couldn't be opened, one failure is counted if and only if the fault is `Failed`
 pub counted_opening : (cause : OpenFault) (before after more more_now : ℕ) → (cause ≡ opening.Failed → after ≡ before + 1)
     → (¬ (cause ≡ opening.Failed) → after ≡ before) → more_now ≡ more
     → IsCounted (result_status {A = ⊤} (Err (one_of office.Source office.Memory cause))) (more + before) (more_now + after)

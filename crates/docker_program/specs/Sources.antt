@@ -121,8 +121,8 @@ ReadsNamed asked job (Err office.Memory) = IsNotOpened asked job ⊎ WantsForSou
 ReadsNamed asked job (Err office.Lapsed) = ⊥
 ReadsNamed asked job (Err office.Sink) = ⊥
 
--- a file among these sources couldn't be opened, nothing was read, and the result is the fault of
--- the opening
+-- a file among these sources couldn't be opened, nothing was read, and the result is the fault for
+-- which the file couldn't be opened
 pub record AreNotOpened (names : SourceNames) (asked : Asking)
     (result : Result PreparedView OfficeFault) : Type 0 where
   pub cause : OpenFault

@@ -1,5 +1,5 @@
-//! Runs the program `docker` with several lists of words, one after another. After the output of
-//! each run it prints the exit status.
+//! Runs the program `docker` with several lists of words, one after another. After the output for
+//! each list it prints the exit status.
 #![tactic(auto)]
 
 use docker_program::run_words;

@@ -149,7 +149,7 @@ impl Known {
         }
     }
 
-    /// Adds a horizon to this knowledge. The greater horizon counts.
+    /// Adds a horizon to this knowledge, which then has the greater of the two horizons.
     fn raise(&mut self, horizon: Option<Day>) {
         if self.horizon < horizon {
             self.horizon = horizon;

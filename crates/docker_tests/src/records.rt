@@ -140,7 +140,7 @@ pub(crate) const AA_DIVIDE: &str =
 pub(crate) const TA: &str =
     "TAASHFELD         ASHFIELD NEW                                          ASHFLDN ";
 
-/// The header of another update of 9 June 2024, 21:00.
+/// The header of an update of 9 June 2024, 21:00, with the file reference `DFROC1B`.
 pub(crate) const HD_9B: &str =
     "HDTPS.UDFROC1.PD2406090906242100DFROC1BDFROC1AUA                                ";
 

@@ -191,8 +191,8 @@ pub(crate) const RENAMED_STATE: Parts = &[
     DESCRIBED,
 ];
 
-/// The state of an office that knows two files with equal stamps. The greater entry is kept: the
-/// train that runs until a later day. It has 311 bytes.
+/// The state of an office that knows two files with equal stamps. The state has the greater of the
+/// two entries: the entry of the train that runs until a later day. It has 311 bytes.
 pub(crate) const LONGER_STATE: Parts = &[
     MARK,
     ONE,
@@ -205,8 +205,8 @@ pub(crate) const LONGER_STATE: Parts = &[
     TO_BRAYTON,
 ];
 
-/// The state of an office that knows two files with equal stamps. The greater entry is kept: the
-/// train with the greater bytes. It has 311 bytes.
+/// The state of an office that knows two files with equal stamps. The state has the greater of the
+/// two entries: the entry of the train with the greater bytes. It has 311 bytes.
 pub(crate) const LATER_STATE: Parts = &[
     MARK,
     ONE,
