@@ -25,7 +25,7 @@ const END: Told<'static> = ("end", b"");
 /// A row: a text, and its lines in order.
 type Row = (&'static [u8], &'static [Told<'static>]);
 
-/// Asserts that the next line of a source is this one.
+/// Asserts that the next line of a source is `wanted`.
 fn is_next(rt: &impl Abort, ahead: &mut Ahead, source: &mut Bytes<'_>, wanted: Told<'_>) {
     match next_line(ahead, source) {
         Ok(Asked::Line(text)) => same(rt, (LINE, text.as_slice()), wanted),

@@ -13,8 +13,9 @@ use docker_host::Host;
 use std::alloc::Global;
 use std::process::Abort;
 
-/// A row: the words and the input of a session over the state of the morning train, the answers,
-/// the reported line, and the status. The last column is the state in the file after the session.
+/// A row: the words and the input of a session on a file with the state of the morning train, the
+/// answers, the reported line, and the status. The last column is the state in the file after the
+/// session.
 type Row = (
     &'static [&'static str],
     &'static str,

@@ -26,7 +26,8 @@ pub(crate) enum Content {
 }
 
 impl Content {
-    /// Sets the horizon on the content's office, if the content has one. `None` sets no horizon.
+    /// Sets the horizon of the content's office, if the content has an office. `None` sets no
+    /// horizon.
     pub(crate) fn under(self, horizon: Option<Day>) -> Content
         ensures { content_meant result ≡ under horizon (content_meant self) }
     {
@@ -118,7 +119,7 @@ fn office_of_older_state<S: Source>(alloc: Global, source: &mut S) -> Result<Off
 }
 
 /// Returns a new office that has reloaded the state in the first source and then taken the file in
-/// the second.
+/// the second source.
 fn office_of_state_and_file<S: Source, T: Source>(
     alloc: Global,
     first: &mut S,
@@ -139,7 +140,7 @@ fn office_of_state_and_file<S: Source, T: Source>(
 }
 
 /// Returns a new office that has reloaded the state in the first source and then received the state
-/// in the second.
+/// in the second source.
 fn office_of_two_states<S: Source, T: Source>(
     alloc: Global,
     first: &mut S,

@@ -178,7 +178,7 @@ fn unless_stdin(state: &str, task: Task) -> Option<Task>
 }
 
 /// Returns the timing point and the day that these words name, or `None` if the first word isn't a
-/// timing point or the second isn't a day.
+/// timing point or the second word isn't a day.
 fn place_and_day(tiploc: &str, date: &str) -> Option<(Tiploc, Day)>
     ensures pair { IfSome result (λ pair. NamesPlace tiploc.now pair.0 × NamesDay date.now pair.1) }
     ensures none { IsNone result → (place : _) (day : _) → NamesPlace tiploc.now place

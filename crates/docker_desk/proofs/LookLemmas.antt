@@ -19,7 +19,7 @@ use Rattle.docker_desk.specs.Looking.{IsGoodLook}
 use Rattle.docker_desk.specs.Serving.{BeginsAt}
 
 module _ (name : Text) where
-  -- a good look is still good after events were added to the history
+  -- a look that is good (`IsGoodLook`) is still good after events were added to the history
   pub good_more : (old new more : List Event) (look : ℕ) → new ≡ old ++ more → IsGoodLook name old look → IsGoodLook name new look
   good_more old new more look grown (inl before) = inl (record {
     earlier = before.earlier;

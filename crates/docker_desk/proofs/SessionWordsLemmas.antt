@@ -1,4 +1,4 @@
--- The words of a session.
+-- The words of a session: the words with which a desk is started.
 use Rattle.std.proofs.Common.{◌≡◌, ◌<◌, ◌≤◌, Bool, true, List, [], ◌∷◌, length, get_or, refl, sym, ◌∙◌, ap, subst, arith, Some, None, Bor}
 use Rattle.std.specs.Prelude.{Option, IfSome, codes}
 use Rattle.docker_cmd.specs.Words.{Text, texts}

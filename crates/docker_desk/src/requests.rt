@@ -121,7 +121,8 @@ impl Verb {
         self.row().writes
     }
 
-    /// Whether the verb's requests are allowed to a desk that may write, or may not.
+    /// Whether a desk may carry out the verb's requests. `may_write` says whether the desk may
+    /// write.
     fn is_allowed(self, may_write: bool) -> bool
         ensures { (result ≡ true) ↔ (is_writing self ≡ true → may_write ≡ true) }
     {

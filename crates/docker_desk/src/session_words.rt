@@ -1,4 +1,4 @@
-//! The words of a session.
+//! The words of a session: the words with which a desk is started.
 ghost use Rattle.std.specs.Prelude.{◌≡◌, ◌↔◌, IfSome, IsNone, IsTrue, codes};
 ghost use Rattle.docker_cmd.specs.Words.{texts};
 ghost use Rattle.docker_desk.specs.Requests.{NamesFile};

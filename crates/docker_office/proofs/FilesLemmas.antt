@@ -17,7 +17,7 @@ abbrev pub text_of : List LedgerItem → List ℕ
 text_of items = files_text (map item_meant items)
 
 -- the text of two concatenated lists is the text of the first list, followed by the text of the
--- second
+-- second list
 text_joined : (xs ys : List LedgerItem) → text_of (xs ++ ys) ≡ text_of xs ++ text_of ys
 text_joined xs ys =
     ap files_text (map-append item_meant xs ys) ∙ flat_map-append (λ item. ended (file_text item)) (map item_meant xs) (map item_meant ys)

@@ -244,7 +244,7 @@ module _ (known : KnownSets) (held : Holdings) (holds : AreOf known held) where
 
   module _ (office message : ℕ) (text : List ℕ) (there : office < length held.offices.items) (sent : message < length held.messages.items)
       (text_is : text ≡ message_text (texts_of held.messages.items) message) (short : length text < 2 ^ 64) where
-    -- reading a message's text returns no fault of the text
+    -- a message is the text of a state, so reading the message can't end with a fault of its text
     no_fault : (fault : StateFault) → RefusesState dks_2 (length text) (Some text) fault → ⊥
     no_fault fault refuses = by (state_cause_meant fault.cause) refuses.is
       where

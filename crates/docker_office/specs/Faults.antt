@@ -10,19 +10,19 @@ use Rattle.docker_day.specs.declared.fault.DockerFault.TheVariants as docker_fau
 use Rattle.docker_office.specs.declared.fault.OfficeFault.{OfficeFault}
 use Rattle.docker_office.specs.declared.fault.OfficeFault.TheVariants.{File, State, Lapsed, Source, Sink, Memory}
 
--- converts a fault of reading a file to the office's fault
+-- converts the fault for which a file couldn't be read to the office's fault
 abbrev pub office_fault_of_file : files.ReadFault → OfficeFault
 office_fault_of_file file_faults.Source = Source
 office_fault_of_file (file_faults.File fault) = File fault
 office_fault_of_file file_faults.Memory = Memory
 
--- converts a fault of reading a state to the office's fault
+-- converts the fault for which a state couldn't be read to the office's fault
 abbrev pub office_fault_of_state : states.ReadFault → OfficeFault
 office_fault_of_state state_faults.Source = Source
 office_fault_of_state (state_faults.State fault) = State fault
 office_fault_of_state state_faults.Memory = Memory
 
--- converts a fault of making a docker to the office's fault
+-- converts the fault for which a docker couldn't be made to the office's fault
 abbrev pub office_fault_of_docker : dockers.DockerFault → OfficeFault
 office_fault_of_docker docker_faults.Lapsed = Lapsed
 office_fault_of_docker docker_faults.Memory = Memory

@@ -52,7 +52,7 @@ AreOthers (file_and_input name) read rest left =
     (read.second ≡ rest) × (read.second_left ≡ left)
 AreOthers (two_files name other) read rest left = left ≡ rest
 
--- a file among these sources couldn't be opened. If that was the second file, the first file had
+-- a file among these sources couldn't be opened. If this was the second file, the first file had
 -- been opened, and was then closed unread. The history has no other new events
 abbrev pub FailsToOpen : SourceNames → (before now : List Event) → Type 0
 FailsToOpen no_source before now = ⊥

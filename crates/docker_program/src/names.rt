@@ -14,6 +14,6 @@ pub(crate) enum SourceNames<'a> {
     File(&'a str),
     /// The file with this name, and then standard input.
     FileAndStdin(&'a str),
-    /// The file with the first name, and then the file with the second.
+    /// The file with the first name, and then the file with the second name.
     Files(&'a str, &'a str),
 }

@@ -92,7 +92,7 @@ fn message_is(rt: &impl Abort, alloc: Global, left: &Exchange, message: usize, p
     same(rt, (message, kept.bytes()), (message, wanted.as_slice()));
 }
 
-/// Asserts that the first `done` replies are `Done`, and that the other replies are these.
+/// Asserts that the first `done` replies are `Done`, and that the remaining replies are `others`.
 fn replies(rt: &impl Abort, left: &Exchange, done: usize, others: &[Reply]) {
     let (first, rest) = left.replies().split_at(left.replies().len().min(done));
     same(rt, first.len(), done);
@@ -324,8 +324,8 @@ const ORDERS: &[[File; 3]] = &[
     [NINTH, SEVENTH, FIFTH],
 ];
 
-/// Asserts that the first office and the last have the state of all three files, if the files are
-/// taken in this order.
+/// Asserts that the first office and the last office have the state of all three files, if the
+/// files are taken in this order.
 fn is_late(rt: &impl Abort, alloc: Global, files: [File; 3]) {
     let left = five_left(rt, alloc, files);
     replies(rt, &left, 12, &[]);

@@ -28,8 +28,8 @@ pub(crate) const ITEM: &str = "\x5b\u{f0}\x04\u{ec}DFROC1AUDFROC1Z";
 
 const ITEM_FULL: &str = "\x5b\u{f0}\x04\u{ec}DFROC1AFDFROC1Z";
 
-/// The ledger items of other files. The name of each constant has the day in June and the last
-/// letter of the file's reference.
+/// Ledger items of several files. The name of each constant has the day in June and the last letter
+/// of the file's reference.
 const ITEM_10B: &str = "\x5b\u{f1}\x04\u{ec}DFROC1BUDFROC1A";
 
 pub(crate) const ITEM_5A: &str = "\x5b\u{ec}\x04\u{ec}DFROC1AUDFROC1Z";
@@ -48,7 +48,8 @@ pub(crate) const ENTRY: &str = "\x03C10001\x5b\u{f1}P\x5b\u{f0}\x04\u{ec}DFROC1A
 
 const ENTRY_FIFTH: &str = "\x03C10001\x5b\u{f1}P\x5b\u{f0}\x04\u{ec}DFROC1A\0\0\0\x05";
 
-/// The entries of C10001 in other files, without their ops.
+/// Entries of C10001 in several files, without their ops. The name of each constant has the day in
+/// June and the last letter of the file's reference.
 const ENTRY_10B: &str = "\x03C10001\x5b\u{f1}P\x5b\u{f1}\x04\u{ec}DFROC1B\0\0\0\x02";
 
 const ENTRY_9B: &str = "\x03C10001\x5b\u{f1}P\x5b\u{f0}\x04\u{ec}DFROC1B\0\0\0\x02";
