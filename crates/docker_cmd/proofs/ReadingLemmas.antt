@@ -99,8 +99,8 @@ state_unread first left second fault reads = record { first_few = reads.first_fe
     by office.Lapsed why = why
     by office.Sink why = why
 
--- if the first source held a state and taking a file from the second ends with a fault, this fault
--- is one for which the sources may be refused
+-- if the first source held a state and taking a file from the second source ends with a fault, this
+-- fault is one for which the sources may be refused
 pub file_refused : {A : Type 0} (IsMade : A → Type 0) (first left second second_left : DeviceBytes) (fault : OfficeFault) → HoldsSomeState first
     → ReadsFewOfState dks_2 first left → ReadsFewOfFile second second_left → IsTakingOutcome most_records IsMade second second_left (Err fault)
     → ReadsFew state_and_file first left second second_left (IsWhyRefused state_and_file first left second second_left fault)
@@ -119,8 +119,8 @@ file_refused IsMade first left second second_left fault holds few second_few out
     by office.Lapsed why = why
     by office.Sink why = why
 
--- if the first source held a state and reading a state from the second ends with a fault, this
--- fault is one for which the sources may be refused
+-- if the first source held a state and reading a state from the second source ends with a fault,
+-- this fault is one for which the sources may be refused
 pub state_refused : (first left second second_left : DeviceBytes) (failed failed_now : ℕ) (fault : OfficeFault) → HoldsSomeState first
     → ReadsFewOfState dks_2 first left
     → StopsReading dks_2 most_bytes second second_left (IsWhyUnread WantsMemory dks_2 most_bytes second second_left (why_unread fault))
@@ -141,7 +141,8 @@ state_refused first left second second_left failed failed_now fault holds few re
     by office.Lapsed why = why
     by office.Sink why = why
 
--- suppose that the first source hasn't failed, and taking a file from the second ends with a fault.
+-- suppose that the first source hasn't failed, and taking a file from the second source ends with a
+-- fault.
 -- Then one of the two sources has failed if and only if the fault is `Source`
 pub file_failed : (A : Type 0) (one one_now two two_now : ℕ) (fault : OfficeFault) → one_now ≡ one → CountsTaking {A = A} two two_now (Err fault)
     → FailsBy one one_now two two_now fault
@@ -152,8 +153,8 @@ file_failed A one one_now two two_now office.Memory same counted = (same, counte
 file_failed A one one_now two two_now office.Lapsed same counted = counted
 file_failed A one one_now two two_now office.Sink same counted = counted
 
--- suppose that the first source hasn't failed, and reading a state from the second ends with a
--- fault. Then one of the two sources has failed if and only if the fault is `Source`
+-- suppose that the first source hasn't failed, and reading a state from the second source ends with
+-- a fault. Then one of the two sources has failed if and only if the fault is `Source`
 pub state_failed : (one one_now two two_now : ℕ) (fault : OfficeFault) → one_now ≡ one → CountsWhy (why_unread fault) two two_now
     → FailsBy one one_now two two_now fault
 state_failed one one_now two two_now (office.File fault) same counted = elim counted [ ]

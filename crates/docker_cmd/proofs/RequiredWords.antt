@@ -51,7 +51,7 @@ abbrev pub Fresh : List Row → List Text → Type 0
 Fresh rows [] = Unit {0}
 Fresh rows (id ∷ ids) = (has_row id rows ≡ false) × ((word : Text) → Fresh (rows ++ row id word ∷ []) ids)
 
--- the rows of these words: each word is paired with its id, in order
+-- one row for each word, with the word's id, in order
 abbrev pub paired : List Text → List Text → List Row
 paired [] words = []
 paired (id ∷ ids) [] = []
@@ -77,8 +77,8 @@ used_new position id word rows fresh =
     ap (with_values id (reading_by (new_rule id)) CommandLine (word ∷ [])) (at_new id (λ _. []) [] rows fresh ∙ append-nil rows)
     ∙ at_new id (more_values CommandLine (word ∷ [])) (row id word ∷ []) rows fresh
 
--- at the end of `clap`'s walk over the words, a word that the walk still holds becomes a row, so
--- that the rows are `rows`, and no fault is found
+-- at the end of `clap`'s walk over the words, a word that the walk still holds becomes a row. The
+-- rows are then `rows`, and no fault is found
 record Settles (s : Shape) (h : Held) (rows : List Row) : Type 0 where
   rows_are : settled_rows s.rules h.pending h.rows ≡ rows
   no_fault : settle_fault s.rules s.args_override_self h ≡ []
@@ -158,8 +158,8 @@ words_fault s position (id ∷ ids) (word ∷ words) h rows stray fits fresh set
     ∙ words_fault s (next position) ids words (holding rows id word h.skip) (rows ++ row id word ∷ []) stray fits.2 (fresh.1 word)
     (settles_new s position id word rows h.skip fits.1 fresh.0) (both _ _ plain).1
 
--- at the end of `clap`'s walk over the words, the rows are the rows of these words, each paired
--- with its id
+-- at the end of `clap`'s walk over the words, there is one more row for each word, with the word's
+-- id
 words_held : (s : Shape) (position : ℕ) (ids words : List Text) (h : Held) (rows : List Row) → Fits s.rules position ids → Fresh rows ids
     → Settles s h rows → list_all is_plain_word words ≡ true → Settles s (fold (walked s.rules []) (at h position) words).held (rows ++ paired ids words)
 words_held s position [] [] h rows fits fresh settles plain = subst (Settles s h) (sym (append-nil rows)) settles
@@ -179,7 +179,7 @@ words_held s position (id ∷ ids) (word ∷ words) h rows fits fresh settles pl
 
 -- ---- the end of the walk
 
--- if both branches of a choice are the same rows, the choice equals these rows
+-- if both branches of `cond` are the same rows, its value is these rows
 same_rows : (id : Text) (rows : List Row) → cond (has_row id rows) rows rows ≡ rows
 same_rows id rows = go (has_row id rows)
   where
@@ -244,13 +244,12 @@ module _ (name : Text) (ids words : List Text) (fits : Fits (leaf name ids).rule
   end : Held
   end = (walk (leaf name ids).rules [] nothing_held words).held
 
-  -- after the last word, the rows are the rows of all words, each paired with its id
+  -- after the last word, there is one row for each word, with the word's id
   settles_end : Settles (leaf name ids) end (paired ids words)
   unfolding end
   settles_end = words_held (leaf name ids) 1 ids words nothing_held [] fits fresh (record { rows_are = refl; no_fault = refl }) plain
 
-  -- the rows that `clap` finds for the subcommand are the rows of the words, each paired with its
-  -- id
+  -- `clap` finds one row for each of the subcommand's words, with the word's id
   pub rows_found : rows_after (leaf name ids).rules [] words ≡ paired ids words
   unfolding end
   rows_found = ap (λ rows. fold with_default rows (leaf name ids).rules) settles_end.rows_are ∙ no_defaults 1 ids (paired ids words)

@@ -147,8 +147,8 @@ abbrev pub WantsForState : Format → DeviceBytes → DeviceBytes → Type 0
 WantsForState format old new = WantsMemory format most_at_once most_bytes old new
 
 -- memory ran out while these sources were read. If memory ran out for the first source, nothing of
--- the second was read. If memory ran out for the second source, the first source held a state. A
--- file that is only checked needs memory only before its first byte is read
+-- the second source was read. If memory ran out for the second source, the first source held a
+-- state. A file that is only checked needs memory only before its first byte is read
 abbrev pub WantsFor : Sources → DeviceBytes → DeviceBytes → DeviceBytes → DeviceBytes → Type 0
 WantsFor no_source old new second_old second_new = ⊥
 WantsFor checked_file old new second_old second_new = Reads old [] new
@@ -178,7 +178,7 @@ ReadsFewOfFirst state_and_file old new = ReadsFewOfState dks_2 old new
 ReadsFewOfFirst two_states old new = ReadsFewOfState dks_2 old new
 
 -- the second source was read no further than the piece that decides the result. If the first source
--- held no state, nothing of the second was read
+-- held no state, nothing of the second source was read
 abbrev pub ReadsFewOfSecond : Sources → DeviceBytes → DeviceBytes → DeviceBytes → Type 0
 ReadsFewOfSecond no_source first old new = new ≡ old
 ReadsFewOfSecond checked_file first old new = new ≡ old

@@ -100,7 +100,7 @@ is_writing verb = (row_of verb).writes
 unfoldable pub verb_named : Text → Option Verb
 verb_named name = find (λ verb. bytes_eq (name_of verb) name) verbs
 
--- the part of the usage line for these verbs
+-- the part of the usage line that shows these verbs and the words after them
 abbrev pub usages : List Verb → Text
 usages requests = with_bars (map (λ verb. usage_with (name_of verb) (row_of verb).ids) requests)
 

@@ -1,4 +1,4 @@
-//! A worked example of the contract of `serve`, over devices whose bytes contracts know.
+//! A worked example of the contract of `serve`, on devices whose bytes contracts know.
 ghost use Rattle.std.specs.Prelude.{◌≡◌, ◌⊎◌, IfOk, codes};
 ghost use Rattle.docker_desk.specs.Replies.{memory_answer};
 
@@ -11,7 +11,7 @@ use std::alloc::Global;
 /// The most bytes that the text of an empty state may have.
 const ROOM: usize = 100;
 
-/// Serves a session over a shelf, and returns the answer if the session ends with status 0, and
+/// Serves a session on a shelf, and returns the answer if the session ends with status 0, and
 /// `Memory` otherwise. The session has one word, `S`. The file `S` holds the text of the state that
 /// knows no files. The input is the one line `files`. The answer lists no files, unless memory ran
 /// out.

@@ -159,8 +159,8 @@ known_older known bytes state holds reads = record {
   is = state_held dks_1 known bytes state holds reads;
 }
 
--- if a state is the summary of what is known, each docker printed from the state is a docker of
--- what is known
+-- if a state is the summary of what is known, each docker printed from the state is made from what
+-- is known
 known_docker : (known : Known) (state : State) (place : List ℕ) (day : ℕ) (text : List ℕ) → IsKnown known state → ¬ IsDayRefused state.horizon day
     → IsOutputText (output_of (print_task place day)) (office_read state) text → PrintsKnown known place day text
 known_docker known state place day text is allowed text_is = record {

@@ -55,13 +55,13 @@ pub ends_unmade : (by : Drafting) (written : Written) (prepared : PreparedView) 
 ends_unmade by written prepared name is none kept =
     subst (λ (stored : Option Text). WritesPartTo stored by written prepared) (sym is) (inl none, kept)
 
--- if no draft was made because memory ran out, the writing ends with the fault `Memory`
+-- if no draft was made because memory ran out, writing the output ends with the fault `Memory`
 pub ends_wanting : (by : Drafting) (written : Written) (prepared : PreparedView) (name : Text) → stored_by prepared.job ≡ Some name
     → IsUndrafted name by.look written.before written.now → written.output_now ≡ written.output → EndsWriting by written prepared (Err office.Memory)
 ends_wanting by written prepared name is none kept =
     (subst (λ (stored : Option Text). WantsToWriteTo stored by written prepared) (sym is) none, kept)
 
--- if the draft failed and was discarded, the writing ends with the draft's fault
+-- if the draft failed and was discarded, writing the output ends with the draft's fault
 pub ends_dropped : (by : Drafting) (written : Written) (prepared : PreparedView) (name : Text) (fault : OfficeFault) → stored_by prepared.job ≡ Some name
     → fault ≡ office.Sink → IsDropped name by.look written.before written.now → written.output_now ≡ written.output
     → EndsWriting by written prepared (Err fault)
@@ -83,7 +83,7 @@ holds_gained : (names_bytes : Bool) (empty taken : Bytes) (text : List ℕ) → 
 holds_gained true empty taken text none gained = subst (λ (b : Bytes). Takes b text taken) none gained
 holds_gained false empty taken text none gained = subst (λ (b : Bytes). Takes b text taken) none gained
 
--- if the complete draft replaced its file, the writing succeeded
+-- if the complete draft replaced its file, writing the output succeeded
 pub ends_stored : (by : Drafting) (written : Written) (prepared : PreparedView) (name : Text) (middle : List Event) (empty taken : Bytes)
     → stored_by prepared.job ≡ Some name → empty ≡ named_if by.names_bytes [] → GainsOutput prepared empty taken
     → middle ≡ written.before ++ drafted name by.look ∷ [] → written.now ≡ middle ++ placed name taken ∷ []

@@ -175,7 +175,7 @@ pub one_version : (versions : List Version) (number another : ℕ) (text other :
 one_version versions number another text other known also are first second same =
     one_known_text known also text other (version_known versions number text known are first) (version_known versions another other also are second) same
 
--- a docker printed from a version is a docker of what the version knows
+-- a docker printed from a version is made from what the version knows
 pub version_printed : (versions : List Version) (number : ℕ) (version : List ℕ) (known : Known) → AreVersions versions
     → IsVersion versions number version known → (run : Run) (read : SourcesRead) (place : List ℕ) (day : ℕ) (words : List Text) (text : List ℕ)
     → Prints run (printing place day words) read text → read.first ≡ Some version → PrintsKnown known place day text

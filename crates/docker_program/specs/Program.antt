@@ -1,4 +1,4 @@
--- What the program does for its words, on its devices.
+-- What the program does when it is started with these words, and how its devices change.
 use Rattle.std.specs.Prelude.{◌≡◌, ◌≢◌, ◌↔◌, ℕ, ◌+◌, Bool, List, [], ◌∷◌, length, Option, Some, None, Result, Ok, Err, ◌⊎◌}
 use Rattle.docker_host.specs.History.{Bytes, Event}
 use Rattle.docker_host.specs.FaultSink.{FaultsView, TellsText, faults_of}

@@ -9,8 +9,8 @@ use Rattle.docker_cmd.specs.Prepared.{PreparedView, GainsOutput, GainsPart, IsOu
 use Rattle.docker_cmd.specs.Words.{Text}
 use Rattle.docker_program.specs.SourceNames.{stored_by}
 
--- the devices to which a job writes, before and after the writing: the bytes that the output device
--- has taken, and the folder's history
+-- the devices to which a job writes, before and after the job writes: the bytes that the output
+-- device has taken, and the folder's history
 pub record Written : Type 0 where
   pub output : Bytes
   pub output_now : Bytes

@@ -1,4 +1,4 @@
-//! The program `docker` over any devices: it reads the words, does the job that they name, and
+//! The program `docker` on any devices: it reads the words, does the job that they name, and
 //! reports how the job ended.
 #![tactic(auto)]
 
