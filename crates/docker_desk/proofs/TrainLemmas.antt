@@ -17,8 +17,8 @@ FoundCameFrom =
     (files : Files) (horizon : ℕ) (state : State) (uid : List ℕ) (day : ℕ) (found : Stamped) → IsSummary files horizon state
     → IsFoundFor state uid day (Some found) → CameFrom files found
 
--- if the files have a plain table and the day isn't before the horizon, the schedule that is found
--- in the files' summary, if any, is the schedule chosen from the plain table
+-- suppose that the files have a plain table and the day isn't before the horizon. If a schedule is
+-- found in the files' summary, it is the schedule chosen from the plain table
 abbrev pub FoundIsPlain : Type 0
 FoundIsPlain =
     (files : Files) (horizon : ℕ) (state : State) (table : Table) (uid : List ℕ) (day : ℕ) (found : Option Stamped) → IsSummary files horizon state

@@ -5,7 +5,7 @@ use Rattle.docker_host.specs.Shelf.{Texts, no_texts, with_text, after_event, aft
 use Rattle.docker_host.specs.Places.{texts_of, IsKept}
 use Rattle.docker_host.specs.declared.shelf.Place.{Place}
 
--- the files after a history with one more event are the files after the history, changed by this
+-- the files after a list of events and one more event are the files after the list, changed by this
 -- event
 pub after_events-append : (texts : Texts) (events : List Event) (event : Event)
     → after_events texts (events ++ event ∷ []) ≡ after_event (after_events texts events) event

@@ -11,7 +11,8 @@ use std::alloc::Global;
 use std::process::Abort;
 use test_records::printed::ASHFELD_0900;
 
-/// Runs the command with these words over sources with these two texts, and returns what it writes.
+/// Runs the command with these words on sources with these two texts, and returns what the command
+/// writes.
 pub(crate) fn written(
     rt: &impl Abort,
     alloc: Global,

@@ -21,7 +21,7 @@ pub(crate) fn text_of(rt: &impl Abort, alloc: Global, lines: &[&str]) -> Vec<u8>
     text
 }
 
-/// Lets an office take a file.
+/// Has an office take a file.
 pub(crate) fn take(rt: &impl Abort, alloc: Global, office: &mut Office, file: File) {
     let text = text_of(rt, alloc, file);
     let mut source = Bytes::new(text.as_slice(), 100);
@@ -37,7 +37,7 @@ pub(crate) fn office_of(rt: &impl Abort, alloc: Global, files: &[File]) -> Offic
     office
 }
 
-/// Lets an office receive the state of another office, which has taken this file.
+/// Has an office receive the state of another office, which has taken this file.
 fn receive_of(rt: &impl Abort, alloc: Global, office: &mut Office, file: File) {
     let mut other = Office::new(alloc);
     take(rt, alloc, &mut other, file);

@@ -40,8 +40,8 @@ fn taken(office: &mut Office, text: &[u8], limit: u16) -> Result<(), OfficeFault
     office.take(&mut Bytes::new(text, 9), u32::from(limit))
 }
 
-/// Asserts that an office that knows the revision refuses the file of this row, and that the office
-/// is then unchanged.
+/// Asserts that an office that knows the file `REVISION` refuses the file of this row, and that the
+/// office is then unchanged.
 fn is_refused(rt: &impl Abort, alloc: Global, office: &mut Office, row: &Row) {
     let (file, limit, number, cause) = *row;
     let text = text_of(rt, alloc, file);

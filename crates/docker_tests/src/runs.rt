@@ -67,7 +67,7 @@ fn office_at<'a>(rt: &impl Abort, left: &'a Exchange, office: usize) -> &'a Offi
     left.offices().get(office).expect(rt, "an office")
 }
 
-/// Asserts that an office prints this docker of Ashfeld on a day at the end of a run.
+/// Asserts that, at the end of a run, an office prints this docker of Ashfeld for a day.
 fn prints_there(
     rt: &impl Abort,
     alloc: Global,
@@ -261,7 +261,8 @@ macro_rules! up_to_loss {
     };
 }
 
-/// Returns the end of a run whose last event is a reload that loses the revision.
+/// Returns the end of a run whose last event is a reload that loses the revision of the morning
+/// train.
 fn lost_left(rt: &impl Abort, alloc: Global) -> Exchange {
     let text = text_of(rt, alloc, MORNING);
     let revision = text_of(rt, alloc, REVISION);
@@ -269,8 +270,8 @@ fn lost_left(rt: &impl Abort, alloc: Global) -> Exchange {
     left_by(rt, alloc, 1, events)
 }
 
-/// Returns the end of a run in which a message with the revision is delivered to the office after
-/// the reload.
+/// Returns the end of a run in which a message with the revision of the morning train is delivered
+/// to the office after the reload.
 fn found_left(rt: &impl Abort, alloc: Global) -> Exchange {
     let text = text_of(rt, alloc, MORNING);
     let revision = text_of(rt, alloc, REVISION);

@@ -110,7 +110,7 @@ pub(crate) const OLD_STATE: Parts = train_after!(OLD_MARK, ONE, ITEM, ONE);
 /// 67 bytes.
 pub(crate) const LAPSED_STATE: Parts = &[MARK_15, ONE, ITEM, ONE, ENTRY, PASSED];
 
-/// The state of an office that knows only the revision: 311 bytes.
+/// The state of an office that knows only the revision of the morning train: 311 bytes.
 pub(crate) const REVISION_STATE: Parts = &[
     MARK,
     ONE,
@@ -207,7 +207,7 @@ pub(crate) const LONGER_STATE: Parts = &[
 ];
 
 /// The state of an office that knows two files with equal stamps. The state has the greater of the
-/// two entries: the entry of the train with the greater bytes. It has 311 bytes.
+/// two entries: the entry whose body has the greater bytes. It has 311 bytes.
 pub(crate) const LATER_STATE: Parts = &[
     MARK,
     ONE,

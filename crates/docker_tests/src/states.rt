@@ -92,8 +92,8 @@ const LISTS: &[(&[File], &str)] = &[
     (&[EARLY], "2000-01-01 0307 DFROC1A U DFROC1Z\n"),
 ];
 
-/// Asserts the list of an office that has taken these files, and the list of an office with only
-/// its ledger.
+/// Asserts which list of files an office writes after it has taken these files. An office with only
+/// the ledger must write the same list.
 fn lists(rt: &impl Abort, alloc: Global, files: &[File], wanted: &str) {
     let office = office_of(rt, alloc, files);
     let mut text = Kept::new(alloc, 100).expect(rt, "room");
@@ -123,7 +123,7 @@ fn is_taken(rt: &impl Abort, alloc: Global, text: &[u8], step: usize)
     has(rt, alloc, &office, MORNING_STATE);
 }
 
-/// Returns the text of the morning train, with a carriage return before each line feed.
+/// Returns the text of the file `MORNING`, with a carriage return before each line feed.
 fn text_of_returns(rt: &impl Abort, alloc: Global) -> Vec<u8> {
     let mut returns = Vec::new(alloc);
     for record in MORNING {

@@ -26,7 +26,7 @@ const OLD: &[u8] = b"DKS1\0\0\0\0\0\0\0\x01\x5b\xf0\x04\xecDFROC1AUDFROC1Z\0\0\0
 const RAISED: &[u8] =
     b"DKS2\x5b\xf6\0\0\0\0\0\0\0\x01\x5b\xf0\x04\xecDFROC1AUDFROC1Z\0\0\0\0\0\0\0\0";
 
-/// Asserts what the command with these words writes over sources with these two texts.
+/// Asserts what the command with these words writes if its sources have these two texts.
 fn writes(
     rt: &impl Abort,
     alloc: Global,
