@@ -1,4 +1,4 @@
--- Notes of earlier rows stay right when more rows are noted, and each row's piece has the numbers of the row's places.
+-- Notes of earlier rows stay correct when more rows are noted, and each row's piece has the numbers of the row's places.
 use Rattle.std.proofs.Common.{◌≡◌, ℕ, zero, suc, ◌+◌, ◌-◌, ◌≤◌, ◌<◌, List, [], ◌∷◌, ◌++◌, map, take, drop, length, get_or, refl}
 use Rattle.std.proofs.Common.{ap, sym, ◌∙◌, subst, Bool, true, false, cond, Some, None, inl, inr, ◌⊎◌, arith, append-nil}
 use Rattle.std.specs.Prelude.{slice_get, min}
@@ -20,7 +20,7 @@ none_some a h = cc
 some_is : {A : Type 0} (a b : A) → Some a ≡ Some b → a ≡ b
 some_is a b h = cc
 
--- ---- the notes of earlier rows stay right
+-- ---- the notes of earlier rows stay correct
 
 -- appending an element to a list keeps the other elements at their indexes
 pub pushed_keeps : {A : Type 0} (xs : List A) (x : A) (ys : List A) → ys ≡ xs ++ x ∷ [] → Keeps xs ys
@@ -45,8 +45,7 @@ keeps_len [] ys keeps = omega arith
 keeps_len (x ∷ xs) [] keeps = absurd (none_some x (keeps 0 x refl))
 keeps_len (x ∷ xs) (y ∷ ys) keeps = let rest = keeps_len xs ys (λ i z is. keeps (suc i) z is) in omega arith
 
--- a part of a list is unchanged in any list that keeps the elements of the first list at their
--- indexes
+-- consecutive elements of a list are the same in any other list that has each element of this list at the same index
 part_kept : (f n : ℕ) (xs ys : List ℕ) → Keeps xs ys → f + n ≤ length xs → take n (drop f ys) ≡ take n (drop f xs)
 part_kept zero zero xs ys keeps within = refl
 part_kept zero (suc n) [] ys keeps within = absurd (omega arith)
@@ -59,7 +58,8 @@ part_kept (suc f) n [] ys keeps within = absurd (omega arith)
 part_kept (suc f) n (x ∷ xs) [] keeps within = absurd (none_some x (keeps 0 x refl))
 part_kept (suc f) n (x ∷ xs) (y ∷ ys) keeps within = part_kept f n xs ys (λ i z is. keeps (suc i) z is) (omega arith)
 
--- numbers that are indexes of places in a list are indexes of the same places in any list that keeps the elements of the first list at their indexes
+-- if numbers are the indexes of places in a list, they are also the indexes of these places in any other list that has each element of this list at the same
+-- index
 pub ranks_kept : (old new : List (List ℕ)) → Keeps old new → (places : List (List ℕ)) (numbers : List ℕ) → AreRanks old places numbers
     → AreRanks new places numbers
 ranks_kept old new keeps [] [] are = refl
@@ -123,7 +123,7 @@ row_noted old new item piece keeps kept next pushed items has = record {
       );
 }
 
--- if no piece is added, the notes stay right for the same rows, although places and numbers may have been added
+-- if no piece is added, the notes stay correct for the same rows, although places and numbers may have been added
 pub none_noted : (old new : Notes) → Keeps old.names.list.items new.names.list.items → Keeps old.numbers.items new.numbers.items
     → new.pieces.items ≡ old.pieces.items → (items : List Item) → HasNoted items old → HasNoted items new
 none_noted old new keeps kept same items has = record {

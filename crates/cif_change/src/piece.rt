@@ -1,13 +1,14 @@
-//! The piece of the list of all numbers that belongs to one row.
+//! A row's piece of the list that holds the numbers of all places that rows name.
 ghost use Rattle.std.specs.Prelude.{◌≡◌, false, drop, take};
 ghost use Rattle.cif_change.specs.Noted.{numbers_of};
 
-/// The piece of the list of all numbers that belongs to one row. Its numbers are the numbers of the
-/// places where a schedule calls, or of the one place where an association links two trains.
+/// A row's piece of the list of all place numbers. The number of a place is its index in the list
+/// of places. The piece has the numbers of the places where a schedule calls, or the number of the
+/// one place where an association links two trains.
 #[derive(Clone, Copy, Debug, PartialEq, Eq, PartialOrd, Ord)]
 pub struct Piece {
-    /// Whether the row is an association. The number of an association is a link, and the numbers
-    /// of a schedule are calls.
+    /// Whether the row is an association. The number in the piece of an association is called a
+    /// link, and the numbers in the piece of a schedule are called calls.
     pub is_link: bool,
     /// The index of the row's first number.
     pub from: u32,

@@ -60,7 +60,7 @@ one_more_is_other before after same more = grind (arith, common_steps)
 false_is_not_true : false ≢ true
 false_is_not_true is = cc
 
--- if a failure count is unchanged on success and rises by one with an error, `CountsFailure` holds
+-- if a failure count is unchanged on success and rises by one on an error, `CountsFailure` holds
 pub counts_error : {A E : Type 0} (result : Result A E) (before after : ℕ) →
     OnOk result (after ≡ before) → OnErr result (after ≡ before + 1) → CountsFailure (IsErr result) before after
 counts_error (Ok value) before after same more =
@@ -72,7 +72,7 @@ pub same_if_ok : {A E : Type 0} (result : Result A E) (before after : ℕ) → C
 same_if_ok (Ok value) before after counted = counted.1 false_is_not_true
 same_if_ok (Err fault) before after counted = tt
 
--- if `CountsFailure` holds, the failure count rises by one with an error
+-- if `CountsFailure` holds, the failure count rises by one on an error
 pub one_more_if_err : {A E : Type 0} (result : Result A E) (before after : ℕ) → CountsFailure (IsErr result) before after → OnErr result (after ≡ before + 1)
 one_more_if_err (Ok value) before after counted = tt
 one_more_if_err (Err fault) before after counted = counted.0.0 refl

@@ -13,11 +13,9 @@ abbrev pub IsEnd : Option (List ℕ) → Type 0
 IsEnd None = ⊤
 IsEnd (Some left) = left ≡ []
 
--- the two flags of a source are right after a successful read of `n` bytes into a buffer of `room`
--- bytes. The flag `ended` says that the source has reported its end. A read of no bytes into a
--- buffer with room sets `ended`, and a read of at least one byte leaves it unchanged. The flag
--- `passed` says that the source was read after it had reported its end. A read after the end was
--- reported sets `passed`, and any other read leaves it unchanged
+-- a successful read of `n` bytes into a buffer of `room` bytes changed the two flags of a source correctly. The flag `ended` says that the source has reported
+-- its end. A read of no bytes into a buffer with room sets `ended`, and a read of at least one byte leaves it unchanged. The flag `passed` says that the source
+-- was read after it had reported its end. A read after the end was reported sets `passed`, and any other read leaves it unchanged
 abbrev pub Ends : ℕ → ℕ → Bool → Bool → Bool → Bool → Type 0
 Ends n room ended now_ended passed now_passed = (n ≡ 0 → 0 < room → now_ended ≡ true)
     × (0 < n → now_ended ≡ ended)

@@ -159,8 +159,7 @@ anew_by_unit line begins = by (follows_basic (kind_of line)) refl
     by false h = h
     by true h = let bad : false ≡ true = (λ i. is_some (sym (no_unit_by_kind (kind_of line) line h) i)) ∙ begins in cc
 
--- after whole units, if a record begins a unit and has good fields, the record's kind determines
--- the reader's place after it
+-- after whole units, if a record begins a unit and has good fields, the record's kind determines how far the reader has come after it
 pub place_over : {K : Type 0} (keeps : Keeps K) (front : Front K) (records : Lines) (line : List ℕ) (next : Place) → (over : IsOver keeps front records)
     → IsRecord line → HasGoodFields line
     → unit_by_kind (kind_of line) line ≡ Some next
@@ -686,7 +685,7 @@ not_whole keeps front opened records line kind has at open_end is known stops =
     none_stage true o h = h
     none_stage false o h = refl
 
--- a record of a kind that comes within a schedule may not come next if this schedule can't continue with it
+-- a record of a kind that comes within a schedule may not come next if the schedule that is being read can't continue with it
 pub bad_line : {K : Type 0} (keeps : Keeps K) (wants : Type 0) (front : Front K) (opened : Opened) (records : Lines) (line : List ℕ)
     (cause : Option fault.FileCause) → HasRecords keeps front records
     → front.stage ≡ InSchedule opened → IsRecord line

@@ -140,7 +140,7 @@ refused_long limit records fault next = record {
   cause = next.is ∙ some_cause (nat_le limit (length records)) (is_after_end next.place) too_many after_trailer bad_length;
 }
 
--- if a record within the limit may not come next, the cause for that is a right cause for refusing its line
+-- if a record within the limit may not come next, the cause for which it may not come next is a correct cause for refusing its line
 pub front_cause : (wants : Type 0) (limit : ℕ) (records : Lines) (line : List ℕ) (cause : FileCause) → length records < limit
     → IsNoNextCause wants records line (cause_meant cause)
     → IsCauseAfter wants limit records line (cause_meant cause)
@@ -248,14 +248,14 @@ counted_open : {K : Type 0} (keeps : Keeps K) (records : Records K) (limit : ℕ
     → HasCounted keeps records limit (complete_lines text ++ strip_carriage_return (open_line text) ∷ []) → HasCounted keeps records limit (lines_of text)
 counted_open keeps records limit text some counted = subst (HasCounted keeps records limit) (sym (lines_of_open text some)) counted
 
--- if no line is open at the end, all lines of the text were taken
+-- if the text doesn't end in an unfinished line, all lines of the text were taken
 pub counted_ended : {K : Type 0} (keeps : Keeps K) (reading : FileReading K) (limit : ℕ) (text : List ℕ) → IsReading keeps reading limit text
     → reading.partial.items ≡ []
     → HasCounted keeps reading.records limit (lines_of text)
 counted_ended keeps reading limit text is none =
     subst (HasCounted keeps reading.records limit) (sym (lines_of_ended text (sym is.partial_is ∙ none))) is.counted
 
--- a fault of the line that is open at the end is a fault of the text
+-- a fault of the unfinished line at the end is a fault of the text
 pub end_fault : {K : Type 0} (keeps : Keeps K) (wants : Type 0) (reading : FileReading K) (limit : ℕ) (text : List ℕ) (fault : FileFault)
     → IsReading keeps reading limit text → 0 < length (open_line text)
     → IsFaultNext wants limit (complete_lines text) (strip_carriage_return (open_line text)) fault → IsRefused limit text fault
@@ -354,7 +354,7 @@ refused_within keeps records limit taken cause fault ended counted number within
 
 -- ---- the bytes of a line that ends
 
--- if the bytes before a line feed don't fit after the bytes kept, the line has more than 81 bytes
+-- if the bytes before a line feed don't fit after the stored bytes of the line, the line has more than 81 bytes
 pub ended_many : {K : Type 0} (keeps : Keeps K) (old : FileReading K) (limit : ℕ) (text front : List ℕ) → IsReading keeps old limit text
     → ¬ (length old.partial.items + length front ≤ 81)
     → 82 ≤ length (open_line text ++ front)
@@ -363,7 +363,7 @@ ended_many keeps old limit text front reading many =
     let size = length-append (open_line text) front in
     above 81 (length (open_line text ++ front)) (λ few. many (omega arith))
 
--- the bytes kept, followed by the bytes before the line feed, are the line that ends there
+-- the stored bytes of a line, followed by the bytes before the line feed, are the line that ends there
 pub taken_is : {K : Type 0} (keeps : Keeps K) (old : FileReading K) (limit : ℕ) (text front raw line : List ℕ) → IsReading keeps old limit text
     → raw ≡ old.partial.items ++ front
     → line ≡ strip_carriage_return raw
@@ -395,7 +395,7 @@ empty_is old none = by old.partial.items (eqb-true (length old.partial.items) 0 
     by [] h = refl
     by (byte ∷ bytes) h = absurd (omega arith)
 
--- if the parser holds bytes of a line that hasn't ended, the text ends in an open line
+-- if the parser holds bytes of a line that hasn't ended, the text ends in an unfinished line
 pub some_is_open : {K : Type 0} (keeps : Keeps K) (old : FileReading K) (limit : ℕ) (text : List ℕ) → IsReading keeps old limit text
     → false ≡ (length old.partial.items == 0)
     → 0 < length (open_line text)
@@ -404,7 +404,7 @@ some_is_open keeps old limit text reading some =
     let not_none = eqb-false (length old.partial.items) 0 (sym some) in
     above 0 (length (open_line text)) (λ none. not_none (omega (arith, size)))
 
--- at the end of the text, the open line was taken as the last line
+-- at the end of the text, the unfinished line was taken as the last line
 pub counted_last : {K : Type 0} (keeps : Keeps K) (old : FileReading K) (records : Records K) (limit : ℕ) (text raw line : List ℕ)
     → IsReading keeps old limit text
     → false ≡ (length old.partial.items == 0) → raw ≡ old.partial.items
@@ -415,7 +415,7 @@ counted_last keeps old records limit text raw line reading some same strip count
 
 -- ---- cutting bytes at a line feed
 
--- a search by index and a search with the length as default find the same first line feed
+-- `position` and `position_or_len` find the same first line feed
 feed_place : (text : List ℕ) (end : ℕ) → position (λ b. b == 10) text ≡ Some end → position_or_len (λ b. b == 10) text ≡ end
 feed_place text end found =
     let at = position-Some (λ b. b == 10) text end 0 found in
@@ -449,7 +449,7 @@ no_feed_by text none = λ k d below.
     let past = no_place (position_or_len (λ b. b == 10) text) (length text) _ refl none in
     fails_before_first (λ b. b == 10) text k d (omega arith)
 
--- taking bytes from the rest of a piece appends them to the front of the piece
+-- let a piece be cut into bytes that were taken and a rest. Taking more bytes from the rest appends them to the bytes that were taken
 cut_more : (piece rest front behind : List ℕ) → before_rest piece rest ++ rest ≡ piece → rest ≡ front ++ behind
     → (before_rest piece behind ≡ before_rest piece rest ++ front) × (before_rest piece behind ++ behind ≡ piece)
 cut_more piece rest front behind whole cut =
@@ -461,7 +461,7 @@ cut_more piece rest front behind whole cut =
     let same : before_rest piece behind ≡ done = (λ i. take (count i) (sym all i)) ∙ take-append_seam done behind in
     (same, ap (λ l. l ++ behind) same ∙ all)
 
--- at first the front of a piece is empty, and the rest is the whole piece
+-- before any byte of a piece is taken, the list of bytes taken is empty, and the rest is the whole piece
 cut_first : (piece : List ℕ) → (before_rest piece piece ≡ []) × (before_rest piece piece ++ piece ≡ piece)
 cut_first piece =
     let none : length piece - length piece ≡ 0 = omega arith in
@@ -508,7 +508,7 @@ pub takes_line : (before middle next : Told) (text rest front behind : List ℕ)
 takes_line before middle next text rest front behind up_to cut on =
     takes_further before middle next text rest (front ++ 10 ∷ []) behind up_to (cut_whole rest front behind cut) on
 
--- if the rest is taken in two steps, what is left after both is still to be taken
+-- if the rest is taken in two steps, the bytes left after both steps are still to be taken
 pub takes_more : (before middle after : Told) (text rest left : List ℕ) → TakesUpTo before text rest middle → TakesUpTo middle rest left after
     → TakesUpTo before text left after
 takes_more before middle after text rest left up_to more =
@@ -572,12 +572,12 @@ later_than : {K : Type 0} (keeps : Keeps K) (reading : FileReading K) (limit : �
     → sure_lines text < fault.number
 later_than keeps reading limit text fault is number = let same = sure_lines_short text is.short in omega arith
 
--- a fault has the cause `Memory` only if `wants` holds
+-- a fault has the cause `Memory` only if `wants` holds, which says that the keeper may run out of memory
 wants_of : (wants : Type 0) (limit : ℕ) (records : Lines) (line : List ℕ) (fault : FileFault) → IsFaultNext wants limit records line fault
     → fault.cause ≡ Memory → wants
 wants_of wants limit records line fault next memory = (subst (λ cause. IsCauseAfter wants limit records line (cause_meant cause)) memory next.cause).0
 
--- if the definitions have the cause of a fault, this cause isn't `Memory`
+-- if the cause of a fault is one of the definitions' causes, it isn't `Memory`
 no_want : (wants : Type 0) (fault : FileFault) (cause : model.FileCause) → cause_meant fault.cause ≡ Some cause → fault.cause ≡ Memory → wants
 no_want wants fault cause told memory = let bad : ◌≡◌ {A = Option model.FileCause} None (Some cause) = sym (ap cause_meant memory) ∙ told in absurd cc
 
@@ -600,7 +600,7 @@ later_long keeps wants reading fault told = λ limit text is.
 later_front : (text more : List ℕ) (fault : FileFault) → sure_lines (text ++ more) < fault.number → sure_lines text < fault.number
 later_front text more fault later = let grown = sure_lines_grow text more in omega arith
 
--- a fault that comes after all complete lines that were read comes after all complete lines that were read earlier
+-- a fault that comes after all complete lines read up to the end of a piece also comes after all complete lines read before this piece
 pub later_piece : {K : Type 0} (keeps : Keeps K) (wants : Type 0) (old new : FileReading K) (front : List ℕ) (fault : FileFault)
     → GoesOn (IsReading keeps old) front (IsReading keeps new) → IsLater keeps wants new fault
     → IsLater keeps wants old fault
@@ -624,7 +624,7 @@ pub last_end : {K : Type 0} (keeps : Keeps K) (reading : FileReading K) (fault :
 last_end keeps reading fault told = λ memory limit text is.
     let bad : ◌≡◌ {A = Option model.FileCause} None (Some no_end) = sym (ap cause_meant memory) ∙ (told limit text is).1 in absurd cc
 
--- if memory ran out at the line that is open at the end, it ran out at the last record of the text
+-- if memory ran out at the unfinished line at the end, it ran out at the last record of the text
 pub last_open : {K : Type 0} (keeps : Keeps K) (wants : Type 0) (reading : FileReading K) (line : List ℕ) (fault : FileFault)
     → false ≡ (length reading.partial.items == 0) → FaultsNext keeps wants reading.records line fault
     → IsLast keeps reading fault

@@ -8,7 +8,7 @@ use Rattle.cif_file.specs.ParserRead.{ParserState, HasRead, IsFaultReported, IsR
 use Rattle.cif_file.proofs.ParserLemmas.{told_stays, told_refused}
 
 module _ {X : Type 0} (f : X → List ℕ) where
-  -- joining one more piece appends it to the text of the pieces before
+  -- the text of the first `i + 1` pieces is the text of the first `i` pieces, followed by the next piece
   pub joined_more : (pieces : List X) (i : ℕ) (d : X) → i < length pieces
       → concat (map f (take (i + 1) pieces)) ≡ concat (map f (take i pieces)) ++ f (get_or pieces i d)
   joined_more pieces i d below =
@@ -27,7 +27,7 @@ module _ {X : Type 0} (f : X → List ℕ) where
       → HasRead parser limit (concat (map f pieces))
   read_all parser limit pieces i past read = subst (λ all. HasRead parser limit (concat (map f all))) (take_all i pieces past) read
 
-  -- a fault of the text up to one of the pieces is a fault of the text of all pieces
+  -- a fault of the text up to and including one of the pieces is a fault of the text of all pieces
   pub refused_front : (limit : ℕ) (pieces : List X) (i : ℕ) (d : X) (fault : FileFault) → i < length pieces
       → IsFaultReported limit (concat (map f (take i pieces)) ++ f (get_or pieces i d)) fault
       → IsRefused limit (concat (map f pieces)) fault

@@ -43,8 +43,7 @@ takes_more keeps before after piece (Ok done) read = λ limit text has.
     record { read = more; few = has.few; sound = reading_tells_none keeps after limit (text ++ piece) more }
 takes_more keeps before after piece (Err fault) read = tt
 
--- the fault that the parser returns for a piece is a fault of the earlier text followed by the
--- piece
+-- the fault that the parser returns for a piece is a fault of the text taken before, followed by the piece
 pub refuses_more : {K : Type 0} (keeps : Keeps K) (wants : Type 0) (before : FileReading K) (piece : List ℕ) {A : Type 0} (result : Result A FileFault)
     → IfErr result (TellsFault (IsReading keeps before) piece) → IfErr result (IsLater keeps wants before)
     → IfErr result (λ fault. AfterEach (TakesFile keeps) before (λ limit text. RefusesPiece wants limit text piece fault))
@@ -69,7 +68,7 @@ held_all (Some told) (Some rest) text lost end =
     let same : told ≡ text ++ rest = cc in
     same ∙ ap (λ r. text ++ r) end ∙ append-nil text
 
--- what the parser returns at the end of the source is right for the text that the source held
+-- what the parser returns at the end of the source is correct for the text that the source held
 pub file_read : {K : Type 0} (keeps : Keeps K) (limit count : ℕ) (initial now : Option (List ℕ)) (reading : FileReading K) (result : Result (Ended K) ReadFault)
     → HasFed (TakesFile keeps) count limit [] initial now reading → IsEnd now → IfOk result (EndsBy keeps reading)
     → IfOk result (ReadsEnded keeps limit initial)
@@ -224,7 +223,7 @@ wants_before keeps wants limit initial next reading fault result has file is =
 
 -- ---- out of memory
 
--- if results with two faults are equal, results of another type with these faults are equal too
+-- if two faults are equal as results of one type, they are equal as results of any other type
 same_fault : {A B : Type 0} (fault told : ReadFault) → ◌≡◌ {A = Result A ReadFault} (Err fault) (Err told) → ◌≡◌ {A = Result B ReadFault} (Err fault) (Err told)
 same_fault fault told is = let same : fault ≡ told = cc in ap Err same
 

@@ -71,7 +71,7 @@ begins_at text line rest begins =
     let second : drop 80 text ≡ begins.after = (λ i. drop (sym size i) (begins.whole i)) ∙ drop-append_seam line begins.after in
     (subst (λ l. BeginsWithEnd l rest) (sym second) begins.ended, omega arith)
 
--- conversely, if a line end follows the first 80 bytes of a text, it begins with a line of 80 bytes
+-- conversely, if a line end follows the first 80 bytes of a text, the text begins with a line of 80 bytes
 pub begins_with : (text rest : List ℕ) → 80 ≤ length text → BeginsWithEnd (drop 80 text) rest → BeginsWithEighty text (take 80 text) rest
 begins_with text rest some ended = record {
   eighty = length-take-le 80 text some;

@@ -20,7 +20,7 @@ module _ {P : Type 0} (place : List ℕ) (day : ℕ) where
       → IsOfRecords (thin_ended ended).file records
   file_of records ended is = record { header_is = is.header_is; count_is = is.count_is; changes_are = is.kept.so_far }
 
-  -- the changes that were kept are enough for the place and the day
+  -- the changes that were kept are a thinning of the file's changes for the place and the day
   enough_of : (records : List (List ℕ)) (ended : Ended (ThinSoFar P)) → IsEnded (KeepsThin place day) records ended
       → IsThinning ended.keeper.thinned.place ended.keeper.thinned.day ended.keeper.so_far.changes (thin_ended ended).kept
   enough_of records ended is =

@@ -64,7 +64,7 @@ keys_of_more old new added kept more known change among key same = by (Contains-
     by (inr last) =
         has_added old new added.key key more (same ∙ sym (ap (λ (c : Change). c.key) (Contains-single (change_meant added) change last)))
 
--- before the first change, keeping nothing is enough
+-- before the first change, no change has to be kept: the empty list is a thinning of the empty list
 pub none_thinned : (place : List ℕ) (day : ℕ) (thinned : Thinned) → thinned.place ≡ place → thinned.day ≡ day → HasMade thinned.made []
     → HasThinned place day thinned []
 none_thinned place day thinned there dated made = record {
@@ -176,11 +176,11 @@ deletion_kept place day whole number key numbered named deletes = λ i. record {
 -- ---- the changes of a record that is a unit by itself
 
 module _ (place : List ℕ) (day : ℕ) (old new : Thinned) (first : Option code.Change) (last : Change) where
-  -- if a record makes one change, receiving this change receives all its changes
+  -- if a record makes one change, a `Thinned` that has received this change has received all changes of the record
   pub one_taken : first ≡ None → Thins place day old last new → ThinsAll place day old (listed_after first last) new
   one_taken none thins = subst (λ f. ThinsAll place day old (listed_after f last) new) (sym none) thins
 
-  -- if a record makes two changes, receiving one after the other receives all its changes
+  -- if a record makes two changes, a `Thinned` that has received one after the other has received all changes of the record
   pub two_taken : (change : code.Change) (between : Thinned) → first ≡ Some change → Thins place day old (change_meant change) between
       → Thins place day between last new → ThinsAll place day old (listed_after first last) new
   two_taken change between some takes thins =
@@ -190,13 +190,13 @@ module _ (place : List ℕ) (day : ℕ) (old new : Thinned) (first : Option code
 
 -- ---- flags
 
--- if `a || not b` passes, `a` passes or `b` fails
+-- if the flag `a || not b` is true, `a` is true or `b` is false
 pub either : (a b : Bool) → (a || not b) ≡ true → (a ≡ true) ⊎ (b ≡ false)
 either true b h = inl refl
 either false false h = inr refl
 either false true h = absurd cc
 
--- if `a || not b` fails, `a` fails and `b` passes
+-- if the flag `a || not b` is false, `a` is false and `b` is true
 pub neither : (a b : Bool) → (a || not b) ≡ false → (a ≡ false) × (b ≡ true)
 neither true b h = absurd cc
 neither false false h = absurd cc

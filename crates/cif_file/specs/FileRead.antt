@@ -31,14 +31,13 @@ pub record FileCounted : Type 0 where
   pub record_count : ℕ
   pub change_count : ℕ
 
--- Says that a file's header and its two counts are right for these records.
+-- Says that a file's header and its two counts are correct for these records.
 pub record IsCountOfRecords (count : FileCounted) (records : List (List ℕ)) : Type 0 where
   pub header_is : count.header_line ≡ slice_index_or records 0 []
   pub count_is : count.record_count ≡ length records
   pub changes_are : count.change_count ≡ length (changes records)
 
--- Says that the header and the counts are right for the records of a CIF file, and that there are
--- at most `most_records` of these records.
+-- Says that the header and the counts are correct for the records of a CIF file, and that there are at most `most_records` of these records.
 pub record IsCounted (count : FileCounted) : Type 0 where
   pub records : List (List ℕ)
   pub of_records : IsCountOfRecords count records

@@ -12,13 +12,12 @@ use Rattle.cif_file.specs.FileRead.{FileRead, IsRead}
 abbrev pub AreNotesOf : List Change → Option Notes → Type 0
 AreNotesOf changes notes = IfSome notes (HasNoted (items_put changes))
 
--- Says that a `Made` has exactly these changes and that its notes, if it has any, are right for the
--- changes.
+-- Says that a `Made` has exactly these changes and that its notes, if it has any, are correct for the changes.
 pub record HasMade (made : Made) (changes : List Change) : Type 0 where
   pub changes_are : map change_meant made.changes.items ≡ changes
   pub noted : AreNotesOf changes made.notes
 
--- Says that these changes were appended to the earlier changes.
+-- Says that these changes were appended to the changes that the `Made` had before.
 abbrev pub Makes : Made → List Change → Made → Type 0
 Makes old more new = (before : List Change) → HasMade old before → HasMade new (before ++ more)
 
@@ -30,8 +29,7 @@ file_of_parts parts = record {
   changes_made = map change_meant parts.changes.items;
 }
 
--- Says that these are the parts of a file that was read and that the notes, if there are any, are
--- right for the file's changes.
+-- Says that these are the parts of a file that was read and that the notes, if there are any, are correct for the file's changes.
 pub record ArePartsOfFile (parts : FileParts) : Type 0 where
   pub read : IsRead (file_of_parts parts)
   pub noted : AreNotesOf (map change_meant parts.changes.items) parts.notes

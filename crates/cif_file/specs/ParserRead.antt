@@ -49,8 +49,7 @@ abbrev pub IsCauseAfter : Type 0 → ℕ → Lines → List ℕ → Option model
 IsCauseAfter wants limit records line None = wants × (length records < limit) × GoesOnWith records line
 IsCauseAfter wants limit records line (Some cause) = IsCauseNext limit records line cause
 
--- Says that this is a fault of the line that follows these records: it gives the line's number and
--- a right cause.
+-- Says that this is a fault of the line that follows these records: it gives the line's number and a correct cause.
 pub record IsFaultNext (wants : Type 0) (limit : ℕ) (records : Lines) (line : List ℕ) (fault : FileFault) : Type 0 where
   pub number : fault.number ≡ length records + 1
   pub cause : IsCauseAfter wants limit records line (cause_meant fault.cause)
@@ -80,8 +79,7 @@ pub record IsRefusedNext (limit : ℕ) (records : Lines) (cause : Option model.F
 abbrev pub IsNoEndOf : Lines → FileFault → Type 0
 IsNoEndOf records fault = (fault.number ≡ length records + 1) × (cause_meant fault.cause ≡ Some no_end) × (¬ IsFile records)
 
--- Says that this is a right cause for refusing the line after any records that the reader may have
--- taken, if the limit allows one more record.
+-- Says that this is a correct cause for refusing the line after any records that the reader may have taken, if the limit allows one more record.
 abbrev pub RefusesWithin : {K : Type 0} → Keeps K → Type 0 → Front K → List ℕ → FileCause → Type 0
 RefusesWithin keeps wants front line cause =
     (limit : ℕ) (records : Lines) → HasRecords keeps front records → length records < limit → IsCauseAfter wants limit records line (cause_meant cause)
@@ -217,8 +215,7 @@ NamesLast parser fault =
 
 -- ---- for any text that may have been taken, under any limit on records
 
--- Says that these bytes were taken after the earlier text: if `before` holds of a text, `after`
--- holds of the text with these bytes appended.
+-- Says that these bytes were taken after any text that was taken before: if `before` holds of a text, `after` holds of the text with these bytes appended.
 abbrev pub GoesOn : (ℕ → List ℕ → Type 0) → List ℕ → (ℕ → List ℕ → Type 0) → Type 0
 GoesOn before bytes after = (limit : ℕ) (text : List ℕ) → before limit text → after limit (text ++ bytes)
 
@@ -227,11 +224,11 @@ pub record TakesUpTo (before : ℕ → List ℕ → Type 0) (text rest : List �
   pub whole : before_rest text rest ++ rest ≡ text
   pub read : GoesOn before (before_rest text rest) after
 
--- Says that this is the fault of the earlier text with these bytes appended.
+-- Says that if `before` holds of a text, this is the fault of the text with these bytes appended.
 abbrev pub TellsFault : (ℕ → List ℕ → Type 0) → List ℕ → FileFault → Type 0
 TellsFault before bytes fault = (limit : ℕ) (text : List ℕ) → before limit text → IsFaultReported limit (text ++ bytes) fault
 
--- Says that the earlier text with these bytes appended has no fault.
+-- Says that if `before` holds of a text, the text with these bytes appended has no fault.
 abbrev pub TellsNoFault : (ℕ → List ℕ → Type 0) → List ℕ → Type 0
 TellsNoFault before bytes =
     (limit : ℕ) (text : List ℕ) → before limit text → (fault : model.FileFault) → ¬ IsFaultSoFar limit (text ++ bytes) fault

@@ -27,8 +27,8 @@ abbrev pub header_of : Lines → Option (List ℕ)
 header_of [] = None
 header_of (first ∷ records) = Some first
 
--- Says that the reader is inside this schedule. The records end with the schedule's lines, which
--- the keeper holds, and the changes of all earlier records were made.
+-- Says that the reader is inside this schedule. The records end with the schedule's lines, which the keeper holds, and the changes of all records before these
+-- lines were made.
 pub record IsOpen {K : Type 0} (keeps : Keeps K) (opened : Opened) (keeper : K) (place : law.Place) (records : Lines) : Type 0 where
   pub stage : Stage
   pub lines : Lines
@@ -41,9 +41,8 @@ pub record IsOpen {K : Type 0} (keeps : Keeps K) (opened : Opened) (keeper : K) 
   pub progress_is : HasLines (progress_meant opened.progress) lines
   pub kept : keeps keeper lines (changes before)
 
--- Says that the code's stage is the reader's place in the file after the records, and that the
--- changes of the records were made. The change of a schedule that is being read is still to be
--- made.
+-- Says that the code's stage and the definitions' `place` agree on how far the reader has come after the records, and that the changes of the records were
+-- made. The change of a schedule that is being read is still to be made.
 abbrev pub IsKept : {K : Type 0} → Keeps K → FileStage → K → law.Place → Lines → Type 0
 IsKept keeps BeforeHeader keeper place records = (place ≡ before_header) × keeps keeper [] (changes records)
 IsKept keeps BetweenUnits keeper place records = (place ≡ between_units) × keeps keeper [] (changes records)
@@ -121,8 +120,7 @@ GoesOnTo old line AfterEnd = ⊥
 abbrev pub TakesLine : {K : Type 0} → Keeps K → Front K → List ℕ → Front K → Type 0
 TakesLine keeps old line new = (records : Lines) → HasRecords keeps old records → HasRecords keeps new (records ++ line ∷ [])
 
--- Says that the reader has taken the line after any earlier records, if `number` is right: one more
--- than the number of the earlier records.
+-- Says that the reader has taken the line, after any records that it may have taken before, if `number` is one more than the number of those records.
 abbrev pub TakesNext : {K : Type 0} → Keeps K → Front K → ℕ → List ℕ → Front K → Type 0
 TakesNext keeps old number line new =
     (records : Lines) → HasRecords keeps old records → number ≡ length records + 1 → HasRecords keeps new (records ++ line ∷ [])
@@ -133,13 +131,11 @@ abbrev pub BeginsAnew : {K : Type 0} → Keeps K → Front K → ℕ → List �
 BeginsAnew keeps old number line new =
     (records : Lines) → IsOver keeps old records → number ≡ length records + 1 → HasRecords keeps new (records ++ line ∷ [])
 
--- Says that this is a right cause for refusing the line after any records that the reader may have
--- taken.
+-- Says that this is a correct cause for refusing the line after any records that the reader may have taken.
 abbrev pub RefusesLine : {K : Type 0} → Keeps K → Type 0 → Front K → List ℕ → FileCause → Type 0
 RefusesLine keeps wants front line cause = (records : Lines) → HasRecords keeps front records → IsNoNextCause wants records line (cause_meant cause)
 
--- Says that this is a right cause for refusing the line after any records that the reader may have
--- taken, unless they are a whole file.
+-- Says that this is a correct cause for refusing the line after any records that the reader may have taken, unless they are a whole file.
 abbrev pub RefusesUnended : {K : Type 0} → Keeps K → Type 0 → Front K → List ℕ → FileCause → Type 0
 RefusesUnended keeps wants front line cause =
     (records : Lines) → HasRecords keeps front records → ¬ IsFile records → IsNoNextCause wants records line (cause_meant cause)

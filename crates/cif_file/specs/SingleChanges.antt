@@ -15,7 +15,7 @@ listed_after (Some first) last = change_meant first ∷ last ∷ []
 abbrev pub listed : SingleChanges → List Change
 listed changes = listed_after changes.first (change_meant changes.last)
 
--- Says that thinning never alters what a change does, whichever the place and the day.
+-- Says that thinning never alters what a change does, for any place and any day.
 abbrev pub IsNeverThin : Change → Type 0
 IsNeverThin change = (place : List ℕ) (day : ℕ) → thin_act place day change.act ≡ change.act
 

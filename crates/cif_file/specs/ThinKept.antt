@@ -29,8 +29,7 @@ has_key keys key = set.contains (on key_meant key_cmp) keys key
 abbrev pub HasKeysOf : BTreeSet Key → List Change → Type 0
 HasKeysOf keys kept = (change : Change) → Contains kept change → (key : Key) → key_meant key ≡ change.key → has_key keys key ≡ true
 
--- Says that enough of these changes were kept for the place and the day, and that the keys of all
--- kept changes are in the set.
+-- Says that the kept changes are a thinning of these changes for the place and the day, and that the keys of all kept changes are in the set.
 pub record HasThinned (place : List ℕ) (day : ℕ) (thinned : Thinned) (all : List Change) : Type 0 where
   pub place_is : thinned.place ≡ place
   pub day_is : thinned.day ≡ day
@@ -39,12 +38,11 @@ pub record HasThinned (place : List ℕ) (day : ℕ) (thinned : Thinned) (all : 
   pub thinning : IsThinning place day all kept
   pub known : HasKeysOf thinned.keys kept
 
--- Says that if enough of the earlier changes were kept, then enough of the earlier changes followed
--- by these changes are kept now.
+-- Says that the changes `more` were received: if the kept changes were a thinning of some changes, they are now a thinning of those changes followed by `more`.
 abbrev pub ThinsAll : List ℕ → ℕ → Thinned → List Change → Thinned → Type 0
 ThinsAll place day old more new = (all : List Change) → HasThinned place day old all → HasThinned place day new (all ++ more)
 
--- Like `ThinsAll`, for one more change.
+-- Says that one change was received: if the kept changes were a thinning of some changes, they are now a thinning of those changes followed by this change.
 abbrev pub Thins : List ℕ → ℕ → Thinned → Change → Thinned → Type 0
 Thins place day old change new = ThinsAll place day old (change ∷ []) new
 
@@ -54,14 +52,15 @@ abbrev pub IsNearBy : ℕ → Lines → Bool → Type 0
 IsNearBy day [] near = ⊤
 IsNearBy day (basic ∷ others) near = is_deletion basic ≡ false → near ≡ runs_near day basic
 
--- Like `ThinsAll`, for the change of this schedule.
+-- Says that the change of this schedule was received: if the kept changes were a thinning of some changes, they are now a thinning of those changes followed by
+-- this change.
 abbrev pub ThinsOpened : List ℕ → ℕ → Thinned → Opened → Bool → Lines → Thinned → Type 0
 ThinsOpened place day old opened near renewed new =
     (lines : Lines) → renewed ≡ with_new_first lines → HasLines (progress_meant opened.progress) lines → IsSchedule lines → IsNearBy day lines near
     → Thins place day old (change_opened opened lines) new
 
--- Says that the keeper has these lines, with the transaction of the first set to N, and enough of
--- the changes for the place and the day. For proofs, the keeper also has the list of all changes.
+-- Says that the keeper has these lines, with the transaction of the first set to N, and a thinning of the changes for the place and the day. For proofs, the
+-- keeper also has the list of all changes.
 pub record KeepsThin {P : Type 0} (place : List ℕ) (day : ℕ) (keeper : ThinSoFar P) (lines : Lines) (all : List Change) : Type 0 where
   pub lines_are : keeper.open.lines.items ≡ with_new_first lines
   pub near_is : IsNearBy day lines keeper.near

@@ -15,8 +15,7 @@ pub record ThinRead : Type 0 where
   pub file : FileRead
   pub kept : List Change
 
--- Says that the file was read from the records of a CIF file, and that the kept changes are enough
--- for the place and the day.
+-- Says that the file was read from the records of a CIF file, and that the kept changes are a thinning of the file's changes for the place and the day.
 pub record IsThinRead (thin : ThinRead) : Type 0 where
   pub read : IsRead thin.file
   pub thinning : IsThinning thin.place thin.day thin.file.changes_made thin.kept
@@ -31,8 +30,7 @@ thin_of_parts place day all parts = record {
   kept = map change_meant parts.changes.items;
 }
 
--- Says that these are the parts of a thin file and that the notes, if there are any, are right for
--- the kept changes.
+-- Says that these are the parts of a thin file and that the notes, if there are any, are correct for the kept changes.
 pub record AreThinParts (place : List ℕ) (day : ℕ) (all : List Change) (parts : FileParts) : Type 0 where
   pub read : IsThinRead (thin_of_parts place day all parts)
   pub noted : AreNotesOf (map change_meant parts.changes.items) parts.notes

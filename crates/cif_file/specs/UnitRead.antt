@@ -22,7 +22,7 @@ line_of_single (TiplocAmend line) = line
 line_of_single (TiplocDelete line) = line
 line_of_single (Association line) = line
 
--- Says that the line, by its kind, begins this unit.
+-- Says that the line begins this unit, as far as the kind of the line shows.
 abbrev pub IsUnitByKind : List ℕ → Unit → Type 0
 IsUnitByKind line (unit.Single single) = (line_of_single single ≡ line) × HasKind (kind_of_single single) line
 IsUnitByKind line (unit.Schedule view) = (view ≡ line) × HasKind basic_schedule line

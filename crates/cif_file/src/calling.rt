@@ -46,7 +46,7 @@ fn is_end(line: &Line) -> bool
 }
 
 /// Whether the docker of a place may depend on the body under this key. It may if the key is the
-/// place's TIPLOC, an association at the place, or any schedule.
+/// place's TIPLOC, the key of an association at the place, or the key of any schedule.
 pub(crate) fn may_matter(place: &Tiploc, key: &Key) -> bool
     ensures { result ≡ may_matter place.now (key_meant key.now) }
 {

@@ -37,21 +37,21 @@ impl ChangesSoFar {
     ghost use Rattle.cif_file.specs.KeeperRead.{change_renewed};
     ghost use Rattle.cif_file.specs.SingleChanges.{listed};
 
-    /// Begins with no changes.
+    /// Returns an empty list of changes: no record has been read yet.
     pub(crate) fn new() -> ChangesSoFar
         ensures { result.changes ≡ [] }
     {
         ChangesSoFar {}
     }
 
-    /// The earlier changes, followed by the changes of a record that is a unit by itself.
+    /// The changes in `_before`, followed by the changes of a record that is a unit by itself.
     pub(crate) fn with_single(_before: &ChangesSoFar, _changes: &SingleChanges) -> ChangesSoFar
         ensures { result.changes ≡ _before.now.changes ++ listed _changes.now }
     {
         ChangesSoFar {}
     }
 
-    /// The earlier changes, followed by the change of a schedule with these lines.
+    /// The changes in `_before`, followed by the change of a schedule with these lines.
     pub(crate) fn with_opened(
         _before: &ChangesSoFar,
         _opened: &Opened,

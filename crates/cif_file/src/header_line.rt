@@ -1,4 +1,4 @@
-//! The header of a CIF file, kept with its line.
+//! The header of a CIF file, stored as its line.
 ghost use Rattle.std.specs.Prelude.{◌≡◌};
 
 use cif_line::{Header, Line};

@@ -31,7 +31,7 @@ impl FileSoFar {
         }
     }
 
-    /// The changes, and the notes on their places if there are any.
+    /// The changes, and the notes of the places that they name, if places were noted.
     pub(crate) fn into_made(self) -> Made
         ensures { result ≡ self.made }
     {

@@ -81,9 +81,9 @@ impl<K: Keeper> Records<K> {
         self.refused(FileCause::Length)
     }
 
-    /// The fault of the next line, which isn't a record. `cause` says why. If the line is above the
-    /// limit, the cause of the fault is `TooMany` instead, and if it comes after the trailer,
-    /// `After`.
+    /// The fault of the next line, which isn't a record. `cause` says why. If the number of the
+    /// line is above the limit, the cause of the fault is `TooMany` instead. If the line comes
+    /// after the trailer, the cause is `After`.
     fn refused(&self, cause: FileCause) -> FileFault
         ensures { (limit : ℕ) (records : List (List ℕ)) →
             HasCounted K.keeps self.now limit records →

@@ -30,8 +30,8 @@ pub(crate) enum Single<'a> {
 pub(crate) struct SingleChanges {
     /// The deletion of a TIPLOC's old code, if an amendment gives it another code.
     pub first: Option<Change>,
-    /// The change that every record of these kinds makes. It comes after the other change, if there
-    /// is one.
+    /// The change that every TIPLOC record and every association makes. If `first` has a change
+    /// too, that change comes before this one.
     pub last: Change,
 }
 

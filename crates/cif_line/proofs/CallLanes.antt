@@ -125,9 +125,8 @@ spells_is a b ha hb =
     (λ i. ((above_is a ha i * 10) % 65536 + above_is b hb i) % 65536)
     ∙ omega (arith, digit_low a ha, digit_high a ha, digit_low b hb, digit_high b hb)
 
--- a lane joins the tests of a time by AND in another order than the definition, with the same
--- result. The lane's test of the hour has to equal the definition's only if both bytes of the hour
--- are digits. The same is true of the minute
+-- a lane combines the tests of a time with AND in another order than the definition does, but the result is the same. The lane's test of the hour has to equal
+-- the definition's only if both bytes of the hour are digits. The same is true of the minute
 in_order : (a b c d h m : Bool) (x y z : Bool) → (a ≡ true → b ≡ true → h ≡ x) → (c ≡ true → d ≡ true → m ≡ y)
     → ((((((a && b) && c) && d) && h) && m) && z) ≡ ((((a && (b && (c && (d && true)))) && x) && y) && z)
 in_order true true true true h m x y z hour minute = λ i. (hour refl refl i && minute refl refl i) && z

@@ -35,7 +35,7 @@ six_digits (a ∷ b ∷ c ∷ d ∷ e ∷ f ∷ []) size =
     regrouped false q r s t u = refl
 six_digits (a ∷ b ∷ c ∷ d ∷ e ∷ f ∷ g ∷ field) size = absurd (omega arith)
 
--- whether a byte is 0 or 1
+-- whether a byte is the code of `0` or of `1`
 abbrev is_flag : ℕ → Bool
 is_flag b = (b == 48) || (b == 49)
 

@@ -1,4 +1,4 @@
--- The state of a walk over a schedule's lines, and the remaining events of the walk.
+-- How far a walk over a schedule's lines has come, and the remaining events of the walk.
 use Rattle.std.specs.Prelude.{ℕ, ◌+◌, ◌*◌, ◌^◌, ◌≤◌, List, ◌++◌, length, All}
 use Rattle.docker_model.specs.records.Field.{HasGoodFields}
 use Rattle.train_choice.specs.Meaning.{occasion_meant, times_meant}

@@ -1,5 +1,4 @@
--- The trains, train identities and chosen associations that are kept after they have been looked
--- up.
+-- The trains, train identities and chosen associations that are remembered after they have been looked up.
 use Rattle.std.specs.Prelude.{◌≡◌, ℕ, List, Option, Some, None, ⊤}
 use Rattle.std.specs.BTreeMap.{BTreeMap, get}
 use Rattle.std.specs.declared.cmp.Ordering.{Ordering}
@@ -25,7 +24,7 @@ pub record PlaceDay : Type 0 where
   pub place : List ℕ
   pub day : ℕ
 
--- says that the kept train, if there is one, is the train of its UID on the day
+-- says that the remembered train, if there is one, is the train of its UID on the day
 abbrev pub IsKnownTrain : Table → ℕ → Option UidTrain → Type 0
 IsKnownTrain live day None = ⊤
 IsKnownTrain live day (Some known) = (rows : List Row) → AreRowsOf live rows → known.train ≡ train_in rows known.uid day
@@ -34,7 +33,7 @@ IsKnownTrain live day (Some known) = (rows : List Row) → AreRowsOf live rows �
 abbrev pub uid_day_cmp : List ℕ × ℕ → List ℕ × ℕ → Ordering
 uid_day_cmp a b = ordering_then (bytes_cmp a.0 b.0) (nat_cmp a.1 b.1)
 
--- says that each kept identity belongs to the train of the UID and start day under which it is kept
+-- says that each identity in the map belongs to the train of the UID and the start day under which it is stored
 abbrev pub AreIdentities : Table → BTreeMap (List ℕ × ℕ) (List ℕ) → Type 0
 AreIdentities live known =
     (uid : List ℕ) (day : ℕ) (identity : List ℕ) → get uid_day_cmp known (uid, day) ≡ Some identity
@@ -56,9 +55,8 @@ abbrev pub AreDayLinks : Table → List ℕ → ℕ → GroupLinks → Type 0
 AreDayLinks live place day best =
     (group : Group) → group.location ≡ place → (rows : List Row) → AreRowsOf live rows → get group_cmp best group ≡ link_in rows group day
 
--- says how one more association changes the kept associations. If the new association runs on the
--- day, its group keeps the better of its old association and the new one. All other groups are
--- unchanged
+-- says how one more association, `link`, changes the map of best associations. If `link` runs on the day, the map then has for its group the better of the old
+-- association and `link`. All other groups are unchanged
 abbrev pub HasOneMore : ℕ → GroupLinks → Link → GroupLinks → Type 0
 HasOneMore day before link after =
     (group : Group) → get group_cmp after group

@@ -7,8 +7,7 @@ use Rattle.docker_model.specs.file.Change.{ScheduleKey}
 use Rattle.docker_model.specs.docker.Choice.{schedule_runs}
 use Rattle.train_choice.specs.declared.recent_runs.RecentRuns.{RecentRuns}
 
--- says that the three flags are `test 0`, `test 1` and `test 2`. `test n` is whether the schedule
--- runs n days earlier
+-- says that the three flags are `test 0`, `test 1` and `test 2`. `test n` says whether the schedule runs on the day `n` days before the given day
 pub record AreRecentRuns (test : ℕ → Bool) (recent : RecentRuns) : Type 0 where
   pub today_is : recent.today ≡ test 0
   pub day_before_is : recent.day_before ≡ test 1

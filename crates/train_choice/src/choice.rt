@@ -119,8 +119,8 @@ fn with_row<'a>(
     }
 }
 
-/// Returns the better of `found` and one more schedule. The call checks whether the new schedule
-/// runs only if it would be better than `found`.
+/// Returns the better of `found` and one more schedule. If the new schedule wouldn't be better than
+/// `found`, the call doesn't check whether it runs.
 fn with_one<'a>(
     found: Option<ScheduleView<'a>>,
     view: ScheduleView<'a>,

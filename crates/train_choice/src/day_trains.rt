@@ -18,9 +18,9 @@ use cif_line::Day;
 use docker_state::Timetable;
 use std::marker::Model;
 
-/// The trains that start on a day. The train of the UID that was looked up last is kept. In a walk
-/// over a state's rows, all schedules of a UID are consecutive, so each UID is searched for only
-/// once.
+/// The trains that start on a day. The train of the UID that was looked up last is remembered. In a
+/// walk over a state's rows, all schedules of a UID are consecutive, so each UID is searched for
+/// only once.
 #[derive(Debug, Drop)]
 pub struct DayTrains<'a> {
     timetable: Timetable<'a>,
@@ -72,8 +72,8 @@ impl<'a> DayTrains<'a> {
         }
     }
 
-    /// Whether the kept train runs by the schedule. Returns `None` if no train is kept, or if the
-    /// kept train has another UID.
+    /// Whether the train that was looked up last runs by the schedule. Returns `None` if no train
+    /// has been looked up, or if that train has another UID.
     fn known(&self, key: &ScheduleKey) -> Option<bool>
         ensures { IfSome result (λ answer. (rows : List Row)
             → AreRowsOf (live_in self.now.timetable) rows
@@ -86,7 +86,7 @@ impl<'a> DayTrains<'a> {
         }
     }
 
-    /// Like `runs_by`, but always searches the schedules of the UID. Keeps the train that was
+    /// Like `runs_by`, but always searches the schedules of the UID. Remembers the train that was
     /// found.
     fn look_up(&mut self, row: usize, train: &ScheduleView<'a>) -> bool
         requires live { IsLiveTrain (live_in self.old.timetable) train.now }

@@ -1,4 +1,4 @@
-//! Train identities, each kept after it has been looked up.
+//! Train identities, each remembered after it has been looked up.
 ghost use Rattle.std.specs.Prelude.{◌≡◌, List, IfOk};
 ghost use Rattle.state_laws.specs.Row.{Row, AreRowsOf};
 ghost use Rattle.docker_laws.specs.Gathering.{identity_of};
@@ -13,8 +13,8 @@ use std::alloc::Global;
 use std::collections::BTreeMap;
 use std::marker::Model;
 
-/// Train identities by UID and start day. Each identity is kept after it has been looked up, so the
-/// schedules of a UID are searched only once for each day.
+/// Train identities by UID and start day. Each identity is remembered after it has been looked up,
+/// so the schedules of a UID are searched only once for each day.
 #[derive(Debug, Drop)]
 pub struct Identities<'a> {
     timetable: Timetable<'a>,
@@ -46,7 +46,7 @@ impl<'a> Identities<'a> {
     }
 
     /// The identity of the train of a UID that starts on a day, from its basic schedule. Returns
-    /// four question marks if that train doesn't run, and `Memory` if there is no room to keep the
+    /// four question marks if that train doesn't run, and `Memory` if there is no room to store the
     /// identity.
     pub fn identity(&mut self, uid: &Uid, day: Day) -> Result<[u8; 4], Memory>
         ensures same { self.new ≡ self.old }
@@ -61,8 +61,8 @@ impl<'a> Identities<'a> {
         }
     }
 
-    /// Like `identity`, but always searches the schedules of the UID. Keeps the identity that was
-    /// found.
+    /// Like `identity`, but always searches the schedules of the UID. Remembers the identity that
+    /// was found.
     fn look_up(&mut self, uid: &Uid, day: Day) -> Result<[u8; 4], Memory>
         ensures same { self.new ≡ self.old }
         ensures identity { IfOk result (λ identity. (rows : List Row)

@@ -8,14 +8,14 @@ ghost use Rattle.train_choice.specs.RecentRuns.{AreRecentRuns, begun_back, lasts
 
 use cif_line::{Day, Days, Line};
 
-/// On which of three days a schedule runs: a day and the two days before it.
+/// On which of three days a schedule runs: a given day and the two days before it.
 #[derive(Clone, Copy, Debug)]
 pub struct RecentRuns {
-    /// Whether the schedule runs on the day.
+    /// Whether the schedule runs on the given day.
     pub today: bool,
-    /// Whether the schedule runs one day earlier.
+    /// Whether the schedule runs on the day before the given day.
     pub day_before: bool,
-    /// Whether the schedule runs two days earlier.
+    /// Whether the schedule runs two days before the given day.
     pub two_before: bool,
 }
 

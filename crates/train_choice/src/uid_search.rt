@@ -35,7 +35,7 @@ impl<'a> UidSearch<'a> {
         }
     }
 
-    /// A search without a hint.
+    /// A search for which no row to begin at is given.
     pub(crate) fn without_hint(timetable: &Timetable<'a>) -> UidSearch<'a>
         ensures { result ≡ timetable.entry.now }
     {

@@ -1,4 +1,5 @@
--- After a basic schedule, the reader remembers the stage, the flags of the record, and no times.
+-- After a basic schedule, the reader remembers the stage, whether the schedule is a deletion, and whether it may end without a journey. It remembers no time
+-- yet.
 use Rattle.std.proofs.Common.{◌≡◌, refl, ap, sym, ◌∙◌, Bool, Some}
 use Rattle.std.specs.Prelude.{◌||◌, ◌==◌}
 use Rattle.docker_model.specs.records.Record.{column}

@@ -1,4 +1,4 @@
--- A byte is the cause only if the length is 80.
+-- The cause is `Byte` only if the line has 80 bytes.
 use Rattle.std.proofs.Common.{◌∙◌, ap, sym, cond, Some, Err}
 use Rattle.std.specs.Prelude.{◌==◌}
 use Rattle.docker_model.specs.file.FileFault.{bad_byte, bad_length}

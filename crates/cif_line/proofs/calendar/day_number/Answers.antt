@@ -7,7 +7,7 @@ use Rattle.cif_line.proofs.calendar.day_number.Goals as goal
 extra_is : (c : goal.After-result-2-1) → c.from.result ≡ leap_before c.is_leap_year.result c.args.month
 extra_is c = search rules
 
--- the sum computed before 1 is subtracted is the day number plus 1
+-- the code computes a sum and then subtracts 1 from it. The sum is the day number plus 1
 sum_is : (c : goal.After-result-2-1)
     → 365 * c.years_from_1960-years.result + ((c.years_from_1960-years.result + 3) / 4 + c.from.result) + days_before c.args.month + c.args.day
     ≡ day_number (full_year c.args.year) c.args.month c.args.day + 1

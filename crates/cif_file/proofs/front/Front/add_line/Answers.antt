@@ -1,5 +1,4 @@
--- The line is appended to the earlier lines. If the line is the terminus, the schedule makes its
--- change.
+-- The line is appended to the lines of the schedule. If the line is the terminus, the keeper makes the schedule's change.
 use Rattle.std.proofs.Common.{subst, refl, ◌++◌, ◌∷◌, []}
 use Rattle.cif_file.specs.KeeperRead.{Closes}
 use Rattle.cif_file.proofs.FrontLemmas.{line_added, line_closed, added_to, on_ok}

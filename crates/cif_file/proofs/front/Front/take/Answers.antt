@@ -1,4 +1,4 @@
--- Whether a record may come next depends on the reader's place in the file.
+-- Whether a record may come next depends on how far the reader has come in the file.
 use Rattle.std.proofs.Common.{◌∙◌, ap, sym}
 use Rattle.std.specs.Prelude.{option_map}
 use Rattle.cif_line.specs.Kind.{meaning}

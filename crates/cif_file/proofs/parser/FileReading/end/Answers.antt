@@ -1,4 +1,4 @@
--- If a line is open, it is taken as the last line. Then the file ends.
+-- If the text ends in an unfinished line, this line is taken as the last line. Then the file ends.
 use Rattle.std.proofs.Common.{ap, subst, ◌∙◌}
 use Rattle.std.proofs.lemmas.Result.{IfOk-weaker}
 use Rattle.std.specs.Str.Lines.{strip_carriage_return}

@@ -1,4 +1,4 @@
--- All lines of the piece before the rest were taken.
+-- All lines that come before the rest of the piece were taken.
 use Rattle.std.proofs.Common.{length}
 use Rattle.cif_file.specs.ParserRead.{IsReading, TakesUpTo}
 use Rattle.cif_file.proofs.parser.FileReading.feed.Given as goal

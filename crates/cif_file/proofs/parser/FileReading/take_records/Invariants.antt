@@ -1,4 +1,4 @@
--- All records of the text before the rest were taken, and no line is open.
+-- All records that come before the rest of the text were taken, and no line is unfinished.
 use Rattle.std.proofs.Common.{◌≡◌, [], length}
 use Rattle.cif_file.specs.ParserRead.{IsReading, TakesUpTo}
 use Rattle.cif_file.proofs.parser.FileReading.take_records.Given as goal

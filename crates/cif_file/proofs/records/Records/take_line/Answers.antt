@@ -1,4 +1,4 @@
--- The cause that is returned is a right cause for the next record.
+-- The cause that is returned is a correct cause for the next record.
 use Rattle.std.proofs.Common.{arith}
 use Rattle.cif_file.proofs.records.Records.take_line.Goals as goal
 

@@ -1,4 +1,4 @@
--- Before the first change, keeping nothing is enough.
+-- Before the first change, no change has to be kept.
 use Rattle.std.proofs.Common.{refl}
 use Rattle.cif_file.proofs.ThinLemmas.{none_thinned}
 use Rattle.cif_file.proofs.thinned.Thinned.new.Goals as goal
