@@ -53,7 +53,8 @@ fn joined(rt: &impl Abort, alloc: Global, files: &[&[&[u8]]]) -> State {
     joined
 }
 
-/// The state of these files, joined in the opposite order.
+/// The state of these files. Each join has the next file's state as its first operand, and the
+/// state joined so far as its second operand.
 fn joined_back(rt: &impl Abort, alloc: Global, files: &[&[&[u8]]]) -> State {
     let mut joined = State::empty(alloc);
     for records in files {

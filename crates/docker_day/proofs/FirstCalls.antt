@@ -1,5 +1,4 @@
--- The calls of base trains at a place, each with its first event, and how the calls of the last
--- base train are kept.
+-- The calls of base trains at a place, each with its first event, and how the calls of the base train that was looked up last are stored.
 use Rattle.std.proofs.Common.{◌≡◌, ℕ, ◌==◌, Bool, true, false, cond, List, refl, ap, sym, ◌∙◌, subst, Some, None, eqb-true}
 use Rattle.std.specs.Prelude.{Option, ◌&&◌, IfSome, IfOk, option_map, Result, Ok, Err}
 use Rattle.std.specs.BTreeMap.{BTreeMap, get, Updates}
@@ -32,7 +31,7 @@ abbrev pub IsFirstCall : Table → List ℕ → ℕ → List ℕ → ℕ → Opt
 IsFirstCall live place day uid suffix event =
     (rows : List Row) → AreRowsOf live rows → meant_if event ≡ first_call (train_in rows uid day) place suffix
 
--- the first event that is kept for a call of the UID's train is the first event of this call
+-- the event that is stored for a call of the UID's train is the first event of this call
 pub known_calls : (live : Table) (place : List ℕ) (day : ℕ) (known : BaseCalls) (uid : List ℕ) (suffix : ℕ) (answer : Option (Option Occurrence))
     → AreKnownCalls live place day (Some known) → option_map meant_if answer ≡ cond (bytes_eq known.uid uid) (Some (get nat_cmp known.calls suffix)) None
     → IfSome answer (IsFirstCall live place day uid suffix)
@@ -49,12 +48,12 @@ known_calls live place day known uid suffix (Some event) are is = by (bytes_eq k
         ∙ ap (λ u. first_call (train_in rows u day) place suffix) ((bytes_eq-Decides known.uid uid).0 same)
     by false other told = cc
 
--- without a later event, `kept_or` returns the kept event
+-- if `later` is `None`, `kept_or` returns the event that is already in the map
 pub kept_alone : (event : Option events.Occurrence) → kept_or event None ≡ event
 kept_alone None = refl
 kept_alone (Some event) = refl
 
--- if a suffix already has an event, another event with the suffix leaves the kept events unchanged
+-- if a suffix already has an event, another event with the suffix leaves the map of first events unchanged
 pub there_before : (own : ℕ) (event : events.Occurrence) (calls : BTreeMap ℕ events.Occurrence) → is_some (get nat_cmp calls own) ≡ true
     → HasCall own calls event calls
 there_before own event calls is = λ suffix.
@@ -65,7 +64,7 @@ there_before own event calls is = λ suffix.
     by (Some kept) true is = refl
     by None true is = let bad : false ≡ true = is refl in cc
 
--- if a suffix has no event yet, an event with the suffix is kept
+-- if a suffix has no event yet, an event with the suffix is stored
 pub first_of_suffix : (own : ℕ) (event : events.Occurrence) (before after : BTreeMap ℕ events.Occurrence) → is_some (get nat_cmp before own) ≡ false
     → Updates nat_cmp before after own (Some event) → HasCall own before event after
 first_of_suffix own event before after unkept updates = λ suffix.
@@ -79,12 +78,12 @@ first_of_suffix own event before after unkept updates = λ suffix.
     by (Some kept) true is = let bad : true ≡ false = is refl in cc
 
 module _ (place : List ℕ) (event : events.Occurrence) where
-  -- an event at another place leaves the kept events unchanged
+  -- an event at another place leaves the map of first events unchanged
   pub elsewhere : (calls : BTreeMap ℕ events.Occurrence) → is_here place event ≡ false → HasEvent place calls event calls
   elsewhere calls away = λ suffix later. λ i.
       kept_or (get nat_cmp calls suffix) (cond (sym away i && (column 10 event.line == suffix)) (Some event) later)
 
-  -- an event at the place is kept if its suffix has no event yet
+  -- an event at the place is stored if its suffix has no event yet
   pub taken_here : (before after : BTreeMap ℕ events.Occurrence) → is_here place event ≡ true → HasCall (column 10 event.line) before event after
       → HasEvent place before event after
   taken_here before after here has = λ suffix later.

@@ -146,8 +146,7 @@ module _ (live : Table) (rows : List Row) (are : AreRowsOf live rows) (place : L
           (λ i. cond (runs_not live rows train (day - back) are is_live ((λ j. sym h j && schedule_runs (first_record train.lines) (day - back)) ∙ idle) i)
           (event_lines place day (day - back) train.key train.lines) [])
 
-  -- a train that doesn't pass midnight up to its last line at the place has no docker line for an
-  -- earlier start day
+  -- a train that doesn't pass midnight up to its last line at the place has no docker line for a start day before the day
   early_back : (train : choices.Train) (back : ℕ) → 0 < back → some_late (occurrences_to place train.lines) ≡ false
       → lines_back (Train train) back ≡ []
   early_back train back some early = by (nat_le back day) refl
@@ -165,7 +164,7 @@ module _ (live : Table) (rows : List Row) (are : AreRowsOf live rows) (place : L
           (no_lines_then place day (day - back) train.key train.lines before early)
           ∙ none_either (runs_by (train_in rows train.key.uid (day - back)) train.key)
 
-  -- if `row_under_way` is false for a row, the row has no lines for an earlier start day
+  -- if `row_under_way` is false for a row, the row has no lines for a start day before the day
   pub none_back : (view : RowView) → IsLiveView live view → row_under_way place view day ≡ false
       → (lines_back view 1 ≡ []) × (lines_back view 2 ≡ [])
   none_back (Train train) is_live not_so =

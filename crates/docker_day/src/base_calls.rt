@@ -16,7 +16,7 @@ use std::collections::BTreeMap;
 use train_choice::{Events, Occurrence};
 
 /// A UID, and the calls that its train makes at a place on a start day. For each suffix, the first
-/// event of the call is kept. If the train doesn't run on the start day, there are no calls.
+/// event of the call is stored. If the train doesn't run on the start day, there are no calls.
 #[derive(Debug, Drop)]
 pub(crate) struct BaseCalls<'a> {
     pub(crate) uid: Uid,
@@ -24,8 +24,8 @@ pub(crate) struct BaseCalls<'a> {
 }
 
 impl<'a> BaseCalls<'a> {
-    /// The first event of the call with this suffix. The outer `None` means that the kept calls
-    /// belong to another UID. The inner `None` means that the train has no call with this suffix.
+    /// The first event of the call with this suffix. The outer `None` means that these calls belong
+    /// to another UID. The inner `None` means that the train has no call with this suffix.
     pub(crate) fn asked(&self, uid: &Uid, suffix: u8) -> Option<Option<Occurrence<'a>>>
         ensures { option_map meant_if result ≡ (if bytes_eq self.now.uid uid.now
             then Some (get nat_cmp self.now.calls suffix) else None) }

@@ -1,5 +1,5 @@
 //! The calls that base trains make at a place. The calls of the base train that was looked up last
-//! are kept.
+//! are remembered.
 ghost use Rattle.std.specs.Prelude.{◌≡◌, ℕ, List, IfOk, IfSome};
 ghost use Rattle.std.specs.BTreeMap.{get};
 ghost use Rattle.std.specs.Ordering.{nat_cmp};
@@ -18,8 +18,8 @@ use std::marker::Model;
 use train_choice::{Occurrence, train_on};
 
 /// The calls that the base trains of one start day make at a place. The calls of the train that was
-/// looked up last are kept. In a walk over a state's rows, all associations of a base train are
-/// consecutive, so each base train's lines are read only once.
+/// looked up last are remembered. In a walk over a state's rows, all associations of a base train
+/// are consecutive, so each base train's lines are read only once.
 #[derive(Debug, Drop)]
 pub(crate) struct Bases<'a> {
     alloc: Global,
@@ -47,7 +47,7 @@ impl<'a> Model for Bases<'a> {
 }
 
 impl<'a> Bases<'a> {
-    /// The calls that the trains of one start day make at a place. No calls are kept yet.
+    /// The calls that the trains of one start day make at a place. No train has been looked up yet.
     pub(crate) fn at(
         alloc: Global,
         timetable: &Timetable<'a>,
@@ -88,9 +88,9 @@ impl<'a> Bases<'a> {
         }
     }
 
-    /// The first event of the call, if the train's calls are kept. The outer `None` means that no
-    /// calls are kept, or that the kept calls are another train's calls. The inner `None` means
-    /// that the train has no call with this suffix.
+    /// The first event of the call, if this train was looked up last. The outer `None` means that
+    /// no train or another train was looked up last. The inner `None` means that the train has no
+    /// call with this suffix.
     fn known(&self, uid: &Uid, suffix: u8) -> Option<Option<Occurrence<'a>>>
         ensures { IfSome result (λ event. (rows : List Row)
             → AreRowsOf (live_in self.now.timetable) rows → meant_if event
@@ -102,7 +102,7 @@ impl<'a> Bases<'a> {
         }
     }
 
-    /// Like `first_call`, but always walks over the train's lines. Keeps the train's calls.
+    /// Like `first_call`, but always walks over the train's lines. Remembers the train's calls.
     fn look_up(&mut self, uid: &Uid, suffix: u8) -> Result<Option<Occurrence<'a>>, Memory>
         ensures same { self.new ≡ self.old }
         ensures event { IfOk result (λ event. (rows : List Row)

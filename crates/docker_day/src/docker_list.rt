@@ -28,7 +28,7 @@ impl<'a> Model for Docker<'a> {
 }
 
 impl<'a> Docker<'a> {
-    /// A docker with these parts.
+    /// Makes a docker of this place and day, with this description and these lines.
     pub(crate) fn of(
         place: Tiploc,
         day: Day,

@@ -1,4 +1,4 @@
-//! The first event of a call, in a form that can be kept in a map.
+//! The first event of a call, in a form that can be stored in a map.
 ghost use Rattle.std.specs.Prelude.{◌≡◌};
 ghost use Rattle.train_choice.specs.EventWalk.{occurrence_meant};
 
@@ -6,7 +6,7 @@ use cif_line::{Line, Time};
 use std::marker::Model;
 use train_choice::{Occasion, Occurrence};
 
-/// The first event of a train's call, in a form that can be kept in a map.
+/// The first event of a train's call, in a form that can be stored in a map.
 #[derive(Debug, Drop)]
 pub(crate) struct FirstEvent<'a> {
     number: u64,
@@ -34,7 +34,7 @@ impl<'a> Model for FirstEvent<'a> {
 }
 
 impl<'a> FirstEvent<'a> {
-    /// Converts the event to a form that can be kept in a map.
+    /// Converts the event to a form that can be stored in a map.
     pub(crate) fn of(event: &Occurrence<'a>) -> FirstEvent<'a>
         ensures { result ≡ occurrence_meant event.now }
     {
@@ -48,7 +48,7 @@ impl<'a> FirstEvent<'a> {
         }
     }
 
-    /// Converts the kept event back to an `Occurrence`.
+    /// Converts the stored event back to an `Occurrence`.
     pub(crate) fn event(&self) -> Occurrence<'a>
         ensures { occurrence_meant result ≡ self.now }
     {

@@ -20,9 +20,9 @@ use std::marker::Model;
 use train_choice::{DayLinks, DayTrains, Identities, Occurrence, ScheduleView};
 
 /// A visit: the trains that start on one day, and may be at a place on that day or a later day.
-/// Whatever is looked up for these trains is kept: the trains and associations chosen on the start
-/// day, the calls of base trains, and the identities of associated trains. So each row is read only
-/// once, even if many rows need it.
+/// Whatever is looked up for these trains is remembered: the trains and associations chosen on the
+/// start day, the calls of base trains, and the identities of associated trains. So each row is
+/// read only once, even if many rows need it.
 #[derive(Debug, Drop)]
 pub(crate) struct Visit<'a> {
     place: Tiploc,
@@ -143,7 +143,7 @@ impl<'a> Visit<'a> {
     }
 
     /// The identity of the train of a UID that starts on a day. Returns four question marks if that
-    /// train doesn't run, and `Memory` if there is no room to keep the identity.
+    /// train doesn't run, and `Memory` if there is no room to store the identity.
     pub(crate) fn identity(&mut self, uid: &Uid, day: Day) -> Result<[u8; 4], Memory>
         ensures same { self.new ≡ self.old }
         ensures identity { IfOk result (λ identity. (rows : List Row)

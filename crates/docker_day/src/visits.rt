@@ -11,8 +11,8 @@ use std::alloc::Global;
 use std::marker::Model;
 use train_choice::day_back;
 
-/// The visits for a place and a day. One visit is for the trains that start on that day. The others
-/// are for the trains that start one and two days before, if these days exist.
+/// The visits for a place and a day. One visit is for the trains that start on that day. The other
+/// visits are for the trains that start one and two days before, if these days exist.
 #[derive(Debug, Drop)]
 pub(crate) struct Visits<'a> {
     pub(crate) today: Visit<'a>,

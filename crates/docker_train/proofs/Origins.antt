@@ -129,8 +129,8 @@ still_runs horizon table uid day key lines bound from is = record {
   runs_then = is.runs_then;
 }
 
--- on a day that isn't before the horizon, the schedule chosen in the lapsed table is also chosen in
--- the table before the lapse
+-- on a day that isn't before the horizon, lapsing doesn't change which schedule is chosen: the schedule chosen in `lapse_table horizon table` is also chosen in
+-- `table`
 chosen_unlapsed : (horizon : ℕ) (table : Table) (uid : List ℕ) (day : ℕ) (found : Option Train) → horizon ≤ no_end_number → horizon ≤ day
     → IsChosenOn (lapse_table horizon table) uid day found → IsChosenOn table uid day found
 chosen_unlapsed horizon table uid day None bound from none = λ key lines runs. none key lines (still_runs horizon table uid day key lines bound from runs)

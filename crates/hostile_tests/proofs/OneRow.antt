@@ -23,8 +23,7 @@ pub good_item : (items : List LedgerItem) (item other : LedgerItem) → length i
 good_item items item other one is state items_are valid =
     subst IsLedger (sym items_are ∙ ap (map item_meant) (only_element items item other one is)) valid.ledger
 
--- if a valid state has only one ledger item and only one entry, the entry is good under a ledger
--- that has only this item
+-- if a valid state has only one ledger item and only one entry, the entry may be in a state whose ledger has only this item
 good_row : (items : List LedgerItem) (item other : LedgerItem) → length items ≡ 1 → item ≡ get_or items 0 other
     → (rows : List (Key × Entry)) (row next : Key × Entry) → length rows ≡ 1 → row ≡ get_or rows 0 next
     → (state : State) → map item_meant items ≡ state.ledger → map row_meant rows ≡ state.entries → IsValid state
@@ -37,8 +36,7 @@ good_row items item other one is rows row next single is_row state items_are row
     let here : IsValid (record { horizon = state.horizon; ledger = item_meant item ∷ []; entries = row_meant row ∷ [] }) = subst IsValid whole valid in
     here.entries.0 0 (row_meant row) (omega arith)
 
--- if a valid state has only one ledger item and only one entry, a copy of the entry is good under a
--- ledger that has only this item
+-- if a valid state has only one ledger item and only one entry, a copy of the entry may be in a state whose ledger has only this item
 pub good_copy : (items : List LedgerItem) (item other : LedgerItem) → length items ≡ 1 → item ≡ get_or items 0 other
     → (rows : List (Key × Entry)) (row next : Key × Entry) → length rows ≡ 1 → row ≡ get_or rows 0 next
     → (state : State) → map item_meant items ≡ state.ledger → map row_meant rows ≡ state.entries → IsValid state
@@ -52,8 +50,7 @@ pub pushed_item : (item : LedgerItem) (before after : List LedgerItem) → befor
     → map item_meant after ≡ item_meant item ∷ []
 pushed_item item before after none pushed = ap (map item_meant) (pushed ∙ ap (λ (xs : List LedgerItem). xs ++ item ∷ []) none)
 
--- if a valid state has only one ledger item and only one entry, a copy of the entry can follow the
--- item
+-- if a valid state has only one ledger item and only one entry, a copy of the entry may be the first entry of a state whose ledger has only this item
 pub here_copy : (items : List LedgerItem) (item other : LedgerItem) → length items ≡ 1 → item ≡ get_or items 0 other
     → (rows : List (Key × Entry)) (row next : Key × Entry) → length rows ≡ 1 → row ≡ get_or rows 0 next
     → (state : State) → map item_meant items ≡ state.ledger → map row_meant rows ≡ state.entries → IsValid state

@@ -1,4 +1,4 @@
-//! The desk of a row, which finds the texts that the row names and prints the row's results.
+//! Defines `Desk`, which finds the texts that a row names, and prints the row's results.
 
 use crate::endings::Ending;
 use crate::records::lines_of;
@@ -15,7 +15,7 @@ pub(crate) struct Desk<'a> {
 }
 
 impl<'a> Desk<'a> {
-    /// The desk for this row.
+    /// The `Desk` for this row.
     pub(crate) fn of(rt: &HostRuntime, row: &'a str) -> Desk<'a> {
         Desk { rt: *rt, row }
     }
@@ -95,7 +95,8 @@ impl<'a> Desk<'a> {
         let _ = println!(self.rt; "  out of memory at record {number}");
     }
 
-    /// Prints the first and the last number of a span, before its answer.
+    /// Prints the first and the last of several consecutive numbers that have the same answer. The
+    /// answer is printed after them.
     pub(crate) fn print_span(&self, from: u64, to: u64) {
         if from == to {
             let _ = print!(self.rt; "  {from}: ");

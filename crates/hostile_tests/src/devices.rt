@@ -193,12 +193,12 @@ fn is_written(desk: &Desk, office: &Office, output: &Output, wanted: &[u8]) -> b
     }
 }
 
-/// Whether a sink that fails at this call has these bytes: one for each earlier call.
+/// Whether a sink that fails at this call has these bytes: one for each call before it.
 fn is_front(bytes: &[u8], wanted: &[u8], call: u64) -> bool {
     bytes.len() as u64 == call.saturating_sub(1) && wanted.starts_with(bytes)
 }
 
-/// Runs a row with the argument `LINE`. The call reads a job from sources that hold the line. They
+/// Runs a row with the argument `LINE`. The call reads a job from sources that hold the line and
 /// fail at the first read, at the second read, and so on.
 pub(crate) fn line(desk: &Desk, words: &[&str]) {
     let [name] = words else {

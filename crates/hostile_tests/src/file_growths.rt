@@ -19,7 +19,7 @@ fn feed_all(parser: &mut FileParser, text: &[u8]) -> Result<(), FileFault> {
     Ok(())
 }
 
-/// Whether each later call of a parser returns the same fault again.
+/// Whether each further call of a parser that has returned this fault returns the fault again.
 fn repeats(mut parser: FileParser, fault: FileFault) -> bool {
     let fed = parser.feed(b"");
     let again = parser.feed(b"ZZ\n");

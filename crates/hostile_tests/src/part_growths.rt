@@ -1,5 +1,5 @@
-//! Calls that allocate memory while they build a state from its parts, or while a state receives
-//! parts.
+//! Calls that allocate memory while they build a state from ledger items and entries, or while a
+//! state receives ledger items and entries.
 
 ghost use Rattle.std.specs.Prelude.{◌++◌};
 ghost use Rattle.docker_model.specs.state.Stamp.{IsFloor};
@@ -47,8 +47,8 @@ fn end<T>(desk: &Desk, here: bool, done: &Result<T, Memory>) {
     }
 }
 
-/// Builds a state with one ledger item and one entry from its parts. Prints how the call `at`
-/// ended.
+/// Builds a state with one ledger item and one entry anew from this item and this entry. Prints how
+/// the call `at` ended.
 fn rebuilt(desk: &Desk, one: &State, at: At) -> Result<State, Memory> {
     let (items, rows) = (one.ledger(), one.entries());
     if items.len() != 1 {
@@ -82,8 +82,8 @@ fn rebuilt(desk: &Desk, one: &State, at: At) -> Result<State, Memory> {
     made
 }
 
-/// Runs a row with the argument `STATE`. The state, which has one file and one entry, is built from
-/// its parts.
+/// Runs a row with the argument `STATE`. The state, which has one file and one entry, is built anew
+/// from its ledger item and its entry.
 pub(crate) fn parts(desk: &Desk, call: &str, words: &[&str]) {
     let [name] = words else {
         return desk.trouble("STATE");
@@ -98,7 +98,7 @@ pub(crate) fn parts(desk: &Desk, call: &str, words: &[&str]) {
     }
 }
 
-/// Lets a state receive the parts of another state, which has one ledger item and one entry.
+/// Lets a state receive the ledger item and the entry of another state, which has only one of each.
 fn receive(desk: &Desk, own: &mut State, other: &State, at: At) -> Result<(), Memory> {
     let (items, rows) = (other.ledger(), other.entries());
     if items.len() != 1 {

@@ -63,7 +63,7 @@ fn fed<'a>(lines: &'a [&'a [u8]]) -> Lines<'a> {
     before(lines, b"")
 }
 
-/// Lines that end in line feeds, before an open line.
+/// Lines that end in line feeds, before a last line without a line end.
 fn before<'a>(lines: &'a [&'a [u8]], open: &'a [u8]) -> Lines<'a> {
     Lines {
         ended: lines,

@@ -67,7 +67,7 @@ fn feed_all(parser: &mut StateParser, text: &[u8]) -> Result<(), StateFault> {
     Ok(())
 }
 
-/// Whether each later call of a parser returns the same fault again.
+/// Whether each further call of a parser that has returned this fault returns the fault again.
 fn repeats(mut parser: StateParser, fault: StateFault) -> bool {
     let fed = parser.feed(b"").err();
     let again = parser.feed(b"DKS2").err();

@@ -15,7 +15,8 @@ use docker_office::{Office, OfficeFault};
 /// The numbers of bytes per read that are tried besides 1.
 const STEPS: [usize; 2] = [7, 4096];
 
-/// A call of an office, under a limit, with the states that the office has before and after it.
+/// A call of an office, under a limit, with the states that the office has before and after the
+/// call.
 #[derive(Clone, Copy, Drop)]
 pub(crate) struct Asked<'a> {
     /// The call to make.

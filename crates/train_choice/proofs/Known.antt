@@ -1,5 +1,4 @@
--- The kept train identities and associations are correct, and each look-up preserves their
--- correctness.
+-- The remembered train identities and associations are correct, and each look-up preserves their correctness.
 use Rattle.std.proofs.Common.{◌≡◌, ℕ, Bool, true, false, cond, List, refl, ap, sym, ◌∙◌, subst, Some}
 use Rattle.std.specs.Prelude.{Option, ◌&&◌, ◌==◌}
 use Rattle.std.specs.declared.cmp.Ordering.{Ordering}
@@ -85,8 +84,7 @@ at_group key group =
 own_group : (key : AssociationKey) (group : Group) → is_of_group group key ≡ true → group_of key ≡ group
 own_group key group is = exact_group (group_of key) group (eq_is (group_cmp (group_of key) group) (at_group key group ∙ is))
 
--- an association is the chosen association of its group if and only if it is the kept association
--- of this group
+-- an association is the chosen association of its group if and only if it is this group's association in the map
 pub counts_told : (live : Table) (place : List ℕ) (day : ℕ) (best : GroupLinks) (key : AssociationKey) (link : Link) (answer : Bool)
     → AreDayLinks live place day best → key.location ≡ place → Some link ≡ get group_cmp best (group_of key)
     → answer ≡ is_eq (association_key_cmp link.key key)

@@ -9,19 +9,19 @@ use Rattle.docker_model.specs.state.State.{IsScheduleOf}
 use Rattle.train_choice.specs.UpTo.{names_place, before_named, up_to_last}
 use Rattle.train_choice.proofs.KeptLines.{lines_good, lines_few}
 
--- a line is kept if a line after it is kept
+-- if the lines up to the last line at a place include a later line, they also include the line before it
 kept : (named : Bool) (line last : List ℕ) (lines : List (List ℕ)) → before_named named line (lines ++ last ∷ []) ≡ (line ∷ lines) ++ last ∷ []
 kept named line last [] = refl
 kept named line last (next ∷ lines) = refl
 
--- if the last line is at the place, all lines are kept
+-- if the last line is at the place, the lines up to the last line at the place are all lines
 pub last_named : (place last : List ℕ) (lines : List (List ℕ)) → names_place place last ≡ true
     → up_to_last place (lines ++ last ∷ []) ≡ lines ++ last ∷ []
 last_named place last [] named = λ i. before_named (named i) last []
 last_named place last (line ∷ lines) named =
     ap (before_named (names_place place line) line) (last_named place last lines named) ∙ kept (names_place place line) line last lines
 
--- a last line that isn't at the place is dropped
+-- a last line that isn't at the place isn't one of the lines up to the last line at the place
 pub last_elsewhere : (place last : List ℕ) (lines : List (List ℕ)) → names_place place last ≡ false
     → up_to_last place (lines ++ last ∷ []) ≡ up_to_last place lines
 last_elsewhere place last [] elsewhere = λ i. before_named (elsewhere i) last []

@@ -1,4 +1,4 @@
-//! Dockers under a horizon.
+//! Dockers of states with a horizon.
 
 use super::compare::same;
 use super::{day, join, lines_are, place, state};
@@ -14,8 +14,8 @@ fn is_refused(rt: &impl Abort, alloc: Global, state: &State, on: &str) {
     same(rt, fault, Some(DockerFault::Lapsed));
 }
 
-/// A docker is refused if its day is earlier than three days after the horizon. Setting an earlier
-/// horizon changes nothing.
+/// A docker is refused if its day is earlier than three days after the horizon. Setting a horizon
+/// before the current horizon changes nothing.
 #[test]
 fn horizons(rt: HostRuntime) {
     let alloc = rt.alloc();
@@ -31,7 +31,8 @@ fn horizons(rt: HostRuntime) {
     lines_are(&rt, alloc, &state, "ASHFELD", "2024-06-18", &[]);
 }
 
-/// A lapsed entry keeps its stamp, so an older file can't bring the schedule back.
+/// A lapsed entry keeps its stamp, so a file that is older than the entry's file can't bring the
+/// schedule back.
 #[test]
 fn older_file_after_a_horizon(rt: HostRuntime) {
     let alloc = rt.alloc();

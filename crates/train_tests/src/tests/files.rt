@@ -22,13 +22,13 @@ const FIRST: &[&[u8]] = &[
     ZZ,
 ];
 
-/// A later file that deletes the permanent schedule.
+/// A file that is newer than `FIRST` and deletes the permanent schedule.
 const DELETES: &[&[u8]] = &[HD_10B_0605, BS_DELETED_PLAIN, ZZ];
 
-/// A later file that deletes the cancellation.
+/// A file that is newer than `FIRST` and deletes the cancellation.
 const RESTORES: &[&[u8]] = &[HD_10B_0605, BS_CANCELLED_DELETED, ZZ];
 
-/// A later file that revises the permanent schedule.
+/// A file that is newer than `FIRST` and revises the permanent schedule.
 const REVISES: &[&[u8]] = &[HD_10B_0605, BS_REVISED_SHORTER, LO_0920, LT, ZZ];
 
 /// The heading for 11 June, on which C10001 runs by the overlay, record 5 of the first file.
@@ -83,7 +83,7 @@ fn restored(rt: HostRuntime) {
     files_say(&rt, rt.alloc(), &[RESTORES, FIRST], "2024-06-14", restored);
 }
 
-/// A later file revises the schedule. The revision is kept with the transaction `N`.
+/// A later file revises the schedule. The revision is stored with the transaction `N`.
 #[test]
 fn revised(rt: HostRuntime) {
     let revised: &[&[u8]] = &[REVISED, BS_SHORTER, LO_0920, LT, END];
