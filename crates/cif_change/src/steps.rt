@@ -41,7 +41,7 @@ impl Progress {
         }
     }
 
-    /// Whether the schedule that begins with these lines is a deletion.
+    /// Whether the schedule that begins with the lines taken is a deletion.
     pub fn is_deletion(self) -> bool
         ensures { result ≡ (progress_meant self).deletion }
     {
@@ -111,9 +111,9 @@ impl Progress {
         }
     }
 
-    /// Takes a line after the first. Its kind may come next, and `next` is the stage after it.
-    /// Refuses the line only for a bad field or the third midnight, and never refuses a line of a
-    /// deletion.
+    /// Takes a line after the first. The line's kind may come next, and `next` is the stage after
+    /// the line. Refuses the line only for a bad field or the third midnight, and never refuses a
+    /// line of a deletion.
     fn advance_to(&mut self, next: ScheduleStage, kind: Kind, line: &Line) -> Result<(), FileCause>
         requires record { IsRecord line.now }
         requires kind { HasKind (meaning kind) line.now }

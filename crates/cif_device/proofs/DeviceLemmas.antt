@@ -60,19 +60,19 @@ one_more_is_other before after same more = grind (arith, common_steps)
 false_is_not_true : false ≢ true
 false_is_not_true is = cc
 
--- if a failure count is unchanged on success and rises by one on an error, `CountsFailure` holds
+-- if a count is unchanged on success and rises by one on an error, it counts exactly the failures
 pub counts_error : {A E : Type 0} (result : Result A E) (before after : ℕ) →
     OnOk result (after ≡ before) → OnErr result (after ≡ before + 1) → CountsFailure (IsErr result) before after
 counts_error (Ok value) before after same more =
     ((λ error. absurd (false_is_not_true error), λ one_more. absurd (one_more_is_other before after same one_more)), λ no_error. same)
 counts_error (Err fault) before after same more = ((λ error. more, λ one_more. refl), λ no_error. absurd (no_error refl))
 
--- if `CountsFailure` holds, the failure count is unchanged on success
+-- a count that counts exactly the failures is unchanged on success
 pub same_if_ok : {A E : Type 0} (result : Result A E) (before after : ℕ) → CountsFailure (IsErr result) before after → OnOk result (after ≡ before)
 same_if_ok (Ok value) before after counted = counted.1 false_is_not_true
 same_if_ok (Err fault) before after counted = tt
 
--- if `CountsFailure` holds, the failure count rises by one on an error
+-- a count that counts exactly the failures rises by one on an error
 pub one_more_if_err : {A E : Type 0} (result : Result A E) (before after : ℕ) → CountsFailure (IsErr result) before after → OnErr result (after ≡ before + 1)
 one_more_if_err (Ok value) before after counted = tt
 one_more_if_err (Err fault) before after counted = counted.0.0 refl

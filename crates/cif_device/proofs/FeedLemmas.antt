@@ -76,8 +76,7 @@ pub nothing_read : {T Terms : Type 0} (takes : Taking T Terms) (terms : Terms) (
     → LosesOnePieceMore takes 65536 terms text left left
 nothing_read takes terms text left taker taken = no_more takes 0 terms text left left left taker (at_start takes terms text left taker taken) refl
 
--- if the taker refuses the next piece, it has taken its earlier text and the fed bytes, and then
--- refused this piece
+-- if the taker refuses the next piece, it has taken the text from before the feeding and the fed bytes, and then refused this piece
 pub refused_behind : {T Terms Fault : Type 0} (takes : Taking T Terms) (refuses : Refusing T Terms Fault) (fed : ℕ) (terms : Terms) (text : List ℕ)
     (initial now next : Option (List ℕ)) (before after : T) (piece : List ℕ) (fault : Fault) → (at : HasFed takes fed terms text initial now before)
     → Reads now piece next → length piece ≤ 65536 → refuses after terms (text ++ at.bytes) piece fault
@@ -86,8 +85,7 @@ unfolding one_more
 refused_behind takes refuses fed terms text initial now next before after piece fault at more few refused =
     record { more = one_more takes fed terms text initial now next before piece at more few; refused = refused }
 
--- if the text with the fed bytes and the next piece has fewer than 2^64 bytes, the number of fed
--- bytes with this piece fits in 64 bits
+-- if the text with the fed bytes and the next piece has fewer than 2^64 bytes, the number of fed bytes, including this piece, fits in 64 bits
 pub fits_still : (fed n : ℕ) (text bytes piece : List ℕ) → length bytes ≡ fed → length piece ≡ n → length ((text ++ bytes) ++ piece) < 2 ^ 64
     → Fits w64 (fed + n)
 fits_still fed n text bytes piece size long below =

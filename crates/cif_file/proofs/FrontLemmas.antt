@@ -80,8 +80,7 @@ changes_append n (record_first ∷ records) line more stops =
     ∙ sym (append_assoc (changes_of_record n record_first records) (changes_from (n + 1) records) (changes_from (n + 1 + length records) (line ∷ more)))
     ∙ ap (λ k. (changes_of_record n record_first records ++ changes_from (n + 1) records) ++ changes_from k (line ∷ more)) (omega arith)
 
--- if the next record doesn't come within a schedule, its changes are appended to the earlier
--- changes
+-- if the next record doesn't come within a schedule, its changes are appended to the changes of the records before it
 pub changes_anew : (records : Lines) (line : List ℕ) → follows_basic (kind_of line) ≡ false
     → changes (records ++ line ∷ []) ≡ changes records ++ changes_of_record (length records + 1) line []
 changes_anew records line stops =
@@ -121,7 +120,7 @@ same_change : (n m : ℕ) (k l : Key) (b c : Bool) (body : Body) → n ≡ m →
     → ◌≡◌ {A = Change} (record { number = n; key = k; act = cond b delete (put body) }) (record { number = m; key = l; act = cond c delete (put body) })
 same_change n m k l b c body numbers keys tests = λ i. record { number = numbers i; key = keys i; act = cond (tests i) delete (put body) }
 
--- a complete schedule appends exactly one change to the earlier changes
+-- a complete schedule appends exactly one change to the changes of the records before it
 pub changes_closed : (opened : Opened) (lines before : Lines) → HasLines (progress_meant opened.progress) lines → opened.number ≡ length before + 1
     → key_meant (key.Schedule opened.key) ≡ schedule_named (first_record lines) → IsSchedule lines
     → changes (before ++ lines) ≡ changes before ++ change_opened opened lines ∷ []
@@ -188,7 +187,7 @@ trailer_added keeps old new records line over is kind fields same_header place m
   );
 }
 
--- after whole units, the reader can take a record that is a unit by itself, and makes its changes
+-- after whole units, the reader can take a record that is a unit by itself, and makes the record's changes
 pub single_added : {K : Type 0} (keeps : Keeps K) (old new : Front K) (records : Lines) (line : List ℕ) (number : ℕ) → IsOver keeps old records
     → IsRecord line → HasGoodFields line
     → unit_by_kind (kind_of line) line ≡ Some between_units
@@ -239,7 +238,7 @@ basic_added keeps old new opened records line over is kind fields number named h
 between_some : (records : Lines) → IsPlaceOf records between_units → 0 < length records
 between_some records at = let told = at_of_place records between_units at in let size = ap (λ (l : Lines). length l) told.whole in omega arith
 
--- at the stage between units, all units are whole
+-- at the stage `BetweenUnits`, all units are whole
 pub over_of_between : {K : Type 0} (keeps : Keeps K) (front : Front K) (records : Lines) → HasRecords keeps front records → front.stage ≡ BetweenUnits
     → IsOver keeps front records
 over_of_between keeps front records has place =
@@ -253,7 +252,7 @@ over_of_between keeps front records has place =
       anew = λ line _. ap (λ p. next_place p line) told.0;
     }
 
--- at the stage in a schedule, the reader is in that schedule and the keeper has its lines
+-- at the stage `InSchedule`, the reader is in the schedule of this stage, and the keeper has the schedule's lines
 pub opened_of : {K : Type 0} (keeps : Keeps K) (front : Front K) (opened : Opened) (records : Lines) (has : HasRecords keeps front records)
     → front.stage ≡ InSchedule opened
     → IsOpen keeps opened front.keeper has.place records
@@ -285,7 +284,7 @@ over_of_closed keeps old new opened records has place whole same_header closed =
 
 -- ---- taking a further line of a schedule
 
--- Says that the stage is in the same schedule as before, and that this line was added to the schedule's lines.
+-- Says that the reader is still in the same schedule, and that this line was added to the schedule's lines.
 pub record IsFollowed (opened : Opened) (line : List ℕ) (stage : FileStage) : Type 0 where
   pub later : Opened
   pub place : stage ≡ InSchedule later
@@ -477,19 +476,19 @@ ended_iff keeps front records ended has tells = (
       one_place records after_end has.place ((file_iff_place records).0 file) has.at in sym (tells has.place has.kept_are) ∙ ap is_after_end (sym same),
 )
 
--- at the stage before the header, the reader isn't after the trailer
+-- at the stage `BeforeHeader`, the reader isn't after the trailer
 pub tells_before : {K : Type 0} (keeps : Keeps K) (front : Front K) (records : Lines) (place : Place) → front.stage ≡ BeforeHeader
     → IsKept keeps front.stage front.keeper place records → is_after_end place ≡ false
 tells_before keeps front records place at told =
     ap is_after_end (subst (λ p. IsKept keeps p front.keeper place records) at told).0
 
--- at the stage between units, the reader isn't after the trailer
+-- at the stage `BetweenUnits`, the reader isn't after the trailer
 pub tells_between : {K : Type 0} (keeps : Keeps K) (front : Front K) (records : Lines) (place : Place) → front.stage ≡ BetweenUnits
     → IsKept keeps front.stage front.keeper place records → is_after_end place ≡ false
 tells_between keeps front records place at told =
     ap is_after_end (subst (λ p. IsKept keeps p front.keeper place records) at told).0
 
--- at the stage in a schedule, the reader isn't after the trailer
+-- at the stage `InSchedule`, the reader isn't after the trailer
 pub tells_inside : {K : Type 0} (keeps : Keeps K) (front : Front K) (opened : Opened) (records : Lines) (place : Place) → front.stage ≡ InSchedule opened
     → IsKept keeps front.stage front.keeper place records → is_after_end place ≡ false
 tells_inside keeps front opened records place at told =
@@ -724,14 +723,14 @@ pub other_kind : (kind : code.Kind) → ¬ (kind ≡ Header) → is_header_kind 
 other_kind Header bad = absurd (bad refl)
 other_kind _ bad = refl
 
--- at the stage after the trailer, the records are a file
+-- at the stage `AfterEnd`, the records are a file
 pub file_at_end : {K : Type 0} (keeps : Keeps K) (front : Front K) (records : Lines) → HasRecords keeps front records → front.stage ≡ AfterEnd → IsFile records
 file_at_end keeps front records has at =
     (file_iff_place records).1 (has.at ∙ ap Some (subst (λ p. IsKept keeps p front.keeper has.place records) at has.kept_are).0)
 
 -- ---- the whole file
 
--- at the stage after the trailer, the records are a file, and the reader returns the header, the number of records and the keeper of this file
+-- at the stage `AfterEnd`, the records are a file, and the reader returns the header, the number of records and the keeper of this file
 pub file_ended : {K : Type 0} (keeps : Keeps K) (front : Front K) (records : Lines) (ended : Ended K) → HasRecords keeps front records
     → front.stage ≡ AfterEnd → front.header ≡ Some ended.header → ended.records ≡ length records → ended.keeper ≡ front.keeper
     → IsFile records × IsEnded keeps records ended

@@ -196,7 +196,7 @@ ended_long keeps old limit text front fault reading plain many next =
 
 -- ---- further bytes of a line
 
--- if further bytes of a line are kept, the parser has read the text up to and including them
+-- if further bytes of a line are stored, the parser has read the text up to and including them
 pub kept_read : {K : Type 0} (keeps : Keeps K) (old new : FileReading K) (limit : ℕ) (text more : List ℕ) → IsReading keeps old limit text → HasNoFeed more
     → length old.partial.items + length more ≤ 81 → new.records ≡ old.records
     → new.partial.items ≡ old.partial.items ++ more → IsReading keeps new limit (text ++ more)
@@ -387,7 +387,7 @@ ended_err keeps wants old limit text front line fault reading plain same told =
     ended_fault keeps wants old limit text front fault reading plain
     (subst (λ l. IsFaultNext wants limit (complete_lines text) l fault) same (told limit (complete_lines text) reading.counted))
 
--- if the number of bytes that the parser keeps is 0, the list of these bytes is empty
+-- if the number of bytes that the parser stores is 0, the list of these bytes is empty
 pub empty_is : {K : Type 0} (old : FileReading K) → true ≡ (length old.partial.items == 0) → old.partial.items ≡ []
 empty_is old none = by old.partial.items (eqb-true (length old.partial.items) 0 (sym none))
   where

@@ -139,7 +139,7 @@ told_as_memory fault result file is = by (memory_or_not fault.cause)
 
 -- ---- faults of the text that a source held
 
--- a fault of the file that is returned at the end is a fault of the whole text
+-- if reading a source returns the error `File` at the end of the text, its fault is a fault of the whole text
 pub fault_at_end : {A : Type 0} (limit : ℕ) (text : List ℕ) (fault told : FileFault) (result : ReadFault) → IsRefused limit text fault
     → (fault.cause ≡ Memory → result ≡ read.Memory) → (fault.cause ≢ Memory → result ≡ read.File fault)
     → ◌≡◌ {A = Result A ReadFault} (Err result) (Err (read.File told)) → IsFaultOf limit text told
@@ -147,7 +147,7 @@ fault_at_end limit text fault told result refused memory file is =
     let as_file = told_as_file fault told result memory file is in
     subst (IsFaultOf limit text) as_file.0 (refused_of limit text fault refused as_file.1)
 
--- if memory runs out at the end, it does so at the last record
+-- if memory runs out at the end of the text, it runs out at the last record
 pub memory_at_end : {K : Type 0} (keeps : Keeps K) (wants : Type 0) {A : Type 0} (limit : ℕ) (text : List ℕ) (reading : FileReading K) (fault : FileFault)
     (result : ReadFault) → IsReading keeps reading limit text
     → IsRefused limit text fault → IsLater keeps wants reading fault → IsLast keeps reading fault → (fault.cause ≢ Memory → result ≡ read.File fault)
@@ -160,7 +160,7 @@ memory_at_end keeps wants limit text reading fault result has refused later last
           (subst (λ cause. IsCauseOf limit text fault.number (cause_meant cause)) wanting refused),
     )
 
--- a fault of the file at the end of the source is a fault of the text that the source held
+-- if a fault of the text is found at the end of the source, it is a fault of the text that the source held
 pub refused_at_end : {K : Type 0} (keeps : Keeps K) (limit count : ℕ) (initial now : Option (List ℕ)) (reading : FileReading K) (fault : FileFault)
     → (at : HasFed (TakesFile keeps) count limit [] initial now reading) → IsEnd now → IsFaultOf limit at.bytes fault → RefusesText limit initial fault
 refused_at_end keeps limit count initial now reading fault at end is =
@@ -227,7 +227,7 @@ wants_before keeps wants limit initial next reading fault result has file is =
 same_fault : {A B : Type 0} (fault told : ReadFault) → ◌≡◌ {A = Result A ReadFault} (Err fault) (Err told) → ◌≡◌ {A = Result B ReadFault} (Err fault) (Err told)
 same_fault fault told is = let same : fault ≡ told = cc in ap Err same
 
--- for a keeper that may run out of memory, `WantsMemory` follows from `WantsMemoryBy`
+-- for a keeper that may run out of memory, the condition `WantsMemoryBy`, which mentions the keeper, implies the condition `WantsMemory`, which doesn't
 pub wants_any : {A B : Type 0} (wants : Type 0) (limit : ℕ) (old new : Option (List ℕ)) (fault : ReadFault)
     → (◌≡◌ {A = Result A ReadFault} (Err fault) (Err read.Memory) → WantsMemoryBy wants 65536 limit old new)
     → ◌≡◌ {A = Result B ReadFault} (Err fault) (Err read.Memory) → WantsMemory 65536 limit old new

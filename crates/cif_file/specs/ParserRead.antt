@@ -219,7 +219,7 @@ NamesLast parser fault =
 abbrev pub GoesOn : (ℕ → List ℕ → Type 0) → List ℕ → (ℕ → List ℕ → Type 0) → Type 0
 GoesOn before bytes after = (limit : ℕ) (text : List ℕ) → before limit text → after limit (text ++ bytes)
 
--- Says that the text ends in this rest, and that all bytes before the rest were taken.
+-- Says that the text ends with this rest, and that all bytes before the rest were taken.
 pub record TakesUpTo (before : ℕ → List ℕ → Type 0) (text rest : List ℕ) (after : ℕ → List ℕ → Type 0) : Type 0 where
   pub whole : before_rest text rest ++ rest ≡ text
   pub read : GoesOn before (before_rest text rest) after

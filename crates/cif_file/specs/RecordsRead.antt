@@ -88,8 +88,7 @@ IsNoNextCause wants records line (Some cause) = IsNoNext records line cause
 abbrev pub IsWholeBy : Opened → Type 0
 IsWholeBy opened = (lines : Lines) → HasLines (progress_meant opened.progress) lines → IsSchedule lines
 
--- Says that the records end in lines of a schedule, and that the schedule may continue with this
--- line. `opened` is the schedule with this line added.
+-- Says that the records end with lines of a schedule, and that the schedule may continue with this line. `opened` is the schedule with this line added.
 pub record StandsBefore {K : Type 0} (keeps : Keeps K) (front : Front K) (opened : Opened) (line : List ℕ) (records : Lines) : Type 0 where
   pub is : IsRecord line
   pub follows : follows_basic (kind_of line) ≡ true

@@ -33,7 +33,7 @@ impl Model for FileCount {
 }
 
 impl FileCount {
-    /// Makes the counts of a file with this header.
+    /// Makes a `FileCount` from a file's header and counts.
     pub(crate) fn of(header: HeaderLine, records: u32, changes: u64) -> FileCount
         requires counted { IsCounted (record {
           header_line = header;

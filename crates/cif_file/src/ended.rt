@@ -84,7 +84,7 @@ impl<P: PlaceDay> Ended<ThinSoFar<P>> {
 impl Ended<Tally> {
     ghost use Rattle.std.specs.Prelude.{◌≡◌};
 
-    /// Makes the counts of the file.
+    /// Makes a `FileCount` of the file.
     pub(crate) fn into_count(self) -> FileCount
         requires { IsCounted (count_ended self) }
         ensures { result ≡ count_ended self }

@@ -69,7 +69,7 @@ impl CifFile {
 }
 
 impl FileParts {
-    /// Makes the file from its parts again.
+    /// Makes the file again from its parts.
     pub fn into_file(self) -> CifFile
         requires { ArePartsOfFile self }
         ensures { result ≡ file_of_parts self }

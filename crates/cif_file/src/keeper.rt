@@ -1,4 +1,4 @@
-//! Keepers: what a reader keeps of a file's records.
+//! Keepers, which decide what a reader keeps of a file's records.
 ghost use Rattle.std.specs.Prelude.{ℕ, List, OnOk, OnErr};
 ghost use Rattle.docker_model.specs.records.Record.{HasKind};
 ghost use Rattle.docker_model.specs.file.Change.{Change};

@@ -1,4 +1,4 @@
-//! Numbers the records of a file and checks their limit.
+//! Numbers the records of a file and checks the limit on their number.
 ghost use Rattle.std.specs.Prelude.{◌≤◌};
 
 use crate::ended::Ended;

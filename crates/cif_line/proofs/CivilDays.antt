@@ -30,7 +30,7 @@ end_of_2059 : day_count (pos 2059) 12 31 ≡ 4_404_824
 unfolding day_count days_of_years days_of_months
 end_of_2059 = refl
 
--- if `IsDayOf` holds of a number and a date, the number is the date's day number
+-- if the calendar's day count shows that a number belongs to a date, the number is the date's day number
 pub number_is : (number year month day : ℕ) → IsDayOf number year month day → day_number year month day ≡ number
 number_is number year month day h =
     let there = day_number-day_count year month day h.low (omega (arith, h.high)) h.is_civil.1.0 h.is_civil.2.0 in

@@ -70,8 +70,7 @@ days_before month = slice_index_or {A = ℕ} (0 ∷ 0 ∷ 31 ∷ 59 ∷ 90 ∷ 1
 abbrev pub leap_before : Bool → ℕ → ℕ
 leap_before leap month = cond (nat_lt 2 month && leap) 1 0
 
--- the number of days of a year before a month. A leap year has one more day before each month from
--- March on
+-- the number of days of a year before a month is the number in `days_before`. In a leap year it is one more for each month from March on
 before_month : (y n : ℕ) → n < 12 → days_of_months (pos y) n ≡ days_before (suc n) + leap_before (is_leap_year (pos y)) (suc n)
 before_month y zero low = days_of_months_table (pos y) 0 low
 before_month y (suc zero) low = days_of_months_table (pos y) 1 low

@@ -53,7 +53,7 @@ clock_of_present field there = (both (is_clock field) ((slice_index field 4 == 7
 -- the lemmas on the bounds of a time's hour and minute
 pub ruleset clock_bounds = (hour_bound, minute_bound, clock_of_present)
 
--- the lemma that a scheduled time that is present isn't blank
+-- the lemma that says that a field with a time isn't blank
 pub ruleset scheduled_times = (present_not_blank)
 
 -- if at least one of two tests passes, and the second fails, the first passes

@@ -1,4 +1,4 @@
--- The lines gathered from the rows of a state and then sorted are the docker list.
+-- The docker list is made by gathering the lines of a state's rows and then sorting them.
 use Rattle.std.proofs.Common.{◌≡◌, ℕ, List, [], ◌++◌, ap, sym, ◌∙◌, subst, append_assoc}
 use Rattle.std.specs.Prelude.{Option}
 use Rattle.std.proofs.lemmas.Grind.{flat_map-append}
@@ -22,7 +22,7 @@ use Rattle.docker_day.specs.Lines.{Adds}
 use Rattle.docker_day.specs.DockerValue.{Docker}
 use Rattle.docker_day.specs.Dockers.{HasGathered, IsDockerOf}
 
--- sorting the docker lines of any walk that includes every row of the place yields the docker list
+-- sorting the docker lines of any walk that includes all associations at a place and all schedules that call there yields the docker list
 docker_of_walk : (live : Table) (place : List ℕ) (day : ℕ) (rows walk : List Row) (none made lines : List DockerLine) → HasGoodBodies live
     → AreRowsOf live rows → IsWalk live place walk
     → none ≡ [] → Adds live (λ trains links. gathered trains links place day walk) none made → IsPermutation made lines → IsSorted docker_line_cmp lines

@@ -1,4 +1,4 @@
--- The docker lines of a row are the concatenation of the row's lines for the three visits.
+-- The docker lines of a row are the concatenation of the row's lines for the three visits: one for each start day.
 use Rattle.std.proofs.Common.{◌≡◌, ℕ, ◌-◌, Bool, true, false, cond, List, [], ◌++◌, refl, ap, sym, ◌∙◌, subst, Some, None, append-nil, arith}
 use Rattle.std.specs.Prelude.{Option, nat_le}
 use Rattle.std.proofs.Math.Dec.{leb-zero}

@@ -177,7 +177,7 @@ module _ (live : Table) (rows : List Row) (are : AreRowsOf live rows) (place : L
   none_back (Link link) is_live not_so = absurd (true_false not_so)
   none_back Other is_live not_so = absurd (true_false not_so)
 
-  -- if `row_runs_recently` is false for a row, the row has no lines for any of the three start days
+  -- if `row_runs_recently` is false for a row, the row has no lines for the day or for one of the two days before as the start day
   none_recently : (view : RowView) → IsLiveView live view → row_runs_recently view day ≡ false
       → (lines_back view 0 ≡ []) × (lines_back view 1 ≡ []) × (lines_back view 2 ≡ [])
   none_recently (Train train) is_live not_so =

@@ -74,7 +74,7 @@ pub moved_again : (there again : PlaceDay) (all rest fewer : List Row) (first se
 moved_again there again all rest fewer first second third same one two = λ rows are.
     subst (λ (p : PlaceDay). HaveMoved p rest fewer second third) same two rows are ∙ one rows are
 
--- `HaveMoved` is preserved if further rows of the walk are skipped
+-- if a walk has added the lines of all rows that it has passed, this is still true after the walk skips rows without docker lines
 pub moved_over : (there again : PlaceDay) (all rest fewer : List Row) (first second : List DockerLine) → again ≡ there
     → AreLive (live_in again.timetable) rest → HaveMoved there all rest first second → ArePassedOver again.day rest fewer
     → HaveMoved there all fewer first second

@@ -52,7 +52,7 @@ fn row_runs_recently(view: &RowView<'_>, day: Day) -> bool
     }
 }
 
-/// Whether a row may have lines at a place on a day for a train that started on an earlier day. A
+/// Whether a row may have lines at a place on a day for a train that started before that day. A
 /// schedule has no such lines unless its train may be under way.
 fn is_row_under_way(view: &RowView<'_>, place: &Tiploc, day: Day) -> bool
     ensures { result ≡ row_under_way place.now view.now day }

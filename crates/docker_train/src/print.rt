@@ -101,7 +101,8 @@ fn heading(uid: &Uid, day: Day, found: &[u8; 46]) -> [u8; WIDTH]
     whole(text)
 }
 
-/// Columns 27 to 72 of the heading: the schedule found, or `NONE`.
+/// Columns 27 to 72 of the heading. They describe the schedule found, or say `NONE` if no schedule
+/// runs.
 #[tactic(auto, unfolding(crate::specs::TrainText::found_text))]
 fn text_of_found(found: Option<&Stamped<'_>>) -> [u8; 46]
     ensures { result ≡ found_text (option_copied found.entry) }

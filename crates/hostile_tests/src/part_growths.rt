@@ -47,8 +47,7 @@ fn end<T>(desk: &Desk, here: bool, done: &Result<T, Memory>) {
     }
 }
 
-/// Builds a state with one ledger item and one entry anew from this item and this entry. Prints how
-/// the call `at` ended.
+/// Builds a state again from its one ledger item and its one entry. Prints how the call `at` ended.
 fn rebuilt(desk: &Desk, one: &State, at: At) -> Result<State, Memory> {
     let (items, rows) = (one.ledger(), one.entries());
     if items.len() != 1 {

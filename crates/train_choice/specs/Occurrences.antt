@@ -33,8 +33,7 @@ occurrence_of lines event = record {
 abbrev pub occurrences : List (List ℕ) → List Occurrence
 occurrences lines = map (occurrence_of lines) (events_of lines)
 
--- the progress of a walk: the number of the next event, the number of midnights passed, the last
--- time if there was one, and the train identity
+-- the progress of a walk: the number of the next event, the number of midnights passed, the last time that was passed, if there was one, and the train identity
 pub record Progress : Type 0 where
   pub number : ℕ
   pub falls : ℕ

@@ -20,7 +20,8 @@ pub struct RecentRuns {
 }
 
 impl RecentRuns {
-    /// The result for a schedule that doesn't run on any of the three days.
+    /// The result for a schedule that doesn't run on the given day or on one of the two days before
+    /// it.
     pub(crate) fn never() -> RecentRuns
         ensures { AreRecentRuns (λ back. false) result }
     {
@@ -31,7 +32,7 @@ impl RecentRuns {
         }
     }
 
-    /// Whether the schedule runs on at least one of the three days.
+    /// Whether the schedule runs on the given day or on one of the two days before it.
     pub fn is_some(&self) -> bool
         ensures { result ≡ (self.now.today || self.now.day_before || self.now.two_before) }
     {

@@ -33,7 +33,7 @@ pub struct Occurrence<'a> {
 
 /// A walk over the lines of a schedule. It keeps the current line and the remaining times of this
 /// line. It also keeps the number of the next event, the number of midnights passed, the last time
-/// and the train identity.
+/// that was read, and the train identity.
 #[derive(Clone, Copy, Debug)]
 pub(crate) struct EventWalk<'a> {
     line: &'a Line,

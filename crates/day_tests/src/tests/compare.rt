@@ -1,5 +1,5 @@
-//! Tests compare values by calling this function, which ends the test if the values differ. The
-//! assertion is in a separate function, so the assertion is proved once for all tests.
+//! Tests compare values by calling `same`, which ends the test if the values differ. The assertion
+//! is in a separate function, so the assertion is proved once for all tests.
 use std::fmt::Debug;
 use std::process::Abort;
 

@@ -56,7 +56,7 @@ const CANCELLED: &[u8] =
 const SUNDAY: &[u8] =
     b"TRAIN  C10001  2024-06-16 P RUNS      2024-06-09 2100 DFROC1A         15        ";
 
-/// The heading for 14 June, on which C10002 runs by record 2.
+/// The heading for 14 June, on which C10002 runs by its schedule, record 2.
 const OTHER: &[u8] =
     b"TRAIN  C10002  2024-06-14 P RUNS      2024-06-09 2100 DFROC1A          2        ";
 

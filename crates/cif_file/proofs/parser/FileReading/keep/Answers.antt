@@ -1,4 +1,4 @@
--- The bytes are kept, unless the line then has more than 81 bytes.
+-- The bytes are stored, unless the line then has more than 81 bytes.
 use Rattle.std.proofs.Common.{refl, sym, ◌∙◌}
 use Rattle.std.proofs.lemmas.Bool.{false≢true}
 use Rattle.cif_file.proofs.ParserLemmas.{kept_read, kept_long, later_long}

@@ -1,4 +1,4 @@
--- Taking a piece is feeding it to the parser.
+-- A piece is taken by feeding it to the parser.
 use Rattle.cif_file.proofs.ReadLemmas.{takes_more, refuses_more}
 use Rattle.cif_file.proofs.read.FileReadingTaker.take.Goals as goal
 
