@@ -546,17 +546,17 @@ pub fault_at_read : (parser : ParserState) (limit : ℕ) (text : List ℕ) (faul
     → IsFaultReported limit text fault
 fault_at_read parser limit text fault at has = subst (IsReadingOrFault parser.reading limit text) at has
 
--- a parser that hasn't returned a fault has read any text that it may have been fed
+-- if a parser that hasn't returned a fault may have been fed a text, it has taken exactly this text
 pub reading_at_none : (parser : ParserState) (limit : ℕ) (text : List ℕ) → parser.fault ≡ None → HasRead parser limit text
     → IsReading KeepsAll parser.reading limit text
 reading_at_none parser limit text at has = subst (IsReadingOrFault parser.reading limit text) at has
 
--- a parser that hasn't returned a fault may have been fed any text that it has read
+-- if a parser that hasn't returned a fault has taken exactly this text, it may have been fed this text
 pub none_at_reading : (parser : ParserState) (limit : ℕ) (text : List ℕ) → parser.fault ≡ None → IsReading KeepsAll parser.reading limit text
     → HasRead parser limit text
 none_at_reading parser limit text at is = subst (IsReadingOrFault parser.reading limit text) (sym at) is
 
--- a parser that hasn't returned a fault has read, in its `reading`, any text that it may have been fed
+-- if a parser that hasn't returned a fault may have been fed a text, its `reading` has taken exactly this text
 pub reading_of : (parser : ParserState) (reading : FileReading FileSoFar) (limit : ℕ) (text : List ℕ) → parser.fault ≡ None → parser.reading ≡ reading
     → HasRead parser limit text → IsReading KeepsAll reading limit text
 reading_of parser reading limit text none same has = subst (λ r. IsReading KeepsAll r limit text) same (reading_at_none parser limit text none has)

@@ -62,7 +62,7 @@ module _ (there again : PlaceDay) (view : RowView) (today : Visit) (day_before t
       (three_backs there.place there.day view (live_in there.timetable) first second third last (adds_today there view today first second are.today_is one)
       (adds_back there view 1 day_before second third are.day_before_is two) (adds_back there view 2 two_before third last are.two_before_is three))
 
-  -- if `row_under_way` is false for the row, the visit for the day itself adds all lines of the row
+  -- if `row_under_way` says that the row can't have lines for a train that started before the day, the visit for the day itself adds all lines of the row
   pub adds_today_alone : (first second : List DockerLine) → there ≡ again → AreVisits there today day_before two_before
       → IsLiveView (live_in again.timetable) view → row_under_way again.place view again.day ≡ false → AddsAt today view first second
       → AddsRow again view first second

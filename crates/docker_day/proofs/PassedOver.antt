@@ -164,7 +164,7 @@ module _ (live : Table) (rows : List Row) (are : AreRowsOf live rows) (place : L
           (no_lines_then place day (day - back) train.key train.lines before early)
           ∙ none_either (runs_by (train_in rows train.key.uid (day - back)) train.key)
 
-  -- if `row_under_way` is false for a row, the row has no lines for a start day before the day
+  -- if `row_under_way` says that a row can't have lines for a train that started before the day, the row has no lines for a start day before the day
   pub none_back : (view : RowView) → IsLiveView live view → row_under_way place view day ≡ false
       → (lines_back view 1 ≡ []) × (lines_back view 2 ≡ [])
   none_back (Train train) is_live not_so =
@@ -177,7 +177,7 @@ module _ (live : Table) (rows : List Row) (are : AreRowsOf live rows) (place : L
   none_back (Link link) is_live not_so = absurd (true_false not_so)
   none_back Other is_live not_so = absurd (true_false not_so)
 
-  -- if `row_runs_recently` is false for a row, the row has no lines for the day or for one of the two days before as the start day
+  -- if `row_runs_recently` says that a row can't have lines on the day, the row has no lines for the day or for one of the two days before as the start day
   none_recently : (view : RowView) → IsLiveView live view → row_runs_recently view day ≡ false
       → (lines_back view 0 ≡ []) × (lines_back view 1 ≡ []) × (lines_back view 2 ≡ [])
   none_recently (Train train) is_live not_so =
@@ -190,8 +190,8 @@ module _ (live : Table) (rows : List Row) (are : AreRowsOf live rows) (place : L
 nothing : (before : List DockerLine) {more : List DockerLine} → more ≡ [] → before ≡ before ++ more
 nothing before none = sym (append-nil before) ∙ ap (λ out. before ++ out) (sym none)
 
--- if `row_under_way` is false for a row, all lines of the row are for the train that starts on the
--- day itself
+-- if `row_under_way` says that a row can't have lines for a train that started before the day, all lines of the row are for the train that starts on the day
+-- itself
 pub first_back_alone : (place : List ℕ) (day : ℕ) (view : RowView) (live : Table) (first second : List DockerLine) → IsLiveView live view
     → row_under_way place view day ≡ false → Adds live (λ trains links. row_back trains links place day view 0) first second
     → Adds live (λ trains links. view_lines trains links place day view) first second
@@ -200,7 +200,7 @@ first_back_alone place day view live first second is_live not_so one =
     (λ rows are. nothing second (none_back live rows are place day view is_live not_so).0)
     (λ rows are. nothing second (none_back live rows are place day view is_live not_so).1)
 
--- if `row_runs_recently` is false for a row, the row adds no lines
+-- if `row_runs_recently` says that a row can't have lines on the day, the row adds no lines
 pub not_recently : (place : List ℕ) (day : ℕ) (view : RowView) (live : Table) (first : List DockerLine) → IsLiveView live view
     → row_runs_recently view day ≡ false → Adds live (λ trains links. view_lines trains links place day view) first first
 not_recently place day view live first is_live not_so =
@@ -209,7 +209,7 @@ not_recently place day view live first is_live not_so =
     (λ rows are. nothing first (none_recently live rows are place day view is_live not_so).1)
     (λ rows are. nothing first (none_recently live rows are place day view is_live not_so).2)
 
--- if `row_may_run` is false for a row, `row_runs_recently` is false too
+-- if `row_may_run` says that a row can't have lines on the day, `row_runs_recently` says this too
 pub row_idle : (key : Key) (body : Body) (day : ℕ) → IsBodyOf key body → row_may_run (view_of key body) day ≡ false
     → row_runs_recently (view_of key body) day ≡ false
 row_idle (schedule_key key) (schedule_body lines) day of never = let idle = idle_recently key lines day of never in (λ i. idle.0 i || idle.1 i || idle.2 i)

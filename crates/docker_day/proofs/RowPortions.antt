@@ -21,14 +21,14 @@ use Rattle.docker_day.specs.declared.row_view.RowView.{RowView}
 use Rattle.docker_day.proofs.PassedOver.{not_recently, row_idle}
 use Rattle.docker_day.proofs.RowViews.{gathered_viewed, lines_viewed, live_view, live_views}
 
--- if `row_may_run` is false for a row and a day, the row has no lines on this day
+-- if `row_may_run` says that a row can't have lines on a day, the row has no lines on this day
 no_lines : (place : List ℕ) (day : ℕ) (key : Key) (body : Body) (live : Table) (rows : List Row) → AreRowsOf live rows → live key ≡ Some body
     → IsBodyOf key body → row_may_run (view_of key body) day ≡ false → row_lines (train_in rows) (link_in rows) place day key body ≡ []
 no_lines place day key body live rows are is_live of never =
     sym (lines_viewed (train_in rows) (link_in rows) place day key body)
     ∙ sym (not_recently place day (view_of key body) live [] (live_view live key body is_live) (row_idle key body day of never) rows are)
 
--- if `row_may_run` is false for a row, the row may be skipped
+-- if `row_may_run` says that a row can't have lines on the day, the row may be skipped
 pub row_passed : (day : ℕ) (key : Key) (body : Body) (row : RowView) (before after : List Row) (may : Bool) → before ≡ (key, body) ∷ after
     → AreGoodRows before → row ≡ view_of key body → may ≡ row_may_run row day → ¬ (◌≡◌ {A = Option Bool} (Some may) (Some true))
     → ArePassedOver day before after

@@ -1,4 +1,4 @@
--- After the trailer the file ends. A record that is a unit by itself makes its changes.
+-- After the trailer the file ends. A TIPLOC record or an association makes its changes at once.
 use Rattle.std.proofs.Common.{refl, subst}
 use Rattle.std.specs.Prelude.{OnOk}
 use Rattle.cif_file.specs.KeeperRead.{AddsSingle}
