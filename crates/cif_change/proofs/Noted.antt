@@ -45,7 +45,7 @@ keeps_len [] ys keeps = omega arith
 keeps_len (x ∷ xs) [] keeps = absurd (none_some x (keeps 0 x refl))
 keeps_len (x ∷ xs) (y ∷ ys) keeps = let rest = keeps_len xs ys (λ i z is. keeps (suc i) z is) in omega arith
 
--- consecutive elements of a list are the same in any other list that has each element of this list at the same index
+-- let each element of a list be at the same index in another list. Then consecutive elements of the first list are the same in the second list
 part_kept : (f n : ℕ) (xs ys : List ℕ) → Keeps xs ys → f + n ≤ length xs → take n (drop f ys) ≡ take n (drop f xs)
 part_kept zero zero xs ys keeps within = refl
 part_kept zero (suc n) [] ys keeps within = absurd (omega arith)
@@ -58,8 +58,7 @@ part_kept (suc f) n [] ys keeps within = absurd (omega arith)
 part_kept (suc f) n (x ∷ xs) [] keeps within = absurd (none_some x (keeps 0 x refl))
 part_kept (suc f) n (x ∷ xs) (y ∷ ys) keeps within = part_kept f n xs ys (λ i z is. keeps (suc i) z is) (omega arith)
 
--- if numbers are the indexes of places in a list, they are also the indexes of these places in any other list that has each element of this list at the same
--- index
+-- let each element of a list be at the same index in another list. Then indexes of places in the first list are indexes of the same places in the second list
 pub ranks_kept : (old new : List (List ℕ)) → Keeps old new → (places : List (List ℕ)) (numbers : List ℕ) → AreRanks old places numbers
     → AreRanks new places numbers
 ranks_kept old new keeps [] [] are = refl

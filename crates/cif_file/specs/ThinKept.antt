@@ -38,11 +38,11 @@ pub record HasThinned (place : List ℕ) (day : ℕ) (thinned : Thinned) (all : 
   pub thinning : IsThinning place day all kept
   pub known : HasKeysOf thinned.keys kept
 
--- Says that the changes `more` were received: if the kept changes were a thinning of some changes, they are now a thinning of those changes followed by `more`.
+-- Says that the changes `more` were received. If the kept changes were a thinning of some changes, they are now a thinning of those changes followed by `more`.
 abbrev pub ThinsAll : List ℕ → ℕ → Thinned → List Change → Thinned → Type 0
 ThinsAll place day old more new = (all : List Change) → HasThinned place day old all → HasThinned place day new (all ++ more)
 
--- Says that one change was received: if the kept changes were a thinning of some changes, they are now a thinning of those changes followed by this change.
+-- Says that one change was received. If the kept changes were a thinning of some changes, they are now a thinning of those changes followed by this change.
 abbrev pub Thins : List ℕ → ℕ → Thinned → Change → Thinned → Type 0
 Thins place day old change new = ThinsAll place day old (change ∷ []) new
 
@@ -52,7 +52,7 @@ abbrev pub IsNearBy : ℕ → Lines → Bool → Type 0
 IsNearBy day [] near = ⊤
 IsNearBy day (basic ∷ others) near = is_deletion basic ≡ false → near ≡ runs_near day basic
 
--- Says that the change of this schedule was received: if the kept changes were a thinning of some changes, they are now a thinning of those changes followed by
+-- Says that the change of this schedule was received. If the kept changes were a thinning of some changes, they are now a thinning of those changes followed by
 -- this change.
 abbrev pub ThinsOpened : List ℕ → ℕ → Thinned → Opened → Bool → Lines → Thinned → Type 0
 ThinsOpened place day old opened near renewed new =

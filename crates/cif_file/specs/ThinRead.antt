@@ -15,7 +15,7 @@ pub record ThinRead : Type 0 where
   pub file : FileRead
   pub kept : List Change
 
--- Says that the file was read from the records of a CIF file, and that the kept changes are a thinning of the file's changes for the place and the day.
+-- Says that the file was read from the records of a CIF file. Also says that the kept changes are a thinning of the file's changes for the place and the day.
 pub record IsThinRead (thin : ThinRead) : Type 0 where
   pub read : IsRead thin.file
   pub thinning : IsThinning thin.place thin.day thin.file.changes_made thin.kept

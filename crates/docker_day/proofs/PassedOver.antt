@@ -177,7 +177,7 @@ module _ (live : Table) (rows : List Row) (are : AreRowsOf live rows) (place : L
   none_back (Link link) is_live not_so = absurd (true_false not_so)
   none_back Other is_live not_so = absurd (true_false not_so)
 
-  -- if `row_runs_recently` says that a row can't have lines on the day, the row has no lines for the day or for one of the two days before as the start day
+  -- if `row_runs_recently` says that a row can't have lines on the day, the row has none for the start days: the day and the two days before it
   none_recently : (view : RowView) → IsLiveView live view → row_runs_recently view day ≡ false
       → (lines_back view 0 ≡ []) × (lines_back view 1 ≡ []) × (lines_back view 2 ≡ [])
   none_recently (Train train) is_live not_so =
@@ -190,8 +190,8 @@ module _ (live : Table) (rows : List Row) (are : AreRowsOf live rows) (place : L
 nothing : (before : List DockerLine) {more : List DockerLine} → more ≡ [] → before ≡ before ++ more
 nothing before none = sym (append-nil before) ∙ ap (λ out. before ++ out) (sym none)
 
--- if `row_under_way` says that a row can't have lines for a train that started before the day, all lines of the row are for the train that starts on the day
--- itself
+-- let `row_under_way` say that a row can't have lines for a train that started before the day. Then all lines of the row are for the train that starts on the
+-- day itself
 pub first_back_alone : (place : List ℕ) (day : ℕ) (view : RowView) (live : Table) (first second : List DockerLine) → IsLiveView live view
     → row_under_way place view day ≡ false → Adds live (λ trains links. row_back trains links place day view 0) first second
     → Adds live (λ trains links. view_lines trains links place day view) first second

@@ -50,7 +50,7 @@ pub pushed_item : (item : LedgerItem) (before after : List LedgerItem) → befor
     → map item_meant after ≡ item_meant item ∷ []
 pushed_item item before after none pushed = ap (map item_meant) (pushed ∙ ap (λ (xs : List LedgerItem). xs ++ item ∷ []) none)
 
--- if a valid state has only one ledger item and only one entry, a copy of the entry may be the first entry of a state whose ledger has only this item
+-- let a valid state have only one ledger item and only one entry. Then a copy of the entry may be the first entry of a state whose ledger has only this item
 pub here_copy : (items : List LedgerItem) (item other : LedgerItem) → length items ≡ 1 → item ≡ get_or items 0 other
     → (rows : List (Key × Entry)) (row next : Key × Entry) → length rows ≡ 1 → row ≡ get_or rows 0 next
     → (state : State) → map item_meant items ≡ state.ledger → map row_meant rows ≡ state.entries → IsValid state
