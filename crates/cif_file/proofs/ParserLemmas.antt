@@ -118,7 +118,7 @@ some_cause true ended first second third = refl
 some_cause false true first second third = refl
 some_cause false false first second third = refl
 
--- the fault for which the code refuses a line that isn't a record is a fault of that line
+-- if the code refuses a line that isn't a record, the fault that it returns is a fault of that line
 pub refused_line : (wants : Type 0) (limit : ℕ) (records : Lines) (line : List ℕ) (cause : Option model.FileCause) (fault : FileFault)
     → IsRefusedNext limit records cause fault → ¬ IsRecord line
     → ((place : Place) → cause ≡ Some (length_cause place line)) → IsFaultNext wants limit records line fault
@@ -131,7 +131,7 @@ refused_line wants limit records line cause fault next bad told = record {
       (record { place = next.place; at = next.at; here = inr (no_next next.place line bad); is = refl });
 }
 
--- the fault for which a line is refused because of its length is the fault of a line of more than 81 bytes
+-- if a line is refused because of its length, the fault that is returned is the fault of a line of more than 81 bytes
 pub refused_long : (limit : ℕ) (records : Lines) (fault : FileFault) → IsRefusedNext limit records (Some bad_length) fault → IsLongNext limit records fault
 refused_long limit records fault next = record {
   number = next.number;
@@ -600,7 +600,7 @@ later_long keeps wants reading fault told = λ limit text is.
 later_front : (text more : List ℕ) (fault : FileFault) → sure_lines (text ++ more) < fault.number → sure_lines text < fault.number
 later_front text more fault later = let grown = sure_lines_grow text more in omega arith
 
--- a fault that comes after all complete lines read up to the end of a piece also comes after all complete lines read before this piece
+-- if a fault comes after all complete lines read up to the end of a piece, it also comes after all complete lines read before this piece
 pub later_piece : {K : Type 0} (keeps : Keeps K) (wants : Type 0) (old new : FileReading K) (front : List ℕ) (fault : FileFault)
     → GoesOn (IsReading keeps old) front (IsReading keeps new) → IsLater keeps wants new fault
     → IsLater keeps wants old fault
@@ -631,13 +631,13 @@ pub last_open : {K : Type 0} (keeps : Keeps K) (wants : Type 0) (reading : FileR
 last_open keeps wants reading line fault some told =
     λ _ limit text is. (told limit (complete_lines text) is.counted).number ∙ sym (length_at_end text (some_is_open keeps reading limit text is some))
 
--- a fault that comes after all complete lines that the parser has read comes after all complete lines that it was fed
+-- if a fault comes after all complete lines that the parser has read, it comes after all complete lines that the parser was fed
 pub names_later : (parser : ParserState) (reading : FileReading FileSoFar) (fault : FileFault) → parser.fault ≡ None → parser.reading ≡ reading
     → IsLater KeepsAll ⊤ reading fault
     → NamesLater parser fault
 names_later parser reading fault none same told = λ _ limit text has. (told limit text (reading_of parser reading limit text none same has)).0
 
--- a fault at the last record that the parser has read is at the last record that it was fed
+-- if a fault is at the last record that the parser has read, it is at the last record that the parser was fed
 pub names_last : (parser : ParserState) (reading : FileReading FileSoFar) (fault : FileFault) → parser.fault ≡ None → parser.reading ≡ reading
     → IsLast KeepsAll reading fault
     → NamesLast parser fault

@@ -178,7 +178,7 @@ abbrev HasRefusedFile : {K : Type 0} → Keeps K → Type 0 → ℕ → Option (
 HasRefusedFile keeps wants limit initial next reading fault =
     HasRefused (TakesFile keeps) (λ _ n text piece told. RefusesPiece wants n text piece told) 65536 limit [] initial next reading fault
 
--- the fault for which a piece was refused is a fault of the text that the source held
+-- if a piece was refused with a fault, it is a fault of the text that the source held
 pub refused_before : {K : Type 0} (keeps : Keeps K) (wants : Type 0) {A : Type 0} (limit : ℕ) (initial next : Option (List ℕ)) (reading : FileReading K)
     (fault told : FileFault) (result : ReadFault) → HasRefusedFile keeps wants limit initial next reading fault
     → (fault.cause ≡ Memory → result ≡ read.Memory) → (fault.cause ≢ Memory → result ≡ read.File fault)
@@ -227,7 +227,7 @@ wants_before keeps wants limit initial next reading fault result has file is =
 same_fault : {A B : Type 0} (fault told : ReadFault) → ◌≡◌ {A = Result A ReadFault} (Err fault) (Err told) → ◌≡◌ {A = Result B ReadFault} (Err fault) (Err told)
 same_fault fault told is = let same : fault ≡ told = cc in ap Err same
 
--- for a keeper that may run out of memory, the condition `WantsMemoryBy`, which mentions the keeper, implies the condition `WantsMemory`, which doesn't
+-- if memory ran out where `WantsMemoryBy` allows it, it ran out where `WantsMemory` allows it
 pub wants_any : {A B : Type 0} (wants : Type 0) (limit : ℕ) (old new : Option (List ℕ)) (fault : ReadFault)
     → (◌≡◌ {A = Result A ReadFault} (Err fault) (Err read.Memory) → WantsMemoryBy wants 65536 limit old new)
     → ◌≡◌ {A = Result B ReadFault} (Err fault) (Err read.Memory) → WantsMemory 65536 limit old new

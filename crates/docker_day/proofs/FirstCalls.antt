@@ -135,8 +135,7 @@ IsWithBase link occasion visit line =
     (rows : List Row) → AreRowsOf (live_in visit.timetable) rows
     → listed line ≡ link_line_with (train_in rows) visit.day visit.start link (Some occasion) (train_in rows link.key.base visit.start)
 
--- the line that is made from the first event of the base train's call is the association's line
--- with the base train
+-- the line made from the first event of the base train's call is the association's line with the base train
 pub with_base : {Fault : Type 0} (link : Link) (occasion : Occasion) (event : events.Occurrence) (visit again : Visit)
     (result : Result (Option DockerLine) Fault) → again ≡ visit
     → ((rows : List Row) → AreRowsOf (live_in visit.timetable) rows

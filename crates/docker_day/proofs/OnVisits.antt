@@ -19,8 +19,7 @@ module _ (there : PlaceDay) (view : RowView) where
   abbrev AddsBack : ℕ → List DockerLine → List DockerLine → Type 0
   AddsBack back before after = Adds (live_in there.timetable) (λ trains links. row_back trains links there.place there.day view back) before after
 
-  -- the lines that the visit for the start day `back` days before the day adds are the row's lines
-  -- for this start day
+  -- the visit for the start day `back` days before the day adds the row's lines for this start day
   adds_back : (back : ℕ) (visit : Option Visit) (before after : List DockerLine) → visit ≡ visit_back there back → AddsIf visit view before after
       → AddsBack back before after
   adds_back back visit before after is adds = by (nat_le back there.day) refl (subst (λ (v : Option Visit). AddsIf v view before after) is adds)
@@ -42,7 +41,7 @@ module _ (there : PlaceDay) (view : RowView) where
       (λ i. cond (leb-zero there.day i) (Some (record { timetable = there.timetable; place = there.place; day = there.day; start = there.day - 0 })) None)
       ∙ (λ i. Some (record { timetable = there.timetable; place = there.place; day = there.day; start = same i }))
 
-  -- the lines that the visit for the day itself adds are the row's lines for that start day
+  -- the visit for the day itself adds the row's lines for that start day
   adds_today : (today : Visit) (before after : List DockerLine)
       → today ≡ record { timetable = there.timetable; place = there.place; day = there.day; start = there.day } → AddsAt today view before after
       → AddsBack 0 before after
