@@ -11,8 +11,8 @@ const SLOTS: usize = 65_536;
 /// The number of consecutive slots in which the index of a place may be.
 const NEAR: usize = 8;
 
-/// Remembers the index at which places were last found in a list. A memo is only a shortcut and may
-/// forget a place. A hash of a place's bytes determines the first slot of the place. Another
+/// Remembers the index at which each place was last found in a list. A memo is only a shortcut and
+/// may forget a place. A hash of a place's bytes determines the first slot of the place. Another
 /// place's index may be in that slot, so the place at a remembered index is always compared with
 /// the place that is looked up.
 #[derive(Debug, Drop)]
