@@ -68,7 +68,7 @@ pub none_after : (day : ℕ) (all rest fewer : List Row) (so_far : Bool) (found 
 none_after day all rest fewer so_far None left before end after none = passed_again day all rest fewer left (before none) (after (λ bad. cc))
 none_after day all rest fewer so_far (Some may) left before end after none = absurd (end may refl)
 
--- if a walk adds the lines of the rows that it passes in one step and in the next step, it adds the lines of the rows passed in both steps
+-- let a walk add the lines of the rows that it passes in each of two steps. Then it has added the lines of all rows that it passed in the two steps
 pub moved_again : (there again : PlaceDay) (all rest fewer : List Row) (first second third : List DockerLine) → again ≡ there
     → HaveMoved there all rest first second → HaveMoved again rest fewer second third → HaveMoved there all fewer first third
 moved_again there again all rest fewer first second third same one two = λ rows are.
