@@ -56,7 +56,7 @@ memory_or_not cause.Long = inr (λ same. cc)
 memory_or_not cause.Memory = inl refl
 memory_or_not cause.Horizon = inr (λ same. cc)
 
--- if the read fault is a fault of the text, it equals the parser's fault, and the cause of the parser's fault isn't out of memory
+-- if the read fault is a fault of the text, it equals the parser's fault, whose cause isn't `Memory`
 not_memory : {A : Type 0} (found told : StateFault) (result : ReadFault) → (found.cause ≡ cause.Memory → result ≡ fault.Memory)
     → (found.cause ≢ cause.Memory → result ≡ fault.State found)
     → ◌≡◌ {A = Result A ReadFault} (Err result) (Err (fault.State told)) → (found ≡ told) × (found.cause ≢ cause.Memory)
@@ -94,8 +94,7 @@ told_as_state format limit text piece rest found told result so_far memory state
     let same = not_memory found told result memory state is in
     subst (IsFaultOf format limit ((text ++ piece) ++ rest)) same.0 (told_so_far format limit text piece rest found.at found.cause same.1 so_far)
 
--- a parser's fault at the end of a text is returned as a fault of the text, or as out of memory
--- after a complete text
+-- a parser's fault at the end of a text is returned as a fault of the text or, after a complete text, as `Memory`
 pub ended_for : {A : Type 0} (format : Format) (limit : ℕ) (text : List ℕ) (IsMade : A → Type 0) (found : StateFault) (result : ReadFault)
     → IsUnended format limit text found → (found.cause ≡ cause.Memory → result ≡ fault.Memory)
     → (found.cause ≢ cause.Memory → result ≡ fault.State found)
@@ -110,7 +109,7 @@ ended_for format limit text IsMade found result at_end memory state = by (memory
         subst (λ (told : ReadFault). EndsText format limit text IsMade (Err told)) (sym (state other))
         (told_at_end format limit text found.at found.cause other at_end)
 
--- if the read fault is out of memory, the cause of the parser's fault is out of memory
+-- if the read fault is `Memory`, the cause of the parser's fault is `Memory`
 is_memory : {A : Type 0} (found : StateFault) (result : ReadFault) → (found.cause ≢ cause.Memory → result ≡ fault.State found)
     → ◌≡◌ {A = Result A ReadFault} (Err result) (Err fault.Memory)
     → found.cause ≡ cause.Memory
@@ -120,7 +119,7 @@ is_memory found result state is = by (memory_or_not found.cause)
     by (inl wanting) = wanting
     by (inr other) = absurd (let from = state other in cc)
 
--- if out of memory is returned for a piece, memory ran out for a part that ends in the piece
+-- if `Memory` is returned for a piece, memory ran out for a part that ends in the piece
 pub told_as_memory : {A : Type 0} (format : Format) (limit : ℕ) (text piece : List ℕ) (found : StateFault) (result : ReadFault)
     → IsFaultReported format limit text piece found
     → (found.cause ≢ cause.Memory → result ≡ fault.State found) → ◌≡◌ {A = Result A ReadFault} (Err result) (Err fault.Memory)
@@ -280,8 +279,7 @@ refused_ends terms initial next parser (fault.State found) failed failed_now few
 refused_ends terms initial next parser fault.Memory failed failed_now few same has =
     record { few = few; outcome = wants_part terms initial next parser has; failures = same }
 
--- `WantsMemory` also covers the end of the text, so a reason to stop under `WantsSoFar` is also a
--- reason to stop under `WantsMemory`
+-- `WantsMemory` also covers the end of the text, so a reason to stop that satisfies `WantsSoFar` also satisfies `WantsMemory`
 pub ends_early : (format : Format) (limit : ℕ) (initial next : Option (List ℕ)) (told : ReadFault) (failed failed_now : ℕ)
     → StopsReading format limit initial next (IsWhyUnread WantsSoFar format limit initial next (Some told)) (CountsWhy (Some told) failed failed_now)
     → StopsReading format limit initial next (IsWhyUnread WantsMemory format limit initial next (Some told)) (CountsWhy (Some told) failed failed_now)

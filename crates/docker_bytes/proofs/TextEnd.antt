@@ -1,5 +1,4 @@
--- A reading without a next part has read the text of a whole state. A reading with a next part
--- hasn't.
+-- If a reading has no next part, it has read the text of a whole state. Otherwise it hasn't.
 use Rattle.std.proofs.Common.{◌≡◌, ℕ, ◌<◌, ◌≤◌, List, [], ◌++◌, length, refl, ap, sym, ◌∙◌, subst, inl, inr, ◌⊎◌, arith, append-nil, length-append, None}
 use Rattle.docker_model.specs.state.State.{State}
 use Rattle.docker_model.specs.state.StateText.{Format, state_text}

@@ -70,8 +70,7 @@ abbrev pub EndsReading : {S A : Type 0} → (S → BytesLeft) → (S → ℕ) �
 EndsReading left failures format limit IsMade source source_now result =
     EndsReadingBy WantsMemory as_it_is left failures format limit IsMade source source_now result
 
--- says what the result at the end of a text means: a value for which `IsMade` holds, a fault of the
--- text, or out of memory after a whole text
+-- says what the result at the end of a text means: a value for which `IsMade` holds, a fault of the text or, after a whole text, `Memory`
 abbrev pub EndsText : {A : Type 0} → Format → ℕ → List ℕ → (A → Type 0) → Result A ReadFault → Type 0
 EndsText format limit text IsMade (Ok made) = IsMade made
 EndsText format limit text IsMade (Err Source) = ⊥

@@ -30,8 +30,7 @@ pub record ReadsMade {Made : Type 0} (makes : Made → State → Type 0) (format
   pub held : Held left text
   pub of : IsMadeOf makes format limit text made
 
--- says that the text has a fault with this offset and this cause. The cause `None` means out of
--- memory, which is never a fault of a text
+-- says that the text has a fault with this offset and this cause. The cause `None` means that memory ran out, which is never a fault of a text
 abbrev pub IsCauseOf : Format → ℕ → List ℕ → ℕ → Option model.StateCause → Type 0
 IsCauseOf format limit text at None = ⊥
 IsCauseOf format limit text at (Some cause) = IsStateFault format limit text (record { at = at; cause = cause })

@@ -21,8 +21,7 @@ use Rattle.state_text.specs.declared.stage.Stage.TheVariants.{Line}
 abbrev pub format_of : {K : Type 0} → StateReading K → Format
 format_of reading = format_meant reading.format
 
--- converts the position of the reading to the `Before` of the definitions: the complete parts
--- before the part that is being read
+-- converts a reading to the `Before` of the definitions: the complete parts before the part that is being read
 abbrev pub before_of : {K : Type 0} → StateReading K → Before
 before_of reading = stage_meant reading.stage reading.parts reading.lines
 
@@ -121,8 +120,7 @@ pub record IsLineOf (key : ScheduleKey) (count : ℕ) (at : Stage) : Type 0 wher
   pub stamp : Stamp
   pub is : at ≡ Line entries key stamp count
 
--- says that the next part is one of these lines but not the last line, and that no byte of this
--- part has been read
+-- says that the next part is a line of the schedule with this key, but not the last of its `count` lines, and that no byte of this line has been read
 pub record IsInnerLine {K : Type 0} (key : ScheduleKey) (count : ℕ) (reading : StateReading K) : Type 0 where
   pub stage : IsLineOf key count reading.stage
   pub more : length reading.lines + 1 < count

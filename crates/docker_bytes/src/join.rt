@@ -65,8 +65,8 @@ fn receive<R: Receiver, S: Source>(
     join(parser)
 }
 
-/// Returns the receiving state, joined with the state whose text a parser was fed. After a fault,
-/// returns the receiving state unchanged.
+/// Returns the join of the receiving state with the state whose text the parser was fed. After a
+/// fault, returns the receiving state unchanged.
 fn join<R: Receiver>(parser: Parser<Received<R>>) -> (State, Result<(), ReadFault>)
     ensures ends { (format : formats.Format) (limit : ℕ) (text : List ℕ) →
         HasRead parser format limit text →

@@ -1,4 +1,4 @@
-//! Reads a state's text in the older format, which has no horizon.
+//! Reads a state's text in the older format, `DKS1`, which has no horizon.
 ghost use Rattle.std.specs.Prelude.{◌-◌, ◌^◌, ◌<◌};
 ghost use Rattle.docker_model.specs.state.StateText.{dks_1};
 ghost use Rattle.docker_bytes.specs.ReadEnds.{EndsReading};

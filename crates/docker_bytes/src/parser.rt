@@ -33,7 +33,7 @@ impl<K: Keeper> Model for Parser<K> {
 
 impl<K: Keeper> Parser<K> {
     /// A parser of a text in this format, of at most `limit` bytes. The parser will pass the parts
-    /// to `keeper`, which has no parts yet.
+    /// to `keeper`, which hasn't been given any part yet.
     pub(crate) fn new(alloc: Global, format: Format, limit: u64, keeper: K) -> Parser<K>
         requires { K.given keeper ≡ record { horizon = 0; ledger = []; entries = [] } }
         ensures { HasRead result (format_meant format) limit [] }
@@ -116,9 +116,9 @@ impl<K: Maker> Parser<K> {
 }
 
 impl<R: Receiver> Parser<Received<R>> {
-    /// Returns the receiving state, joined with the state whose text was read. If `feed` returned a
-    /// fault, if the text ends too early, or if memory runs out, returns the fault and the
-    /// receiving state unchanged.
+    /// Returns the join of the receiving state with the state whose text was read. If `feed`
+    /// returned a fault, if the text ends too early, or if memory runs out, returns the fault and
+    /// the receiving state unchanged.
     pub(crate) fn join(self) -> (State, Result<(), StateFault>)
         ensures ok { (format : formats.Format) (limit : ℕ) (text : List ℕ) →
             HasRead self format limit text → IsOk result.1 →

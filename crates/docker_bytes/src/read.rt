@@ -72,8 +72,8 @@ pub fn read_state_noting<S: Source>(
     read_format(alloc, Format::Dks2, Whole::new(alloc, noted), source, limit)
 }
 
-/// Like `read_state`, for a text in this format. The parts are passed to `keeper`, which has no
-/// parts yet. Returns the value that the keeper makes from the parts.
+/// Like `read_state`, for a text in this format. The parts are passed to `keeper`, which hasn't
+/// been given any part yet. Returns the value that the keeper makes from the parts.
 pub(crate) fn read_format<S: Source, K: Maker>(
     alloc: Global,
     format: Format,
@@ -92,7 +92,7 @@ pub(crate) fn read_format<S: Source, K: Maker>(
     finish(parser)
 }
 
-/// Feeds all bytes of a source to a parser that has read nothing, in pieces of at most 65,536
+/// Feeds all bytes of a source to a parser that has read no bytes yet, in pieces of at most 65,536
 /// bytes. A byte that follows the state is a fault.
 pub(crate) fn read_pieces<S: Source, K: Keeper>(
     alloc: Global,

@@ -328,9 +328,9 @@ impl<K: Maker> StateReading<K> {
 }
 
 impl<R: Receiver> StateReading<Received<R>> {
-    /// Returns the receiving state, joined with the state whose text was read. If the text ends
+    /// Returns the join of the receiving state with the state whose text was read. If the text ends
     /// before the state does, returns a fault with the cause `Short`. After any fault the receiving
-    /// state is unchanged.
+    /// state is returned unchanged.
     pub(crate) fn join(self) -> (State, Result<(), StateFault>)
         requires { IsReading self }
         ensures ok { IsOk result.1

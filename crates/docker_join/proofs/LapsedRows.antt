@@ -1,4 +1,4 @@
--- Lemmas on applying a horizon to rows one by one, from the first to the last.
+-- Lemmas on letting the entries of rows lapse one by one, from the first row to the last.
 use Rattle.std.proofs.Common.{◌≡◌, ℕ, ◌+◌, ◌<◌, ◌≤◌, List, [], ◌∷◌, ◌++◌, map, length, get_or, take, drop, set, ap, sym, ◌∙◌, subst, append_assoc, arith}
 use Rattle.std.specs.declared.cmp.Ordering.{Ordering}
 use Rattle.std.proofs.lemmas.List.{map-append, drop_more, take_more_set, drop-set-lt, take_all, drop_all, append-nil}
@@ -18,11 +18,11 @@ use Rattle.docker_join.proofs.MeantOrder.{ascending_meant, meant_ascending}
 abbrev Row : Type 0
 Row = Key × Entry
 
--- the final rows: the first `i` rows unchanged, since the horizon was already applied to them, and the other rows with the horizon applied
+-- the final rows while entries lapse one by one: the first `i` rows, which are done, followed by the results of `lapse_entries` for the other rows
 abbrev pub lapsed_from : ℕ → ℕ → List (Key × Entry) → List (model.Key × ops.Entry)
 lapsed_from horizon i rows = map row_meant (take i rows) ++ lapse_entries horizon (map row_meant (drop i rows))
 
--- applying the horizon to row `i` doesn't change the final rows
+-- letting the entry of row `i` lapse doesn't change the final rows
 pub one_more : (horizon : ℕ) (all : List (model.Key × ops.Entry)) (rows : List Row) (i : ℕ) (d : Row) (after : Entry) → i < length rows
     → entry_meant after ≡ lapse_entry horizon (entry_meant (get_or rows i d).1)
     → lapsed_from horizon i rows ≡ all → lapsed_from horizon (i + 1) (set rows i ((get_or rows i d).0, after)) ≡ all
@@ -37,7 +37,7 @@ one_more horizon all rows i d after within is same =
     ∙ sym (ap (λ xs. map row_meant (take i rows) ++ lapse_entries horizon (map row_meant xs)) (drop_more rows i d within))
     ∙ same
 
--- if `i` is past the last row, the horizon has been applied to all rows
+-- if `i` is past the last row, all rows are final
 pub all_lapsed : (horizon : ℕ) (all : List (model.Key × ops.Entry)) (rows : List Row) (i : ℕ) → length rows ≤ i → lapsed_from horizon i rows ≡ all
     → map row_meant rows ≡ all
 all_lapsed horizon all rows i over same =
@@ -49,7 +49,7 @@ pub written_back : (new old : List Row) (n : ℕ) → length new ≡ n → lengt
 written_back new old n size same =
     ap (take n) (ap (λ xs. new ++ xs) (drop_all (length new) old (omega arith)) ∙ append-nil new) ∙ take_all n new (omega arith)
 
--- rows that ascend still ascend after a horizon was applied: their keys are unchanged
+-- rows that ascend still ascend after entries have lapsed: the keys are unchanged
 pub lapsed_ascend : (horizon : ℕ) (rows after : List Row) → map row_meant after ≡ lapse_entries horizon (map row_meant rows) → AreAscending rows
     → AreAscending after
 lapsed_ascend horizon rows after same up =

@@ -1,11 +1,11 @@
--- Lists that ascend by a function of their elements.
+-- Lists whose elements ascend by the values of a function.
 use Rattle.std.proofs.Common.{List, [], ◌∷◌, map}
 use Rattle.std.specs.List.{AllByRecursion}
 use Rattle.std.specs.declared.cmp.Ordering.{Ordering}
 use Rattle.docker_model.specs.state.Order.{IsBelow, IsStrictlyAscending}
 use Rattle.cif_laws.proofs.lists.AllOf.{all_map}
 
--- if a list ascends by a function of its elements, the list of the function's values ascends
+-- if the elements of a list ascend by the values of `f`, the list of these values ascends
 pub ascending_meant : {A B : Type 0} (f : A → B) (cmp : B → B → Ordering) (xs : List A) → IsStrictlyAscending (λ a b. cmp (f a) (f b)) xs
     → IsStrictlyAscending cmp (map f xs)
 ascending_meant f cmp [] up = tt
@@ -15,7 +15,7 @@ all_back : {A B : Type 0} (f : A → B) (P : B → Type 0) (xs : List A) → All
 all_back f P [] all = tt
 all_back f P (x ∷ xs) all = (all.0, all_back f P xs all.1)
 
--- if the list of a function's values ascends, the list itself ascends by the function
+-- if the list of the values of `f` ascends, the elements themselves ascend by these values
 pub meant_ascending : {A B : Type 0} (f : A → B) (cmp : B → B → Ordering) (xs : List A) → IsStrictlyAscending cmp (map f xs)
     → IsStrictlyAscending (λ a b. cmp (f a) (f b)) xs
 meant_ascending f cmp [] up = tt

@@ -25,7 +25,7 @@ abbrev pub walk_from : {E : Type 0} → (E → E → E) → Key × E → (List (
 walk_from picked x rest [] = x ∷ rest []
 walk_from picked x rest (y ∷ ys) = row_out picked (row_cmp x y) x y (rest (y ∷ ys)) (rest ys) (walk_from picked x rest ys)
 
--- the walk over both tables
+-- the walk over the rows of two tables at once, which returns the rows of their join
 abbrev pub walk : {E : Type 0} → (E → E → E) → List (Key × E) → List (Key × E) → List (Key × E)
 walk picked [] ys = ys
 walk picked (x ∷ xs) ys = walk_from picked x (walk picked xs) ys
@@ -51,7 +51,7 @@ module _ {E : Type 0} where
   row_cmp_turned x y greater = key_total.antisymm (key_meant y.0) (key_meant x.0) ∙ ap ordering_reverse greater
 
 module _ {E : Type 0} (picked : E → E → E) where
-  -- if the remaining rows of both tables are above a row, so are the rows of the walk
+  -- if the remaining rows of both tables are above a row, so are the rows that the walk returns
   from_above : (low x : Key × E) (rest : List (Key × E) → List (Key × E)) → row_cmp low x ≡ Less → ((ys : List (Key × E)) → Above low ys → Above low (rest ys))
       → (ys : List (Key × E)) → Above low ys → Above low (walk_from picked x rest ys)
   from_above low x rest below behind [] above = (below, behind [] tt)
@@ -66,7 +66,7 @@ module _ {E : Type 0} (picked : E → E → E) where
   walk_above low [] ys above_x above_y = above_y
   walk_above low (x ∷ xs) ys above_x above_y = from_above low x (walk picked xs) above_x.0 (λ zs. walk_above low xs zs above_x.1) ys above_y
 
-  -- the rows of the walk ascend
+  -- the rows that the walk over two tables returns ascend
   from_ascends : (x : Key × E) (xs : List (Key × E)) → AreAscending (x ∷ xs) → ((ys : List (Key × E)) → AreAscending ys → AreAscending (walk picked xs ys))
       → (ys : List (Key × E)) → AreAscending ys → AreAscending (walk_from picked x (walk picked xs) ys)
   from_ascends x xs up_x behind [] up_y = (walk_above x xs [] up_x.0 tt, behind [] tt)
@@ -86,7 +86,7 @@ module _ {E : Type 0} (picked : E → E → E) where
   abbrev Both : List (Key × E) → List (Key × E) → model.Key → Option E
   Both xs ys key = picked_value picked (value_at xs key) (value_at ys key)
 
-  -- if only the first table has a row's key, the walk that takes this row has the joined value at each key
+  -- if only the first table has the key of its first row, this row, followed by the rest of the join, has the joined value at each key
   first_out : (x : Key × E) (xs ys tail : List (Key × E)) (key : model.Key) → Above x ys → value_at tail key ≡ Both xs ys key
       → value_at (x ∷ tail) key ≡ Both (x ∷ xs) ys key
   first_out x xs ys tail key above later = by (key_cmp (key_meant x.0) key) refl
@@ -101,7 +101,7 @@ module _ {E : Type 0} (picked : E → E → E) where
           let none : value_at ys key ≡ None = subst (λ k. value_at ys k ≡ None) (exact_key (key_meant x.0) key is) (value_above (key_meant x.0) ys above) in
           value_here x tail key is ∙ sym (λ i. picked_value picked (value_here x xs key is i) (none i))
 
-  -- if only the second table has a row's key, the walk that takes this row has the joined value at each key
+  -- if only the second table has the key of its first row, this row, followed by the rest of the join, has the joined value at each key
   second_out : (y : Key × E) (xs ys tail : List (Key × E)) (key : model.Key) → Above y xs → value_at tail key ≡ Both xs ys key
       → value_at (y ∷ tail) key ≡ Both xs (y ∷ ys) key
   second_out y xs ys tail key above later = by (key_cmp (key_meant y.0) key) refl
@@ -116,7 +116,7 @@ module _ {E : Type 0} (picked : E → E → E) where
           let none : value_at xs key ≡ None = subst (λ k. value_at xs k ≡ None) (exact_key (key_meant y.0) key is) (value_above (key_meant y.0) xs above) in
           value_here y tail key is ∙ sym (λ i. picked_value picked (none i) (value_here y ys key is i))
 
-  -- if two rows have the same key, the walk that takes the join of the two rows has the joined value at each key
+  -- if the first rows of both tables have the same key, the join of the two rows, followed by the rest of the join, has the joined value at each key
   both_out : (x y : Key × E) (xs ys tail : List (Key × E)) (key : model.Key) → row_cmp x y ≡ Equal → value_at tail key ≡ Both xs ys key
       → value_at ((x.0, picked x.1 y.1) ∷ tail) key ≡ Both (x ∷ xs) (y ∷ ys) key
   both_out x y xs ys tail key level later = by (key_cmp (key_meant x.0) key) refl
@@ -136,7 +136,7 @@ module _ {E : Type 0} (picked : E → E → E) where
           value_here (x.0, picked x.1 y.1) tail key is
           ∙ sym (λ i. picked_value picked (value_here x xs key is i) (value_here y ys key (sym there ∙ is) i))
 
-  -- at each key, the walk has the joined value of the two tables
+  -- at each key, the rows that the walk returns have the joined value of the two tables
   from_values : (x : Key × E) (xs : List (Key × E)) → AreAscending (x ∷ xs)
       → ((ys : List (Key × E)) → AreAscending ys → (key : model.Key) → value_at (walk picked xs ys) key ≡ Both xs ys key)
       → (ys : List (Key × E)) → AreAscending ys → (key : model.Key) → value_at (walk_from picked x (walk picked xs) ys) key ≡ Both (x ∷ xs) ys key
@@ -155,6 +155,6 @@ module _ {E : Type 0} (picked : E → E → E) where
   walk_values [] ys up_x up_y key = refl
   walk_values (x ∷ xs) ys up_x up_y key = from_values x xs up_x (λ zs up. walk_values xs zs up_x.1 up) ys up_y key
 
-  -- the walk over two tables is their join
+  -- the rows that the walk over two tables returns are the join of the tables
   pub walk_joins : (xs ys : List (Key × E)) → AreAscending xs → AreAscending ys → IsJoinOfRows picked xs ys (walk picked xs ys)
   walk_joins xs ys up_x up_y = record { ascends = walk_ascends xs ys up_x up_y; values = walk_values xs ys up_x up_y }

@@ -23,8 +23,7 @@ use Rattle.docker_join.proofs.MergedRows.{row_out, walk_from, walk, walk_joins, 
 abbrev AllBelow : {E : Type 0} → List (Key × E) → List (Key × E) → Type 0
 AllBelow lows highs = AllByRecursion (λ low. Above low highs) lows
 
--- the final join, if these rows of the second table remain: the walk over the remaining rows of
--- both tables, followed by the placed rows
+-- the final join, if the rows `rest` of the second table aren't placed yet: the walk over the remaining rows of both tables, followed by the placed rows
 abbrev joined_with : {E : Type 0} → (E → E → E) → ℕ → List (Key × E) → List (Key × E) → List (Key × E)
 joined_with picked left rows rest = walk picked (left_rows left rows) rest ++ take (length rows - left) rows
 
@@ -39,7 +38,7 @@ above_turned : {E : Type 0} (a b : Key × E) → row_cmp b a ≡ Less → row_cm
 above_turned a b below = key_total.antisymm (key_meant a.0) (key_meant b.0) ∙ ap ordering_reverse below
 
 module _ {E : Type 0} (picked : E → E → E) where
-  -- the walk over a table and an empty table is the table
+  -- the walk over a table and an empty table returns the table
   pub walk_none : (xs : List (Key × E)) → walk picked xs [] ≡ xs
   walk_none [] = refl
   walk_none (x ∷ xs) = ap (λ rest. x ∷ rest) (walk_none xs)
@@ -50,7 +49,7 @@ module _ {E : Type 0} (picked : E → E → E) where
   out_first Equal a b less equal greater behind = refl
   out_first Greater a b less equal greater behind = refl
 
-  -- if the first rows of the second table are below all rows of the first table, the walk begins with them
+  -- if the first rows of the second table are below all rows of the first table, the walk over both tables returns these rows first
   lower_first : (x b y : List (Key × E)) → AllBelow b x → walk picked x (b ++ y) ≡ b ++ walk picked x y
   lower_first x [] y below = refl
   lower_first [] (b ∷ others) y below = refl
@@ -96,7 +95,7 @@ module _ {E : Type 0} where
   first_below [] ys up = tt
   first_below (x ∷ xs) ys up = (all_behind (IsBelow row_cmp x) xs ys up.0, first_below xs ys up.1)
 
-  -- if all rows of one list are below a row, and all rows of another are above it, each row of the first is below each row of the second
+  -- if all rows of one list are below a row, and all rows of a second list are above it, each row of the first list is below each row of the second list
   below_higher : (lows highs : List (Key × E)) (row : Key × E) → AllBelow lows (row ∷ []) → Above row highs → AllBelow lows highs
   below_higher [] highs row below above = tt
   below_higher (low ∷ lows) highs row below above = (above_lower low row highs below.0.0 above, below_higher lows highs row below.1 above)
@@ -130,18 +129,18 @@ module _ {E : Type 0} where
       (ap (λ n. drop n (front ++ back)) at ∙ drop-append_seam front back, ap (λ n. take n (front ++ back)) at ∙ take-append_seam front back)
 
 module _ {E : Type 0} (picked : E → E → E) where
-  -- the walk over a table and a single row below all rows of the table is this row, followed by the table
+  -- if a row is below all rows of a table, the walk over the table and this row returns the row, followed by the table
   walk_row : (rows : List (Key × E)) (row : Key × E) → Above row rows → walk picked rows (row ∷ []) ≡ row ∷ rows
   walk_row rows row above = lower_first picked rows (row ∷ []) [] (above, tt) ∙ ap (λ rest. row ∷ rest) (walk_none picked rows)
 
-  -- if the first table doesn't have the key of the second table's last row, the walk has this row just before the greater rows
+  -- if the first table doesn't have the key of the second table's last row, the walk returns this row just before the greater rows
   none_out : (a r rest : List (Key × E)) (row : Key × E) → AllBelow a (row ∷ []) → Above row r → AllBelow rest (row ∷ [])
       → walk picked (a ++ r) (rest ++ row ∷ []) ≡ walk picked a rest ++ (row ∷ r)
   none_out a r rest row below above rest_below =
       walk_split picked a r rest (row ∷ []) below (below_higher rest r row rest_below above)
       ∙ ap (λ out. walk picked a rest ++ out) (walk_row r row above)
 
-  -- if the first table has the key of the second table's last row, the walk has the join of the two rows just before the greater rows
+  -- if the first table has the key of the second table's last row, the walk returns the join of the two rows just before the greater rows
   level_out : (b r rest : List (Key × E)) (own row : Key × E) → row_cmp own row ≡ Equal → AllBelow b (own ∷ []) → Above own r → AllBelow rest (row ∷ [])
       → walk picked (b ++ (own ∷ r)) (rest ++ row ∷ []) ≡ walk picked b rest ++ ((own.0, picked own.1 row.1) ∷ r)
   level_out b r rest own row level below above rest_below =
@@ -166,7 +165,7 @@ module _ {E : Type 0} (picked : E → E → E) where
           subst (λ k. key_cmp (key_meant x.0) k ≡ Less) (sym (exact_key (key_meant own.0) (key_meant row.0) level)) low.0.0 in
           ((under, above_lower x own r under above), rest_under xs low.1)
 
-  -- if the rows are a front followed by a back, and as many rows remain as the back has, the back remains
+  -- if the ring buffer's rows are `front` followed by `back`, and as many rows remain to be placed as `back` has, then `back` remains to be placed
   left_is : (rows front back : List (Key × E)) (m : ℕ) → rows ≡ front ++ back → m ≡ length back → left_rows m rows ≡ back
   left_is rows front back m is size = ap (λ xs. drop (length xs - m) xs) is ∙ (parts front back m size).0
 

@@ -19,16 +19,15 @@ is_above_at key rows n back d = is_gt (key_cmp (key_meant (slice_index_or rows (
 abbrev pub is_level_at : {E : Type 0} → model.Key → List (Key × E) → ℕ → Key × E → Bool
 is_level_at key rows n d = is_eq (key_cmp (key_meant (slice_index_or rows (n - 1) d).0) key)
 
--- Says of ascending rows that among the last `left` of `n` rows exactly the last `run` are above
--- the key. For example, if three rows have the keys 1, 5 and 7, the run above the key 3 has two
--- rows.
+-- Says of ascending rows that among the last `left` of `n` rows exactly the last `run` are above the key. For example, if three rows have the keys 1, 5 and 7,
+-- then `run` is 2 for the key 3.
 pub record IsRunAbove {E : Type 0} (key : model.Key) (rows : List (Key × E)) (n left run : ℕ) : Type 0 where
   pub within : run ≤ left
   pub above : (d : Key × E) → 0 < run → is_above_at key rows n run d ≡ true
   pub below : (d : Key × E) → run < left → is_above_at key rows n (run + 1) d ≡ false
 
--- Says what taking the last row of a ring buffer does: if a row is left and has the key, it was
--- removed. Otherwise no row was taken, and the ring buffer is unchanged.
+-- Says what taking the last row of a ring buffer does: if a row is left to be placed and the last row has the key, the last row was removed. Otherwise no row
+-- was taken, and the ring buffer is unchanged.
 abbrev pub IsTaken : {E : Type 0} → model.Key → ℕ → ℕ → List (Key × E) → List (Key × E) → Option (Key × E) → Type 0
 IsTaken key n left old new None = (new ≡ old) × ((d : _) → 0 < left → is_level_at key old n d ≡ false)
 IsTaken key n left old new (Some own) = (old ≡ new ++ own ∷ []) × ((key_cmp (key_meant own.0) key ≡ Equal) × (0 < left))

@@ -1,5 +1,5 @@
-//! The rows of tables: their lapse under a horizon, and the join of two tables' rows in the memory
-//! of the first table.
+//! The rows of tables: how entries that ended before a horizon lapse, and how the rows of two
+//! tables are joined in the memory of the first table.
 ghost use Rattle.std.specs.Prelude.{◌≡◌, ◌+◌, ◌<◌, ◌≤◌, true, false, map, vec_len, vec_capacity, MatchOption};
 ghost use Rattle.std.specs.VecDeque.{deque_len, deque_capacity};
 ghost use Rattle.cif_change.specs.Meaning.{key_meant};
@@ -13,8 +13,8 @@ use crate::merge::Pick;
 use cif_change::Key;
 use std::collections::VecDeque;
 
-/// Applies a horizon to the entry of each row. Keys and stamps are unchanged, and an op that lapses
-/// loses its body. Returns whether any op has lapsed in this call.
+/// Lets each entry lapse whose body ended before the horizon. Keys and stamps are unchanged, and an
+/// op that lapses loses its body. Returns whether any op has lapsed in this call.
 pub fn lapse_rows(rows: &mut [(Key, Entry)], horizon: u16) -> bool
     ensures lapsed { map row_meant rows.new ≡ lapse_entries horizon (map row_meant rows.old) }
     ensures same { result ≡ false → rows.new ≡ rows.old }

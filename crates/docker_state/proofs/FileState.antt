@@ -1,4 +1,4 @@
--- The state of one file has the file's ledger item, and for each key the greatest entry that its changes make.
+-- The state made from one file has the file's ledger item and, for each key, the greatest entry that the file's changes make.
 use Rattle.std.proofs.Common.{◌≡◌, ℕ, ◌≤◌, List, [], ◌∷◌, ◌++◌, map, length}
 use Rattle.std.proofs.Common.{refl, ap, sym, ◌∙◌, subst, inl, inr, ◌⊎◌, Contains, All, Bool, true, false, Some, None, arith}
 use Rattle.std.specs.Prelude.{Option, ◌↔◌, slice_index_or, ◌==◌}
@@ -57,7 +57,7 @@ only x z among = by (Contains-cons x [] z among)
 not_above_itself : (stamp : FileStamp) → IsAtMost file_stamp_cmp stamp stamp
 not_above_itself stamp above = let tied = tied_itself file_stamp_total stamp in cc
 
--- Says that the item is kept under the floor of a ledger with only this item.
+-- Says that the item isn't below the floor of a ledger that has only this item.
 abbrev OneFloor : stamps.LedgerItem → Type 0
 OneFloor item = (floor : Option FileStamp) × IsFloor (item ∷ []) floor × IsKept floor item.stamp
 
@@ -91,7 +91,7 @@ made_records all have stamp made made_is = all_members (λ (row : Key × Entry).
 pub file_records : (file : List (List ℕ)) → IsFile file → length file ≤ most_records → HaveRecords (changes file)
 file_records file is_file few change among = op_records change.key (op_of change.act) (file_change file is_file few change among).good.1
 
--- if changes were kept for a thin file, the bodies that they put consist of records
+-- if changes are a thinning of a file's changes, the bodies that they put consist of records
 pub thin_records : (place : List ℕ) (day : ℕ) (file : List (List ℕ)) → IsFile file → length file ≤ most_records → (all kept : List model.Change)
     → all ≡ changes file → IsThinning place day all kept → HaveRecords kept
 thin_records place day file is_file few all kept all_are thinning change among =
@@ -204,7 +204,7 @@ valid_of_made item all lines item_is all_is is_file few state is =
     (subst (λ (i : stamps.LedgerItem). IsMadeState i (changes lines) state) item_is (subst (λ (a : List model.Change). IsMadeState item a state) all_is is))
     is_file few
 
--- the state made from a file's ledger item and its kept changes satisfies `IsStateOfChanges`, which `State::of_thin` promises
+-- the state made from a file's ledger item and the kept changes of the file satisfies `IsStateOfChanges`, which `State::of_thin` promises
 pub kept_state : (item : stamps.LedgerItem) (kept : List model.Change) (lines : List (List ℕ)) (state : State) → item ≡ ledger_item_of lines
     → IsMadeState item kept state → IsStateOfChanges lines kept state
 kept_state item kept lines state item_is is =
@@ -229,11 +229,11 @@ rows_made_by file all made rows made_is in_rows row among =
     subst (Contains {X = model.Key × ops.Op} (map (λ (change : model.Change). (change.key, op_of change.act)) all)) (λ i. ((found.2 i).0, (found.2 i).1.op))
     (map-Contains (λ (change : model.Change). (change.key, op_of change.act)) all found.0 found.1)
 
--- the changes in the parts of a file are the changes of the file
+-- if a file was read into `parts`, the changes in `parts` are the changes that the file makes
 pub changes_are : (file : FileRead) (parts : FileParts) → file_of_parts parts ≡ file → map change_meant parts.changes.items ≡ file.changes_made
 changes_are file parts same = ap (λ (f : FileRead). f.changes_made) same
 
--- the changes in the parts of a thin file are the changes that it kept
+-- if a file was read into `parts` for the docker of one place and day, the changes in `parts` are the thin changes that were kept
 pub kept_are : (file : ThinRead) (parts : FileParts) → thin_of_parts file.place file.day file.file.changes_made parts ≡ file
     → map change_meant parts.changes.items ≡ file.kept
 kept_are file parts same = ap (λ (f : ThinRead). f.kept) same

@@ -1,4 +1,4 @@
--- Lemmas on filtering a list by the test whether the file stamp of an element isn't below the floor.
+-- Lemmas on filtering a list: an element passes if its file stamp isn't below the floor.
 use Rattle.std.proofs.Common.{◌≡◌, arith, List, [], ◌∷◌, length, map, refl, ap, sym, ◌∙◌, subst, Contains, Bool, true, false, cond, Some, None}
 use Rattle.std.specs.Prelude.{filter, Option, ◌↔◌, IsTrue}
 use Rattle.std.specs.declared.cmp.Ordering.TheVariants.{Less, Equal, Greater}
@@ -62,18 +62,18 @@ not_above Less = true
 not_above Equal = true
 not_above Greater = false
 
--- whether a stamp is kept under a floor: the stamp isn't below the floor, or there is no floor
+-- whether a stamp isn't below a floor; true if there is no floor
 pub keeps : Option FileStamp → FileStamp → Bool
 keeps None stamp = true
 keeps (Some floor) stamp = not_above (file_stamp_cmp floor stamp)
 
--- a stamp that passes the test is kept under the floor
+-- a stamp that passes the test `keeps floor` isn't below the floor
 pub keeps_is : (floor : Option FileStamp) (stamp : FileStamp) → keeps floor stamp ≡ true → IsKept floor stamp
 unfolding keeps not_above
 keeps_is None stamp h = tt
 keeps_is (Some floor) stamp h = λ above. let bad : false ≡ true = ap not_above (sym above) ∙ h in cc
 
--- a stamp that is kept under the floor passes the test
+-- a stamp that isn't below the floor passes the test `keeps floor`
 pub is_keeps : (floor : Option FileStamp) (stamp : FileStamp) → IsKept floor stamp → keeps floor stamp ≡ true
 unfolding keeps not_above
 is_keeps None stamp kept = refl
@@ -84,7 +84,7 @@ is_keeps (Some floor) stamp kept = by (file_stamp_cmp floor stamp) kept
     by Equal below = refl
     by Greater below = absurd (below refl)
 
--- if a test passes if and only if the stamp is kept under the floor, the test equals `keeps floor stamp`
+-- a test that passes if and only if the stamp isn't below the floor has the result of `keeps floor stamp`
 pub says_kept : (floor : Option FileStamp) (stamp : FileStamp) (b : Bool) → IsTrue b ↔ IsKept floor stamp → b ≡ keeps floor stamp
 says_kept floor stamp true told = sym (is_keeps floor stamp (told.0 refl))
 says_kept floor stamp false told = by (keeps floor stamp) refl

@@ -72,7 +72,7 @@ module _ (left right : List LedgerItem) where
         greatest = λ item among full. up item full (Contains-append_cases left right item among);
       }
 
--- conversion commutes with the choice of the greater of two values
+-- if `c` is the greater of `a` and `b` by the values of `f`, then `f c` is the greater of `f a` and `f b`
 pub greater_meant : {A B : Type 0} (f : A → B) (cmp : _) (a b c : A) → IsGreater (on f cmp) a b c → IsGreater cmp (f a) (f b) (f c)
 greater_meant f cmp a b c is = record { among = by is.among; first = is.first; second = is.second }
   where

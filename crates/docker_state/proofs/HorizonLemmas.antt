@@ -1,4 +1,4 @@
--- Lemmas on setting a horizon on a state. Either rows lapse under the new day, or the day isn't after the present horizon and nothing changes.
+-- Lemmas on setting a horizon on a state. If the new horizon is after the old one, entries that ended before it lapse. Otherwise nothing changes.
 use Rattle.std.proofs.Common.{◌≡◌, ℕ, ◌≤◌, List, map, ap, sym, ◌∙◌, subst}
 use Rattle.std.proofs.Math.Nat.{max-eq_left, max-eq_right}
 use Rattle.docker_model.specs.state.Lapse.{HasNotToLapse, lapse_entries}
@@ -19,7 +19,7 @@ use Rattle.docker_state.specs.Meaning.{item_meant, row_meant, state_meant}
 
 module _ (own day : ℕ) (low : own ≤ day) (ledger : List LedgerItem) (rows after : List (Key × Entry))
     (lapsed : map row_meant after ≡ lapse_entries day (map row_meant rows)) where
-  -- after a later day is applied to the rows as the horizon, they are the rows of the state with its horizon raised to that day
+  -- raising the horizon of a state to `day` gives the state with the horizon `day` and the rows `after`, in which entries that ended before `day` have lapsed
   pub rows_raised : state_meant day ledger after ≡ raise_horizon day (state_meant own ledger rows)
   rows_raised =
       (λ i. record { horizon = day; ledger = map item_meant ledger; entries = lapsed i })
@@ -29,7 +29,7 @@ module _ (own day : ℕ) (low : own ≤ day) (ledger : List LedgerItem) (rows af
   pub raised_valid : IsDay day → IsValid (state_meant own ledger rows) → IsValid (state_meant day ledger after)
   raised_valid within valid = subst IsValid (sym rows_raised) (raised_is_valid day (state_meant own ledger rows) within valid)
 
--- applying a horizon to rows that have already lapsed under the same or a greater horizon changes nothing
+-- if entries that ended before a horizon have already lapsed, nothing changes when entries lapse again with the same or an earlier horizon
 pub under_own : (own day : ℕ) → day ≤ own → (rows : List (Key × Entry)) → HaveLapsed own (map row_meant rows)
     → map row_meant rows ≡ lapse_entries (max own day) (map row_meant rows)
 under_own own day low rows have =

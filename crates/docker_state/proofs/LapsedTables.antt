@@ -1,4 +1,4 @@
--- Applying a horizon commutes with the join of tables.
+-- It makes no difference whether entries lapse before or after two tables are joined.
 use Rattle.std.proofs.Common.{◌≡◌, ℕ, List, ◌++◌, map, ap, sym, ◌∙◌, subst, Contains, Bool, true, false, cond}
 use Rattle.std.specs.Prelude.{◌↔◌, nat_lt}
 use Rattle.std.proofs.lemmas.List.{map-append}
@@ -19,7 +19,7 @@ use Rattle.docker_join.proofs.MeantOrder.{ascending_meant, meant_ascending}
 use Rattle.docker_state.specs.Meaning.{row_meant}
 use Rattle.docker_state.proofs.TableJoin.{Keyed, by_key, higher, value_in, same_value, joined_has, joined_greatest, greatest_joined}
 
--- if the lines of an op's body are records, they still are after the horizon is applied
+-- if the lines of an op's body are records, so are the lines of the body that remains after `lapse`
 pub lapse_records : (horizon : ℕ) (op : ops.Op) → HasRecords op → HasRecords (lapse horizon op)
 lapse_records horizon deleted good = tt
 lapse_records horizon lapsed good = tt
@@ -29,7 +29,7 @@ lapse_records horizon (put_with body) good = by (nat_lt (body_end body) horizon)
     by true = tt
     by false = good
 
--- ascending rows still ascend after a horizon is applied
+-- ascending rows still ascend after entries have lapsed
 pub lapsed_up : (horizon : ℕ) (rows after : List (Key × Entry)) → map row_meant after ≡ lapse_entries horizon (map row_meant rows) → AreAscending rows
     → AreAscending after
 lapsed_up horizon rows after is up =
@@ -60,7 +60,7 @@ module _ (horizon : ℕ) (first second left right : List (Key × Entry)) (up_fir
       let found = lapsed_from horizon Before pair.0 pair.1 (subst (λ (xs : List Keyed). Contains xs pair) all_lapsed among) in
       subst (λ (e : ops.Entry). HasRecords e.op) found.2 (lapse_records horizon found.0.op (records (pair.0, found.0) found.1))
 
-  -- if an entry is in the join, the same entry with the horizon applied is in the join of the lapsed tables
+  -- for each entry in the join, the result of `lapse_entry horizon` is in the join of the lapsed tables
   lapse_in : (key : model.Key) (entry : ops.Entry) → Contains (map row_meant whole) (key, entry)
       → Contains (map row_meant joined) (key, lapse_entry horizon entry)
   lapse_in key entry among =
@@ -75,7 +75,7 @@ module _ (horizon : ℕ) (first second left right : List (Key × Entry)) (up_fir
       let two = value_in joined joined_is.ascends key b second_in in
       sym one.2 ∙ ap entry_meant (same_value one.0 two.0 (value_at joined key) one.1 two.1) ∙ two.2
 
-  -- the entries in the join of the lapsed tables are exactly the join's entries with the horizon applied
+  -- the entries in the join of the lapsed tables are exactly the results of `lapse_entry horizon` for the entries in the join
   pub joined_lapses : (key : model.Key) (entry : ops.Entry) → Contains (map row_meant joined) (key, entry)
       ↔ ((before : ops.Entry) × Contains (map row_meant whole) (key, before) × (lapse_entry horizon before ≡ entry))
   joined_lapses key entry = (

@@ -48,7 +48,7 @@ lasts_all P (row ∷ next ∷ rows) all = by (is_eq (row_cmp next row)) (lasts_a
     by true rest = rest
     by false rest = (all.0, rest)
 
--- if a sorted row has a lower key than the next row, it has a lower key than all rows after it
+-- if a row of a sorted list has a lower key than the next row, it has a lower key than all rows after it
 below_all : (row next : Key × Entry) (rows : List (Key × Entry)) → row_cmp row next ≡ Less → AllByRecursion (IsAtMost by_entry next) rows
     → AllByRecursion (IsBelow row_cmp row) rows
 below_all row next [] below later = tt
@@ -62,7 +62,7 @@ below_all row next (other ∷ rows) below later = (by (later_key next other late
         let d = key_total.antisymm (key_meant row.0) (key_meant next.0) in
         cc
 
--- the last rows of sorted rows ascend by key
+-- in a sorted list, the last rows of the keys ascend by key
 pub lasts_ascend : (rows : List (Key × Entry)) → AreSorted rows → AreAscending (last_rows rows)
 lasts_ascend [] sorted = tt
 lasts_ascend (row ∷ []) sorted = (tt, tt)
@@ -83,7 +83,7 @@ lasts_ascend (row ∷ next ∷ rows) sorted = by (row_cmp next row) refl (lasts_
     by Less is rest = in_front (λ tied. cc) rest
     by Greater is rest = in_front (λ tied. cc) rest
 
--- if a sorted row and the next row have different keys, the first row's key is lower
+-- if two neighbouring rows of a sorted list have different keys, the key of the first row is lower
 front_below : (row next : Key × Entry) → ¬ (row_cmp next row ≡ Equal) → LaterKey row next → row_cmp row next ≡ Less
 front_below row next apart (inl below) = below
 front_below row next apart (inr same) = absurd (apart (key_total.antisymm (key_meant next.0) (key_meant row.0) ∙ ap ordering_reverse same.0))

@@ -1,4 +1,4 @@
--- The walk over a state's live keys is the live table, in ascending order of keys.
+-- The walk over a state's live keys returns the live table, in ascending order of keys.
 use Rattle.std.proofs.Common.{◌≡◌, List, [], ◌∷◌, refl, ap, sym, ◌∙◌, subst, inl, inr, ◌⊎◌, Contains, Some, None}
 use Rattle.std.specs.Prelude.{◌↔◌}
 use Rattle.std.specs.List.{AllByRecursion}
@@ -21,7 +21,7 @@ SameRow a b = a ≡ b
 abbrev pub PutThere : List (Key × Entry) → Key → Body → Type 0
 PutThere entries key body = (entry : Entry) × Contains entries (key, entry) × (entry.op ≡ put_with body)
 
--- for each key and body that the walk returns, there is an entry that puts the body under the key
+-- for each key and body that the walk over the entries returns, there is an entry that puts the body under the key
 pub from_live : (entries : List (Key × Entry)) (key : Key) (body : Body) → Contains (live_rows entries) (key, body) → PutThere entries key body
 from_live [] key body among = absurd (nil-Contains (key, body) among)
 from_live (first ∷ entries) key body among = by first.1.op refl (from_live entries key body) among
@@ -44,7 +44,7 @@ from_live (first ∷ entries) key body among = by first.1.op refl (from_live ent
         cases (inl same) = here other is same
         cases (inr behind) = later (rest behind)
 
--- the walk returns each key and body that an entry puts
+-- the walk over the entries returns each key and body that an entry puts
 pub to_live : (entries : List (Key × Entry)) (key : Key) (entry : Entry) (body : Body) → entry.op ≡ put_with body → Contains entries (key, entry)
     → Contains (live_rows entries) (key, body)
 to_live [] key entry body is among = absurd (nil-Contains (key, entry) among)
@@ -68,7 +68,7 @@ put_of deleted body is = cc
 put_of lapsed body is = cc
 put_of (put_with other) body is = let same : other ≡ body = cc in ap put_with same
 
--- in a valid state, each key and body that an entry puts is live
+-- in a valid state, if an entry puts a body under a key, the body is live under the key
 pub live_put : (state : State) → IsValid state → (key : Key) (body : Body) → PutThere state.entries key body → live_table state key ≡ Some body
 live_put state valid key body put = by (find_in state.entries key)
   where
@@ -78,7 +78,7 @@ live_put state valid key body put = by (find_in state.entries key)
         live_at state key found.0 found.1 ∙ (λ i. body_of (same i).op) ∙ ap body_of put.2
     by (inr gone) = absurd (gone.1 put.0 put.1)
 
--- each key and body that is live is put by an entry
+-- if a body is live under a key, an entry puts the body under the key
 pub live_has : (state : State) (key : Key) (body : Body) → live_table state key ≡ Some body → PutThere state.entries key body
 live_has state key body is = by (find_in state.entries key)
   where
@@ -86,7 +86,7 @@ live_has state key body is = by (find_in state.entries key)
     by (inl found) = (found.0.1, found.2, put_of found.0.1.op body (sym (live_at state key found.0 found.1) ∙ is))
     by (inr gone) = absurd (let none : None ≡ Some body = sym (live_none state key gone.0) ∙ is in cc)
 
--- in a valid state, the walk returns a key with a body if and only if this body is live under the key
+-- in a valid state, the walk over the entries returns a key with a body if and only if this body is live under the key
 pub live_walks : (state : State) → IsValid state → (walked : List (Key × Body)) → walked ≡ live_rows state.entries
     → (key : Key) (body : Body) → Contains walked (key, body) ↔ (live_table state key ≡ Some body)
 live_walks state valid walked walked_is key body = (
@@ -107,7 +107,7 @@ live_above key (first ∷ entries) above = by first.1.op (live_above key entries
     by lapsed rest = rest
     by (put_with body) rest = (above.0, rest)
 
--- the keys of a walk over ascending entries ascend
+-- the keys that a walk over ascending entries returns ascend
 pub ascends : (entries : List (Key × Entry)) → AreAscending entries → AreInKeyOrder (live_rows entries)
 ascends [] up = tt
 ascends (first ∷ entries) up = by first.1.op (ascends entries up.1)
@@ -117,6 +117,6 @@ ascends (first ∷ entries) up = by first.1.op (ascends entries up.1)
     by lapsed rest = rest
     by (put_with body) rest = (live_above first.0 entries up.0, rest)
 
--- the keys of the walk over a valid state ascend
+-- the keys that the walk over the entries of a valid state returns ascend
 pub live_ascends : (state : State) → IsValid state → (walked : List (Key × Body)) → walked ≡ live_rows state.entries → AreInKeyOrder walked
 live_ascends state valid walked is = subst AreInKeyOrder (sym is) (ascends state.entries valid.entries.1)

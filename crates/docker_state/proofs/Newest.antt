@@ -57,7 +57,7 @@ less_is Less told = refl
 less_is Equal told = let bad : true ≡ false = sym told in cc
 less_is Greater told = let bad : true ≡ false = sym told in cc
 
--- if the code finds a stamp above the stamp of the ledger's last item, the stamp is above the stamps of all items
+-- if the code finds that a stamp is above the stamp of the ledger's last item, the stamp is above the stamps of all items
 pub above_each : {A : Type 0} (meant : A → LedgerItem) (items before : List A) (last : A) (stamp file : FileStamp) (b : Bool)
     → items ≡ before ++ last ∷ [] → IsStrictlyAscending ledger_item_cmp (map meant items) → file ≡ (meant last).stamp
     → b ≡ is_lt (file_stamp_cmp file stamp) → IsTrue b → (item : LedgerItem) → Contains (map meant items) item → IsBelow file_stamp_cmp item.stamp stamp

@@ -15,7 +15,7 @@ use Rattle.state_laws.proofs.joins.StagedState.{join_with_staged}
 use Rattle.docker_state.specs.Staging.{HasKeptItems, HasNoneToStage}
 use Rattle.docker_state.proofs.StagingLemmas.{join_of_nothing_new}
 
--- a stamp below the floor isn't kept
+-- a stamp that is below the floor doesn't satisfy `IsKept`
 pub not_kept : (stamp floor : FileStamp) → IsBelow file_stamp_cmp stamp floor → ¬ IsAtMost file_stamp_cmp floor stamp
 not_kept stamp floor below kept = kept (file_stamp_total.antisymm floor stamp ∙ ap ordering_reverse below)
 
@@ -42,7 +42,7 @@ none_of_more own floor row rows first others key entry among = by (Contains-cons
     by (inl same) = subst (λ (it : Key × Entry). ¬ IsToStage own floor it.0 it.1) same first
     by (inr behind) = others key entry behind
 
--- the same lemma for rows of the code's type: if neither the first row nor any row after it has to be staged, no row has to be staged
+-- the lemma `none_of_more` for rows of the code's type: if neither the first row nor any row after it has to be staged, no row has to be staged
 pub none_of_rest : {A : Type 0} (meant : A → Key × Entry) (own : State) (floor : Option FileStamp) (rows behind : List A) (row : A) → rows ≡ row ∷ behind
     → ¬ IsToStage own floor (meant row).0 (meant row).1 → HasNoneToStage own floor (map meant behind) → HasNoneToStage own floor (map meant rows)
 none_of_rest meant own floor rows behind row is first others =
@@ -52,8 +52,8 @@ none_of_rest meant own floor rows behind row is first others =
 pub untold : {P : Type 0} (b : Bool) → b ≡ false → IsTrue b ↔ P → ¬ P
 untold b fails tells holds = let bad : false ≡ true = sym fails ∙ tells.1 holds in cc
 
--- Suppose a state has each item of another state that isn't below the floor, and no entry of the other state has to be staged. Then the first state is the join
--- of the two states, under the greater horizon.
+-- Suppose a state has each item of another state that isn't below the floor, and no entry of the other state has to be staged. Then the join of the two states
+-- is the first state, with the greater of the two horizons.
 pub covered : (own other : State) → IsValid own → IsValid other → (floor : Option FileStamp) → IsFloor (own.ledger ++ other.ledger) floor
     → HasKeptItems own.ledger other.ledger floor → HasNoneToStage own floor other.entries → IsJoin own other (raise_horizon other.horizon own)
 covered own other valid valid_too floor is_floor has none =

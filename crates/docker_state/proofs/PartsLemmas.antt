@@ -1,4 +1,4 @@
--- Adding a good entry to the parts of a valid state.
+-- Adding a good entry to a state that is built from its ledger items and entries.
 use Rattle.std.proofs.Common.{◌≡◌, List, [], ◌∷◌, ◌++◌, map, ap, sym, ◌∙◌, subst}
 use Rattle.std.proofs.lemmas.List.{map-append}
 use Rattle.std.specs.Prelude.{Option}
@@ -29,8 +29,7 @@ valid_with_entry ledger rows state view valid key entry here of after pushed =
     (valid_more (state_meant 0 ledger rows) (key_meant key) (entry_meant entry).stamp (entry_meant entry).op valid
     (subst (λ (s : State). IsStampHere s (key_meant key) (entry_meant entry).stamp) (sym view) here) of (none_has_to (entry_meant entry).op))
 
--- if rows and then one more entry are noted, the notes are the notes of the rows with this entry
--- appended
+-- if the places of some rows and then of one more entry are noted, the notes are the notes of the rows with this entry appended
 pub noted_with_entry : (rows after : List (Key × Entry)) (key : Key) (entry : Entry) (notes : Option Notes) → after ≡ rows ++ (key, entry) ∷ []
     → HasNotedIfAny (items_of (map row_meant rows) ++ (key_meant key, op_meant entry.op) ∷ []) notes
     → HasNotedIfAny (items_of (map row_meant after)) notes

@@ -32,7 +32,7 @@ in_first xs x among = by (Contains-append_cases xs [] x among)
     by (inl here) = here
     by (inr none) = absurd (nil-Contains x none)
 
--- the lemmas for a state that has each received item that isn't below the floor
+-- the lemmas for a state whose ledger has each received item that isn't below the floor
 module _ (own : State) (valid : IsValid own) (items : List LedgerItem) (floor : Option FileStamp) (is_floor : IsFloor (own.ledger ++ items) floor)
     (has : HasKeptItems own.ledger items floor) where
   -- the floor of both ledgers together is the floor of our own ledger

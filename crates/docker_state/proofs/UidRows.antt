@@ -77,15 +77,15 @@ module _ (test : Ordering → Bool) (down : GoesDown test) (least : test Less �
           let same : j ≡ i = omega arith in
           subst (λ k. test (to_uid (key_meant (get_or rows k d).0) uid) ≡ true) same passes
 
--- whether a row's key is below the UID's schedules or among them
+-- whether a row's key is below the keys of the UID's schedules or among them
 abbrev pub is_up_to : List ℕ → Key × Entry → Bool
 is_up_to uid row = is_le (to_uid (key_meant row.0) uid)
 
--- the rows before the UID's schedules come before all other rows
+-- in ascending rows, the rows whose keys are below the keys of the UID's schedules come first
 pub parted_before : (uid : List ℕ) (rows : List (Key × Entry)) → AreAscending rows → IsPartitionedBy (is_before uid) rows
 parted_before uid rows up = parted is_lt (refl, λ same. refl) refl uid rows up
 
--- the rows at or before the UID's schedules come before all other rows
+-- in ascending rows, the rows whose keys are at most the greatest key of the UID's schedules come first
 pub parted_up_to : (uid : List ℕ) (rows : List (Key × Entry)) → AreAscending rows → IsPartitionedBy (is_up_to uid) rows
 parted_up_to uid rows up = parted is_le (refl, λ same. refl) refl uid rows up
 
@@ -109,7 +109,7 @@ module _ (uid : List ℕ) (rows : List (Key × Entry)) (up : AreAscending rows) 
   pub begins_after : (0 < first) → ((d : Key × Entry) → is_before uid (get_or rows (first - 1) d) ≡ true) → IsBeginning uid rows first
   begins_after above before = (λ k d low high. parted_before uid rows up k (first - 1) d (omega arith) (omega arith) (before d), rest_behind)
 
--- if no row is after the UID's schedules, these schedules end at the end of all rows
+-- if no row is after the UID's schedules, the index just after these schedules is the number of rows
 pub walk_of_all : (uid : List ℕ) (rows : List (Key × Entry)) → position (λ row. not (is_up_to uid row)) rows ≡ None
     → length rows ≡ position_or_len (λ row. not (is_up_to uid row)) rows
 walk_of_all uid rows none =
@@ -166,7 +166,7 @@ behind_ascends rows zero up = up
 behind_ascends [] (suc n) up = tt
 behind_ascends (row ∷ rows) (suc n) up = behind_ascends rows n up.1
 
--- ---- the UID's schedules are one piece of the rows
+-- ---- the UID's schedules are neighbouring rows
 
 module _ {A : Type 0} (P : A → Type 0) where
   -- a property of all elements at indexes below n is a property of each of the first n elements
@@ -228,9 +228,9 @@ piece_is uid rows rest here n m bound rest_is bound_too here_is first second = r
   above = λ row among. greater_of (to_uid (key_meant row.0) uid) (back_all (λ r. is_up_to uid r ≡ false) rest m bound_too second.1 row among);
 }
 
--- ---- the live rows of the piece are the UID's live schedules
+-- ---- the live rows among the UID's rows are the UID's live schedules
 
--- a key that compares as equal with the UID's schedules is the key of a schedule of this UID
+-- a key that `to_uid` finds equal to the keys of a UID's schedules is the key of a schedule of this UID
 of_uid_is : (key : model.Key) (uid : List ℕ) → to_uid key uid ≡ Equal → (schedule : ScheduleKey) × (key ≡ schedule_key schedule) × (schedule.uid ≡ uid)
 of_uid_is (tiploc_key code) uid tied = absurd (let bad : Less ≡ Equal = tied in cc)
 of_uid_is (association_key key) uid tied = absurd (let bad : Less ≡ Equal = tied in cc)
@@ -272,7 +272,7 @@ module _ (state : State) (valid : IsValid state) (uid : List ℕ) (rows piece : 
       (Contains-append_left (map row_meant is.before ++ map row_meant piece) (map row_meant is.behind) pair
       (Contains-append_right (map row_meant is.before) (map row_meant piece) pair among))
 
-  -- if each row of a list compares as `order` with the UID's schedules, so does each converted row
+  -- if `to_uid` compares the key of each row in a list as `order`, it does so for each converted row too
   stands : (order : Ordering) (some : List (Key × Entry)) → AreTo order uid some → (pair : model.Key × ops.Entry) → Contains (map row_meant some) pair
       → to_uid pair.0 uid ≡ order
   stands order some all pair among =
@@ -314,7 +314,7 @@ module _ (state : State) (valid : IsValid state) (uid : List ℕ) (rows piece : 
       ap (λ (k : model.Key). to_uid k uid) made.2 ∙ ap (λ (u : List ℕ). bytes_cmp u uid) made.5 ∙ tied_itself nat_list_cmp_total uid in
       to_live (map row_meant piece) key put.0 body put.2 (in_piece (key, put.0) put.1 tied)
 
-  -- the live rows of the piece are exactly the UID's live schedules
+  -- the live rows in `piece`, which has the UID's rows, are exactly the UID's live schedules
   pub live_of_uid : (walked : List (model.Key × Body)) → walked ≡ live_rows (map row_meant piece) → AreOfUid (live_table state) uid walked
   unfolding Told
   live_of_uid walked walked_is = subst (AreOfUid (live_table state) uid) (sym walked_is) (record {

@@ -22,8 +22,7 @@ IsIndexIfAny rows index = IfSome index (IsIndexOf rows)
 abbrev pub HasNotedIfAny : List Item → Option Notes → Type 0
 HasNotedIfAny items notes = IfSome notes (HasNoted items)
 
--- Says that the reserved memory is enough for the index of these rows, or that nothing is noted, or
--- that nothing was reserved.
+-- Says that the reserved memory is enough for the index of these rows, or that there are no notes, or that no memory was reserved.
 abbrev pub HasRoomIfAny : List (model.Key × ops.Entry) → Option Notes → Option Room → Type 0
 HasRoomIfAny rows notes room = IfSome notes (λ noted. IfSome room (HasRoomFor rows noted.names.list.items))
 

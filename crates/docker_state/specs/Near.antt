@@ -1,4 +1,4 @@
--- Defines where a key lies among rows in key order.
+-- Defines the position of a key among rows in key order.
 use Rattle.std.specs.Prelude.{◌≡◌, ℕ, ◌-◌, ◌<◌, ◌≤◌, List, length, get_or}
 use Rattle.std.specs.declared.cmp.Ordering.TheVariants.{Less, Greater}
 use Rattle.docker_model.specs.file.Change as model

@@ -1,4 +1,4 @@
--- A state's parts, while a caller adds them one by one.
+-- The ledger items and entries of a state, while a caller adds them one by one.
 use Rattle.std.specs.Prelude.{ℕ, List, map, length, ◌-◌, slice_get, Option}
 use Rattle.std.specs.Option.{option_map}
 use Rattle.docker_model.specs.file.Change.{Key}
@@ -12,7 +12,7 @@ use Rattle.docker_state.specs.declared.item.LedgerItem.{LedgerItem}
 use Rattle.docker_state.specs.Indexed.{HasNotedIfAny}
 use Rattle.docker_state.specs.Meaning.{row_meant, state_meant}
 
--- Says that the parts make a valid state. Any notes are the notes of its rows.
+-- Says that the ledger and the rows make a valid state. If there are notes, they are the notes of the rows.
 pub record AreParts (ledger : List LedgerItem) (rows : List (Kept × Row)) (notes : Option Notes) : Type 0 where
   pub valid : IsValid (state_meant 0 ledger rows)
   pub noted : HasNotedIfAny (items_of (map row_meant rows)) notes

@@ -26,7 +26,7 @@ abbrev pub last_or : Key × Entry → List (Key × Entry) → List (Key × Entry
 last_or row [] rest = row ∷ rest
 last_or row (next ∷ rows) rest = if is_of_key (Some next) (key_meant row.0) then rest else row ∷ rest
 
--- the last row of each run of rows with the same key
+-- the last row of each sequence of rows with the same key
 abbrev pub last_rows : List (Key × Entry) → List (Key × Entry)
 last_rows [] = []
 last_rows (row ∷ rows) = last_or row rows (last_rows rows)
@@ -58,7 +58,7 @@ abbrev pub last_made_or : Made → List Made → List Made → List Made
 last_made_or made [] rest = made ∷ rest
 last_made_or made (next ∷ more) rest = if is_made_of_key (Some next) (key_meant made.0.0) then rest else made ∷ rest
 
--- for each run of rows with the same key, the last row with its number
+-- for each sequence of rows with the same key, the last row with its number
 abbrev pub last_made : List Made → List Made
 last_made [] = []
 last_made (made ∷ more) = last_made_or made more (last_made more)

@@ -13,7 +13,7 @@ use Rattle.cif_file.specs.Key.{Key}
 use Rattle.cif_change.specs.Meaning.{key_meant}
 use Rattle.docker_join.specs.declared.entry.Entry.{Entry}
 
--- compares a key with a UID's schedules; keys of TIPLOCs and associations are below them
+-- compares a key with the keys of a UID's schedules; keys of TIPLOCs and associations are below these keys
 abbrev pub to_uid : model.Key → List ℕ → Ordering
 to_uid (tiploc_key code) uid = Less
 to_uid (association_key key) uid = Less
@@ -33,13 +33,13 @@ abbrev pub IsBeginning : List ℕ → List (Key × Entry) → ℕ → Type 0
 IsBeginning uid rows count =
     IsPartitionPoint (λ row. is_before uid row ≡ true) (λ row. is_before uid row ≡ false) rows count
 
--- Says that each of these rows compares as `order` with the UID's schedules.
+-- Says that `to_uid` compares the key of each of these rows with the keys of the UID's schedules as `order`.
 abbrev pub AreTo : Ordering → List ℕ → List (Key × Entry) → Type 0
 AreTo order uid rows =
     (row : Key × Entry) → Contains rows row → to_uid (key_meant row.0) uid ≡ order
 
--- Says that a piece of the rows consists of exactly the UID's schedules. All rows before the piece
--- are below these schedules, and all rows after the piece are above them.
+-- Says that `piece`, a sequence of neighbouring rows, has exactly the UID's schedules. All rows before `piece` are below these schedules, and all rows after it
+-- are above them.
 pub record IsPieceOfUid (uid : List ℕ) (rows piece : List (Key × Entry)) : Type 0 where
   pub before : List (Key × Entry)
   pub behind : List (Key × Entry)

@@ -1,5 +1,5 @@
-//! Finds out whether a state already has everything that another state would bring. The join of the
-//! two states is then this state, under the greater of the two horizons.
+//! Finds out whether a state already has everything that another state would bring. If it has, the
+//! join of the two states is this state with the greater of the two horizons.
 ghost use Rattle.std.specs.Prelude.{map, IsTrue, Contains};
 ghost use Rattle.docker_model.specs.state.Stamp.{ledger_item_cmp, IsKept};
 ghost use Rattle.docker_model.specs.state.Order.{IsStrictlyAscending};
@@ -53,10 +53,10 @@ fn brings_none(own: &State, other: &State, floor: &Option<FileStamp>) -> bool
 }
 
 impl State {
-    /// Whether the join with another state is this state under the greater of the two horizons.
-    /// True only if this state has each ledger item of the other state and, for each entry of the
-    /// other state, the same or a greater entry. Items and entries below the common floor of the
-    /// two states don't count.
+    /// Whether the join with another state is this state with the greater of the two horizons. True
+    /// only if this state has each ledger item of the other state and, for each entry of the other
+    /// state, the same or a greater entry. Items and entries below the common floor of the two
+    /// states don't count.
     pub(crate) fn covers(&self, other: &State) -> bool
         ensures { IsTrue result
             → IsJoin self.now other.now (raise_horizon other.now.horizon self.now) }

@@ -84,9 +84,9 @@ pub(crate) fn room_for_notes(alloc: Global, notes: &Option<Notes>) -> Result<Opt
     }
 }
 
-/// Makes the index of the rows in the memory that was reserved for it. Returns `None` if nothing
-/// was reserved or noted. `order` gives the number of each row among all rows whose places were
-/// noted. `pieces` must be empty and have room for one piece per row.
+/// Makes the index of the rows in the memory that was reserved for it. Returns `None` if there is
+/// no reserved memory or there are no notes. `order` gives the number of each row among all rows
+/// whose places were noted. `pieces` must be empty and have room for one piece per row.
 pub(crate) fn picked_index(
     room: Option<Room>,
     notes: Option<Notes>,

@@ -1,6 +1,6 @@
-//! The state that follows from a set of files: which files are known, and the greatest entry of
-//! each key, with entries lapsed under a horizon. States can be joined in any order, any number of
-//! times.
+//! The state that follows from a set of files and a horizon: the list of the files that count, and
+//! the greatest entry of each key. Entries that ended before the horizon have lapsed. States can be
+//! joined in any order, any number of times.
 #![tactic(auto)]
 
 mod covers;

@@ -1,4 +1,4 @@
-//! Builds a state from its parts, which are added in order.
+//! Builds a state from ledger items and entries, which are added in order.
 ghost use Rattle.std.specs.Prelude.{◌≡◌, ◌++◌, [], ◌∷◌, ◌-◌, map, IsOk, IsErr, IfOk};
 ghost use Rattle.std.specs.Option.{option_copied, option_map};
 ghost use Rattle.docker_model.specs.state.State.{IsLedger, IsOpOf, IsValid};
@@ -20,8 +20,8 @@ use state_index::Notes;
 use std::alloc::Global;
 use std::marker::Model;
 
-/// The parts of a state that were added so far: first ledger items, then entries, both in ascending
-/// order. After each addition the parts make a valid state.
+/// The ledger items that were added so far, and then the entries, both in ascending order. After
+/// each addition they make a valid state.
 #[derive(Debug, Drop)]
 pub struct Parts {
     ledger: Vec<LedgerItem>,
@@ -43,7 +43,7 @@ impl Model for Parts {
 }
 
 impl Parts {
-    /// Begins without parts. The state will have an index.
+    /// Starts building a state with an index. No ledger item and no entry has been added yet.
     pub fn new(alloc: Global) -> Parts
         ensures { result ≡ record { horizon = 0; ledger = []; entries = [] } }
     {
@@ -54,7 +54,7 @@ impl Parts {
         }
     }
 
-    /// Begins without parts. The state will have no index.
+    /// Starts building a state without an index. No ledger item and no entry has been added yet.
     pub fn unindexed(alloc: Global) -> Parts
         ensures { result ≡ record { horizon = 0; ledger = []; entries = [] } }
     {
@@ -65,7 +65,7 @@ impl Parts {
         }
     }
 
-    /// Adds the next ledger item. If memory runs out, the parts are unchanged.
+    /// Adds the next ledger item. If memory runs out, nothing is added.
     pub fn item(&mut self, item: LedgerItem) -> Result<(), Memory>
         requires before_entries { self.old.entries ≡ [] }
         requires ledger { IsLedger (self.old.ledger ++ item_meant item ∷ []) }
@@ -77,7 +77,7 @@ impl Parts {
         Ok(())
     }
 
-    /// Adds the next entry, with its key. If memory runs out, the parts are unchanged.
+    /// Adds the next entry, with its key. If memory runs out, nothing is added.
     pub fn entry(&mut self, key: Key, entry: Entry) -> Result<(), Memory>
         requires here { IsStampHere self.old (key_meant key) (entry_meant entry).stamp }
         requires op { IsOpOf (key_meant key) (entry_meant entry).op }
@@ -119,9 +119,9 @@ impl Parts {
         }
     }
 
-    /// Makes the state from the parts. If memory runs out, the parts are dropped. If the state is
-    /// to have an index, they are also dropped if there are more than 4,294,967,295 entries or
-    /// places, which are numbered in 32 bits.
+    /// Makes the state from what was added. If memory runs out, the ledger items and entries are
+    /// dropped. If the state is to have an index, they are also dropped if there are more than
+    /// 4,294,967,295 entries or places, which are numbered in 32 bits.
     pub fn finish(self) -> Result<State, Memory>
         ensures { IfOk result (λ state. state ≡ self) }
     {
@@ -133,7 +133,7 @@ impl Parts {
         state_of(0, ledger, entries, notes)
     }
 
-    /// Makes the state from the parts, under a horizon. The caller ensures that no body ended
+    /// Makes the state with this horizon from what was added. The caller ensures that no body ended
     /// before the horizon, so no end date is read. The call fails for the same reasons as `finish`.
     pub fn finish_under(self, horizon: Day) -> Result<State, Memory>
         requires { IsValid (under_horizon horizon self) }

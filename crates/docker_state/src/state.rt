@@ -87,7 +87,7 @@ impl State {
         }
     }
 
-    /// The state of no files.
+    /// The state of an office that knows no files.
     pub fn empty(alloc: Global) -> State
         ensures empty { result ≡ record { horizon = 0; ledger = []; entries = [] } }
         ensures summary { IsSummary [] 0 result }
@@ -100,8 +100,8 @@ impl State {
         }
     }
 
-    /// The state of no files, without an index. Its join with another state has no index either,
-    /// unless the join is simply that other state.
+    /// The state of an office that knows no files, without an index. Its join with another state
+    /// has no index either, unless the join is simply that other state.
     pub fn unindexed(alloc: Global) -> State
         ensures empty { result ≡ record { horizon = 0; ledger = []; entries = [] } }
         ensures summary { IsSummary [] 0 result }
@@ -136,9 +136,9 @@ impl State {
         }
     }
 
-    /// The state that the kept changes of a file make, for the docker of one place on one day. For
+    /// The state that the thin changes of a file make, for the docker of one place on one day. For
     /// that place and day, this state has the same docker as the state of the whole file. The state
-    /// must not be used for anything else. If memory runs out, the kept changes are dropped.
+    /// must not be used for anything else. If memory runs out, the thin changes are dropped.
     pub fn of_thin(alloc: Global, file: ThinFile) -> Result<State, Memory>
         ensures { (records : List (List ℕ)) → IsOfRecords file.file records
             → IfOk result (IsStateOfChanges records file.kept) }
@@ -275,7 +275,7 @@ impl State {
         }
     }
 
-    /// The state with its horizon raised to a day number.
+    /// The state after its horizon was raised to a day number.
     fn raised(mut self, horizon: u16) -> State
         requires { IsDay horizon }
         ensures { result ≡ raise_horizon horizon self }
@@ -554,14 +554,14 @@ impl Merge for State {
     ghost idempotent = { join_idempotent };
 
     /// The join of two states: the union of their ledgers, and for each key the greater entry.
-    /// Items and entries below the greater of the two floors are left out, and the entries lapse
-    /// under the greater horizon. If one state has all that the other would bring, the join is that
-    /// state under the greater horizon, and the memory of the other state is freed. For example,
-    /// one state may be made from a full extract that is newer than all files of the other state.
-    /// Then no row of the other state is read. If memory runs out, both states are returned
-    /// unchanged. The join has an index if both states have one. In this case both states are also
-    /// returned if together they have more than 4,294,967,295 rows or places, which are numbered in
-    /// 32 bits.
+    /// Items and entries below the greater of the two floors are left out, and entries that ended
+    /// before the greater of the two horizons lapse. If one state has all that the other would
+    /// bring, the join is that state with the greater horizon, and the memory of the other state is
+    /// freed. For example, one state may be made from a full extract that is newer than all files
+    /// of the other state. Then no row of the other state is read. If memory runs out, both states
+    /// are returned unchanged. The join has an index if both states have one. In this case both
+    /// states are also returned if together they have more than 4,294,967,295 rows or places, which
+    /// are numbered in 32 bits.
     fn join(self, alloc: Global, other: State) -> Result<State, (State, State)>
         ensures ok { IfOk result (IsJoin self other) }
         ensures err { IfErr result (λ both. (both.0 ≡ self) × (both.1 ≡ other)) }
@@ -581,15 +581,16 @@ impl Merge for State {
     }
 }
 
-/// The parts of a state without its index, with room after its rows.
+/// The fields of a state except its index, with spare memory after its rows.
 struct OpenedState {
     horizon: u16,
     ledger: Vec<LedgerItem>,
     rows: Vec<(Key, Entry)>,
 }
 
-/// Applies the horizon `other` to rows that have already lapsed under the horizon `own`. If `other`
-/// isn't greater, no row is read. The spare room after the rows is kept.
+/// Lets entries that ended before the horizon `other` lapse. Entries that ended before the horizon
+/// `own` have lapsed already, so if `other` isn't greater, no row is read. The spare memory after
+/// the rows is kept.
 fn lapsed_under(mut rows: Vec<(Key, Entry)>, own: u16, other: u16) -> Vec<(Key, Entry)>
     requires lapsed { HaveLapsed own (map row_meant rows.items) }
     requires ascending { AreAscending rows.items }

@@ -105,7 +105,7 @@ impl<'a> Timetable<'a> {
         TimetableRows::of(self.state.calling(tiploc).numbered(), self.permanent)
     }
 
-    /// The associations at a location that count. Each is returned with its line, in the order of
+    /// Those associations at a location that count. Each is returned with its line, in the order of
     /// the keys.
     pub fn linked(&self, tiploc: &Tiploc) -> TimetableRows<'a>
         ensures rows { AreLinked (live_in self.now) tiploc.now result }
@@ -114,7 +114,7 @@ impl<'a> Timetable<'a> {
         TimetableRows::of(self.state.linked(tiploc).numbered(), self.permanent)
     }
 
-    /// The schedules of a UID that count. Each is returned with its lines, in the order of the
+    /// Those schedules of a UID that count. Each is returned with its lines, in the order of the
     /// keys. First reads the row at index `near`, for example an index from `TimetableRows`. If
     /// that row is of the UID, no search is needed.
     pub fn of_uid_near(&self, uid: &Uid, near: usize) -> UidSchedules<'a>

@@ -1,4 +1,4 @@
-//! Iterators over the rows that count in a timetable.
+//! Iterators over those rows that count in a timetable.
 ghost use Rattle.std.specs.Prelude.{◌≡◌};
 ghost use Rattle.std.specs.Iterator.{YieldsFirstBy, item_count};
 ghost use Rattle.cif_change.specs.Meaning.{key_meant, body_meant};
@@ -12,9 +12,9 @@ use cif_file::{Body, Key};
 use cif_line::Stp;
 use std::marker::Model;
 
-/// An iterator over the rows at a place that count, in key order. For each row it returns the row's
-/// index among all rows, the key and the body. No clause says that the row's index is right: it is
-/// only a hint for a later search.
+/// An iterator over those rows at a place that count in the timetable, in key order. For each row
+/// it returns the row's index among all rows, the key and the body. No clause says that the row's
+/// index is right: it is only a hint for a later search.
 #[derive(Clone, Debug, Drop)]
 pub struct TimetableRows<'a> {
     rows: Numbered<'a>,
@@ -33,7 +33,7 @@ impl<'a> Model for TimetableRows<'a> {
 }
 
 impl<'a> TimetableRows<'a> {
-    /// An iterator over the rows that count: over all these rows, or only over the permanent ones.
+    /// An iterator over those of these rows that count: all of them, or only the permanent ones.
     pub(crate) fn of(rows: Numbered<'a>, permanent: bool) -> TimetableRows<'a>
         ensures { result ≡ counted_rows (counts permanent) rows.entry }
     {
@@ -59,8 +59,8 @@ impl<'a> Iterator for TimetableRows<'a> {
     }
 }
 
-/// An iterator over the schedules of a UID that count, in key order. It returns the key and the
-/// body of each schedule.
+/// An iterator over those schedules of a UID that count in the timetable, in key order. It returns
+/// the key and the body of each schedule.
 #[derive(Clone, Debug, Drop)]
 pub struct UidSchedules<'a> {
     rows: Live<'a>,
@@ -79,7 +79,7 @@ impl<'a> Model for UidSchedules<'a> {
 }
 
 impl<'a> UidSchedules<'a> {
-    /// An iterator over the schedules that count: over all these rows, or only over the permanent
+    /// An iterator over those of these schedules that count: all of them, or only the permanent
     /// ones.
     pub(crate) fn of(rows: Live<'a>, permanent: bool) -> UidSchedules<'a>
         ensures { result ≡ counted_rows (counts permanent) rows.entry }

@@ -1,4 +1,5 @@
--- A place has as many postings of calls as there are live schedules that call there. A spot is a posting with the TIPLOC itself instead of the TIPLOC's index.
+-- A place has as many postings of calls as there are live schedules that call there. The proof is about spots. A spot is a posting with the TIPLOC itself
+-- instead of the TIPLOC's index.
 use Rattle.std.proofs.Common.{◌≡◌, ℕ, suc, List, [], ◌∷◌, ◌++◌, length, refl, ap, sym, ◌∙◌, subst, Some, None, Contains}
 use Rattle.std.specs.Prelude.{Option, slice_get, option_map, option_and_then}
 use Rattle.std.specs.List.{cons_option}
@@ -21,7 +22,7 @@ use Rattle.state_index.proofs.RowPlaces.{call_back}
 none_some : {A : Type 0} (a : A) → None ≡ Some a → ⊥
 none_some a h = cc
 
--- if all postings in a list are of one place, they have as many spots as the list has postings
+-- if all postings in a list are of one place, `spots_in` turns each of them into a spot (a TIPLOC with the index of a row)
 pub as_many_spots : (names : List (List ℕ)) (rank : ℕ) (place : List ℕ) → slice_get names rank ≡ Some place → (piece : List Posting)
     → ((posting : Posting) → Contains piece posting → posting.place ≡ rank) → length (spots_in names piece) ≡ length piece
 as_many_spots names rank place at [] here = refl
@@ -34,11 +35,11 @@ as_many_spots names rank place at (posting ∷ piece) here =
     by None told rest = absurd (none_some (spot_at posting.at place) told)
     by (Some spot) told rest = ap suc rest
 
--- Says that the row of a spot is live.
+-- Says that the row of a spot (a TIPLOC with the index of a row) is live.
 abbrev IsSeen : List Keyed → Spot → Type 0
 IsSeen rows spot = (row : Row) × (live_at rows spot ≡ Some row)
 
--- if the row of each spot is live, there are as many live rows for the spots as there are spots
+-- if the row of each spot (a TIPLOC with the index of a row) is live, as many live rows are found as there are spots
 as_many_rows : (rows : List Keyed) (piece : List Spot) → ((spot : Spot) → Contains piece spot → IsSeen rows spot)
     → length (rows_at_spots rows piece) ≡ length piece
 as_many_rows rows [] seen = refl
@@ -50,7 +51,7 @@ as_many_rows rows (spot ∷ piece) seen =
     by None told rest = absurd (none_some told.0 told.1)
     by (Some row) told rest = ap suc rest
 
--- as many live schedules call at a place as there are spots of calls there
+-- as many live schedules call at a place as there are spots (pairs of a TIPLOC and a row) of calls there
 counted_there : (state : State) → AreAscending state.entries → (spots : List Spot) → AreSpotsOf call_places state.entries spots
     → (place : List ℕ) (piece : List Spot) → IsPieceAt place spots piece → IsCallingCount (live_table state) place (length piece)
 counted_there state up spots of place piece is =
@@ -67,7 +68,7 @@ counted_there state up spots of place piece is =
               ∙ ap (λ op. option_and_then {U = Row} (λ (b : model.Body). Some (stands.0.0, b)) (body_of op)) calls.3,
         )
 
--- as many live schedules call at a place as there are postings of calls there, if each posting has a spot
+-- as many live schedules call at a place as there are postings of calls there, if `spots_in` keeps each posting
 pub calling_counted : (state : State) → AreAscending state.entries → (spots slice : List Spot) → slice ≡ spots
     → AreSpotsOf call_places state.entries spots → (place field : List ℕ) → field ≡ place → (names : List (List ℕ)) (piece : List Posting)
     → IsPieceAt field slice (spots_in names piece) → length (spots_in names piece) ≡ length piece → (count : ℕ) → count ≡ length piece

@@ -1,5 +1,4 @@
--- Lemmas that bound the number of spots of rows by counts over the rows, or over the changes that make the rows. A spot is a TIPLOC with the index of a row
--- there.
+-- Lemmas that bound the number of spots by counts over the rows, or over the changes that make the rows. A spot is a TIPLOC with the index of a row there.
 use Rattle.std.proofs.Common.{◌≡◌, ℕ, ◌+◌, ◌≤◌, List, [], ◌∷◌, ◌++◌, map, length, refl, ap, sym, ◌∙◌, subst, inl, inr, ◌⊎◌, Contains, arith}
 use Rattle.std.specs.declared.cmp.Ordering.TheVariants.{Less, Equal}
 use Rattle.std.specs.Ordering.{on}
@@ -107,11 +106,11 @@ at_most_all (pair ∷ pairs) = let one = few_links pair.0 pair.1 in let rest = a
 abbrev pub changed : List model.Change → List Pair
 changed changes = map (λ (change : model.Change). (change.key, op_of change.act)) changes
 
--- rows have as many spots of calls as their schedules have calls in total
+-- the number of spots (pairs of a TIPLOC and a row) where rows call is the sum, over all rows, of the number of places where the row's schedule calls
 pub places_of_rows : (rows : List Keyed) → length (spots_of call_places rows) ≡ total (λ key op. length (call_places key op)) (pairs_of rows)
 places_of_rows rows = spots_total call_places 0 rows
 
--- rows have at most as many spots of links as there are rows
+-- there are at most as many spots (pairs of a TIPLOC and a row) of links as there are rows
 pub links_of_rows : (rows : List Keyed) → length (spots_of link_places rows) ≤ length rows
 links_of_rows rows =
     let one = spots_total link_places 0 rows in
@@ -119,7 +118,7 @@ links_of_rows rows =
     let three = length-map {B = Pair} rows (λ (row : Keyed). (row.0, row.1.op)) in
     omega arith
 
--- the rows that changes make have at most as many calls as the changes have
+-- the rows that changes make call in total at no more places than the changes do
 pub places_of_changes : (rows : List Keyed) (changes : List model.Change) → AreAscending rows → AreMadeBy changes rows
     → length (spots_of call_places rows) ≤ total (λ key op. length (call_places key op)) (changed changes)
 places_of_changes rows changes up made =

@@ -1,5 +1,5 @@
--- The rows of a join are the winning rows of a walk over both tables. The moves have each row's index in the join. A spot is a TIPLOC with the index of a row
--- there.
+-- The rows of a join, and their spots. A walk over both tables finds, for each key, the row with the greater entry. `Moves` has the index of each row in the
+-- join. A spot is a TIPLOC with the index of a row there.
 use Rattle.std.proofs.Common.{◌≡◌, ℕ, List, [], ◌∷◌, map, refl, ap, sym, ◌∙◌, subst, Bool, true, false, cond, ◌⊎◌, Some, None, Contains}
 use Rattle.std.specs.Prelude.{Option, ◌↔◌, filter, not}
 use Rattle.std.specs.List.{AllByRecursion}
@@ -33,7 +33,7 @@ use Rattle.state_index.proofs.RisingMoves.{first_rising, second_rising}
 use Rattle.state_index.proofs.JoinedSpots.{keeps, kept_lapsed, turns_out}
 use Rattle.state_index.proofs.RowPlaces.{no_calls, no_links}
 
--- a stamp that passes the test `is_kept` is kept under the floor
+-- a stamp that passes the test `is_kept floor` isn't below the floor
 pub keeps_is : (floor : Option FileStamp) (stamp : FileStamp) → is_kept floor stamp ≡ true → IsKept floor stamp
 keeps_is None stamp h = tt
 keeps_is (Some floor) stamp h = by (file_stamp_cmp floor stamp) h
@@ -74,7 +74,7 @@ keyed_total : IsTotalOrder (on (λ (row : Keyed). row.0) key_cmp)
 keyed_total = on_total (λ (row : Keyed). row.0) key_total
 
 module _ (floor : Option FileStamp) (horizon : ℕ) where
-  -- `kept_lapsed` is exactly the list of the entries that aren't below the floor, with the horizon applied
+  -- `kept_lapsed` is exactly the list of the entries that aren't below the floor, after those that ended before the horizon have lapsed
   members_are : (entries : List Keyed) (key : model.Key) (entry : ops.Entry) → Contains (kept_lapsed floor horizon entries) (key, entry)
       ↔ LapsesTo entries floor horizon key entry
   members_are entries key entry = (
@@ -88,7 +88,8 @@ module _ (floor : Option FileStamp) (horizon : ℕ) where
         (filter_forth (keeps floor) entries (key, told.0) told.1 (is_keeps floor told.0.stamp.file told.2))),
   )
 
-  -- the winning rows that aren't below the floor, with the horizon applied, are the rows of the join
+  -- to get the rows of the join, take the row with the greater entry of each key, remove the rows below the floor, and let entries that ended before the
+  -- horizon lapse
   pub joined_is : (first second : List Row) (joined : List Keyed) → AreAscending first → AreAscending second → AreJoined first second floor horizon joined
       → joined ≡ kept_lapsed floor horizon (map row_meant (map winner (turns_of first second)))
   joined_is first second joined up_first up_second is =
@@ -115,7 +116,7 @@ module _ (floor : Option FileStamp) (horizon : ℕ) where
           same_rows is.whole (walk picked first second) is.is_join.ascends walk_is.ascends (λ key. is.is_join.values key ∙ sym (walk_is.values key))
           ∙ sym (winners_are first second)
 
-  -- the spots of the joined rows are the spots of both tables, moved to the new indexes of their rows
+  -- the spots (each a TIPLOC and a row's index) of the joined rows are the spots of both tables, with the indexes that the rows have in the join
   module _ (first second : List Row) (up_first : AreAscending first) (up_second : AreAscending second) (moves : Moves)
       (first_is : moves.first.items ≡ first_moves floor horizon 0 (turns_of first second))
       (second_is : moves.second.items ≡ second_moves floor horizon 0 (turns_of first second)) where

@@ -1,4 +1,4 @@
--- The spots of joined rows are the spots of both tables, moved to the new indexes of their rows. A spot is a TIPLOC with the index of a row there.
+-- The spots of joined rows are the spots of both tables, with the indexes that the rows have in the join. A spot is a TIPLOC with the index of a row there.
 use Rattle.std.proofs.Common.{◌≡◌, ℕ, ◌+◌, List, [], ◌∷◌, ◌++◌, map, length, refl, ap, sym, ◌∙◌, subst}
 use Rattle.std.proofs.Common.{inl, inr, ◌⊎◌, Bool, true, false, cond, Some, None, Contains, arith}
 use Rattle.std.specs.Prelude.{Option, ◌↔◌, ◌<◌, ◌≤◌, slice_get, ◌&&◌, option_map, option_and_then, filter}
@@ -21,7 +21,7 @@ use Rattle.state_index.specs.Joined.{moved_spot, moved_spots}
 use Rattle.state_index.proofs.Positions.{Keyed}
 use Rattle.state_index.proofs.TurnRows.{Row, winner, IsLevel, first_len, second_len}
 
--- an op that is still a put once the horizon is applied was not changed by the horizon
+-- an op that is still a put after `lapse` wasn't changed by `lapse`
 pub stays : (horizon : ℕ) (op : ops.Op) → is_put (lapse horizon op) ≡ true → lapse horizon op ≡ op
 stays horizon deleted put = refl
 stays horizon lapsed put = refl
@@ -32,12 +32,12 @@ stays horizon (put_with body) put = by (below_or horizon body)
         ≡ false = sym put ∙ gone in cc)
     by (inr above) = put_stays horizon body above
 
--- the spots of one row at its index in the join; none if the row isn't live in the join
+-- the spots (each a TIPLOC and a row's index) of one row, with the row's index in the join; none if the row isn't live in the join
 abbrev pub at_move : Option ℕ → List (List ℕ) → List Spot
 at_move None places = []
 at_move (Some at) places = map (spot_at at) places
 
--- moving the spots of one row results in the row's spots at its new index
+-- `moved_spot` gives the spots of one row the index that the row has in the join
 moved_row : (moves : List (Option ℕ)) (at : ℕ) (move : Option ℕ) → slice_get moves at ≡ Some move → (places : List (List ℕ))
     → filter_map (moved_spot moves) (map (spot_at at) places) ≡ at_move move places
 moved_row moves at None is [] = refl
@@ -58,7 +58,7 @@ behind_front [] x xs = refl
 behind_front (y ∷ front) x xs = behind_front front x xs
 
 module _ (places : Places) where
-  -- the spots of the rows, with each row's index in the join
+  -- the spots (each a TIPLOC and a row's index) of the rows, with each row's index in the join
   abbrev pub along : List (Option ℕ) → List Keyed → List Spot
   along [] rows = []
   along (move ∷ moves) [] = []
@@ -83,7 +83,7 @@ module _ (places : Places) where
           ∙ (λ i. moved_row (front ++ move ∷ moves) (length front) move (behind_front front move moves) (places row.0 row.1.op) i
           ++ (sym (λ j. moved_spots (append_assoc front (move ∷ []) moves j) (spots_from places (longer j) rows)) ∙ later) i)
 
-  -- if the spots of the rows are moved, each row's spots are at the row's new index
+  -- `moved_spots` gives each spot (a TIPLOC and a row's index) the index that its row has in the join
   pub moved_along : (moves : List (Option ℕ)) (rows : List Keyed) → length moves ≡ length rows → moved_spots moves (spots_of places rows) ≡ along moves rows
   moved_along moves rows size = along_from [] moves rows size
 
@@ -142,7 +142,8 @@ module _ (places : Places) (none : (key : model.Key) (op : ops.Op) → is_put op
   abbrev Kept : List Row → List Keyed
   Kept rows = kept_lapsed floor horizon (map row_meant rows)
 
-  -- the spots of winning rows are the spots of the first row at its index in the join, followed by the spots of the other rows
+  -- the spots (each a TIPLOC and a row's index) of rows that the join takes are the spots of the first of these rows, with its index in the join, followed by
+  -- the spots of the other rows
   row_out : (at : ℕ) (row : Row) (rows : List Row)
       → spots_from places at (Kept (row ∷ rows)) ≡ at_move (goes floor horizon at row.1) (places (key_meant row.0) (op_meant row.1.op)) ++ spots_from places
       (after floor at row.1) (Kept rows)
@@ -220,7 +221,7 @@ module _ (places : Places) (none : (key : model.Key) (op : ops.Op) → is_put op
           (along places (first_moves floor horizon (after floor at other.1) turns) (map row_meant (firsts turns)))
           (along places (second_moves floor horizon (after floor at other.1) turns) (map row_meant (seconds turns))) lost)
 
-  -- the spots of the winning rows are the spots of both tables, moved to the new indexes of their rows
+  -- the spots (each a TIPLOC and a row's index) of the join's rows are the spots of both tables, with the indexes that the rows have in the join
   pub turns_out : (turns : List AtKey) → AllByRecursion IsLevel turns → (spot : Spot)
       → Contains (spots_of places (Kept (map winner turns))) spot
       ↔ (Contains (moved_spots (first_moves floor horizon 0 turns) (spots_of places (map row_meant (firsts turns)))) spot

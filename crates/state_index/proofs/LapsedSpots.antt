@@ -1,4 +1,4 @@
--- After a lapse, the spots whose rows still have a put are the spots of the rows after the lapse. A spot is a TIPLOC with the index of a row there.
+-- After entries have lapsed, the spots whose rows still have a put are exactly the spots of the new rows. A spot is a TIPLOC with the index of a row there.
 use Rattle.std.proofs.Common.{◌≡◌, ℕ, List, [], refl, ap, sym, ◌∙◌, subst, Bool, true, false, Some, None, Contains}
 use Rattle.std.specs.Prelude.{Option, filter, slice_get, option_map, option_and_then}
 use Rattle.std.specs.Option.{is_some}
@@ -39,7 +39,7 @@ module _ (places : Places) (none : (key : Key) (op : Op) → is_put op ≡ false
   lapsed_at at row is = ap (λ (all : List Keyed). slice_get all at) are ∙ slice_get-map (lapse_keyed horizon) before at ∙ ap
       (option_map (lapse_keyed horizon)) is
 
-  -- each row after the lapse is an earlier row with the horizon applied
+  -- each row in `rows` results from `lapse_keyed` for the row at the same index in `before`
   was_at : (at : ℕ) (row : Keyed) → slice_get rows at ≡ Some row → (old : Keyed) × (slice_get before at ≡ Some old) × (lapse_keyed horizon old ≡ row)
   was_at at row is = by (slice_get before at) refl
     where
@@ -87,7 +87,7 @@ module _ (places : Places) (none : (key : Key) (op : Op) → is_put op ≡ false
           subst (λ zs. Contains zs spot) (sym is)
           (filter_forth (is_put_at rows) spots spot ((of.members spot).1 there) (put_row rows spot row at ∙ put))
 
-  -- removing the postings of rows that lapsed leaves the postings of the rows after the lapse
+  -- removing the postings of rows that have lapsed leaves exactly the postings of the new rows
   pub lapsed_postings : (names : List (List ℕ)) (postings after : List Posting) → after ≡ filter (is_put_at_posting rows) postings
       → ArePostingsOf places before names postings
       → ArePostingsOf places rows names after

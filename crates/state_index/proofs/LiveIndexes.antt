@@ -60,11 +60,11 @@ module _ {K : Type 0} (wrap : K → Key) (row_of : List ℕ → Key → Option (
   abbrev IndexRow : Type 0
   IndexRow = List ℕ × K
 
-  -- the row of the live table's index for a spot; none if the spot's row has a key of another kind
+  -- the row of the live table's index for a spot (a TIPLOC and a row's index); none unless the row's key is of the kind that the index lists
   abbrev row_at : List Keyed → Spot → Option IndexRow
   row_at rows spot = option_and_then (λ (row : Keyed). row_of spot.place row.0) (slice_get rows spot.at)
 
-  -- the row of the index for a spot has the spot's place, and the key of the spot's row
+  -- the index row found for a spot has the TIPLOC of the spot, and the key of the row that the spot names
   told_at : (rows : List Keyed) (spot : Spot) (index_row : IndexRow) → row_at rows spot ≡ Some index_row
       → (row : Keyed) × (slice_get rows spot.at ≡ Some row) × (index_row.0 ≡ spot.place) × (row.0 ≡ wrap index_row.1)
   told_at rows spot index_row is = by (slice_get rows spot.at) refl is
@@ -81,7 +81,7 @@ module _ {K : Type 0} (wrap : K → Key) (row_of : List ℕ → Key → Option (
   abbrev index_cmp : IndexRow → IndexRow → Ordering
   index_cmp a b = ordering_then (bytes_cmp a.0 b.0) (cmp a.1 b.1)
 
-  -- if spots ascend, so do the rows of the index for these spots
+  -- if spots (each a TIPLOC and a row's index) ascend, so do the index rows found for them
   index_ascends : (rows : List Keyed) → AreAscending rows → (spots : List Spot) → IsStrictlyAscending spot_cmp spots
       → IsStrictlyAscending index_cmp (filter_map (row_at rows) spots)
   index_ascends rows up spots ascending = chosen_ascends (row_at rows) spot_cmp index_cmp keeps spots ascending
@@ -107,11 +107,11 @@ module _ {K : Type 0} (wrap : K → Key) (row_of : List ℕ → Key → Option (
               (λ i. ordering_then ((places ∙ at) i) (cmp c.1 d.1))
               ∙ below c.1 d.1 (sym (λ i. key_cmp (from_a.3 i) (from_b.3 i)) ∙ keys)
 
-  -- Says that the row of a spot puts a body and has a key of the index's kind.
+  -- Says that a spot (a TIPLOC and a row's index) names a row that puts a body, and that the row's key is of the kind that the index lists.
   abbrev IsSeen : List Keyed → Spot → Type 0
   IsSeen rows spot = (row : Keyed) × (k : K) × (body : Body) × (slice_get rows spot.at ≡ Some row) × (row.0 ≡ wrap k) × (row.1.op ≡ put_with body)
 
-  -- if the row of each spot puts a body and has a key of the index's kind, the index has the keys of these rows
+  -- if each spot names a row that puts a body, and the row's key is of the kind that the index lists, the index has the keys of these rows
   same_keys : (rows : List Keyed) (piece : List Spot) → ((spot : Spot) → Contains piece spot → IsSeen rows spot)
       → map (λ (row : Row). row.0) (rows_at_spots rows piece) ≡ map (λ (row : IndexRow). wrap row.1) (filter_map (row_at rows) piece)
   same_keys rows [] seen = refl
@@ -127,7 +127,7 @@ module _ {K : Type 0} (wrap : K → Key) (row_of : List ℕ → Key → Option (
           ∙ (λ i. key i ∷ rest i)
           ∙ sym (λ i. map (λ (r : IndexRow). wrap r.1) (cons_option (row_is rows spot row k at key i) (filter_map (row_at rows) piece)))
 
-  -- no row of a place is the row of the index for a spot of another place
+  -- if no spot in a list is of a place, no index row found for these spots is of this place
   not_at : (rows : List Keyed) (place : List ℕ) (spots : List Spot) → ((spot : Spot) → Contains spots spot → ¬ (spot.place ≡ place))
       → (row : IndexRow) → Contains (filter_map (row_at rows) spots) row → ¬ (row.0 ≡ place)
   not_at rows place spots none row among =
@@ -135,7 +135,7 @@ module _ {K : Type 0} (wrap : K → Key) (row_of : List ℕ → Key → Option (
       let told = told_at rows found.0 row found.2 in
       λ here. none found.0 found.1 (sym told.2 ∙ here)
 
-  -- the rows of the index for the spots of a place are all rows of this place
+  -- if all spots in a list are of one place, all index rows found for these spots are of this place
   is_at : (rows : List Keyed) (place : List ℕ) (spots : List Spot) → ((spot : Spot) → Contains spots spot → spot.place ≡ place)
       → (row : IndexRow) → Contains (filter_map (row_at rows) spots) row → row.0 ≡ place
   is_at rows place spots all row among =
@@ -149,7 +149,7 @@ module _ {K : Type 0} (wrap : K → Key) (row_of : List ℕ → Key → Option (
   cut rows before piece behind =
       filter_map-append (row_at rows) (before ++ piece) behind ∙ (λ i. filter_map-append (row_at rows) before piece i ++ filter_map (row_at rows) behind)
 
--- each row that is found through a spot is live
+-- each row that is found through a spot (a TIPLOC and a row's index) is live
 live_at_spots : (state : State) → AreAscending state.entries → (spots : List Spot) (key : Key) (body : Body)
     → Contains (rows_at_spots state.entries spots) (key, body) → live_table state key ≡ Some body
 live_at_spots state up spots key body among = by (slice_get state.entries found.0.at) refl found.2
@@ -268,7 +268,7 @@ module _ (state : State) (up : AreAscending state.entries) (spots : List Spot) w
           )))
           (ap (option_and_then (λ (row : Keyed). linked_row place row.0)) live.2)
 
-  -- the rows of the spots of a place are exactly the live schedules that call there
+  -- the rows that a place's spots (each a TIPLOC and a row's index) name are exactly the live schedules that call there
   pub calling_there : AreSpotsOf call_places state.entries spots → (place : List ℕ) (piece : List Spot) → IsPieceAt place spots piece
       → AreCalling (live_table state) place (rows_at_spots state.entries piece)
   calling_there of place piece is =
@@ -292,7 +292,7 @@ module _ (state : State) (up : AreAscending state.entries) (spots : List Spot) w
           let calls = call_back stands.0.0 stands.0.1.op spot.place stands.2 in
           (stands.0, calls.0, schedule_body calls.1, stands.1, calls.2, calls.3)
 
-  -- the rows of the spots of a place are exactly the live associations there
+  -- the rows that a place's spots (each a TIPLOC and a row's index) name are exactly the live associations there
   pub linked_there : AreSpotsOf link_places state.entries spots → (place : List ℕ) (piece : List Spot) → IsPieceAt place spots piece
       → AreLinked (live_table state) place (rows_at_spots state.entries piece)
   linked_there of place piece is =
@@ -316,7 +316,7 @@ module _ (state : State) (up : AreAscending state.entries) (spots : List Spot) w
           let there = link_back stands.0.0 stands.0.1.op spot.place stands.2 in
           (stands.0, there.0, association_body there.1, stands.1, there.2, there.3)
 
--- the rows found at a place by its spots of calls are exactly the live schedules that call there
+-- the rows found through the spots (each a TIPLOC and a row's index) of calls at a place are exactly the live schedules that call there
 pub calling_found : (state : State) (rows : List Keyed) → state.entries ≡ rows → AreAscending rows → (spots slice : List Spot) → slice ≡ spots
     → AreSpotsOf call_places rows spots
     → (place field : List ℕ) → field ≡ place → (piece : List Spot) → IsPieceAt field slice piece → (result : List Row) → result ≡ rows_at_spots rows piece
@@ -326,7 +326,7 @@ calling_found state rows same up spots slice slice_is of place field field_is pi
     (calling_there state (subst AreAscending (sym same) up) spots (subst (λ (all : List Keyed). AreSpotsOf call_places all spots) (sym same) of) place piece
     (subst (λ p. IsPieceAt p spots piece) field_is (subst (λ zs. IsPieceAt field zs piece) slice_is is)))
 
--- the rows found at a place by its spots of links are exactly the live associations there
+-- the rows found through the spots (each a TIPLOC and a row's index) of links at a place are exactly the live associations there
 pub linked_found : (state : State) (rows : List Keyed) → state.entries ≡ rows → AreAscending rows → (spots slice : List Spot) → slice ≡ spots
     → AreSpotsOf link_places rows spots
     → (place field : List ℕ) → field ≡ place → (piece : List Spot) → IsPieceAt field slice piece → (result : List Row) → result ≡ rows_at_spots rows piece

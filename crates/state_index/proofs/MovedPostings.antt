@@ -1,4 +1,4 @@
--- Lemmas on moving postings to the indexes that their places and rows have in a join.
+-- Lemmas on replacing the indexes in postings by the indexes that their places and rows have in a join.
 use Rattle.std.proofs.Common.{◌≡◌, ℕ, suc, ◌≤◌, List, [], ◌∷◌, length, refl, ap, sym, ◌∙◌, subst, inl, inr, ◌⊎◌, Some, None, Contains, arith}
 use Rattle.std.specs.Prelude.{Option, ◌↔◌, slice_get, option_map, option_and_then}
 use Rattle.std.specs.List.{filter_map, cons_option}
@@ -31,7 +31,7 @@ fused {A} {B} {C} f g (x ∷ xs) = by (f x) (fused f g xs)
     by None rest = rest
     by (Some y) rest = ap (cons_option (g y)) rest
 
--- moving postings results in at most as many postings
+-- `moved_postings` returns at most as many postings as it is given
 pub moved_few : (ranks : List ℕ) (moves : List (Option ℕ)) (postings : List Posting) → length (moved_postings ranks moves postings) ≤ length postings
 moved_few ranks moves [] = omega arith
 moved_few ranks moves (posting ∷ postings) = by (moved_posting ranks moves posting) (moved_few ranks moves postings)
@@ -45,7 +45,7 @@ module _ (names others : List (List ℕ)) (ranks : List ℕ) (are : AreRanks oth
   rank_at : (i : ℕ) → option_map (slice_get others) (slice_get ranks i) ≡ option_map Some (slice_get names i)
   rank_at i = sym (slice_get-map (slice_get others) ranks i) ∙ ap (λ (all : List (Option (List ℕ))). slice_get all i) are ∙ slice_get-map Some names i
 
-  -- the spot of a moved posting is the moved spot of the posting
+  -- it makes no difference whether a posting gets its new indexes before or after it is turned into a spot, which has the TIPLOC itself
   same_move : (posting : Posting) → option_and_then (posting_spot others) (moved_posting ranks moves posting) ≡ option_and_then (moved_spot moves)
       (posting_spot names posting)
   same_move posting = by (slice_get ranks posting.place) refl (slice_get names posting.place) refl
@@ -81,7 +81,7 @@ module _ (names others : List (List ℕ)) (ranks : List ℕ) (are : AreRanks oth
       ∙ (λ i. filter_map (λ posting. same_move posting i) postings)
       ∙ sym (fused (posting_spot names) (moved_spot moves) postings)
 
-  -- a moved posting has the new index of its old place, and the new index of its old row
+  -- a posting that `moved_posting` returns has the new index of its place and the new index of its row
   went : (posting moved : Posting) → moved_posting ranks moves posting ≡ Some moved
       → (slice_get ranks posting.place ≡ Some moved.place) × (slice_get moves posting.at ≡ Some (Some moved.at))
   went posting moved is = by (slice_get ranks posting.place) refl (slice_get moves posting.at) refl is
@@ -141,7 +141,7 @@ module _ (names others : List (List ℕ)) (ranks : List ℕ) (are : AreRanks oth
         → IsStrictlyAscending posting_cmp (moved_postings ranks moves postings)
     moved_ascends postings rising = chosen_ascends (moved_posting ranks moves) posting_cmp posting_cmp moved_below postings rising
 
--- merging the moved postings of both tables gives the postings of the joined rows
+-- merging the postings of both tables, after they got their new indexes, gives the postings of the joined rows
 module _ (places : Places) (rows others joined : List Keyed) (moves other_moves : List (Option ℕ)) (names other_names all : List (List ℕ))
     (ranks other_ranks : List ℕ) (are : AreRanks all names ranks) (others_are : AreRanks all other_names other_ranks)
     (up : IsStrictlyAscending bytes_cmp names) (others_up : IsStrictlyAscending bytes_cmp other_names) (all_up : IsStrictlyAscending bytes_cmp all)

@@ -1,5 +1,5 @@
--- Lemmas on moving spots to the indexes that their rows have in a join. A spot is a TIPLOC with the index of a row there. The moved spots keep their order, and
--- they are the spots of the joined rows.
+-- Lemmas on giving spots the indexes that their rows have in a join. A spot is a TIPLOC with the index of a row there. With the new indexes the spots keep
+-- their order, and they are the spots of the joined rows.
 use Rattle.std.proofs.Common.{◌≡◌, ℕ, List, refl, ap, sym, ◌∙◌, inl, inr, ◌⊎◌, Some, None, Contains}
 use Rattle.std.specs.Prelude.{Option, ◌↔◌, slice_get, option_map, option_and_then}
 use Rattle.std.specs.declared.cmp.Ordering.{Ordering}
@@ -16,9 +16,9 @@ use Rattle.state_index.proofs.Positions.{Keyed, some_is, chosen_ascends, chosen_
 none_some : {A : Type 0} (a : A) → None ≡ Some a → ⊥
 none_some a h = cc
 
--- lemmas on moving spots to the new indexes of their rows
+-- lemmas on giving spots (each a TIPLOC and a row's index) the new indexes of their rows
 module _ (moves : List (Option ℕ)) where
-  -- a moved spot has its old place, and the index of its old row in the join
+  -- the result of `moved_spot` has the place of the old spot, and the index that the spot's row has in the join
   went : (spot moved : Spot) → moved_spot moves spot ≡ Some moved → (slice_get moves spot.at ≡ Some (Some moved.at)) × (moved.place ≡ spot.place)
   went spot moved is = by (slice_get moves spot.at) refl is
     where
@@ -33,7 +33,7 @@ module _ (moves : List (Option ℕ)) where
           let same : spot_at p spot.place ≡ moved = some_is (spot_at p spot.place) moved some in
           (at ∙ ap (λ (s : Spot). Some (Some s.at)) same, sym (ap (λ (s : Spot). s.place) same))
 
-  -- two moved spots are in the same order as before
+  -- two spots (each a TIPLOC and a row's index) are in the same order before and after they get the new indexes of their rows
   moved_below : AreRising moves → (a b c d : Spot) → spot_cmp a b ≡ Less → moved_spot moves a ≡ Some c → moved_spot moves b ≡ Some d → spot_cmp c d ≡ Less
   moved_below rise a b c d below is_c is_d = by (bytes_cmp a.place b.place) refl below
     where
@@ -56,14 +56,15 @@ module _ (moves : List (Option ℕ)) where
   pub moved_ascends : AreRising moves → (spots : List Spot) → IsStrictlyAscending spot_cmp spots → IsStrictlyAscending spot_cmp (moved_spots moves spots)
   moved_ascends rise spots up = chosen_ascends (moved_spot moves) spot_cmp spot_cmp (moved_below rise) spots up
 
-  -- if all spots of one list are in a second list, all moved spots of the first list are moved spots of the second list
+  -- if each spot (a TIPLOC and a row's index) of one list is in a second list, this is still true after the spots of both lists get the new indexes of their
+  -- rows
   pub moved_same : (spots others : List Spot) → ((spot : Spot) → Contains spots spot → Contains others spot) → (spot : Spot)
       → Contains (moved_spots moves spots) spot → Contains (moved_spots moves others) spot
   moved_same spots others same spot among =
       let found = chosen_from (moved_spot moves) spots spot among in
       chosen_to (moved_spot moves) others found.0 spot (same found.0 found.1) found.2
 
--- merging the moved spots of both tables gives the spots of the joined rows
+-- merging the spots (each a TIPLOC and a row's index) of both tables, after they got the new indexes of their rows, gives the spots of the joined rows
 module _ (places : Places) (rows others joined : List Keyed) (moves other_moves : List (Option ℕ)) (first second : List Spot) where
   pub joined_spots : (out : List Spot) → AreRising moves → AreRising other_moves → AreSpotsOf places rows first → AreSpotsOf places others second
       → ((spot : Spot) → Contains (spots_of places joined) spot

@@ -102,7 +102,7 @@ module _ (names sorted : List (List ℕ)) (ranks : List ℕ) (are : AreRanks sor
             → AreSpots at (row ∷ rows) (piece ∷ pieces) × (length (row ∷ rows) ≡ length (piece ∷ pieces))
         by rest = ((all_here (let len = rest.1 in omega arith) rest.0.0, len_here rest.0.1), ap suc rest.1)
 
--- the postings of noted calls have exactly the spots of calls of the rows
+-- the postings made from the notes of calls name exactly the places where the rows' schedules call
 calls_noted : (names sorted : List (List ℕ)) (ranks numbers : List ℕ) → AreRanks sorted names ranks → (count : ℕ) (rows : List Keyed) (pieces : List Piece)
     → count ≡ length rows → AreNoted names numbers (items_of rows) pieces
     → (spots_in sorted (noted_postings false ranks numbers count pieces) ≡ spots_of call_places rows)
@@ -110,7 +110,7 @@ calls_noted : (names sorted : List (List ℕ)) (ranks numbers : List ℕ) → Ar
 calls_noted names sorted ranks numbers are count rows pieces count_is noted =
     (all_spots names sorted ranks are call_places false (λ ns item piece is. is.calls) numbers count 0 rows pieces noted (omega arith)).0
 
--- the postings of noted links have exactly the spots of links of the rows
+-- the postings made from the notes of links name exactly the places where the rows' associations are linked
 links_noted : (names sorted : List (List ℕ)) (ranks numbers : List ℕ) → AreRanks sorted names ranks → (count : ℕ) (rows : List Keyed) (pieces : List Piece)
     → count ≡ length rows → AreNoted names numbers (items_of rows) pieces
     → (spots_in sorted (noted_postings true ranks numbers count pieces) ≡ spots_of link_places rows)
@@ -118,7 +118,7 @@ links_noted : (names sorted : List (List ℕ)) (ranks numbers : List ℕ) → Ar
 links_noted names sorted ranks numbers are count rows pieces count_is noted =
     (all_spots names sorted ranks are link_places true (λ ns item piece is. is.links) numbers count 0 rows pieces noted (omega arith)).0
 
--- Says that these postings are in row order, that their places are in the list, and that their spots are the spots of the rows.
+-- Says that these postings are in row order, that each of their places is an index in the list `sorted`, and that they name exactly the places of the rows.
 pub record IsWalk (places : Places) (rows : List Keyed) (sorted : List (List ℕ)) (walk : List Posting) : Type 0 where
   pub spots : spots_in sorted walk ≡ spots_of places rows
   pub len : length walk ≡ length (spots_of places rows)
@@ -137,7 +137,7 @@ walked places rows sorted walk postings same told = subst (IsWalk places rows so
     in_order : AreBelow (length sorted) postings × AreFrom 0 postings
     in_order = made_of_rows places rows sorted postings told.0 (ap length told.0 ∙ sym told.1)
 
--- a walk over noted calls visits the postings of the rows' calls, in row order
+-- a walk over the notes of calls visits the postings of the rows' calls, in row order
 pub calls_walk : (names sorted : List (List ℕ)) (ranks numbers : List ℕ) → AreRanks sorted names ranks → (count : ℕ) (rows : List Keyed) (pieces : List Piece)
     → count ≡ length rows → AreNoted names numbers (items_of rows) pieces → (walk : List Posting) → walk ≡ noted_postings false ranks numbers count pieces
     → IsWalk call_places rows sorted walk
@@ -145,7 +145,7 @@ calls_walk names sorted ranks numbers are count rows pieces count_is noted walk 
     walked call_places rows sorted walk (noted_postings false ranks numbers count pieces) walk_is
     (calls_noted names sorted ranks numbers are count rows pieces count_is noted)
 
--- a walk over noted links visits the postings of the rows' links, in row order
+-- a walk over the notes of links visits the postings of the rows' links, in row order
 pub links_walk : (names sorted : List (List ℕ)) (ranks numbers : List ℕ) → AreRanks sorted names ranks → (count : ℕ) (rows : List Keyed) (pieces : List Piece)
     → count ≡ length rows → AreNoted names numbers (items_of rows) pieces → (walk : List Posting) → walk ≡ noted_postings true ranks numbers count pieces
     → IsWalk link_places rows sorted walk
@@ -177,7 +177,7 @@ fits rows names calls count room is few_calls few_links few_rows = record {
   links = less_slots (length room.places.items) (length (spots_of link_places rows)) count room.links few_links is.links;
 }
 
--- There are as many pieces as rows, and the pieces have at least as many numbers as the rows have calls.
+-- there are as many pieces of the notes as rows, and these pieces have at least as many numbers as the rows have calls
 pieces_fit : (names : List (List ℕ)) (numbers : List ℕ) (items : List Item) (pieces : List Piece) → AreNoted names numbers items pieces
     → (total (λ key op. length (call_places key op)) items ≤ numbers_in pieces) × (length items ≡ length pieces)
 pieces_fit names numbers [] [] are = (omega arith, refl)
@@ -201,7 +201,7 @@ pieces_fit names numbers (item ∷ items) (piece ∷ pieces) are =
         taken (suc n) [] = omega arith
         taken (suc n) (x ∷ xs) = let rest = taken n xs in omega arith
 
--- memory for as many calls as there are noted numbers is enough for the index of the rows whose places were noted
+-- memory for as many calls as the notes have numbers is enough for the index of the rows whose places were noted
 pub room_of_rows : (rows : List Keyed) (notes : Notes) (calls count : ℕ) (room : Room) → calls ≡ length notes.numbers.items → count ≡ length notes.pieces.items
     → IsRoom notes.names.list.items calls count room → HasNoted (items_of rows) notes → HasRoomFor rows notes.names.list.items room
 room_of_rows rows notes calls count room calls_is count_is is has =
@@ -214,7 +214,7 @@ room_of_rows rows notes calls count room calls_is count_is is has =
     let all = places_of_rows rows in
     fits rows notes.names.list.items calls count room is (omega arith) (omega arith) (omega arith)
 
--- memory for as many calls as there are noted numbers is enough for the index of the rows that the changes make
+-- memory for as many calls as the notes have numbers is enough for the index of the rows that the changes make
 pub room_of_changes : (changes : List model.Change) (rows : List Keyed) (notes : Notes) (calls count : ℕ) (room : Room) → calls ≡ length notes.numbers.items
     → count ≡ length notes.pieces.items → IsRoom notes.names.list.items calls count room → HasNoted (items_put changes) notes → AreAscending rows
     → AreMadeBy changes rows → HasRoomFor rows notes.names.list.items room

@@ -1,4 +1,4 @@
--- The elements of a list by index, and the rows of spots. A spot is a TIPLOC with the index of a row there.
+-- The elements of a list by index, and the rows that spots name. A spot is a TIPLOC with the index of a row there.
 use Rattle.std.proofs.Common.{◌≡◌, ℕ, zero, suc, ◌+◌, ◌<◌, List, [], ◌∷◌, map, refl, ap, sym, ◌∙◌, subst, inl, inr, ◌⊎◌, Some, None, Contains, arith}
 use Rattle.std.specs.Prelude.{Option, slice_get}
 use Rattle.std.specs.List.{AllByRecursion, filter_map, cons_option}
@@ -97,7 +97,7 @@ module _ {A B : Type 0} (f : A → Option B) where
         by (Some c) some rest = (chosen_above x c some xs up.0, rest)
 
 module _ (places : Places) where
-  -- Says that the row of a spot is one of these rows, and that the spot is at one of the row's places. The first of the rows is at a given index.
+  -- Says that a spot (a TIPLOC and a row's index) names one of these rows and one of the row's places. The first of these rows has the index `at`.
   abbrev StandsFrom : ℕ → List Keyed → Spot → Type 0
   StandsFrom at rows spot = (i : ℕ) × (row : Keyed) × (slice_get rows i ≡ Some row) × (spot.at ≡ i + at) × Contains (places row.0 row.1.op) spot.place
 
@@ -130,7 +130,7 @@ module _ (places : Places) where
       Contains-append_right (map (spot_at at) (places first.0 first.1.op)) (spots_from places (1 + at) rows) (spot_at (suc i + at) place)
       (subst (λ n. Contains (spots_from places (1 + at) rows) (spot_at n place)) next (to_spots (1 + at) rows i row place is among))
 
-  -- Says that the row of a spot is one of these rows, and that the spot is at one of the row's places.
+  -- Says that a spot (a TIPLOC and a row's index) names one of these rows and one of the row's places.
   abbrev pub Stands : List Keyed → Spot → Type 0
   Stands rows spot = (row : Keyed) × (slice_get rows spot.at ≡ Some row) × Contains (places row.0 row.1.op) spot.place
 

@@ -23,7 +23,7 @@ use Rattle.state_index.proofs.Positions.{Keyed, some_is, at_member, at_ascends, 
 none_some : {A : Type 0} (a : A) → None ≡ Some a → ⊥
 none_some a h = cc
 
--- the spot of a posting has the TIPLOC of the posting's place, and the posting's row
+-- the spot made from a posting has the name of the posting's place, and the posting's row
 pub spot_named : (names : List (List ℕ)) (posting : Posting) (spot : Spot) → posting_spot names posting ≡ Some spot
     → (slice_get names posting.place ≡ Some spot.place) × (spot.at ≡ posting.at)
 spot_named names posting spot is = by (slice_get names posting.place) refl is
@@ -36,7 +36,7 @@ spot_named names posting spot is = by (slice_get names posting.place) refl is
         (at ∙ ap (λ (s : Spot). Some s.place) same, sym (ap (λ (s : Spot). s.at) same))
 
 module _ (names : List (List ℕ)) (up : IsStrictlyAscending bytes_cmp names) where
-  -- places in an ascending list compare like their indexes
+  -- two places in an ascending list compare like their indexes in the list
   pub place_order : (i j : ℕ) (x y : List ℕ) → slice_get names i ≡ Some x → slice_get names j ≡ Some y → bytes_cmp x y ≡ nat_cmp i j
   place_order i j x y is_x is_y = by (nat_cmp i j) refl
     where
@@ -49,7 +49,7 @@ module _ (names : List (List ℕ)) (up : IsStrictlyAscending bytes_cmp names) wh
       by Greater at =
           nat_list_cmp_total.antisymm x y ∙ ap ordering_reverse (at_ascends bytes_cmp names up j i y x (ranked i j Greater (sym at)) is_y is_x) ∙ sym at
 
-  -- the places of two spots compare like the places of their postings
+  -- the TIPLOCs of two spots compare like the indexes that the two postings have for these TIPLOCs
   pub same_order : (a b : Posting) (x y : Spot) → posting_spot names a ≡ Some x → posting_spot names b ≡ Some y
       → bytes_cmp x.place y.place ≡ nat_cmp a.place b.place
   same_order a b x y is_x is_y = place_order a.place b.place x.place y.place (spot_named names a x is_x).0 (spot_named names b y is_y).0
@@ -59,7 +59,7 @@ module _ (names : List (List ℕ)) (up : IsStrictlyAscending bytes_cmp names) wh
       let rows : nat_cmp x.at y.at ≡ nat_cmp a.at b.at = λ i. nat_cmp ((spot_named names a x is_x).1 i) ((spot_named names b y is_y).1 i) in
       λ i. ordering_then (same_order a b x y is_x is_y i) (rows i)
 
-  -- ascending postings have ascending spots
+  -- if postings ascend, so do the spots made from them, which have the TIPLOC in place of its index
   pub spots_ascend : (postings : List Posting) → IsStrictlyAscending posting_cmp postings → IsStrictlyAscending spot_cmp (spots_in names postings)
   spots_ascend postings rise = chosen_ascends (posting_spot names) posting_cmp spot_cmp
       (λ a b c d below is_c is_d. same_cmp a b c d is_c is_d ∙ below) postings rise
@@ -68,7 +68,7 @@ module _ (names : List (List ℕ)) (up : IsStrictlyAscending bytes_cmp names) wh
   one_rank : (i j : ℕ) (place : List ℕ) → slice_get names i ≡ Some place → slice_get names j ≡ Some place → i ≡ j
   one_rank i j place is_i is_j = exact_unsigned i j (sym (place_order i j place place is_i is_j) ∙ tied_itself nat_list_cmp_total place)
 
-  -- the spots of all postings of a place are all spots of this place
+  -- if `piece` has all postings of a place, the spots made from `piece` (each a TIPLOC and a row's index) are all spots of this place
   pub piece_at : (rank : ℕ) (place : List ℕ) (postings piece : List Posting) → slice_get names rank ≡ Some place → IsPieceOf rank postings piece
       → IsPieceAt place (spots_in names postings) (spots_in names piece)
   piece_at rank place postings piece at is = record {
@@ -88,7 +88,7 @@ module _ (names : List (List ℕ)) (up : IsStrictlyAscending bytes_cmp names) wh
         is.none_behind found.0 found.1 (one_rank found.0.place rank place ((spot_named names found.0 spot found.2).0 ∙ ap Some same) at);
   }
 
--- a place that isn't in the list of names has no spot
+-- if a place isn't in the list of names, no spot made from the postings (a TIPLOC and a row's index) is of this place
 pub no_piece : (names : List (List ℕ)) (postings : List Posting) (place : List ℕ) → ¬ (Contains names place) → (all : List Spot) → all ≡ spots_in names postings
     → IsPieceAt place all []
 no_piece names postings place never all all_is = record {
@@ -102,7 +102,7 @@ no_piece names postings place never all all_is = record {
   none_behind = λ spot among. absurd (nil-Contains spot among);
 }
 
--- the postings of a place have the same rows as their spots
+-- the postings of a place name the same rows as the spots made from them, which have the TIPLOC in place of its index
 pub same_rows : (names : List (List ℕ)) (rank : ℕ) (place : List ℕ) → slice_get names rank ≡ Some place → (piece : List Posting)
     → ((posting : Posting) → Contains piece posting → posting.place ≡ rank) → (rows : List Keyed)
     → rows_at_postings rows piece ≡ rows_at_spots rows (spots_in names piece)
@@ -118,7 +118,7 @@ same_rows names rank place at (posting ∷ piece) here rows =
         let same : spot ≡ spot_at posting.at place = some_is spot (spot_at posting.at place) told in
         λ i. cons_option (option_and_then live_row (slice_get rows (sym (ap (λ (s : Spot). s.at) same) i))) (rest i)
 
--- if all postings of one list are in another, all spots of the first list are spots of the second
+-- if all postings of one list are in a second list, the spots (each a TIPLOC and a row's index) made from the first list are spots made from the second list
 pub same_spots : (names : List (List ℕ)) (postings others : List Posting) → ((posting : Posting) → Contains postings posting → Contains others posting)
     → (spot : Spot)
     → Contains (spots_in names postings) spot → Contains (spots_in names others) spot
@@ -126,7 +126,7 @@ same_spots names postings others same spot among =
     let found = chosen_from (posting_spot names) postings spot among in
     chosen_to (posting_spot names) others found.0 spot (same found.0 found.1) found.2
 
--- if postings have the spots of the rows, they become the rows' postings when they are sorted and repeated postings are removed
+-- if postings name exactly the places of the rows, sorting them and removing repeated postings makes them the rows' postings
 pub postings_made : (places : Places) (rows : List Keyed) (names : List (List ℕ)) (made postings : List Posting) → IsStrictlyAscending bytes_cmp names
     → spots_in names made ≡ spots_of places rows → IsStrictlyAscending posting_cmp postings
     → ((posting : Posting) → Contains postings posting ↔ Contains made posting)
@@ -142,7 +142,8 @@ postings_made places rows names made postings named are up same = record {
   };
 }
 
--- the spots of the postings whose rows are live are exactly the spots whose rows are live
+-- it makes no difference whether postings of rows that aren't live are removed before or after the postings are turned into spots, which have the TIPLOC in
+-- place of its index
 pub kept_spots : (names : List (List ℕ)) (rows : List Keyed) (postings : List Posting)
     → spots_in names (filter (is_put_at_posting rows) postings) ≡ filter (is_put_at rows) (spots_in names postings)
 kept_spots names rows [] = refl

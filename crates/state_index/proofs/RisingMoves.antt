@@ -1,4 +1,4 @@
--- The moves of a table's rows, which are the rows' indexes in a join, keep their order.
+-- The rows of a table keep their order in a join: their indexes in the join are strictly increasing.
 use Rattle.std.proofs.Common.{◌≡◌, ℕ, zero, suc, ◌+◌, ◌≤◌, List, [], ◌∷◌, Bool, true, false, cond, Some, None, arith}
 use Rattle.std.specs.Prelude.{Option, slice_get, ⊤, ◌&&◌}
 use Rattle.docker_model.specs.state.Stamp.{FileStamp}
@@ -40,7 +40,7 @@ rises low (None ∷ moves) rise (suc i) (suc j) p q before is_p is_q = rises low
 rises low (Some at ∷ moves) rise (suc i) (suc j) p q before is_p is_q = rises (1 + at) moves rise.1 i j p q (omega arith) is_p is_q
 
 module _ (floor : Option FileStamp) (horizon : ℕ) where
-  -- prepending the move of one more row keeps moves in order, whether or not the row is in the join
+  -- prepending the index that one more row has in the join keeps the indexes strictly increasing, whether or not the row is in the join
   one_more : (at : ℕ) (entry : Entry) (moves : List (Option ℕ)) → RiseFrom (after floor at entry) moves → RiseFrom at (goes floor horizon at entry ∷ moves)
   one_more at entry moves rise = by (is_kept floor (entry_meant entry).stamp.file) (is_put (lapse horizon (entry_meant entry).op)) rise
     where
@@ -92,10 +92,10 @@ module _ (floor : Option FileStamp) (horizon : ℕ) where
       by true won lost = won
       by false won lost = lost
 
-  -- the moves of the first table's rows keep their order
+  -- the indexes of the first table's rows in the join are strictly increasing
   pub first_rising : (turns : List AtKey) → AreRising (first_moves floor horizon 0 turns)
   first_rising turns = rises 0 (first_moves floor horizon 0 turns) (firsts_rise 0 turns)
 
-  -- the moves of the second table's rows keep their order
+  -- the indexes of the second table's rows in the join are strictly increasing
   pub second_rising : (turns : List AtKey) → AreRising (second_moves floor horizon 0 turns)
   second_rising turns = rises 0 (second_moves floor horizon 0 turns) (seconds_rise 0 turns)

@@ -21,7 +21,7 @@ member_at {A} [] at within = absurd (let none : at < length {A = A} [] = within 
 member_at (x ∷ xs) zero within = (x, cons-Contains-first x xs, refl)
 member_at (x ∷ xs) (suc at) within = let m = member_at xs at (omega arith) in (m.0, cons-Contains x xs m.0 m.1, m.2)
 
--- the lemmas for a list that ascends by a function of its elements
+-- the lemmas for a list whose elements ascend by the values of `f`
 module _ {A B : Type 0} (f : A → B) {cmp : B → B → Ordering} (total : IsTotalOrder cmp) (exact : (x y : B) → cmp x y ≡ Equal → x ≡ y)
     (xs : List A) (up : IsStrictlyAscending cmp (map f xs)) (z : B) where
   abbrev to : A → Ordering

@@ -1,5 +1,5 @@
--- Lemmas on the turns of a walk over two tables. A turn has the rows with one key, and the row with the greater entry wins. The lemmas say which rows the turns
--- have, and where the winning rows are in the join.
+-- Lemmas on the steps of a walk over two tables. A step has the rows with one key, and the join takes the row with the greater entry. The lemmas say which rows
+-- the steps have, and which indexes the rows have in the join.
 use Rattle.std.proofs.Common.{◌≡◌, ℕ, suc, ◌+◌, ◌≤◌, List, [], ◌∷◌, map, length, refl, ap, Bool, true, false, cond, None, arith}
 use Rattle.std.specs.Prelude.{Option, ⊤}
 use Rattle.std.specs.List.{AllByRecursion}
@@ -22,17 +22,17 @@ use Rattle.state_index.specs.Turns.{turns_from, turns_of, wins, goes, after, fir
 abbrev pub Row : Type 0
 Row = Key × Entry
 
--- the greater of two entries, which is the winner
+-- the greater of two entries, which the join takes
 abbrev pub picked : Entry → Entry → Entry
 picked = ord_max (on entry_meant entry_cmp)
 
--- the row that wins a turn
+-- the row that the join takes at one step of the walk over two tables: the row with the greater entry of its key
 abbrev pub winner : AtKey → Row
 winner (in_first one) = one
 winner (in_second other) = other
 winner (in_both one other) = (one.0, picked one.1 other.1)
 
--- Says that if a turn has two rows, they have the same key.
+-- Says that if a step of the walk over two tables has a row of each, the two rows have the same key.
 abbrev pub IsLevel : AtKey → Type 0
 IsLevel (in_first one) = ⊤
 IsLevel (in_second other) = ⊤
@@ -95,27 +95,27 @@ all_level : (ys : List Row) → AllByRecursion IsLevel (map in_second ys)
 all_level [] = tt
 all_level (y ∷ ys) = (tt, all_level ys)
 
--- the first table's rows in all turns, taken together, are the first table
+-- the first table's rows, collected from all steps of the walk over both tables, are the whole first table
 pub firsts_are : (xs ys : List Row) → firsts (turns_of xs ys) ≡ xs
 firsts_are [] ys = no_firsts ys
 firsts_are (x ∷ xs) ys = firsts_from x xs (turns_of xs) (firsts_are xs) ys
 
--- the second table's rows in all turns, taken together, are the second table
+-- the second table's rows, collected from all steps of the walk over both tables, are the whole second table
 pub seconds_are : (xs ys : List Row) → seconds (turns_of xs ys) ≡ ys
 seconds_are [] ys = all_seconds ys
 seconds_are (x ∷ xs) ys = seconds_from x xs (turns_of xs) (seconds_are xs) ys
 
--- the winning rows are the rows of the walk that joins the tables
+-- the rows with the greater entries, collected from all steps of the walk over both tables, are the rows that the function `walk` returns
 pub winners_are : (xs ys : List Row) → map winner (turns_of xs ys) ≡ walk picked xs ys
 winners_are [] ys = all_winners ys
 winners_are (x ∷ xs) ys = winners_from x xs (turns_of xs) (walk picked xs) (winners_are xs) ys
 
--- at each turn that has two rows, their keys are equal
+-- at each step of the walk over two tables that has a row of each, the two rows have the same key
 pub turns_level : (xs ys : List Row) → AllByRecursion IsLevel (turns_of xs ys)
 turns_level [] ys = all_level ys
 turns_level (x ∷ xs) ys = level_from x xs (turns_of xs) (turns_level xs) ys
 
--- there are at most as many turns as rows in both tables
+-- the walk over two tables has at most as many steps as there are rows in both tables
 pub few_turns : (turns : List AtKey) → length turns ≤ length (firsts turns) + length (seconds turns)
 few_turns [] = omega arith
 few_turns (in_first one ∷ turns) = let rest = few_turns turns in omega arith
@@ -123,7 +123,7 @@ few_turns (in_second other ∷ turns) = let rest = few_turns turns in omega arit
 few_turns (in_both one other ∷ turns) = let rest = few_turns turns in omega arith
 
 module _ (floor : Option FileStamp) (horizon : ℕ) where
-  -- there is one move for each row of the first table
+  -- `first_moves` has one element for each row of the first table
   pub first_len : (at : ℕ) (turns : List AtKey) → length (first_moves floor horizon at turns) ≡ length (firsts turns)
   first_len at [] = refl
   first_len at (in_first one ∷ turns) = ap suc (first_len (after floor at one.1) turns)
@@ -139,7 +139,7 @@ module _ (floor : Option FileStamp) (horizon : ℕ) where
       by true won lost = won
       by false won lost = lost
 
-  -- there is one move for each row of the second table
+  -- `second_moves` has one element for each row of the second table
   pub second_len : (at : ℕ) (turns : List AtKey) → length (second_moves floor horizon at turns) ≡ length (seconds turns)
   second_len at [] = refl
   second_len at (in_first one ∷ turns) = second_len (after floor at one.1) turns

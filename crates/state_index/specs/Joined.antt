@@ -25,48 +25,42 @@ use Rattle.state_index.specs.Spots.{Places, call_places, link_places, spots_of}
 abbrev pub floor_meant : Option stamp.FileStamp → Option FileStamp
 floor_meant floor = option_map file_stamp_meant floor
 
--- Says that some entry of this key is kept under the floor, and becomes this entry once the horizon
--- is applied.
+-- Says that some entry of this key isn't below the floor, and that `lapse_entry horizon` turns it into this entry.
 abbrev pub LapsesTo : List (model.Key × ops.Entry) → Option FileStamp → ℕ → model.Key → ops.Entry → Type 0
 LapsesTo entries floor horizon key entry =
     (before : ops.Entry) × Contains entries (key, before) × IsKept floor before.stamp.file × (lapse_entry horizon before ≡ entry)
 
--- Says that these rows are the join of two tables, without the entries below the floor, and with
--- the horizon applied.
+-- Says that these rows are the join of two tables, after the entries below the floor are removed and the entries that ended before the horizon have lapsed.
 pub record AreJoined (first second : List (Key × Entry)) (floor : Option FileStamp) (horizon : ℕ) (joined : List (model.Key × ops.Entry)) : Type 0 where
   pub whole : List (Key × Entry)
   pub is_join : IsJoinOfRows (ord_max (on entry_meant entry_cmp)) first second whole
   pub ascending : states.AreAscending joined
   pub members : (key : model.Key) (entry : ops.Entry) → Contains joined (key, entry) ↔ LapsesTo (map row_meant whole) floor horizon key entry
 
--- a spot with the index that its row has in the join; none if the row isn't live in the join
+-- a spot (a TIPLOC and a row's index) with the index that its row has in the join; none if the row isn't live in the join
 abbrev pub moved_spot : List (Option ℕ) → Spot → Option Spot
 moved_spot moves spot =
     option_map (λ at. record { place = spot.place; at = at }) (option_and_then (λ (move : Option ℕ). move) (slice_get moves spot.at))
 
--- the spots with the indexes that their rows have in the join; spots of rows that aren't live in
--- the join are left out
+-- the spots (each a TIPLOC and a row's index) with the indexes that their rows have in the join; spots of rows that aren't live in the join are left out
 abbrev pub moved_spots : List (Option ℕ) → List Spot → List Spot
 moved_spots moves spots = filter_map (moved_spot moves) spots
 
--- a posting with the new indexes of its place and its row; none if the row isn't live in the join.
--- `ranks` gives the new index of each place
+-- a posting with the indexes that its place and its row have in the join; none if the row isn't live in the join. `ranks` gives the new index of each place
 abbrev pub moved_posting : List ℕ → List (Option ℕ) → Posting → Option Posting
 moved_posting ranks moves posting = option_and_then
     (λ rank. option_map (λ at. record { place = rank; at = at }) (option_and_then (λ (move : Option ℕ). move) (slice_get moves posting.at)))
     (slice_get ranks posting.place)
 
--- the postings with the new indexes of their places and rows; postings of rows that aren't live in the
--- join are left out
+-- the postings with the indexes that their places and rows have in the join; postings of rows that aren't live in the join are left out
 abbrev pub moved_postings : List ℕ → List (Option ℕ) → List Posting → List Posting
 moved_postings ranks moves postings = filter_map (moved_posting ranks moves) postings
 
--- Says that the new indexes are strictly increasing: of two rows that are in the join, the earlier
--- row has the lower new index.
+-- Says that the indexes in a join are strictly increasing: of two rows that are in the join, the earlier row has the lower index.
 abbrev pub AreRising : List (Option ℕ) → Type 0
 AreRising moves = (i j p q : ℕ) → i < j → slice_get moves i ≡ Some (Some p) → slice_get moves j ≡ Some (Some q) → p < q
 
--- Says that the spots of the joined rows are exactly the moved spots of both tables.
+-- Says that the spots (each a TIPLOC and a row's index) of the joined rows are exactly the spots of both tables with the rows' new indexes.
 abbrev pub HasMovedSpots : Places → List (model.Key × ops.Entry) → List (model.Key × ops.Entry) → List (model.Key × ops.Entry) → Moves → Type 0
 HasMovedSpots places first second joined moves = (spot : Spot) → Contains (spots_of places joined) spot
     ↔ (Contains (moved_spots moves.first.items (spots_of places first)) spot ⊎ Contains (moved_spots moves.second.items (spots_of places second)) spot)
@@ -79,8 +73,7 @@ pub record AreMoves (first second joined : List (model.Key × ops.Entry)) (moves
   pub calls : HasMovedSpots call_places first second joined moves
   pub links : HasMovedSpots link_places first second joined moves
 
--- Says that there is no move yet, and that there is room for the moves of this many rows of each
--- table.
+-- Says that no row has an index in the join yet, and that there is memory for the indexes of this many rows of each table.
 pub record HasRows (first second : ℕ) (moves : Moves) : Type 0 where
   pub first_none : moves.first.items ≡ []
   pub first_empty : vec_len moves.first ≡ 0

@@ -14,24 +14,23 @@ use Rattle.state_index.specs.declared.posting.Posting.{Posting}
 abbrev pub live_row : Key × Entry → Option Row
 live_row row = option_and_then (λ body. Some (row.0, body)) (body_of row.1.op)
 
--- the live row of a spot; none if the spot's row isn't live
+-- the live row that a spot (a TIPLOC and a row's index) names; none if the row isn't live
 abbrev pub live_at : List (Key × Entry) → Spot → Option Row
 live_at rows spot = option_and_then live_row (slice_get rows spot.at)
 
--- the live rows to which the spots refer, in the order of the spots
+-- the live rows that the spots (each a TIPLOC and a row's index) name, in the order of the spots
 abbrev pub rows_at_spots : List (Key × Entry) → List Spot → List Row
 rows_at_spots rows spots = filter_map (live_at rows) spots
 
--- the live row of a posting; none if the posting's row isn't live
+-- the live row that a posting names; none if the row isn't live
 abbrev pub live_at_posting : List (Key × Entry) → Posting → Option Row
 live_at_posting rows posting = option_and_then live_row (slice_get rows posting.at)
 
--- the live rows to which the postings refer, in the order of the postings
+-- the live rows that the postings name, in the order of the postings
 abbrev pub rows_at_postings : List (Key × Entry) → List Posting → List Row
 rows_at_postings rows postings = filter_map (live_at_posting rows) postings
 
--- Says that a piece of the postings has all postings of the place with this index, and no other
--- postings.
+-- Says that `piece` has all postings of the place with this index, and no other postings.
 pub record IsPieceOf (rank : ℕ) (postings piece : List Posting) : Type 0 where
   pub before : List Posting
   pub behind : List Posting
@@ -40,7 +39,7 @@ pub record IsPieceOf (rank : ℕ) (postings piece : List Posting) : Type 0 where
   pub here : (posting : Posting) → Contains piece posting → posting.place ≡ rank
   pub none_behind : (posting : Posting) → Contains behind posting → ¬ (posting.place ≡ rank)
 
--- Says that a piece of the spots has all spots of this place, and no other spots.
+-- Says that `piece` has all spots (each a TIPLOC and a row's index) of this place, and no other spots.
 pub record IsPieceAt (place : List ℕ) (spots piece : List Spot) : Type 0 where
   pub before : List Spot
   pub behind : List Spot
@@ -49,11 +48,11 @@ pub record IsPieceAt (place : List ℕ) (spots piece : List Spot) : Type 0 where
   pub here : (spot : Spot) → Contains piece spot → spot.place ≡ place
   pub none_behind : (spot : Spot) → Contains behind spot → ¬ (spot.place ≡ place)
 
--- whether the row of a spot is live
+-- whether the row that a spot (a TIPLOC and a row's index) names is live
 abbrev pub is_put_at : List (Key × Entry) → Spot → Bool
 is_put_at rows spot = is_some (live_at rows spot)
 
--- whether the row of a posting is live
+-- whether the row that a posting names is live
 abbrev pub is_put_at_posting : List (Key × Entry) → Posting → Bool
 is_put_at_posting rows posting = is_some (live_at_posting rows posting)
 
@@ -66,6 +65,6 @@ abbrev pub or_not : Option Bool → Bool
 or_not None = false
 or_not (Some put) = put
 
--- whether the row of a posting is live, according to a list with one flag for each row
+-- whether the row that a posting names is live, according to a list with one flag for each row
 abbrev pub put_among : List Bool → Posting → Bool
 put_among puts posting = or_not (slice_get puts posting.at)

@@ -84,8 +84,8 @@ impl Index {
         }
     }
 
-    /// Updates the index, without making a new one, after a horizon was set and rows have lapsed
-    /// under it. May allocate one byte per row until it returns. If the allocator refuses, the call
+    /// Updates the index, without making a new one, after a horizon was set and entries have
+    /// lapsed. May allocate one byte per row until it returns. If the allocator refuses, the call
     /// takes longer but doesn't fail.
     pub fn lapse(&mut self, rows: &[(Key, Entry)])
         ensures { (before : List (model.Key × ops.Entry)) (horizon : ℕ)

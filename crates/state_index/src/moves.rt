@@ -13,9 +13,9 @@ use cif_change::{Key, Memory};
 use docker_join::{Entry, FileStamp, Op};
 use std::alloc::Global;
 
-/// The index in the join of each row of two tables. It is `None` if the other table's entry at the
-/// key wins, or if the row's entry is below the floor. It is also `None` if the entry isn't live
-/// once the horizon is applied.
+/// The index in the join of each row of two tables. It is `None` if the join takes the other
+/// table's entry of the key, or if the row's entry is below the floor. It is also `None` if the
+/// entry isn't a put, or if its body ended before the horizon.
 #[derive(Debug, Drop)]
 pub struct Moves {
     /// For each row of the first table, its index in the join.
@@ -25,7 +25,7 @@ pub struct Moves {
 }
 
 impl Moves {
-    /// Reserves memory for the moves of this many rows of each table. No row has a move yet.
+    /// Reserves memory for the indexes of this many rows of each table. No row has an index yet.
     /// Returns `Memory` if the allocator refuses.
     pub fn with_room(alloc: Global, first: usize, second: usize) -> Result<Moves, Memory>
         ensures { IfOk result (HasRows first second) }
@@ -40,8 +40,9 @@ impl Moves {
     }
 
     /// Finds the index that each row of two tables has in their join. The join has no entries below
-    /// the floor, and its entries lapse under the horizon. The horizon is a day number, counted
-    /// from 0 for 1960-01-01. There must be room for the moves of all rows. Allocates nothing.
+    /// the floor, and entries that ended before the horizon have lapsed. The horizon is a day
+    /// number, counted from 0 for 1960-01-01. There must be room for the indexes of all rows.
+    /// Allocates nothing.
     pub fn of_tables(
         self,
         first: &[(Key, Entry)],
@@ -59,7 +60,7 @@ impl Moves {
         self.walk(first, second, floor, horizon)
     }
 
-    /// Finds the moves of all rows by a walk over both tables at once.
+    /// Finds the indexes of all rows in the join by a walk over both tables at once.
     fn walk(
         self,
         first: &[(Key, Entry)],
@@ -81,8 +82,8 @@ impl Moves {
         moves
     }
 
-    /// Records the moves of a turn's rows, which are one or two rows of one key. Before the turn
-    /// the join has `at` rows. Returns how many rows the join has after the turn.
+    /// Records the indexes that the rows of one key, one or two, have in the join. Before these
+    /// rows the join has `at` rows. Returns how many rows the join has up to this key.
     fn take(&mut self, turn: Turn<'_>, floor: &Option<FileStamp>, horizon: u16, at: u32) -> u32
         requires few { at + 1 < 2 ^ 32 }
         requires first_room { vec_len self.old.first + length (firsts (turn_meant turn ∷ []))
@@ -133,16 +134,17 @@ impl Moves {
     }
 }
 
-/// Whether the first of two entries of one key wins: it is greater. If they are equal, the second
-/// wins.
+/// Whether the first of two entries of one key is greater, so that the join takes it. If they are
+/// equal, the join takes the second.
 fn wins(one: &Entry, other: &Entry) -> bool
     ensures { result ≡ wins one.now other.now }
 {
     other < one
 }
 
-/// The index that a winning entry gets in the join, if `at` rows come before it. Returns `None` if
-/// the entry is below the floor, or if it isn't live once the horizon is applied.
+/// The index in the join of an entry that is the greater one of its key, if `at` rows come before
+/// it. Returns `None` if the entry is below the floor, if it isn't a put, or if its body ended
+/// before the horizon.
 fn index_of(entry: &Entry, floor: &Option<FileStamp>, horizon: u16, at: u32) -> Option<u32>
     ensures { result ≡ goes (floor_meant floor.now) horizon at entry.now }
 {
@@ -153,7 +155,8 @@ fn index_of(entry: &Entry, floor: &Option<FileStamp>, horizon: u16, at: u32) -> 
     }
 }
 
-/// How many rows the join has after a winning entry, if the join had `at` rows before.
+/// How many rows the join has up to and including an entry that is the greater one of its key, if
+/// `at` rows come before it. An entry below the floor has no row in the join.
 fn index_after(entry: &Entry, floor: &Option<FileStamp>, at: u32) -> u32
     requires { at + 1 < 2 ^ 32 }
     ensures { result ≡ after (floor_meant floor.now) at entry.now }
@@ -176,7 +179,7 @@ fn is_kept(floor: &Option<FileStamp>, stamp: &FileStamp) -> bool
     }
 }
 
-/// Whether an op is a put that doesn't lapse under the horizon.
+/// Whether an op is a put whose body doesn't end before the horizon.
 fn stays_put(op: &Op, horizon: u16) -> bool
     ensures { result ≡ is_put (lapse horizon (op_meant op.now)) }
 {

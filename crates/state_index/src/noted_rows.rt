@@ -21,8 +21,8 @@ pub fn notes_of_rows(alloc: Global, rows: &[(Key, Entry)]) -> Result<Notes, Memo
     Ok(notes)
 }
 
-/// Notes the places of the next row, given its key and its op. Returns `Memory` if the allocator
-/// refuses; the row isn't noted then.
+/// Notes the places of the next row, given its key and its op. If the allocator refuses, returns
+/// `Memory` and notes nothing.
 pub fn note_row(notes: &mut Notes, key: &Key, op: &Op) -> Result<(), Memory>
     ensures ok { IsOk result → (items : List Item) → HasNoted items notes.old
         → HasNoted (items ++ (key_meant key.now, op_meant op.now) ∷ []) notes.new }

@@ -45,7 +45,7 @@ impl Room {
         )
     }
 
-    /// Orders these places, and reserves memory for this many calls and for the links of this many
+    /// Sorts these places, and reserves memory for this many calls and for the links of this many
     /// rows.
     fn for_names(
         alloc: Global,

@@ -1,5 +1,5 @@
--- Lemmas on pieces that are written, one after the other, to a sink through a buffer. A piece is gathered once its bytes are in the buffer or have gone from
--- the buffer to the sink.
+-- Lemmas on pieces of a text that are written, one after the other, to a sink through a buffer. `Gathers` says that a piece was written through the buffer: its
+-- bytes are in the buffer or have gone from the buffer to the sink.
 use Rattle.std.proofs.Common.{◌≡◌, ℕ, suc, ◌+◌, ◌<◌, ◌≤◌, List, [], ◌∷◌, ◌++◌, length, take, drop, get_or, map, refl, ap, sym, ◌∙◌}
 use Rattle.std.proofs.Common.{subst, arith, append_assoc, append-nil, length-append, Some, None, Ok, Err, Result}
 use Rattle.std.specs.Prelude.{Option, IsErr, IsErrAnd, OnOk, OnErr}
@@ -14,7 +14,7 @@ use Rattle.state_text.specs.Written.{Gathers, Gives, Flushes}
 abbrev Told : Type 0
 Told = Option (List ℕ)
 
--- ---- pieces that are gathered
+-- ---- pieces that were written through the buffer
 
 takes_none : (start : Told) → Takes start [] start
 takes_none None = refl
@@ -33,11 +33,11 @@ takes_then (Some taken) x y c e first second =
     longer None = None
     longer (Some t) = Some (t ++ y)
 
--- appending a piece to the buffer gathers the piece
+-- appending a piece to the buffer writes it through the buffer: its bytes are in the buffer or the sink
 pub gathers_add : (start : Told) (held piece more : List ℕ) → more ≡ held ++ piece → Gathers start held piece start more
 gathers_add start held piece more is = ([], is, takes_none start)
 
--- if two pieces are gathered one after the other, their concatenation is gathered
+-- writing two pieces through the buffer, one after the other, writes their concatenation through the buffer
 pub gathers_then : (a : Told) (b p : List ℕ) (c : Told) (d q : List ℕ) (e : Told) (f : List ℕ)
     → Gathers a b p c d → Gathers c d q e f → Gathers a b (p ++ q) e f
 gathers_then a b p c d q e f first second = (
@@ -61,8 +61,8 @@ part_longer a x y e part =
     let within : part.0 ≤ length x = omega arith in
     (part.0, omega arith, subst (λ xs. Takes a xs e) (sym (take-append-le part.0 x y within)) part.2)
 
--- let the buffer hold b at first, and let p be gathered. If the sink then takes a proper prefix of the buffer's bytes and q, it has taken a proper prefix of b
--- ++ p ++ q in all
+-- let the buffer hold b at first, and let p be written through the buffer. If the sink then takes a proper prefix of the buffer's bytes and q, it has taken a
+-- proper prefix of b ++ p ++ q in all
 gathers_part : (a : Told) (b p : List ℕ) (c : Told) (d q : List ℕ) (e : Told)
     → Gathers a b p c d → TakesPart c (d ++ q) e → TakesPart a (b ++ (p ++ q)) e
 gathers_part a b p c d q e first part =
@@ -79,14 +79,14 @@ gathers_part a b p c d q e first part =
 -- ---- what a result says about the sink
 
 module _ {S A E : Type 0} (taken : S → Told) (failures : S → ℕ) where
-  -- flushing the buffer is writing the empty piece through the buffer
+  -- flushing the buffer has the effect of writing an empty piece through the buffer
   pub flush_gives : (old new : S) (held holds : List ℕ) (result : Result A E) → Flushes taken failures old held result new
       → OnOk result (holds ≡ []) → Gives taken failures old held [] result new holds
   flush_gives old new held holds (Ok done) whole empty = ((held, ap (λ xs. held ++ xs) empty, whole.0), whole.1)
   flush_gives old new held holds (Err failed) part empty =
       (subst (λ xs. TakesPart (taken old) xs (taken new)) (sym (append-nil held)) part.0, part.1)
 
-  -- if a piece was gathered and the next piece is written, the concatenation of both is written
+  -- if a piece was written through the buffer, and the next piece is written, then the concatenation of both is written
   pub then_gives : (old mid new : S) (b p d q h : List ℕ) (result : Result A E) → Gathers (taken old) b p (taken mid) d
       → failures mid ≡ failures old → Gives taken failures mid d q result new h → Gives taken failures old b (p ++ q) result new h
   then_gives old mid new b p d q h (Ok done) first same second =
@@ -112,7 +112,7 @@ module _ {S A E : Type 0} (taken : S → Told) (failures : S → ℕ) where
   flushed old new bytes (Ok done) told = (told.0, tt, counts_error {A = A} {E = E} (Ok done) (failures old) (failures new) told.1 tt)
   flushed old new bytes (Err failed) told = (tt, told.0, counts_error {A = A} {E = E} (Err failed) (failures old) (failures new) tt told.1)
 
-  -- if a text was gathered and the buffer is then written, the text is written in full or in part
+  -- if a text was written to the buffer, and the buffer is then flushed, the sink takes the text in full or in part
   pub flush_written : (old mid new : S) (b p d whole : List ℕ) (result : Result A E) → Gathers (taken old) b p (taken mid) d
       → failures mid ≡ failures old → b ++ p ≡ whole → Flushes taken failures mid d result new → Flushes taken failures old whole result new
   flush_written old mid new b p d whole (Ok done) first same is second = (
@@ -127,7 +127,7 @@ module _ {S A E : Type 0} (taken : S → Told) (failures : S → ℕ) where
     second.1 ∙ ap (λ n. n + 1) same,
   )
 
-  -- if a write fails while a text is gathered, a part of the text is written
+  -- if a write fails while a text is written through the buffer, the sink takes only a part of the text
   pub part_written : (old new : S) (b p whole : List ℕ) (result : Result A E) (Q : E → Type 0) → IsErrAnd result Q → b ++ p ≡ whole
       → TakesPart (taken old) (b ++ p) (taken new) × (failures new ≡ failures old + 1) → Flushes taken failures old whole result new
   part_written old new b p whole (Ok done) Q fails is part = absurd fails
@@ -145,15 +145,14 @@ module _ {X : Type 0} (bytes : List X → List ℕ) (joined : (xs ys : List X) �
       ∙ ap (λ p. bytes (take i xs) ++ p) is
 
   module _ (xs : List X) (i : ℕ) (x : X) (piece : List ℕ) (below : i < length xs) (at : x ≡ get_or xs i x) (is : bytes (x ∷ []) ≡ piece) where
-    -- if the first i elements are gathered and then the next element, the first i + 1 elements are
-    -- gathered
+    -- if the first i elements and then the next element are written through the buffer, the first i + 1 elements are written through the buffer
     pub each_given : (a : Told) (b : List ℕ) (c : Told) (d : List ℕ) (e : Told) (f : List ℕ)
         → Gathers a b (bytes (take i xs)) c d → Gathers c d piece e f → Gathers a b (bytes (take (i + 1) xs)) e f
     each_given a b c d e f first second =
         subst (λ p. Gathers a b p e f) (sym (one_more xs i x piece below at is)) (gathers_then a b (bytes (take i xs)) c d piece e f first second)
 
-    -- let the first i elements be gathered. If the sink then takes a proper prefix of the next
-    -- element's bytes, it has taken a proper prefix of the list's bytes
+    -- let the first i elements be written through the buffer. If the sink then takes a proper prefix of the next element's bytes, it has taken a proper prefix
+    -- of the list's bytes
     pub each_part : (a : Told) (b : List ℕ) (c : Told) (d : List ℕ) (e : Told)
         → Gathers a b (bytes (take i xs)) c d → TakesPart c (d ++ piece) e → TakesPart a (b ++ bytes xs) e
     each_part a b c d e first part =
@@ -194,6 +193,6 @@ pub concat_join : (xs ys : List (List ℕ)) → concat (xs ++ ys) ≡ concat xs 
 concat_join [] ys = refl
 concat_join (x ∷ xs) ys = ap (λ zs. x ++ zs) (concat_join xs ys) ∙ sym (append_assoc x (concat xs) (concat ys))
 
--- making room for a piece and then appending the piece gathers it
+-- making room in the buffer for a piece and then appending the piece writes it through the buffer
 pub room_then_add : (a : Told) (b : List ℕ) (c : Told) (d piece f : List ℕ) → Gathers a b [] c d → f ≡ d ++ piece → Gathers a b piece c f
 room_then_add a b c d piece f room is = gathers_then a b [] c d piece c f room (gathers_add c d piece f is)

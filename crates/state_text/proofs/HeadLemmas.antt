@@ -1,4 +1,4 @@
--- The bytes of an entry's head are the concatenation of the bytes of its parts.
+-- Lemmas on the first parts of an entry: the bytes of its key, stamp and op, and the part that comes after them.
 use Rattle.std.proofs.Common.{◌≡◌, ℕ, suc, ◌+◌, ◌<◌, List, [], ◌∷◌, ◌++◌, length, take, get_or, refl, ap, sym}
 use Rattle.std.proofs.Common.{◌∙◌, subst, inl, inr, arith, append_assoc, append-nil, length-append}
 use Rattle.std.specs.Prelude.{slice_index}

@@ -60,8 +60,7 @@ items_length (item ∷ items) good =
     let joined = length-append (item_bytes item) (flat_map item_bytes items) in
     omega arith
 
--- the length of a valid state's text is 22, plus 19 for each ledger item, plus the length of its
--- entries
+-- the length of a valid state's text is 22, plus 19 for each ledger item, plus the length of the text of its entries
 pub text_length : {A B : Type 0} (state : State) (item : A → LedgerItem) (row : B → Key × Entry) (items : List A) (rows : List B) (total : ℕ) → IsValid state
     → map item items ≡ state.ledger → map row rows ≡ state.entries → total ≡ length (flat_map entry_bytes (map row rows))
     → 22 + 19 * length items + total ≡ length (state_text dks_2 state)

@@ -9,15 +9,14 @@ use Rattle.state_text.specs.PartsSoFar.{under}
 pub under_none : (parts : State) → parts.horizon ≡ 0 → parts ≡ under 0 parts
 under_none parts none = λ k. record { horizon = none k; ledger = parts.ledger; entries = parts.entries }
 
--- if the parts are valid under a horizon, raising their horizon to that day only sets it: no entry
--- lapses
+-- if the parts with a horizon are a valid state, raising the horizon to this day only sets it: no entry lapses
 pub set_behind : (horizon : ℕ) (told parts state raised : State) → told ≡ under horizon parts → parts.horizon ≡ 0 → IsValid told → state ≡ parts
     → raised ≡ raise_horizon horizon state
     → raised ≡ told
 set_behind horizon told parts state raised is none valid same set =
     set ∙ ap (raise_horizon horizon) same ∙ ap (λ n. lapse_state (max n horizon) parts) none ∙ set_last (under horizon parts) (subst IsValid is valid) ∙ sym is
 
--- joining with parts and then raising the horizon equals joining with the parts under this horizon
+-- joining with the parts and then raising the horizon has the same result as joining with the parts that have this horizon
 pub join_behind : (horizon : ℕ) (own told parts joined state : State) → told ≡ under horizon parts → parts.horizon ≡ 0 → IsJoin own parts joined
     → state ≡ raise_horizon horizon joined → IsJoin own told state
 join_behind horizon own told parts joined state is none join set =
@@ -25,7 +24,7 @@ join_behind horizon own told parts joined state is none join set =
     (subst (λ s. IsJoin own (under horizon parts) s) (sym set)
     (join_then_set own (under horizon parts) joined (subst (λ p. IsJoin own p joined) (under_none parts none) join)))
 
--- joining with parts without a horizon equals joining with these parts under the horizon 0
+-- joining with parts that have no horizon has the same result as joining with these parts and the horizon 0
 pub join_plain : (own told parts joined : State) → told ≡ under 0 parts → parts.horizon ≡ 0 → IsJoin own parts joined → IsJoin own told joined
 join_plain own told parts joined is none join =
     subst (λ t. IsJoin own t joined) (sym is) (subst (λ p. IsJoin own p joined) (under_none parts none) join)

@@ -30,8 +30,7 @@ not_first state key count lines line none bad are =
     let first = first_kind line one.0.lines_of.begin in
     bad (record { kind = first.0; fields = first.1; of_key = record { new = one.0.lines_of.new; key_is = one.0.lines_of.key_is; stays = one.1 } })
 
--- after one more line is appended, the lines still have the key, and the schedule still doesn't
--- lapse
+-- after one more line is appended, the lines still have the key, and the schedule still doesn't end before the horizon
 pub one_line_more : (state : State) (key : ScheduleKey) (lines : Lines) (line : List ℕ) → (lines ≡ []) ⊎ AreLinesIn state key lines
     → (lines ≡ [] → IsOfKey state.horizon key line)
     → BeginsSchedule (lines ++ line ∷ []) → AreLinesIn state key (lines ++ line ∷ [])
@@ -39,7 +38,7 @@ one_line_more state key [] line are first begin = let told = first refl in (reco
 one_line_more state key (basic ∷ lines) line (inl none) first begin = cc
 one_line_more state key (basic ∷ lines) line (inr are) first begin = (record { begin = begin; new = are.0.new; key_is = are.0.key_is }, are.1)
 
--- if no line follows the next line, the next line is the last of `count`
+-- if no line follows the next line, the next line is the last of `count` lines
 pub no_more : (more : Bool) (n count : ℕ) → (IsTrue more ↔ (n + 1 < count)) → n < count → more ≡ false → n + 1 ≡ count
 no_more more n count tells few none = by (cases_lt (n + 1) count)
   where
@@ -64,7 +63,7 @@ begin_up_to count lines line more tells begin (inl is) = record
     { begin = begin; complete = λ all. let size = length-append lines (line ∷ []) in let below = tells.0 is in absurd (omega arith) }
 begin_up_to count lines line more tells begin (inr whole) = record { begin = begin; complete = λ all. whole }
 
--- if more lines follow, a line may come next if some schedule begins with the lines followed by this line
+-- if more lines follow, a line may come next if some schedule begins with the earlier lines and this line
 pub more_up_to : (count : ℕ) (lines : Lines) (line : List ℕ) → length lines + 1 < count → BeginsSchedule (lines ++ line ∷ [])
     → BeginUpTo count (lines ++ line ∷ [])
 more_up_to count lines line more begin = record { begin = begin; complete = λ all. let size = length-append lines (line ∷ []) in absurd (omega arith) }
@@ -76,8 +75,8 @@ written_last lines after line found at put last is =
     is ∙ ap (λ rows. slice_index_or rows at found) put ∙ ap (λ n. slice_index_or (lines ++ line ∷ []) n found) last
     ∙ get_or-append_seam lines line [] found
 
--- let a line be allowed next among `count` lines. If the lines before it have the key, then with
--- this line they are the first lines of a schedule with the key
+-- let a line be allowed to come next in a schedule of `count` lines. If the lines before it have the key, then with this line they are the first lines of a
+-- schedule with the key
 pub lines_up_to : (state : State) (key : ScheduleKey) (count : ℕ) (lines : Lines) (line bytes : List ℕ) → line ≡ bytes
     → (lines ≡ []) ⊎ AreLinesIn state key lines → (lines ≡ [] → IsOfKey state.horizon key line)
     → BeginUpTo count (lines ++ line ∷ []) → AreLinesUpToIn state key count (lines ++ bytes ∷ [])

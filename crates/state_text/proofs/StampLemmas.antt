@@ -125,7 +125,7 @@ file_missing item items file at parts = ((λ yes. absurd (let no : false ≡ tru
             let tied = equal in cc
         by (inr after) = let above = parts.1 told.0 told.1 after told.2 in let same = ap (stamp_order item file) (told.3 told.1) in let tied = equal in cc
 
--- no file in a ledger has a stamp whose day is after the last day
+-- no file in a ledger has a stamp whose day is after the last day, 31 December 2059
 pub day_too_late : (ledger : List LedgerItem) (stamp : Stamp) → IsLedger ledger → last_day < stamp.file.moment.day → ¬ IsStampIn ledger stamp
 day_too_late ledger stamp is late in_it =
     let found = Contains-map (λ (it : LedgerItem). it.stamp) ledger stamp.file in_it.in_ledger in

@@ -31,7 +31,7 @@ taken_all lines line taken n is last =
     let same : length taken ≡ length (lines ++ line ∷ []) = ap (λ (ls : List (List ℕ)). length ls) is in
     omega arith
 
--- a result of reading the last part of an entry is a correct judgement of this part if it is the stage after the entry, or out of memory
+-- the result of reading the last part of an entry is a correct judgement of this part if it is the stage after the entry, or `Memory`
 pub entry_judged : (format : Format) (before after : Before) (bytes : List ℕ) (new : State) (lines : List (List ℕ)) (result : Result Stage StateCause)
     → IfOk result (λ s. (ls : List (List ℕ)) → stage_meant s new ls ≡ after) → IfOk result (λ s. IsFresh s new)
     → IfErr result (λ told. told ≡ cause.Memory) → after ≡ advance format before bytes → IsWantingHere format before bytes

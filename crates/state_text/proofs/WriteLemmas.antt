@@ -1,5 +1,5 @@
--- The text of a state is the concatenation of the pieces in which it is written. A piece is gathered once its bytes are in the buffer or have gone from the
--- buffer to the sink.
+-- The text of a state is the concatenation of the pieces in which it is written through a buffer. `Gathers` says that a piece was written through the buffer:
+-- its bytes are in the buffer or have gone from the buffer to the sink.
 use Rattle.std.proofs.Common.{◌≡◌, ℕ, ◌+◌, ◌<◌, List, [], ◌∷◌, ◌++◌, length, map, get_or, ap, sym, ◌∙◌, subst}
 use Rattle.std.proofs.Common.{arith, append_assoc, append-nil, All, Ok, Err, Result}
 use Rattle.std.specs.Prelude.{Option, IsErrAnd}
@@ -38,8 +38,7 @@ at_mapped P m xs i x all below at =
     let size = length-map xs m in
     subst P (get_or-map m xs i x ∙ ap m (sym at)) (all i (m x) (omega arith))
 
--- the text of a state is the concatenation of its head, the number of its items, and the text after
--- this number
+-- the text of a state is the concatenation of its head (the mark and the horizon), the number of its ledger items, and the text after this number
 pub state_text_is : {A : Type 0} (state : State) (item : A → LedgerItem) (items : List A) → map item items ≡ state.ledger
     → (head_text dks_2 state.horizon ++ to_be_bytes w64 (length items)) ++ body_text state ≡ state_text dks_2 state
 state_text_is state item items ledger =
@@ -63,8 +62,7 @@ module _ {S A B : Type 0} (taken : S → Option (List ℕ)) (failures : S → �
     given : Gathers (taken old) b (flat_map item_bytes state.ledger) (taken first) d
     given = subst (λ es. Gathers (taken old) b (flat_map item_bytes es) (taken first) d) ledger one
 
-    -- a failure while writing the number of entries is a failure while writing the text from this
-    -- number on
+    -- a failure while writing the number of entries is a failure while writing the text that begins with this number
     pub count_fails : {X E : Type 0} (holds : List ℕ) (result : Result X E) (Q : E → Type 0) → IsErrAnd result Q
         → TakesPart (taken first) (d ++ to_be_bytes w64 (length rows)) (taken second) × (failures second ≡ failures first + 1)
         → Gives taken failures old b (body_text state) result second holds
@@ -75,7 +73,7 @@ module _ {S A B : Type 0} (taken : S → Option (List ℕ)) (failures : S → �
         (then_gives {A = X} taken failures old first second b (flat_map item_bytes state.ledger) d (to_be_bytes w64 (length state.entries)) holds
         (Err failed) given same (subst (λ n. TakesPart (taken first) (d ++ to_be_bytes w64 n) (taken second)) many part.0, part.1))
 
-    -- if the number of entries was gathered, writing the entries has the same result as writing the whole text after the head
+    -- if the number of entries was written through the buffer, writing the entries has the same result as writing the whole text after the head
     pub body_given : {X E : Type 0} (third : S) (f h : List ℕ) (result : Result X E)
         → Gathers (taken first) d (to_be_bytes w64 (length rows)) (taken second) f × (failures second ≡ failures first)
         → Gives taken failures second f (flat_map entry_bytes (map row rows)) result third h

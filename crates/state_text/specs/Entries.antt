@@ -1,4 +1,4 @@
--- The bytes of an entry in two parts: its head, and the lines of a schedule.
+-- Splits the bytes of an entry into its head and the lines of its schedule.
 use Rattle.std.specs.Prelude.{◌≡◌, ℕ, ◌<◌, ◌^◌, List, [], ◌∷◌, ◌++◌, length}
 use Rattle.std.specs.Int.{w32, to_be_bytes}
 use Rattle.docker_model.specs.file.Change.{Key, Body, tiploc_body, association_body, schedule_body}

@@ -20,8 +20,7 @@ IsLineRefusal count lines line None = BeginUpTo count (lines ++ line ∷ [])
 IsLineRefusal count lines line (Some bad_body) = ¬ BeginUpTo count (lines ++ line ∷ [])
 IsLineRefusal count lines line _ = ⊥
 
--- says that these are the first lines of a schedule with this key, and that the schedule doesn't
--- lapse under the state's horizon
+-- says that these are the first lines of a schedule with this key, and that the schedule doesn't end before the state's horizon
 abbrev pub AreLinesIn : State → model.ScheduleKey → List (List ℕ) → Type 0
 AreLinesIn state key lines = AreLinesOf key lines × HaveNotToLapse state lines
 

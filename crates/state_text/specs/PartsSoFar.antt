@@ -1,4 +1,4 @@
--- The parts of a text that were read: a horizon, and a state without a horizon.
+-- The parts of a text that were read: the horizon, and a state that has the ledger items and entries.
 use Rattle.std.specs.Prelude.{ℕ, List, [], ◌∷◌, ◌++◌, map, Option, Some, None}
 use Rattle.docker_model.specs.file.Change.{Key}
 use Rattle.docker_model.specs.state.Stamp.{LedgerItem, FileStamp}

@@ -41,9 +41,8 @@ assoc_meant key = record {
   indicator = stp_letter key.stp;
 }
 
--- converts a stage to a point in the text, with the values of the parts before that point. Besides
--- the stage, the conversion needs the parts that were read, and the lines of a schedule that isn't
--- complete
+-- converts a stage to a `Before`, which says what part comes next and has the values of the parts before it. Besides the stage, the conversion needs the parts
+-- that were read, and the lines of a schedule that isn't complete
 abbrev pub stage_meant : Stage → State → List (List ℕ) → Before
 stage_meant stage.Mark state lines = before_mark
 stage_meant stage.Horizon state lines = before_horizon

@@ -5,9 +5,9 @@
 /// has lapsed.
 #[derive(Clone, Copy, Debug)]
 pub enum Format {
-    /// The older format.
+    /// The older of the two formats.
     Dks1,
-    /// The present format, in which states are written.
+    /// The newer format, in which states are written.
     Dks2,
 }
 

@@ -22,7 +22,7 @@ impl Model for Given {
 }
 
 impl Given {
-    /// Begins with no entries.
+    /// Returns a value without entries.
     pub fn new() -> Given
         ensures { result.entries ≡ [] }
     {

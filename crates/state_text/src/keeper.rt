@@ -60,8 +60,8 @@ pub trait Maker: Keeper {
     // says that a value is made from a state
     ghost makes: { Self.Made → State → Type 0 };
 
-    /// Makes the value from the parts, under the text's horizon if the text has one. If memory runs
-    /// out, the parts are dropped.
+    /// Makes the value from the parts and from the text's horizon, if the text has one. If memory
+    /// runs out, the parts are dropped.
     fn finish(self, horizon: Option<Day>) -> Result<Self::Made, Memory>
         requires { IsValid (under (horizon_meant horizon) (Self.given self)) }
         ensures { IfOk result (λ made.

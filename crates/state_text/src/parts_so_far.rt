@@ -105,8 +105,8 @@ impl<K: Keeper> PartsSoFar<K> {
 }
 
 impl<K: Maker> PartsSoFar<K> {
-    /// Makes the keeper's value from the parts, under the horizon that was read. If memory runs
-    /// out, the parts are dropped.
+    /// Makes the keeper's value from the parts and the horizon that were read. If memory runs out,
+    /// the parts are dropped.
     pub fn finish(self) -> Result<K::Made, Memory>
         requires { IsValid self }
         ensures { IfOk result (λ made. K.makes made self) }
@@ -117,8 +117,8 @@ impl<K: Maker> PartsSoFar<K> {
 }
 
 impl<R: Receiver> PartsSoFar<Received<R>> {
-    /// Returns the receiving state joined with the parts, under the horizon that was read. If
-    /// memory runs out, the state is unchanged.
+    /// Returns the join of the receiving state with the parts and the horizon that were read. If
+    /// memory runs out, returns the receiving state unchanged.
     pub fn join(self) -> (State, Result<(), Memory>)
         requires { IsValid self }
         ensures ok { IsOk result.1 → IsJoin R.own self result.0 }

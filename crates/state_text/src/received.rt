@@ -30,7 +30,7 @@ impl<R: Receiver> Model for Received<R> {
 }
 
 impl<R: Receiver> Received<R> {
-    /// Returns a keeper for the state `own`, which has received no part yet.
+    /// Returns a keeper for the state `own`. It hasn't been given any part yet.
     pub fn new(alloc: Global, own: State) -> Received<R>
         requires valid { IsValid own }
         requires own { own ≡ R.own }
@@ -41,8 +41,9 @@ impl<R: Receiver> Received<R> {
         }
     }
 
-    /// Returns the receiving state, joined with the parts, under the later of the state's horizon
-    /// and the text's horizon. If memory runs out, the state is unchanged.
+    /// Returns the join of the receiving state with the parts. The join has the later of the
+    /// state's horizon and the text's horizon. If memory runs out, returns the receiving state
+    /// unchanged.
     pub(crate) fn join(self, horizon: Option<Day>) -> (State, Result<(), Memory>)
         requires { IsValid (under (horizon_meant horizon) self) }
         ensures ok { IsOk result.1

@@ -35,10 +35,10 @@ impl Receiver for Brand {
     ghost own = { record { horizon = 0; ledger = []; entries = [] } };
 }
 
-/// A state that receives another state's text. Before the first entry, `items` contains the ledger
-/// items received. The first entry begins the staging, and from then on the staging contains the
-/// ledger items. `last` is the key of the last entry given, and `count` is the number of all
-/// entries given, whether staged or not.
+/// A state that receives another state's text. Before the first entry is given, `items` contains
+/// the ledger items received. With the first entry the staging begins, and from then on the staging
+/// contains the ledger items. `last` is the key of the last entry given, and `count` is the number
+/// of all entries given, whether staged or not.
 #[derive(Drop)]
 pub(crate) struct Receiving<R> {
     alloc: Global,
@@ -73,7 +73,7 @@ fn offer(
 }
 
 impl<R: Receiver> Receiving<R> {
-    /// Begins with the state `own`, which has received nothing yet.
+    /// Starts receiving for the state `own`. No ledger item and no entry has been given yet.
     pub(crate) fn new(alloc: Global, own: State) -> Receiving<R>
         requires valid { IsValid own }
         requires own { own ≡ R.own }
@@ -108,7 +108,7 @@ impl<R: Receiver> Receiving<R> {
         Ok(())
     }
 
-    /// Begins the staging, once the ledger is complete.
+    /// Starts the staging, once the ledger is complete.
     fn begin(&mut self) -> Result<(), Memory>
         requires receiving { IsReceiving R.own self.old }
         requires none { self.old.staging ≡ None }
@@ -173,7 +173,8 @@ impl<R: Receiver> Receiving<R> {
         self.last.as_ref()
     }
 
-    /// Returns the state, joined with what it received. If memory runs out, the state is unchanged.
+    /// Returns the join of the state with what it received. If memory runs out, returns the state
+    /// unchanged.
     pub(crate) fn finish(self) -> (State, Result<(), Memory>)
         requires { IsReceiving R.own self }
         ensures ok { IsOk result.1 → (horizon : ℕ) → IsValid (under horizon (given_of self))

@@ -91,7 +91,7 @@ impl Gathered {
         self.lines.is_empty()
     }
 
-    /// Whether other lines follow the next line, in a schedule of `count` lines.
+    /// Whether more lines follow after the next line, in a schedule of `count` lines.
     pub fn has_more(&self, count: u32) -> bool
         ensures { IsTrue result ↔ (length self.now + 1 < count) }
     {
@@ -211,8 +211,8 @@ impl Gathered {
 }
 
 /// Whether the key and the horizon allow this line to come next. They allow any line after the
-/// first. The first line must have the transaction `N` and this key, and its schedule must not
-/// lapse. `Journey::line` judges the other fields.
+/// first. The first line must have the transaction `N` and this key, and must not end before the
+/// horizon. `Journey::line` judges the other fields.
 fn may_follow<K: Keeper>(
     key: &ScheduleKey,
     parts: &PartsSoFar<K>,
@@ -228,7 +228,7 @@ fn may_follow<K: Keeper>(
 }
 
 /// Judges the next line of the schedule with this key and `count` lines, and then adds the line.
-/// Returns `Body` if the line doesn't continue such a schedule, or if the schedule lapses under the
+/// Returns `Body` if the line doesn't continue such a schedule, or if the schedule ended before the
 /// horizon that was read. Returns `Memory` if there is no memory for the line.
 pub fn judged_line<K: Keeper>(
     key: &ScheduleKey,

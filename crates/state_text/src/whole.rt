@@ -27,8 +27,8 @@ impl Model for Whole {
 }
 
 impl Whole {
-    /// Returns a keeper without parts. If `noted` is true, the keeper notes the places of the
-    /// entries, so that the state has an index.
+    /// Returns a keeper that hasn't been given any part yet. If `noted` is true, the keeper notes
+    /// the places of the entries, so that the state has an index.
     pub fn new(alloc: Global, noted: bool) -> Whole
         ensures { result ≡ record { horizon = 0; ledger = []; entries = [] } }
     {
@@ -38,7 +38,8 @@ impl Whole {
     }
 }
 
-/// Begins without parts. If `noted` is true, the places of the entries will be noted.
+/// Starts building a state. No ledger item and no entry has been added yet. If `noted` is true, the
+/// places of the entries will be noted.
 fn no_parts(alloc: Global, noted: bool) -> Parts
     ensures { result ≡ record { horizon = 0; ledger = []; entries = [] } }
 {

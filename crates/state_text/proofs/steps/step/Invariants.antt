@@ -1,4 +1,4 @@
--- Each part belongs to the format of the text.
+-- The ghost value `format` of each of these calls is the format of the text.
 use Rattle.state_text.proofs.steps.step.Given as goal
 
 abbrev pub ghost-after_horizon : goal.ghost-after_horizon
