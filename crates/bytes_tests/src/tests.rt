@@ -193,8 +193,8 @@ fn day(rt: &impl Abort) -> Day {
     Day::from_iso("2024-06-15").expect(rt, "a day")
 }
 
-/// Asserts that a text has this fault under this limit, both when it is read and when a parser is
-/// fed the text, `step` bytes at a time.
+/// Asserts that a text has this fault, both when it is read with this limit and when a parser with
+/// this limit is fed the text, `step` bytes at a time.
 fn refused_by(
     rt: &impl Abort,
     alloc: Global,
@@ -217,7 +217,7 @@ fn refused_by(
     same(rt, read, Some(ReadFault::State(fault)));
 }
 
-/// Asserts that, under this limit, every reader refuses the concatenation of these pieces with this
+/// Asserts that every reader with this limit refuses the concatenation of these pieces with this
 /// fault.
 fn refused(rt: &impl Abort, alloc: Global, pieces: &[&[u8]], limit: u64, fault: StateFault) {
     let text = joined_text(rt, alloc, pieces);
@@ -362,8 +362,8 @@ fn a_fault_is_reported_again(rt: HostRuntime) {
     same(&rt, parser.finish().err(), Some(fault));
 }
 
-/// Asserts that a parser's fault is out of memory, at the ledger item or at the entry, and that the
-/// parser returns the same fault again.
+/// Asserts that the cause of a parser's fault is `Memory`, that the fault is at the ledger item or
+/// at the entry, and that the parser returns the same fault again.
 fn runs_out_of_memory(rt: &impl Abort, parser: &mut StateParser, known: &[u8], fault: StateFault) {
     same(rt, fault.cause, StateCause::Memory);
     same(rt, fault.at == 14 || fault.at == 41, true);

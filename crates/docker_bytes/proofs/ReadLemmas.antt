@@ -337,7 +337,7 @@ pub read_itself : (format : Format) (limit : ℕ) (initial : Option (List ℕ)) 
 read_itself format limit initial made read =
     record { text = read.text; held = read.held; is = made_itself format limit read.text made read.of }
 
--- if a source held a text, the join with the state of this text is the join with the source's state
+-- if `after` is the join with the state of a text, and the source held this text, `after` is the join with the state whose text the source held
 pub joined : (format : Format) (limit : ℕ) (initial : Option (List ℕ)) (text : List ℕ) (own after : State) → Held initial text
     → JoinsText format limit text own after → JoinsState format limit initial own after
 joined format limit initial text own after held joins =

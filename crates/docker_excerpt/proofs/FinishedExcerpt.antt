@@ -16,11 +16,11 @@ use Rattle.docker_day.specs.Dockers.{IsDockerOf}
 use Rattle.state_text.specs.PartsSoFar.{horizon_meant, under}
 use Rattle.docker_excerpt.specs.Values.{Excerpt, with_entries, StandsAt, IsExcerptOf}
 
--- a state without a horizon equals the same state under the horizon 0
+-- a state without a horizon equals the same state with the horizon 0
 plain_state : (state : State) → state.horizon ≡ 0 → state ≡ under 0 state
 plain_state state none = λ i. record { horizon = none i; ledger = state.ledger; entries = state.entries }
 
--- setting the horizon leaves all entries unchanged, because no entry lapses under this horizon
+-- setting the horizon leaves all entries unchanged, because no entry ended before this horizon
 pub horizon_set : (state raised : State) (horizon : Option ℕ) (day : ℕ) → state.horizon ≡ 0 → horizon ≡ Some day
     → IsValid (under (horizon_meant horizon) state) → raised ≡ raise_horizon day state → raised ≡ under (horizon_meant horizon) state
 horizon_set state raised horizon day plain read valid set =
@@ -42,12 +42,12 @@ docker_of_whole place day state part is docker made = record {
 }
 
 module _ (place : List ℕ) (day horizon : ℕ) (told : State) (valid : IsValid (under horizon told)) where
-  -- the kept entries fit the ledger
+  -- the entries that the excerpt keeps fit the ledger
   pub kept_entries : (rows : List (Key × Entry)) → rows ≡ (excerpt_on place day told).entries → AreEntries told.ledger rows
   kept_entries rows is =
       subst (λ (all : List (Key × Entry)). AreEntries told.ledger all) (sym is) (excerpt_on_valid place day (under horizon told) valid).entries
 
-  -- a state with the kept entries is valid under the horizon
+  -- a state with the entries that the excerpt keeps is valid with the horizon
   pub kept_valid : (state : State) (rows : List (Key × Entry)) → rows ≡ (excerpt_on place day told).entries → state.ledger ≡ told.ledger → state.entries ≡ rows
       → IsValid (under horizon state)
   kept_valid state rows is same entries =
@@ -58,8 +58,7 @@ module _ (place : List ℕ) (day horizon : ℕ) (told : State) (valid : IsValid 
       → part.entries ≡ rows → part ≡ excerpt_on place day (under horizon told)
   part_is part rows is same_horizon same entries = λ i. record { horizon = same_horizon i; ledger = same i; entries = (entries ∙ is) i }
 
-  -- each docker of the state made from the kept entries, for the place and the day, is a docker of
-  -- the state whose parts were taken
+  -- each docker of the state made from the entries that the excerpt keeps, for the place and the day, is a docker of the state whose parts were taken
   pub is_excerpt_of : (part : State) (rows entries : List (Key × Entry)) → rows ≡ (excerpt_on place day told).entries → part.horizon ≡ horizon
       → part.ledger ≡ told.ledger → part.entries ≡ rows → entries ≡ told.entries → StandsAt place day (with_entries part entries) part
   is_excerpt_of part rows entries is same_horizon same kept given =

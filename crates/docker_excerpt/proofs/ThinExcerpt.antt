@@ -1,5 +1,4 @@
--- Each docker of the state made from the kept changes of a file is a docker of the state of the
--- whole file.
+-- Each docker of the state that the thin changes of a file make, for the place and the day of these changes, is a docker of the state of the whole file.
 use Rattle.std.proofs.Common.{◌≡◌, ℕ, ◌≤◌, List, [], ◌∷◌, length, map, refl, ap, sym, ◌∙◌, subst, cond, None}
 use Rattle.std.specs.Prelude.{Option, option_and_then, slice_index_or}
 use Rattle.docker_model.specs.file.File.{IsFile, first_record, most_records}
@@ -45,8 +44,7 @@ module _ (place : List ℕ) (day : ℕ) (lines : List (List ℕ)) (is_file : IsF
       (live_of_summary lines (summary_of lines) (summary_is lines) key)
       ∙ sym (thin_live place day lines kept thinning part of key)
 
-  -- each docker of the state of the kept changes, for the place and the day, is a docker of the
-  -- file's summary
+  -- each docker of the state that the thin changes make, for the place and the day, is a docker of the file's summary
   stands_for_summary : StandsAt place day (summary_of lines) part
   stands_for_summary docker made = record {
     place_is = made.place_is;
@@ -56,7 +54,7 @@ module _ (place : List ℕ) (day : ℕ) (lines : List (List ℕ)) (is_file : IsF
     list = (thin_state_list place day lines is_file few kept thinning part of (summary_of lines) (summary_is lines) docker.lines).1 made.list;
   }
 
--- take the state of the kept changes, and replace its entries by the entries of the whole file. The result is the file's state
+-- take the state that the thin changes make, and replace its entries by the entries of the whole file. The result is the file's state
 pub given_is_state : (file : FileRead) (lines : List (List ℕ)) → IsOfRecords file lines → (kept : List Change) (part : State)
     → IsStateOfChanges lines kept part → (entries : List (Key × Entry)) → entries ≡ (state_of_read file).entries
     → with_entries part entries ≡ state_of_read file
@@ -66,8 +64,7 @@ given_is_state file lines of_lines kept part of entries given = λ i. record {
   entries = given i;
 }
 
--- each docker of the state of the kept changes, for the place and the day, is a docker of the
--- file's state
+-- each docker of the state that the thin changes make, for the place and the day, is a docker of the file's state
 pub thin_stands : (place : List ℕ) (day : ℕ) (file : FileRead) (lines : List (List ℕ)) → IsOfRecords file lines → IsFile lines
     → length lines ≤ most_records → (kept : List Change) → IsThinning place day file.changes_made kept
     → (part : State) → IsStateOfChanges lines kept part → (entries : List (Key × Entry)) → entries ≡ (state_of_read file).entries

@@ -18,17 +18,17 @@ pub rows_more : (rows before after : List (Key × Entry)) (key : Key) (entry : E
 rows_more rows before after key entry same pushed =
     ap (map row_meant) (pushed ∙ ap (λ (front : List (Key × Entry)). front ++ (key, entry) ∷ []) same) ∙ map-append row_meant rows ((key, entry) ∷ [])
 
--- if an entry has an associated train, the UID of this train is appended to the names
+-- if an entry has an associated train, the UID of this train is appended to the list `names`
 pub names_with_some : (names after : List (List ℕ)) (name : List ℕ) (found told : Option (List ℕ)) → after ≡ names ++ name ∷ [] → found ≡ Some name
     → found ≡ told → after ≡ names ++ option_to_list told
 names_with_some names after name found told pushed is same = pushed ∙ ap (λ (one : Option (List ℕ)). names ++ option_to_list one) (sym is ∙ same)
 
--- if an entry has no associated train, the names are unchanged
+-- if an entry has no associated train, the list `names` is unchanged
 pub names_with_none : (names : List (List ℕ)) (found told : Option (List ℕ)) → found ≡ None → found ≡ told → names ≡ names ++ option_to_list told
 names_with_none names found told is same =
     sym (append-nil names) ∙ ap (λ (one : Option (List ℕ)). names ++ option_to_list one) (sym is ∙ same)
 
--- if two walks have equal parts and `IsWalk` holds for one of them, it holds for the other
+-- if two walks have equal fields and `IsWalk` holds for one of them, it holds for the other
 pub walk_by : (place : List ℕ) (entries kept run other_kept other_run : List (model.Key × ops.Entry)) (needed other_needed : Bool)
     (names other_names : List (List ℕ))
     → other_kept ≡ kept → other_run ≡ run → other_needed ≡ needed → other_names ≡ names → IsWalk place entries kept run needed names
@@ -39,8 +39,7 @@ walk_by place entries kept run other_kept other_run needed other_needed names ot
     (subst (λ (b : Bool). IsWalk place entries kept run b other_names) (sym needed_is)
     (subst (λ (n : List (List ℕ)). IsWalk place entries kept run needed n) (sym names_is) is)))
 
--- after a run has ended, the rows of the run are appended to the kept rows if the run is needed,
--- and dropped otherwise
+-- after the last schedule of a UID, the rows of this UID's schedules are appended to the kept rows if they are needed, and dropped otherwise
 pub run_ended : (needed other : Bool) (kept run after : List (Key × Entry)) → needed ≡ other → after ≡ cond needed (kept ++ run) kept
     → map row_meant after ≡ cond other (map row_meant kept ++ map row_meant run) (map row_meant kept)
 run_ended true other kept run after same is =

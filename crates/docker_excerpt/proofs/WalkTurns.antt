@@ -20,15 +20,15 @@ use Rattle.docker_excerpt.specs.Walked.{AreNames, IsWalk}
 abbrev Keyed : Type 0
 Keyed = Key × Entry
 
--- if there are no entries, there are no names
+-- if there are no entries, the list of the associated trains' UIDs is empty
 pub no_names : AreNames [] []
 no_names uid = (λ among. among, λ among. among)
 
--- a walk that hasn't passed any entry has kept nothing
+-- a walk that hasn't passed any entry has kept no entry
 pub walk_first : (place : List ℕ) → IsWalk place [] [] [] false []
 walk_first place = record { has_kept = kept_first place; told = no_names; sorted = inl refl }
 
--- an empty run isn't needed
+-- if `run` has no schedules, `needed` is false
 unneeded : (place : List ℕ) (entries kept run : List Keyed) (needed : Bool) → HasKept place entries kept run needed → run ≡ [] → needed ≡ false
 unneeded place entries kept run needed has none =
     sym has.is_needed ∙ ap (λ (r : List Keyed). is_run_needed place (record { kept = kept; run = r })) none
@@ -41,8 +41,7 @@ names_of_one key entry = by (name_in key entry.op)
     by None = refl
     by (Some name) = refl
 
--- if one more entry is kept, the UID of the entry's associated train, if any, is appended to the
--- names
+-- if one more entry is kept, the UID of the entry's associated train, if any, is appended to the list `names`
 names_more : (names : List (List ℕ)) (kept : List Keyed) (key : Key) (entry : Entry) → AreNames names kept
     → AreNames (names ++ option_to_list (name_in key entry.op)) (kept ++ (key, entry) ∷ [])
 names_more names kept key entry are uid =
@@ -60,8 +59,7 @@ names_more names kept key entry are uid =
 
 module _ (place : List ℕ) (state : State) (kept run : List Keyed) (needed : Bool) (names : List (List ℕ))
     (is : IsWalk place state.entries kept run needed names) where
-  -- when the walk reaches a TIPLOC or an association, its run is empty, because schedules come
-  -- after all TIPLOCs and associations
+  -- when the walk reaches a TIPLOC or an association, `run` has no schedules, because schedules come after all TIPLOCs and associations
   alone : (key : Key) → IsAboveEntries state key → ((uid : List ℕ) → has_uid uid key ≡ false) → run ≡ []
   alone = kept_alone place state kept run needed is.has_kept
 
@@ -70,8 +68,7 @@ module _ (place : List ℕ) (state : State) (kept run : List Keyed) (needed : Bo
       subst (λ (r : List Keyed). HasKept place entries after r needed) (sym none)
       (subst (λ (b : Bool). HasKept place entries after [] b) (sym (unneeded place state.entries kept run needed is.has_kept none)) has)
 
-  -- a TIPLOC or an association at the place is kept, and the UID of the association's associated
-  -- train is appended to the names
+  -- a TIPLOC or an association at the place is kept, and the UID of the association's associated train is appended to the list `names`
   pub walk_here : (key : Key) (entry : Entry) → IsAboveEntries state key → ((uid : List ℕ) → has_uid uid key ≡ false) → is_here place key ≡ true
       → IsWalk place (state.entries ++ (key, entry) ∷ []) (kept ++ (key, entry) ∷ []) run needed (names ++ option_to_list (name_in key entry.op))
   walk_here key entry above never here = record {
@@ -91,7 +88,7 @@ module _ (place : List ℕ) (state : State) (kept run : List Keyed) (needed : Bo
     sorted = inl (alone key above never);
   }
 
-  -- a schedule with the run's UID is added to the run
+  -- a schedule with the same UID as the schedules in `run` is added to `run`
   pub walk_joins : (key : ScheduleKey) (entry : Entry) → goes_on run key.uid ≡ true
       → IsWalk place (state.entries ++ (schedule_key key, entry) ∷ []) kept (run ++ (schedule_key key, entry) ∷ []) (needed || is_call place entry.op) names
   walk_joins key entry goes = record {
@@ -104,7 +101,7 @@ module _ (place : List ℕ) (state : State) (kept run : List Keyed) (needed : Bo
       by (inl none) = absurd (let bad : false ≡ true = ap (λ (r : List Keyed). goes_on r key.uid) (sym none) ∙ goes in cc)
       by (inr sorted) = inr sorted
 
-  -- a schedule with another UID ends the run and begins the next run
+  -- at a schedule with another UID, the schedules in `run` are kept or dropped, and then `run` has only the new schedule
   pub walk_begins : (key : ScheduleKey) (entry : Entry) (named : Bool) → goes_on run key.uid ≡ false → IsSorted bytes_cmp names
       → (named ≡ true) ↔ Contains names key.uid
       → IsWalk place (state.entries ++ (schedule_key key, entry) ∷ []) (cond needed (kept ++ run) kept) ((schedule_key key, entry) ∷ [])
@@ -127,7 +124,7 @@ module _ (place : List ℕ) (state : State) (kept run : List Keyed) (needed : Bo
           ∙ names_stay place state.entries key entry
           ∙ ap (λ (so_far : ExcerptSoFar). names_in so_far.kept) is.has_kept.so_far
 
-  -- sorting the names changes neither the passed entries nor the kept entries of the walk
+  -- sorting the list `names` changes neither the passed entries nor the kept entries of the walk
   pub walk_sorted : (after : List (List ℕ)) → IsPermutation names after → IsSorted bytes_cmp after → IsWalk place state.entries kept run needed after
   walk_sorted after moved sorted = record {
     has_kept = is.has_kept;
@@ -138,7 +135,6 @@ module _ (place : List ℕ) (state : State) (kept run : List Keyed) (needed : Bo
     sorted = inr sorted;
   }
 
-  -- at the end, the excerpt has the kept entries, followed by the entries of the last run if this
-  -- run is needed
+  -- at the end, the excerpt has the kept entries, followed by the schedules in `run` if they are needed
   pub walk_last : (excerpt_for place state).entries ≡ cond needed (kept ++ run) kept
   walk_last = kept_last place state kept run needed is.has_kept

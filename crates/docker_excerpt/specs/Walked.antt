@@ -12,9 +12,8 @@ use Rattle.docker_laws.specs.ExcerptWalk.{names_in, HasKept}
 abbrev pub AreNames : List (List ℕ) → List (Key × Entry) → Type 0
 AreNames names entries = (uid : List ℕ) → Contains names uid ↔ Contains (names_in entries) uid
 
--- says which of these entries a walk has kept. `run` has the schedules of the current UID, and
--- `needed` says whether the run will be kept. `names` are the UIDs of the associated trains. They
--- are sorted when the first run begins
+-- says which of these entries a walk has kept. `run` has the schedules of the current UID, and `needed` says whether they will be kept. `names` are the UIDs of
+-- the associated trains of the kept associations. The walk sorts them when it comes to the first schedule
 pub record IsWalk (place : List ℕ) (entries kept run : List (Key × Entry)) (needed : Bool) (names : List (List ℕ)) : Type 0 where
   pub has_kept : HasKept place entries kept run needed
   pub told : AreNames names kept

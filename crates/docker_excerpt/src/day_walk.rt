@@ -75,7 +75,7 @@ impl DayWalk {
     }
 
     /// Ends the walk and returns the excerpt's entries with their keys, in the order of the keys.
-    /// Returns `Memory` if there is no room for the last run of schedules.
+    /// Returns `Memory` if there is no room for the schedules of the last UID.
     pub(crate) fn finish(self) -> Result<Vec<(Key, Entry)>, Memory>
         ensures { IfOk result (λ rows. (state : states.State) → HasPassed self state.entries
             → map row_meant rows.items ≡ (excerpt_on self.walk.place self.day state).entries) }

@@ -68,8 +68,8 @@ impl Excerpt {
         }
     }
 
-    /// The excerpt for a place and a day, made from the kept changes of a file. The value of the
-    /// excerpt has the state of the whole file. If memory runs out, the kept changes are dropped.
+    /// The excerpt for a place and a day, made from the thin changes of a file. The value of the
+    /// excerpt has the state of the whole file. If memory runs out, the thin changes are dropped.
     pub fn of_file(
         alloc: Global,
         place: Tiploc,
@@ -83,7 +83,7 @@ impl Excerpt {
         ensures state { (records : List (List ℕ)) → IsOfRecords file.file records
             → IfOk result (λ it. it.state ≡ summary_of records) }
     {
-        // This call is made only for its contract, which says that the kept changes are enough.
+        // This call is made only for its contract, which says that the thin changes are enough.
         let _header = file.header();
         let given = given_of(&file);
         let part = State::of_thin(alloc, file)?;

@@ -54,7 +54,7 @@ impl fmt::Debug for Excerpting {
 }
 
 impl Excerpting {
-    /// An excerpt before its first part. The call allocates nothing.
+    /// Starts an excerpt. No part of a state has been given yet. The call allocates nothing.
     pub fn new(alloc: Global, place: Tiploc, day: Day) -> Excerpting
         ensures { result ≡ record {
           place = place;
@@ -145,7 +145,7 @@ impl Excerpting {
     }
 }
 
-/// Adds rows to parts, as entries in the same order.
+/// Adds these rows, in the same order, as entries to a state that is being built.
 fn with_rows(mut parts: Parts, rows: Vec<(Key, Entry)>) -> Result<Parts, Memory>
     requires plain { parts.horizon ≡ 0 }
     requires none { parts.entries ≡ [] }
@@ -158,7 +158,7 @@ fn with_rows(mut parts: Parts, rows: Vec<(Key, Entry)>) -> Result<Parts, Memory>
     Ok(parts)
 }
 
-/// Sets the horizon of a state, if there is one. No entry of the state lapses under this horizon.
+/// Sets the horizon of a state, if there is one. No entry of the state ended before this horizon.
 fn under_horizon(mut state: State, horizon: Option<Day>) -> State
     requires plain { state.horizon ≡ 0 }
     requires valid { IsValid (under (horizon_meant horizon) state) }

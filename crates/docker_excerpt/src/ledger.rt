@@ -47,7 +47,7 @@ impl fmt::Debug for Ledger {
 }
 
 impl Ledger {
-    /// A ledger before its first part. The call allocates nothing.
+    /// Starts a ledger. No part of a state has been given yet. The call allocates nothing.
     pub fn new(alloc: Global) -> Ledger
         ensures { result ≡ record { horizon = 0; ledger = []; entries = [] } }
     {

@@ -31,7 +31,7 @@ impl<P: PlaceDay> Model for ExcerptingAt<P> {
 }
 
 impl<P: PlaceDay> ExcerptingAt<P> {
-    /// An excerpt before its first part. The call allocates nothing.
+    /// Starts an excerpt. No part of a state has been given yet. The call allocates nothing.
     pub fn new(alloc: Global, place: Tiploc, day: Day) -> ExcerptingAt<P>
         requires place { place ≡ P.place }
         requires day { day ≡ P.day }

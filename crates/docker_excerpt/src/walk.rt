@@ -16,16 +16,18 @@ use cif_line::{Memory, Tiploc, Uid};
 use state_text::{Entry, Given};
 use std::alloc::Global;
 
-/// The entries that a walk has kept, and the current run: the schedules of one UID. When the run
-/// ends, its schedules are kept or dropped as a whole.
+/// The entries that a walk has kept. `run` has the schedules of the current UID, which are later
+/// kept or dropped as a whole.
 #[derive(Debug, Drop)]
 pub(crate) struct ExcerptWalk {
     place: Tiploc,
     kept: Vec<(Key, Entry)>,
     run: Vec<(Key, Entry)>,
-    // whether the run is needed: its UID is in `names`, or one of its schedules calls at the place
+    // whether the schedules in `run` are needed: their UID is in `names`, or one of them calls at
+    // the place
     needed: bool,
-    // the UIDs of the associated trains of the kept associations, sorted when the first run begins
+    // the UIDs of the associated trains of the associations in `kept`, sorted when the walk comes
+    // to the first schedule
     names: Vec<Uid>,
 }
 
@@ -89,7 +91,7 @@ impl ExcerptWalk {
         Ok(())
     }
 
-    /// Moves past a schedule, which belongs to the current run or begins the next run.
+    /// Moves past a schedule. It has the same UID as the schedules in `run`, or another UID.
     fn schedule(&mut self, given: &Given, key: ScheduleKey, entry: Entry) -> Result<(), Memory>
         requires { HasWalked self.old given.now.entries }
         ensures ok { IsOk result → HasWalked self.new
@@ -104,7 +106,7 @@ impl ExcerptWalk {
         }
     }
 
-    /// Adds a schedule to the current run, which has the same UID.
+    /// Adds a schedule to `run`, which has schedules of the same UID.
     fn join(&mut self, given: &Given, key: ScheduleKey, entry: Entry) -> Result<(), Memory>
         requires walked { HasWalked self.old given.now.entries }
         requires same { goes_on (map row_meant self.old.run.items) key.uid ≡ true }
@@ -119,7 +121,7 @@ impl ExcerptWalk {
         Ok(())
     }
 
-    /// Ends the current run, and begins the next run with a schedule of another UID.
+    /// Keeps or drops the schedules in `run`, and then puts a schedule of another UID into `run`.
     fn begin(&mut self, given: &Given, key: ScheduleKey, entry: Entry) -> Result<(), Memory>
         requires walked { HasWalked self.old given.now.entries }
         requires other { goes_on (map row_meant self.old.run.items) key.uid ≡ false }
@@ -138,7 +140,7 @@ impl ExcerptWalk {
         Ok(())
     }
 
-    /// Sorts the UIDs of associated trains, if no run has begun yet.
+    /// Sorts the UIDs of associated trains, unless the walk has passed a schedule already.
     fn sort_names(&mut self, given: &Given)
         requires { HasWalked self.old given.now.entries }
         ensures walked { HasWalked self.new given.now.entries }
@@ -153,8 +155,8 @@ impl ExcerptWalk {
         }
     }
 
-    /// Ends the run: its schedules are kept if the run is needed, and otherwise dropped. If memory
-    /// runs out, the run and the kept entries are unchanged.
+    /// Empties `run`: its schedules are kept if they are needed, and otherwise dropped. If memory
+    /// runs out, `run` and the kept entries are unchanged.
     fn end_run(&mut self) -> Result<(), Memory>
         ensures kept { IsOk result → self.new.kept.items ≡ (if self.old.needed
             then self.old.kept.items ++ self.old.run.items else self.old.kept.items) }
@@ -175,7 +177,7 @@ impl ExcerptWalk {
     }
 
     /// Ends the walk and returns the excerpt's entries with their keys, in the order of the keys.
-    /// Returns `Memory` if there is no room for the last run.
+    /// Returns `Memory` if there is no room for the schedules of the last UID.
     pub(crate) fn finish(self) -> Result<Vec<(Key, Entry)>, Memory>
         ensures { IfOk result (λ rows. (state : states.State) → HasWalked self state.entries
             → map row_meant rows.items ≡ (excerpt_for self.place state).entries) }

@@ -108,8 +108,8 @@ impl<E> Table<E> {
 }
 
 impl Table<Entry> {
-    /// Applies a horizon to the entry of each row. Keys and stamps are unchanged, and an op that
-    /// lapses loses its body. Returns whether any op has lapsed in this call.
+    /// Lets each entry lapse whose body ended before the horizon. Keys and stamps are unchanged,
+    /// and an op that lapses loses its body. Returns whether any op has lapsed in this call.
     pub fn lapse(&mut self, horizon: u16) -> bool
         ensures lapsed { map row_meant self.new ≡ lapse_entries horizon (map row_meant self.old) }
         ensures same { result ≡ false → self.new ≡ self.old }

@@ -39,7 +39,7 @@ one_rows live rows others one two =
       λ among. (one.members row.0 row.1).1 ((two.members row.0 row.1).0 among),
     ))
 
--- if a list of places contains this place, the list passes the test for the place
+-- if a list of places contains this place, `list_any` finds it
 has_place : (place : List ℕ) (places : List (List ℕ)) → Contains places place → list_any (bytes_eq place) places ≡ true
 has_place place [] among = absurd (nil-Contains place among)
 has_place place (other ∷ places) among = by (has_place place places) (Contains-cons other places place among)
@@ -53,7 +53,7 @@ has_place place (other ∷ places) among = by (has_place place places) (Contains
     by rest (inl same) = ap (λ b. b || list_any (bytes_eq place) places) ((bytes_eq-Decides place other).1 (sym same))
     by rest (inr inside) = ap (λ b. bytes_eq place other || b) (rest inside) ∙ either (bytes_eq place other)
 
--- each live row that passes the test is a schedule that calls at the place
+-- each live row that passes the test `calls_at place` is a schedule that calls at the place
 passes_back : (place : List ℕ) (key : Key) (body : Body) → calls_at place (key, body) ≡ true → Calls key (put_with body) place
 passes_back place key body passes =
     call_back key (put_with body) place
@@ -69,7 +69,7 @@ module _ (live : Table) (rows : List Row) (are : AreRowsOf live rows) (place : L
       (later_filter (IsBelow (on (λ (row : Row). row.0) key_cmp)) (calls_at place) rows
       (later_of (on (λ (row : Row). row.0) key_cmp) rows are.ascending))
 
-  -- the schedules that call at the place are exactly the live rows that pass the test
+  -- the schedules that call at the place are exactly the live rows that pass the test `calls_at place`
   calling_are : (calling : List Row) → AreCalling live place calling → calling ≡ filter (calls_at place) rows
   calling_are calling is = same_list rows_total calling (filter (calls_at place) rows) is.ascending passing_ascend (λ row. (forth row, back row))
     where
@@ -105,7 +105,7 @@ rows_are state valid = record {
   members = live_walks state valid (live_rows state.entries) refl;
 }
 
--- the number of schedules that call at a place equals the number of live rows that pass the test
+-- the number of schedules that call at a place equals the number of live rows that pass the test `calls_at place`
 pub count_is : (state : State) → IsValid state → (place : List ℕ) (count : ℕ) → IsCallingCount (live_table state) place count
     → count ≡ count_at place (live_rows state.entries)
 count_is state valid place count counted =

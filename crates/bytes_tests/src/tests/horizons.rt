@@ -124,7 +124,7 @@ fn what_has_lapsed_has_no_body(rt: HostRuntime) {
     refused_under(&rt, alloc, AFTER, &[SCHEDULE_HEAD, b"\x03"], bad);
 }
 
-/// The state of a file with these records, under this horizon.
+/// The state of a file with these records, after this horizon was set.
 fn lapsed(rt: &impl Abort, alloc: Global, records: &[&[u8]], day: &str) -> State {
     let mut state = state(rt, alloc, records);
     state.set_horizon(Day::from_iso(day).expect(rt, "a day"));

@@ -18,8 +18,8 @@ fn old_text(rt: &impl Abort, alloc: Global) -> Vec<u8> {
     joined_text(rt, alloc, &[OLD_MARK, ONE, ITEM, ONE, HEAD, BS, LO, LT])
 }
 
-/// The offsets at which the items of the older text begin. If the text is cut, its fault is at one
-/// of these offsets.
+/// The offsets at which the items of the text in the older format begin. If the text is cut, its
+/// fault is at one of these offsets.
 const BEGINNINGS: [u64; 5] = [0, 4, 12, 31, 39];
 
 /// Asserts that migrating from a source is refused with this fault.

@@ -11,8 +11,8 @@ use std::alloc::Global;
 use std::process::Abort;
 use test_records::{AA_JOIN, BS, HD, LO, LO_0905, LT, LT_0935, ZZ};
 
-/// Asserts that an empty state that receives two texts then has the horizon 15 June and the text
-/// `wanted`.
+/// Asserts that an empty state, after it has received two texts, has the horizon 15 June and the
+/// text `wanted`.
 fn receives(rt: &impl Abort, alloc: Global, first: &[u8], second: &[u8], wanted: &[u8]) {
     let mut all = State::empty(alloc);
     let answer = join_state(alloc, &mut all, &mut Bytes::new(first, 7), 1000);

@@ -117,12 +117,12 @@ fn entries(rt: HostRuntime) {
     is_below(&rt, rt.alloc(), 7, 8);
 }
 
-/// Asserts that a horizon leaves the op of an entry unchanged.
+/// Asserts that the op of an entry doesn't lapse with this horizon.
 fn stays(rt: &impl Abort, place: u8, horizon: u16) {
     same(rt, op(rt, place).lapse(horizon), op(rt, place));
 }
 
-/// Asserts that the op of an entry lapses under a horizon.
+/// Asserts that the op of an entry lapses with this horizon.
 fn lapses(rt: &impl Abort, place: u8, horizon: u16) {
     same(rt, op(rt, place).lapse(horizon), Op::Lapsed);
 }

@@ -152,8 +152,8 @@ fn two_files(rt: HostRuntime) {
     pair_is(&rt, alloc, ONE_SCHEDULE, full, OF_ONE_STAMP);
 }
 
-/// Asserts which of two schedules with equal stamps wins the join: the one with this basic schedule
-/// and this origin.
+/// Asserts which of two schedules with equal stamps the join takes: the one with this basic
+/// schedule and this origin.
 fn stays(rt: &impl Abort, alloc: Global, other: &[&[u8]], basic: &[u8], origin: &[u8]) {
     let lines: &[&[u8]] = &[
         b"item 23536 1260 DFROC1A U DFROC1Z",

@@ -1,4 +1,4 @@
-//! Horizons: which entries lapse under them, and which don't.
+//! Horizons: which entries lapse when a horizon is set, and which don't.
 
 use super::{joined, made_is, set, set_on};
 use docker_state::State;
@@ -93,7 +93,7 @@ fn a_horizon_between_two_files(rt: HostRuntime) {
     lapses(&rt, alloc, (REVISION, none), (OLDER, none), day);
 }
 
-/// How a deletion and a schedule without an end are shown under the last possible horizon.
+/// How a deletion and a schedule without an end are shown if the horizon is the last possible day.
 const WITHOUT_END: &[&[u8]] = &[
     b"horizon 36524",
     b"item 23536 1260 DFROC1A U DFROC1Z",

@@ -130,7 +130,7 @@ fn indexed(rt: &impl Abort, alloc: Global, table: &Table<Entry>) -> Index {
     Index::of_rows(room, notes, rows)
 }
 
-/// Makes the index of the join of both tables, under a floor.
+/// Makes the index of the join of both tables, without the entries below a floor.
 fn joined(rt: &impl Abort, alloc: Global, floor: &Option<FileStamp>) -> Index {
     let own = timetable(rt, alloc);
     let other = update(rt, alloc);

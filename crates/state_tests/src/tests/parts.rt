@@ -1,4 +1,4 @@
-//! States that are built from their parts.
+//! States that are built from ledger items and entries, added one by one.
 
 use super::compare::same;
 use super::{shown, shown_again, state};
@@ -19,7 +19,8 @@ fn ledger_is(rt: &impl Abort, parts: &Parts, wanted: &[LedgerItem]) {
     assert_eq!(rt; parts.ledger(), wanted);
 }
 
-/// Rebuilds a state with one item and one deletion from its parts.
+/// Takes a state with one ledger item and one deletion, and builds it again from this item and this
+/// deletion.
 fn rebuilt(rt: &impl Abort, alloc: Global, one: &State) -> State {
     let (items, rows) = (one.ledger(), one.entries());
     if items.len() != 1 {

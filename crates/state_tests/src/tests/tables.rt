@@ -1,4 +1,4 @@
-//! Tables of entries: how they are joined, searched and lapsed.
+//! Tables of entries: how they are joined and searched, and how their entries lapse.
 
 use super::compare::same;
 use super::entries::entry;

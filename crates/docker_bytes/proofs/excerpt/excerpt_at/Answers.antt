@@ -1,4 +1,4 @@
--- The place and the day equal the place and the day that the type determines.
+-- The caller's place and day equal the place and the day that the type `P` determines.
 use Rattle.std.proofs.Common.{sym, subst}
 use Rattle.docker_model.specs.state.StateText.{dks_2}
 use Rattle.docker_bytes.specs.Excerpts.{IsExcerptAt}

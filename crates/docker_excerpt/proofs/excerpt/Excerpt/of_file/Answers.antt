@@ -1,5 +1,4 @@
--- Each docker of the state made from the kept changes of a file is a docker of the state of the
--- whole file.
+-- Each docker of the state that the thin changes of a file make, for the place and the day of these changes, is a docker of the state of the whole file.
 use Rattle.std.proofs.Common.{ap, sym, ◌∙◌, subst}
 use Rattle.docker_excerpt.specs.Values.{Excerpt, with_entries, StandsAt}
 use Rattle.docker_excerpt.proofs.ThinExcerpt.{given_is_state, state_is_summary, thin_stands}
