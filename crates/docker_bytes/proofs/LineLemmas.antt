@@ -35,7 +35,7 @@ pub line_width : (key : code.ScheduleKey) (n : ℕ) (at : Stage) → IsLineOf ke
     → width (stage_meant at state lines) ≡ 80
 line_width key n at of state lines = subst (λ (p : Stage). width (stage_meant p state lines) ≡ 80) (sym of.is) refl
 
--- a line that isn't its schedule's last line leaves the stage and the item unchanged
+-- a line that isn't its schedule's last line leaves the stage unchanged, and the next part is in the same item of the text
 pub line_leads : (format : Format) (at : Stage) (entries : ℕ) (key : code.ScheduleKey) (stamp : stamps.Stamp) (n : ℕ) → at ≡ stage.Line entries key stamp n
     → (state : State) (lines taken : List (List ℕ)) (line : List ℕ) → AreGood format (stage_meant at state lines) → taken ≡ lines ++ line ∷ []
     → length lines + 1 < n

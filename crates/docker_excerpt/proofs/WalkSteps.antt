@@ -1,5 +1,4 @@
--- How each step of the code's walk changes the kept rows, the run and the names. The run consists
--- of the schedules of one UID, and the names are the UIDs of associated trains.
+-- How each step of the code's walk changes the kept rows, `run` and `names`. `run` has the schedules of one UID, and `names` has the UIDs of associated trains.
 use Rattle.std.proofs.Common.{◌≡◌, ℕ, List, [], ◌∷◌, ◌++◌, map, ap, sym, ◌∙◌, subst, Bool, true, false, cond}
 use Rattle.std.specs.Prelude.{Option, Some, None}
 use Rattle.std.specs.Option.{option_to_list}

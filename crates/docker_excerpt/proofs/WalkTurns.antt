@@ -1,5 +1,5 @@
--- Properties of a walk that makes an excerpt, which each step of the walk preserves. A run consists
--- of the schedules of one UID, and the names are the UIDs of associated trains.
+-- Properties of a walk that makes an excerpt, which each step of the walk preserves. `run` has the schedules of one UID, and `names` has the UIDs of associated
+-- trains.
 use Rattle.std.proofs.Common.{◌≡◌, ℕ, List, [], ◌∷◌, ◌++◌, refl, ap, sym, ◌∙◌, subst, inl, inr, ◌⊎◌, Bool, true, false, cond, Contains}
 use Rattle.std.specs.Prelude.{◌||◌, ◌↔◌, Option, Some, None}
 use Rattle.std.specs.Option.{option_to_list}

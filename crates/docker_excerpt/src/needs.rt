@@ -32,8 +32,8 @@ pub(crate) fn name_in(key: &Key, op: &Op) -> Option<Uid>
     }
 }
 
-/// Whether a schedule of this UID belongs to a run, which consists of consecutive schedules of one
-/// UID. The result is false if the run is empty or has another UID.
+/// Whether the schedules in `run`, which are all of one UID, are of this UID. Returns false if
+/// `run` is empty.
 pub(crate) fn goes_on(run: &[(Key, Entry)], uid: &Uid) -> bool
     ensures { result ≡ goes_on (map row_meant run.now) uid.now }
 {

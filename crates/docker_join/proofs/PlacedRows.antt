@@ -301,7 +301,7 @@ module _ {E : Type 0} (picked : E → E → E) (old : List (Key × E)) (n left r
       ∙ ap (λ k. get_or old k row) (let plain : n - run + 0 ≡ n - run = omega arith in plain) in
       ap (λ x. row_cmp x row) first ∙ above_is (row_cmp (get_or old (n - run) row) row) (is_run.above row (let from = run_size in omega arith)))
 
-  -- after the move, the last row that remains is the row before the moved rows
+  -- after the last `run` rows were moved to the front of the ring buffer, the last row is the row that was just before them
   last_at : (d : Key × E) → 0 < later → get_or a (later - 1) d ≡ get_or old (n - (run + 1)) d
   last_at d some =
       let run_in = is_run.within in

@@ -48,8 +48,7 @@ module _ {A : Type 0} (valid : A → Type 0) {cmp : A → A → Ordering} (total
       exact c d (greater_closed a b c good_a good_b is_c) (greater_closed a b d good_a good_b is_d)
       (level total c d (greater_least a b c d is_c is_d.first is_d.second) (greater_least a b d c is_d is_c.first is_c.second))
 
-  -- taking the greater of two valid values is associative: the greatest of three is the same
-  -- whichever two are compared first
+  -- taking the greater of two valid values is associative: the greatest of three values is the same whichever two of them are compared first
   pub greater_associates : IsExact valid cmp → (a b c ab bc left right : A) → valid a → valid b → valid c
       → IsGreater cmp a b ab → IsGreater cmp ab c left → IsGreater cmp b c bc → IsGreater cmp a bc right → left ≡ right
   greater_associates exact a b c ab bc left right good_a good_b good_c is_ab is_left is_bc is_right =

@@ -243,8 +243,7 @@ module _ {E : Type 0} (valid : E → Type 0) (picked : E → E → E) (laws : Ar
     values = λ key. is.values key ∙ values_commute (value_at a key) (value_at b key) (valid_at a key good_a) (valid_at b key good_b);
   }
 
-  -- the join of valid tables is associative: the join of three is the same whichever two are joined
-  -- first
+  -- the join of valid tables is associative: the join of three tables is the same whichever two of them are joined first
   pub joins_associate : (a b c ab bc left right : List (Key × E)) → AreValidRows valid a → AreValidRows valid b → AreValidRows valid c
       → IsJoinOfRows picked a b ab → IsJoinOfRows picked ab c left → IsJoinOfRows picked b c bc → IsJoinOfRows picked a bc right → left ≡ right
   joins_associate a b c ab bc left right good_a good_b good_c is_ab is_left is_bc is_right =

@@ -25,7 +25,7 @@ use Rattle.docker_join.specs.Rows.{AreAscending, value_at, picked_value, IsJoinO
 use Rattle.docker_join.specs.RowLaws.{value_of, row_of}
 use Rattle.docker_state.specs.Meaning.{row_meant}
 
--- a key with its entry, in the definitions
+-- a key with its entry, in the definitions' types
 abbrev pub Keyed : Type 0
 Keyed = model.Key × ops.Entry
 

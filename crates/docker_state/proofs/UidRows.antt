@@ -230,7 +230,7 @@ piece_is uid rows rest here n m bound rest_is bound_too here_is first second = r
 
 -- ---- the live rows among the UID's rows are the UID's live schedules
 
--- a key that `to_uid` finds equal to the keys of a UID's schedules is the key of a schedule of this UID
+-- if `to_uid` returns `Equal` for a key and a UID, the key is the key of a schedule of this UID
 of_uid_is : (key : model.Key) (uid : List ℕ) → to_uid key uid ≡ Equal → (schedule : ScheduleKey) × (key ≡ schedule_key schedule) × (schedule.uid ≡ uid)
 of_uid_is (tiploc_key code) uid tied = absurd (let bad : Less ≡ Equal = tied in cc)
 of_uid_is (association_key key) uid tied = absurd (let bad : Less ≡ Equal = tied in cc)
@@ -272,7 +272,7 @@ module _ (state : State) (valid : IsValid state) (uid : List ℕ) (rows piece : 
       (Contains-append_left (map row_meant is.before ++ map row_meant piece) (map row_meant is.behind) pair
       (Contains-append_right (map row_meant is.before) (map row_meant piece) pair among))
 
-  -- if `to_uid` compares the key of each row in a list as `order`, it does so for each converted row too
+  -- if `to_uid` returns `order` for each row in a list, it returns `order` for each converted row too
   stands : (order : Ordering) (some : List (Key × Entry)) → AreTo order uid some → (pair : model.Key × ops.Entry) → Contains (map row_meant some) pair
       → to_uid pair.0 uid ≡ order
   stands order some all pair among =

@@ -33,7 +33,7 @@ abbrev pub IsBeginning : List ℕ → List (Key × Entry) → ℕ → Type 0
 IsBeginning uid rows count =
     IsPartitionPoint (λ row. is_before uid row ≡ true) (λ row. is_before uid row ≡ false) rows count
 
--- Says that `to_uid` compares the key of each of these rows with the keys of the UID's schedules as `order`.
+-- Says that `to_uid` returns `order` for each of these rows: the row is before, among or after the UID's schedules.
 abbrev pub AreTo : Ordering → List ℕ → List (Key × Entry) → Type 0
 AreTo order uid rows =
     (row : Key × Entry) → Contains rows row → to_uid (key_meant row.0) uid ≡ order

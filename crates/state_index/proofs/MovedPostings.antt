@@ -96,7 +96,7 @@ module _ (names others : List (List ℕ)) (ranks : List ℕ) (are : AreRanks oth
           let same : record { place = rank; at = p } ≡ moved = some_is (record { place = rank; at = p }) moved told in
           (at ∙ ap (λ (m : Posting). Some m.place) same, there ∙ ap (λ (m : Posting). Some (Some m.at)) same)
 
-  -- the i-th rank is the index, in the new list of names, of the i-th place of the old list
+  -- the i-th element of `ranks` is the index that the i-th name of the old list has in the new list
   placed : (i rank : ℕ) → slice_get ranks i ≡ Some rank → (place : List ℕ) × (slice_get names i ≡ Some place) × (slice_get others rank ≡ Some place)
   placed i rank is = by (slice_get names i) refl
     where

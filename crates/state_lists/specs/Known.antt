@@ -57,7 +57,7 @@ full_line (Some stamp) =
     named_line (codes "FULL        ")
     (day_text stamp.moment.day ++ spaces 1 ++ minute_text stamp.moment.minute ++ spaces 1 ++ stamp.reference)
 
--- the line of the latest last day of a schedule. There is no line if no schedule has a last day
+-- the line of the latest of all schedules' last days. There is no line if no schedule has a last day
 unfoldable pub last_line : Option ℕ → List ℕ
 last_line None = []
 last_line (Some day) = named_line (codes "LAST        ") (day_text day)
@@ -66,8 +66,7 @@ last_line (Some day) = named_line (codes "LAST        ") (day_text day)
 unfoldable pub count_line : List ℕ → ℕ → List ℕ
 count_line name count = named_line name (decimal count)
 
--- the text that lists what a state knows, made from the state's horizon, its newest full extract,
--- the latest last day, and all live rows
+-- the text that lists what a state knows, made from the state's horizon, its newest full extract, the latest of its schedules' last days, and all live rows
 abbrev pub known_text : ℕ → Option FileStamp → Option ℕ → List Row → List ℕ
 known_text horizon full last rows =
     horizon_line horizon ++ full_line full ++ last_line last ++ count_line (codes "SCHEDULES   ") (count_of 3 rows)

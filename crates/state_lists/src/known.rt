@@ -21,8 +21,8 @@ pub type KnownText = ArrayVec<u8, 187>;
 
 /// The text that lists what a state knows. It has a line for the horizon, and one line each for the
 /// numbers of live schedules, associations and timing points. If there is a full extract, the
-/// newest one has a line. If a live schedule has a last day, the latest last day has a line. The
-/// call counts all entries, and allocates nothing.
+/// newest one has a line. If a live schedule has a last day, there is a line for the latest of
+/// these last days. The call counts all entries, and allocates nothing.
 pub fn known_text(state: &State) -> KnownText
     ensures { IsKnownText state.now result.items }
 {
@@ -113,8 +113,8 @@ fn full_line(full: Option<FileStamp>) -> ArrayVec<u8, 37>
     text
 }
 
-/// The line of the latest last day of a schedule, with a line feed. There is no line if no schedule
-/// has a last day.
+/// The line of the latest of all schedules' last days, with a line feed. There is no line if no
+/// schedule has a last day.
 #[tactic(auto, unfolding(crate::specs::Known::last_line))]
 fn last_line(last: Option<Day>) -> ArrayVec<u8, 24>
     ensures { result.items ≡ last_line last }

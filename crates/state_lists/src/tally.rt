@@ -12,8 +12,8 @@ use cif_change::{Body, Key};
 use cif_line::Day;
 use docker_join::{Entry, Op};
 
-/// How many schedules, associations and timing points are live, and the latest last day of a live
-/// schedule. `last` is `None` if no live schedule has a last day.
+/// How many schedules, associations and timing points are live, and the latest of the last days of
+/// live schedules. `last` is `None` if no live schedule has a last day.
 #[derive(Clone, Copy, Debug)]
 pub(crate) struct Tally {
     pub(crate) schedules: usize,

@@ -12,9 +12,8 @@ pub record BeginUpTo (count : ℕ) (lines : List (List ℕ)) : Type 0 where
   pub begin : BeginsSchedule lines
   pub complete : length lines ≡ count → IsSchedule lines
 
--- says why a line that comes after these lines is refused. For `bad_body`, no schedule of `count`
--- lines begins with the lines followed by this line. For `None`, a schedule begins so, but memory
--- ran out for the line
+-- says why a line that comes after these lines is refused. For `bad_body`, no schedule of `count` lines begins with the lines followed by this line. For
+-- `None`, some schedule begins with them, but memory ran out for the line
 abbrev pub IsLineRefusal : ℕ → List (List ℕ) → List ℕ → Option StateCause → Type 0
 IsLineRefusal count lines line None = BeginUpTo count (lines ++ line ∷ [])
 IsLineRefusal count lines line (Some bad_body) = ¬ BeginUpTo count (lines ++ line ∷ [])
