@@ -27,6 +27,6 @@ pub record HasRead {K : Type 0} (parser : ParserState K) (format : Format) (limi
 abbrev pub HasFailed : {K : Type 0} → ParserState K → StateFault → Type 0
 HasFailed parser fault = parser.fault ≡ Some fault
 
--- says that the parser has read nothing, and has returned no fault
+-- says that the parser has read no bytes, and has returned no fault
 abbrev pub IsUnread : {K : Type 0} → ParserState K → Type 0
 IsUnread parser = HasRead parser (format_of parser.reading) parser.reading.limit []

@@ -126,7 +126,7 @@ pub record IsInnerLine {K : Type 0} (key : ScheduleKey) (count : ℕ) (reading :
   pub more : length reading.lines + 1 < count
   pub fresh : reading.partial.items ≡ []
 
--- says that one more line of the same schedule was read, and that the next part is a line again
+-- says that one more line of the schedule was read, and that the next part is a line again
 pub record HasOneLineMore {K : Type 0} (old new : StateReading K) : Type 0 where
   pub stage : new.stage ≡ old.stage
   pub partial : new.partial.items ≡ old.partial.items

@@ -1,6 +1,6 @@
 //! Readers of a state's text. Each state has exactly one text, and the readers accept no other text
-//! for it. Re-exports the writing of a text, and the causes for which a text is refused, from other
-//! crates.
+//! for it. Re-exports from other crates the functions that write a text, and the causes for which a
+//! text is refused.
 #![tactic(auto)]
 
 mod excerpt;

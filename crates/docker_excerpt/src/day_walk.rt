@@ -39,7 +39,7 @@ impl DayWalk {
         }
     }
 
-    /// The place.
+    /// The place of the docker.
     pub(crate) fn place(&self) -> Tiploc
         ensures { result ≡ self.now.walk.place }
     {

@@ -46,7 +46,7 @@ impl ExcerptWalk {
         }
     }
 
-    /// The place.
+    /// The place of the excerpt.
     pub(crate) fn place(&self) -> Tiploc
         ensures { result ≡ self.now.place }
     {

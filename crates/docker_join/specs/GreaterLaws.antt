@@ -1,4 +1,4 @@
--- The laws of taking the greater of two values. Some of them need that valid values that compare as equal are equal.
+-- The laws of taking the greater of two values. Some of them hold only if valid values that compare as equal are equal.
 use Rattle.std.proofs.Common.{◌≡◌, cond, refl, sym, subst, inl, inr, ◌⊎◌}
 use Rattle.std.specs.declared.cmp.Ordering.{Ordering}
 use Rattle.std.specs.declared.cmp.Ordering.TheVariants.{Less, Equal, Greater}

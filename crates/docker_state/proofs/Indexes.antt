@@ -1,4 +1,4 @@
--- The index of a state's rows, if it has one.
+-- The index of a state's rows, if the state has an index.
 use Rattle.std.proofs.Common.{◌≡◌, ℕ, List, map, ap, sym, ◌∙◌, subst, Some, None}
 use Rattle.std.specs.Prelude.{Option}
 use Rattle.docker_model.specs.file.Change as model

@@ -107,7 +107,7 @@ live_above key (first ∷ entries) above = by first.1.op (live_above key entries
     by lapsed rest = rest
     by (put_with body) rest = (above.0, rest)
 
--- the keys that a walk over ascending entries returns ascend
+-- the walk over ascending entries returns keys in ascending order
 pub ascends : (entries : List (Key × Entry)) → AreAscending entries → AreInKeyOrder (live_rows entries)
 ascends [] up = tt
 ascends (first ∷ entries) up = by first.1.op (ascends entries up.1)
@@ -117,6 +117,6 @@ ascends (first ∷ entries) up = by first.1.op (ascends entries up.1)
     by lapsed rest = rest
     by (put_with body) rest = (live_above first.0 entries up.0, rest)
 
--- the keys that the walk over the entries of a valid state returns ascend
+-- the walk over the entries of a valid state returns keys in ascending order
 pub live_ascends : (state : State) → IsValid state → (walked : List (Key × Body)) → walked ≡ live_rows state.entries → AreInKeyOrder walked
 live_ascends state valid walked is = subst AreInKeyOrder (sym is) (ascends state.entries valid.entries.1)

@@ -1,4 +1,4 @@
--- Adding a good entry to a state that is built from its ledger items and entries.
+-- Lemmas on adding a good entry to a state that is built step by step.
 use Rattle.std.proofs.Common.{◌≡◌, List, [], ◌∷◌, ◌++◌, map, ap, sym, ◌∙◌, subst}
 use Rattle.std.proofs.lemmas.List.{map-append}
 use Rattle.std.specs.Prelude.{Option}

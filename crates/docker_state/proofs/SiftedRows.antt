@@ -101,7 +101,7 @@ module _ (state : State) (valid : IsValid state) (place : List ℕ) where
   ascending_there links =
       filter_ascends (on (λ (row : Row). row.0) key_cmp) (passes links place) (live_rows state.entries) (ascends state.entries valid.entries.1)
 
-  -- the rows found for calls are exactly the live schedules that call at the place
+  -- the rows that the walk finds for `links` = false are exactly the live schedules that call at the place
   pub calling_sifted : AreCalling (live_table state) place (rows_here false place state.entries)
   calling_sifted = subst (AreCalling (live_table state) place) (sym (rows_here_are false place state.entries)) (record {
     ascending = ascending_there false;
@@ -111,7 +111,7 @@ module _ (state : State) (valid : IsValid state) (place : List ℕ) where
     );
   })
 
-  -- the rows found for links are exactly the live associations at the place
+  -- the rows that the walk finds for `links` = true are exactly the live associations at the place
   pub linked_sifted : AreLinked (live_table state) place (rows_here true place state.entries)
   linked_sifted = subst (AreLinked (live_table state) place) (sym (rows_here_are true place state.entries)) (record {
     ascending = ascending_there true;
@@ -121,6 +121,6 @@ module _ (state : State) (valid : IsValid state) (place : List ℕ) where
     );
   })
 
-  -- the number of rows found for calls is the number of live schedules that call at the place
+  -- the number of rows that the walk finds for `links` = false is the number of live schedules that call at the place
   pub calls_counted : (count : ℕ) → count ≡ length (rows_here false place state.entries) → IsCallingCount (live_table state) place count
   calls_counted count is = (rows_here false place state.entries, calling_sifted, sym is)

@@ -207,7 +207,7 @@ greater_of Less h = absurd (let bad : true ≡ false = h in cc)
 greater_of Equal h = absurd (let bad : true ≡ false = h in cc)
 greater_of Greater h = refl
 
--- the rows between the two indexes are exactly the UID's schedules
+-- the `m` rows from index `n` on are exactly the UID's schedules
 pub piece_is : (uid : List ℕ) (rows rest here : List (Key × Entry)) (n m : ℕ) → n ≤ length rows → rest ≡ drop n rows → m ≤ length rest → here ≡ take m rest
     → IsPartitionPoint (λ row. is_before uid row ≡ true) (λ row. is_before uid row ≡ false) rows n
     → IsPartitionPoint (λ row. is_up_to uid row ≡ true) (λ row. is_up_to uid row ≡ false) rest m → IsPieceOfUid uid rows here

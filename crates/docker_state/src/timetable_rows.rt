@@ -33,7 +33,8 @@ impl<'a> Model for TimetableRows<'a> {
 }
 
 impl<'a> TimetableRows<'a> {
-    /// An iterator over those of these rows that count: all of them, or only the permanent ones.
+    /// An iterator over these rows. If `permanent` is true, it skips the rows that aren't
+    /// permanent.
     pub(crate) fn of(rows: Numbered<'a>, permanent: bool) -> TimetableRows<'a>
         ensures { result ≡ counted_rows (counts permanent) rows.entry }
     {
@@ -79,8 +80,8 @@ impl<'a> Model for UidSchedules<'a> {
 }
 
 impl<'a> UidSchedules<'a> {
-    /// An iterator over those of these schedules that count: all of them, or only the permanent
-    /// ones.
+    /// An iterator over these schedules. If `permanent` is true, it skips the schedules that aren't
+    /// permanent.
     pub(crate) fn of(rows: Live<'a>, permanent: bool) -> UidSchedules<'a>
         ensures { result ≡ counted_rows (counts permanent) rows.entry }
     {

@@ -106,7 +106,7 @@ at_most_all (pair ∷ pairs) = let one = few_links pair.0 pair.1 in let rest = a
 abbrev pub changed : List model.Change → List Pair
 changed changes = map (λ (change : model.Change). (change.key, op_of change.act)) changes
 
--- the number of spots (pairs of a TIPLOC and a row) where rows call is the sum, over all rows, of the number of places where the row's schedule calls
+-- the number of spots (pairs of a TIPLOC and a row) of calls is the sum, over all rows, of the number of places where the row's schedule calls
 pub places_of_rows : (rows : List Keyed) → length (spots_of call_places rows) ≡ total (λ key op. length (call_places key op)) (pairs_of rows)
 places_of_rows rows = spots_total call_places 0 rows
 
@@ -118,7 +118,7 @@ links_of_rows rows =
     let three = length-map {B = Pair} rows (λ (row : Keyed). (row.0, row.1.op)) in
     omega arith
 
--- the rows that changes make call in total at no more places than the changes do
+-- the rows made by changes have in total at most as many calls as the changes
 pub places_of_changes : (rows : List Keyed) (changes : List model.Change) → AreAscending rows → AreMadeBy changes rows
     → length (spots_of call_places rows) ≤ total (λ key op. length (call_places key op)) (changed changes)
 places_of_changes rows changes up made =

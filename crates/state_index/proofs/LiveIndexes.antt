@@ -1,4 +1,4 @@
--- The spots of a state's rows determine the indexes of its live table. A spot is a TIPLOC with the index of a row there. The rows at a place's spots are
+-- The spots of a state's rows determine the indexes of its live table. A spot is a TIPLOC with the index of a row there. The rows that a place's spots name are
 -- exactly the schedules that call there and the associations that are linked there.
 use Rattle.std.proofs.Common.{◌≡◌, ℕ, List, [], ◌∷◌, ◌++◌, map, refl, ap, sym, ◌∙◌, subst, Some, None, Contains}
 use Rattle.std.specs.Prelude.{Option, slice_get, option_and_then}
@@ -60,7 +60,7 @@ module _ {K : Type 0} (wrap : K → Key) (row_of : List ℕ → Key → Option (
   abbrev IndexRow : Type 0
   IndexRow = List ℕ × K
 
-  -- the row of the live table's index for a spot (a TIPLOC and a row's index); none unless the row's key is of the kind that the index lists
+  -- the row that the live table's index has for a spot (a TIPLOC and a row's index); none unless the row's key is of the kind that the index lists
   abbrev row_at : List Keyed → Spot → Option IndexRow
   row_at rows spot = option_and_then (λ (row : Keyed). row_of spot.place row.0) (slice_get rows spot.at)
 

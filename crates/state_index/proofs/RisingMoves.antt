@@ -11,7 +11,7 @@ use Rattle.state_index.specs.Joined.{AreRising}
 none_some : {A : Type 0} (a : A) → None ≡ Some a → ⊥
 none_some a h = cc
 
--- Says that the indexes to which rows are moved are strictly increasing, and that none is below a given index.
+-- Says that the indexes of rows in a join are strictly increasing, and that none is below a given index.
 abbrev RiseFrom : ℕ → List (Option ℕ) → Type 0
 RiseFrom low [] = ⊤
 RiseFrom low (None ∷ moves) = RiseFrom low moves

@@ -7,12 +7,12 @@ use Rattle.docker_model.specs.state.Op.{Entry}
 use Rattle.state_laws.specs.Index.{CallingRow, LinkedRow}
 use Rattle.state_index.specs.SpotOrder.{Spot}
 
--- the row of the index of calls for a place and a key; none unless the key is a schedule's
+-- the row that the index of calls has for a place and a key; none unless the key is a schedule's
 abbrev pub calling_row : List ℕ → Key → Option CallingRow
 calling_row place (schedule_key key) = Some (place, key)
 calling_row _ _ = None
 
--- the row of the index of links for a place and a key; none unless the key is an association's
+-- the row that the index of links has for a place and a key; none unless the key is an association's
 abbrev pub linked_row : List ℕ → Key → Option LinkedRow
 linked_row place (association_key key) = Some (place, key)
 linked_row _ _ = None

@@ -1,5 +1,6 @@
 //! The laws of indexes. An index of a state's rows determines the indexes of its live table, and
-//! the same rows always have the same index. Each law is the contract of a function without a body.
+//! the same rows always have the same index. Each law is the contract of a function with an empty
+//! body.
 ghost use Rattle.std.specs.Prelude.{◌≡◌, List};
 ghost use Rattle.docker_model.specs.file.Change.{Key};
 ghost use Rattle.docker_model.specs.state.Op.{Entry};

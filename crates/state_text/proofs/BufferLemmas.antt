@@ -188,7 +188,7 @@ pub mapped_join : {A B : Type 0} (f : B → List ℕ) (m : A → B) (xs ys : Lis
     → flat_map f (map m (xs ++ ys)) ≡ flat_map f (map m xs) ++ flat_map f (map m ys)
 mapped_join f m xs ys = ap (flat_map f) (map-append m xs ys) ∙ flat_map-append f (map m xs) (map m ys)
 
--- the bytes of two concatenated lists of lines are the bytes of the first list followed by the bytes of the second
+-- the bytes of two concatenated lists of lines are the bytes of the first list followed by the bytes of the second list
 pub concat_join : (xs ys : List (List ℕ)) → concat (xs ++ ys) ≡ concat xs ++ concat ys
 concat_join [] ys = refl
 concat_join (x ∷ xs) ys = ap (λ zs. x ++ zs) (concat_join xs ys) ∙ sym (append_assoc x (concat xs) (concat ys))

@@ -17,7 +17,7 @@ use Rattle.state_text.specs.Judged.{MayFollow, Judges}
 use Rattle.state_text.specs.declared.stage.Stage.{Stage}
 use Rattle.state_text.specs.Stage.{stage_meant, IsFresh}
 
--- if an item may follow a ledger, the ledger with this item appended is a ledger
+-- if an item may come next in a ledger, the ledger with this item appended is a ledger
 pub item_follows : (ledger told : List LedgerItem) (item meant : LedgerItem) → told ≡ ledger → IsLedger ledger → meant ≡ item → MayFollow told item
     → IsLedger (ledger ++ meant ∷ [])
 item_follows ledger told item meant same is equal may =

@@ -11,8 +11,7 @@ use Rattle.docker_model.specs.state.StateFault as model
 use Rattle.state_text.specs.declared.cause.StateCause.{StateCause}
 use Rattle.state_text.specs.declared.cause.StateCause.TheVariants as cause
 
--- converts a cause from the code's type to the definitions' type. The result is `None` for out of
--- memory, which is never a fault of a text
+-- converts a cause from the code's type to the definitions' type. The result is `None` for `Memory`, which is never a fault of a text
 abbrev pub cause_meant : StateCause → Option model.StateCause
 cause_meant cause.Mark = Some bad_mark
 cause_meant cause.Item = Some bad_item

@@ -57,18 +57,18 @@ abbrev pub IsJudgedKey : State → model.Key → Result Key StateCause → Type 
 IsJudgedKey state key (Ok told) = (key_meant told ≡ key) × IsGoodKey key × IsAboveEntries state key
 IsJudgedKey state key (Err cause) = IsKeyCause state key (cause_meant cause)
 
--- says that the line is an association with this key, and doesn't end before the horizon
+-- says that the line is an association with this key, and that the association doesn't end before the horizon
 abbrev pub IsAssociationUnder : ℕ → model.AssociationKey → List ℕ → Type 0
 IsAssociationUnder horizon key line = IsAssociationOf key line × (horizon ≤ body_end (association_body line))
 
--- says that the line has the transaction `N` and this key, and doesn't end before the horizon
+-- says that the line has the transaction `N` and this key, and that its schedule doesn't end before the horizon
 pub record IsOfKey (horizon : ℕ) (key : model.ScheduleKey) (line : List ℕ) : Type 0 where
   pub new : HasNewTransaction line
   pub key_is : schedule_named line ≡ schedule_key key
   pub stays : horizon ≤ readable_end (columns 16 21 line)
 
--- says that the line may begin a schedule with this key. The line is a basic schedule with good
--- fields, the transaction `N` and this key, and it doesn't end before the horizon
+-- says that the line may begin a schedule with this key. The line is a basic schedule with good fields, the transaction `N` and this key, and its schedule
+-- doesn't end before the horizon
 pub record IsFirstOf (horizon : ℕ) (key : model.ScheduleKey) (line : List ℕ) : Type 0 where
   pub kind : HasKind basic_schedule line
   pub fields : HasGoodFields line

@@ -115,8 +115,8 @@ fn is_same(first: &Key, second: &Key) -> bool
     first == second
 }
 
-/// Whether a line has the transaction `N` and this schedule key, and doesn't end before the
-/// horizon. The line's other fields aren't checked.
+/// Whether a line has the transaction `N` and this schedule key, and its schedule doesn't end
+/// before the horizon. The line's other fields aren't checked.
 pub(crate) fn is_first_of(key: &ScheduleKey, horizon: u16, line: &Line) -> bool
     ensures of_key { IsTrue result → IsOfKey horizon (schedule_meant key.now) line.now }
     ensures refused { result ≡ false → ¬ IsFirstOf horizon (schedule_meant key.now) line.now }

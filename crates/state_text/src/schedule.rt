@@ -124,8 +124,8 @@ impl Gathered {
         }
     }
 
-    /// Returns the lines in memory of just their size. They are copied only if the buffer's memory
-    /// is larger than the lines need.
+    /// Returns the lines in memory of exactly their size. They are copied only if the buffer's
+    /// memory is larger than the lines need.
     pub(crate) fn take_body(&mut self, alloc: Global) -> Result<Lines, AllocError>
         ensures { IfOk result (λ lines. lines ≡ self.old) }
     {
@@ -139,9 +139,9 @@ impl Gathered {
     }
 
     /// Judges the next line of a schedule of `count` lines, and then adds the line. Returns `Body`
-    /// if no schedule begins with the lines and this one; the lines are then unchanged. Also
-    /// returns `Body` if this is the last line and the lines with it aren't a schedule; all lines
-    /// are then dropped. If memory runs out, all lines are dropped too.
+    /// if no schedule begins with the earlier lines and this line; the earlier lines are then
+    /// unchanged. Also returns `Body` if this is the last line and the lines with it aren't a
+    /// schedule; all lines are then dropped. If memory runs out, all lines are dropped too.
     fn take(&mut self, line: &Line, count: u32) -> Result<(), StateCause>
         requires { length self.old < count }
         ensures taken { IsOk result → self.new ≡ self.old ++ line.now ∷ [] }
@@ -211,8 +211,8 @@ impl Gathered {
 }
 
 /// Whether the key and the horizon allow this line to come next. They allow any line after the
-/// first. The first line must have the transaction `N` and this key, and must not end before the
-/// horizon. `Journey::line` judges the other fields.
+/// first. The first line must have the transaction `N` and this key, and its schedule must not end
+/// before the horizon. `Journey::line` judges the other fields.
 fn may_follow<K: Keeper>(
     key: &ScheduleKey,
     parts: &PartsSoFar<K>,

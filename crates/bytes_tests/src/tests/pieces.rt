@@ -86,7 +86,7 @@ pub(super) const GREATEST: &[u8] = b"\x8e\xac";
 /// The number after the greatest day number.
 pub(super) const TOO_LATE: &[u8] = b"\x8e\xad";
 
-/// Two counts of 0.
+/// The count of ledger items and the count of entries, both 0.
 pub(super) const NOTHING: &[u8] = b"\0\0\0\0\0\0\0\0\0\0\0\0\0\0\0\0";
 
 /// The tag, the key and the stamp of the schedule of C10001.

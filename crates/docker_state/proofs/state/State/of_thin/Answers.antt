@@ -1,4 +1,4 @@
--- The result is the state that the thin changes kept from the file make.
+-- The result is the state that the thin changes of the file make.
 use Rattle.std.proofs.Common.{map, ap, subst, sym, ◌∙◌}
 use Rattle.cif_change.specs.Meaning.{change_meant}
 use Rattle.cif_file.specs.ThinRead.{ThinRead}
