@@ -100,14 +100,14 @@ module _ {E : Type 0} where
   below_higher [] highs row below above = tt
   below_higher (low ∷ lows) highs row below above = (above_lower low row highs below.0.0 above, below_higher lows highs row below.1 above)
 
-  -- if the first of a list of ascending rows is above a row, all rows of the list are above it
+  -- if the first row of an ascending list is above a given row, all rows of the list are above it
   above_row : (rows : List (Key × E)) (row d : Key × E) → AreAscending rows → (0 < length rows → row_cmp (get_or rows 0 d) row ≡ Greater) → Above row rows
   above_row [] row d up over = tt
   above_row (x ∷ rows) row d up over =
       let below : row_cmp row x ≡ Less = key_total.antisymm (key_meant row.0) (key_meant x.0) ∙ ap ordering_reverse (over (omega arith)) in
       (below, above_lower row x rows below up.0)
 
-  -- if the last of a list of ascending rows is below a row, all rows of the list are below it
+  -- if the last row of an ascending list is below a given row, all rows of the list are below it
   below_row : (rows : List (Key × E)) (last : ℕ) (row d : Key × E) → AreAscending rows
       → (0 < length rows → (last + 1 ≡ length rows) × (row_cmp (get_or rows last d) row ≡ Less)) → AllBelow rows (row ∷ [])
   below_row [] last row d up under = tt

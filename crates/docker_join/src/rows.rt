@@ -50,7 +50,8 @@ pub fn join_rows<E: Pick>(first: Vec<(Key, E)>, mut second: Vec<(Key, E)>) -> Ve
 /// Places a row of the second table. Returns how many rows of the first table are still to be
 /// placed. `rows` is a ring buffer: its first rows are the placed rows, and its last `left` rows
 /// are still to be placed. First places the rows of the first table that have greater keys, and
-/// then this row. If the next row has the same key, the join of both is placed instead.
+/// then this row. If the first table has a row with the same key, the join of both rows is placed
+/// instead.
 fn place<E: Pick>(rows: &mut VecDeque<(Key, E)>, left: usize, row: (Key, E)) -> usize
     requires left { left ≤ deque_len rows.old }
     requires room { deque_len rows.old < deque_capacity rows.old }

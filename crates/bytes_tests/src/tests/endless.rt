@@ -16,7 +16,7 @@ use std::alloc::Global;
 use std::process::Abort;
 use test_records::{AA_JOIN, BS, HD, LO, LT, ZZ};
 
-/// The limit for a text if the test doesn't set one.
+/// The limit for the length of a text, if the test doesn't set one.
 const MOST_BYTES: u64 = 1_099_511_627_776;
 
 /// The head of a schedule's entry, with the greatest count of lines.
