@@ -193,7 +193,7 @@ fn day(rt: &impl Abort) -> Day {
     Day::from_iso("2024-06-15").expect(rt, "a day")
 }
 
-/// Asserts that a text has this fault, both when it is read with this limit and when a parser with
+/// Asserts that a text has this fault. The text is first read with this limit. Then a parser with
 /// this limit is fed the text, `step` bytes at a time.
 fn refused_by(
     rt: &impl Abort,
@@ -362,8 +362,8 @@ fn a_fault_is_reported_again(rt: HostRuntime) {
     same(&rt, parser.finish().err(), Some(fault));
 }
 
-/// Asserts that the cause of a parser's fault is `Memory`, that the fault is at the ledger item or
-/// at the entry, and that the parser returns the same fault again.
+/// Asserts that the cause of a parser's fault is `Memory`, and that the fault is at the ledger item
+/// or at the entry. The parser returns the same fault again.
 fn runs_out_of_memory(rt: &impl Abort, parser: &mut StateParser, known: &[u8], fault: StateFault) {
     same(rt, fault.cause, StateCause::Memory);
     same(rt, fault.at == 14 || fault.at == 41, true);

@@ -120,7 +120,7 @@ pub record IsLineOf (key : ScheduleKey) (count : ℕ) (at : Stage) : Type 0 wher
   pub stamp : Stamp
   pub is : at ≡ Line entries key stamp count
 
--- says that the next part is a line of the schedule with this key, but not the last of its `count` lines, and that no byte of this line has been read
+-- says that the next part is a line of the schedule with this key, but not the last of its `count` lines. No byte of this line has been read
 pub record IsInnerLine {K : Type 0} (key : ScheduleKey) (count : ℕ) (reading : StateReading K) : Type 0 where
   pub stage : IsLineOf key count reading.stage
   pub more : length reading.lines + 1 < count

@@ -1,4 +1,5 @@
--- Each docker of the state that the thin changes of a file make, for the place and the day of these changes, is a docker of the state of the whole file.
+-- Thin changes of a file are made for one place and day. Each docker of the state that they make, for this place and day, is a docker of the state of the whole
+-- file.
 use Rattle.std.proofs.Common.{◌≡◌, ℕ, ◌≤◌, List, [], ◌∷◌, length, map, refl, ap, sym, ◌∙◌, subst, cond, None}
 use Rattle.std.specs.Prelude.{Option, option_and_then, slice_index_or}
 use Rattle.docker_model.specs.file.File.{IsFile, first_record, most_records}

@@ -88,8 +88,8 @@ module _ (floor : Option FileStamp) (horizon : ℕ) where
         (filter_forth (keeps floor) entries (key, told.0) told.1 (is_keeps floor told.0.stamp.file told.2))),
   )
 
-  -- to get the rows of the join, take the row with the greater entry of each key, remove the rows below the floor, and let entries that ended before the
-  -- horizon lapse
+  -- take the row with the greater entry of each key, remove the rows below the floor, and let entries that ended before the horizon lapse. The result is the
+  -- rows of the join
   pub joined_is : (first second : List Row) (joined : List Keyed) → AreAscending first → AreAscending second → AreJoined first second floor horizon joined
       → joined ≡ kept_lapsed floor horizon (map row_meant (map winner (turns_of first second)))
   joined_is first second joined up_first up_second is =

@@ -142,8 +142,8 @@ postings_made places rows names made postings named are up same = record {
   };
 }
 
--- it makes no difference whether postings of rows that aren't live are removed before or after the postings are turned into spots, which have the TIPLOC in
--- place of its index
+-- postings of rows that aren't live may be removed before or after the postings are turned into spots, which have the TIPLOC in place of its index. The result
+-- is the same
 pub kept_spots : (names : List (List ℕ)) (rows : List Keyed) (postings : List Posting)
     → spots_in names (filter (is_put_at_posting rows) postings) ≡ filter (is_put_at rows) (spots_in names postings)
 kept_spots names rows [] = refl

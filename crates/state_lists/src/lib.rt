@@ -1,5 +1,5 @@
 //! Lists the timing points that a state knows, with the number of schedules that call at each, and
-//! prints a summary of the state in a few lines.
+//! prints what the state knows in a few lines.
 #![tactic(auto)]
 
 mod known;

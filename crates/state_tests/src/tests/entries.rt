@@ -39,7 +39,7 @@ fn op(rt: &impl Abort, place: u8) -> Op {
     }
 }
 
-/// The record number in the stamp of one of the nine entries.
+/// The record number in the stamp of one of the nine entries, which are numbered 0 to 8.
 fn number(place: u8) -> u32 {
     match place {
         0 => 2,

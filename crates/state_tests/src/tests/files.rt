@@ -41,14 +41,14 @@ fn file_is(rt: &impl Abort, alloc: Global, file: &[&[u8]], lines: &[&[u8]]) {
     made_is(rt, alloc, state(rt, alloc, file), lines);
 }
 
-/// How the state of a file that puts a schedule and then deletes it is shown.
+/// What is shown for the state of a file that puts a schedule and then deletes it.
 const PUT_AND_DELETED: &[&[u8]] = &[
     b"item 23536 1260 DFROC1A U DFROC1Z",
     b"C10001 23537: record 5 of 23536 1260 DFROC1A",
     b"deleted",
 ];
 
-/// How the state is shown if the file that puts and deletes the schedule is a full extract.
+/// What is shown for the state if the file that puts and deletes the schedule is a full extract.
 const PUT_AND_DELETED_IN_FULL: &[&[u8]] = &[
     b"item 23536 1260 DFROC1A F DFROC1Z",
     b"floor 23536 1260 DFROC1A",
@@ -89,7 +89,7 @@ fn pair_is(rt: &impl Abort, alloc: Global, one: &[&[u8]], other: &[&[u8]], lines
 /// A file with one schedule.
 const ONE_SCHEDULE: &[&[u8]] = &[HD, BS, LO, LT, ZZ];
 
-/// How the join of a schedule and its revision is shown.
+/// What is shown for the join of a schedule and its revision.
 pub(super) const REVISED: &[&[u8]] = &[
     b"item 23536 1260 DFROC1A U DFROC1Z",
     b"item 23537 1260 DFROC1B U DFROC1A",
@@ -103,7 +103,7 @@ pub(super) const REVISED: &[&[u8]] = &[
     LT_0935,
 ];
 
-/// How the join of a deletion and an older put of the same schedule is shown.
+/// What is shown for the join of a deletion and an older put of the same schedule.
 const DELETED_FIRST: &[&[u8]] = &[
     b"item 23535 1260 DFROC1A U DFROC1Z",
     b"item 23536 1260 DFROC1B U DFROC1A",
@@ -111,7 +111,7 @@ const DELETED_FIRST: &[&[u8]] = &[
     b"deleted",
 ];
 
-/// How the join of a TIPLOC insert and a later amendment with a new code is shown.
+/// What is shown for the join of a TIPLOC insert and a later amendment with a new code.
 const RENAMED: &[&[u8]] = &[
     b"item 23536 1260 DFROC1A U DFROC1Z",
     b"item 23537 1260 DFROC1B U DFROC1A",
@@ -123,7 +123,7 @@ const RENAMED: &[&[u8]] = &[
     &BODY_OF_TA,
 ];
 
-/// How the join of two files with the same file stamp is shown.
+/// What is shown for the join of two files with the same file stamp.
 const OF_ONE_STAMP: &[&[u8]] = &[
     b"item 23536 1260 DFROC1A F DFROC1Z",
     b"item 23536 1260 DFROC1A U DFROC1Z",
@@ -179,7 +179,7 @@ fn equal_stamps(rt: HostRuntime) {
     stays(&rt, alloc, &[HD, BS_DELETED, ZZ], BS, LO);
 }
 
-/// How the join of an update, a later full extract and an even later update is shown.
+/// What is shown for the join of an update, a later full extract and an even later update.
 const THREE_FILES: &[&[u8]] = &[
     b"item 23534 1260 DFROC1B F DFROC1A",
     b"item 23536 1260 DFROC1C U DFROC1B",

@@ -9,7 +9,7 @@ use test_records::{
     LO_0905, LT, LT_0935, TI, ZZ,
 };
 
-/// How a schedule is shown if the horizon is its last day.
+/// What is shown for a schedule if the horizon is its last day.
 const LIVE: &[&[u8]] = &[
     b"horizon 23541",
     b"item 23536 1260 DFROC1A U DFROC1Z",
@@ -23,7 +23,7 @@ const LIVE: &[&[u8]] = &[
     LT,
 ];
 
-/// How the schedule is shown if the horizon is the day after its last day.
+/// What is shown for the schedule if the horizon is the day after its last day.
 const LAPSED: &[&[u8]] = &[
     b"horizon 23542",
     b"item 23536 1260 DFROC1A U DFROC1Z",
@@ -52,7 +52,7 @@ const REVISION: &[&[u8]] = &[HD_10B, BS_REVISED, LO_0905, LT_0935, ZZ];
 /// An older file, in which the same schedule ends later.
 const OLDER: &[&[u8]] = &[HD_8A, BS_JULY, LO, LT, ZZ];
 
-/// How the join of the two files is shown if the horizon is after the revision's end.
+/// What is shown for the join of the two files if the horizon is after the revision's end.
 const REVISION_LAPSED: &[&[u8]] = &[
     b"horizon 23542",
     b"item 23535 1260 DFROC1A U DFROC1Z",
@@ -93,7 +93,8 @@ fn a_horizon_between_two_files(rt: HostRuntime) {
     lapses(&rt, alloc, (REVISION, none), (OLDER, none), day);
 }
 
-/// How a deletion and a schedule without an end are shown if the horizon is the last possible day.
+/// What is shown for a deletion and a schedule without an end if the horizon is the last possible
+/// day.
 const WITHOUT_END: &[&[u8]] = &[
     b"horizon 36524",
     b"item 23536 1260 DFROC1A U DFROC1Z",

@@ -123,7 +123,7 @@ const UPDATE: &[&[u8]] = &[HD_5A, BS_C10003, BS, LO, LT, ZZ];
 /// A later full extract, with a third schedule.
 const EXTRACT: &[&[u8]] = &[HD_7B, BS_C10002, LO_1000, LT_1030, ZZ];
 
-/// How a state with only the full extract is shown.
+/// What is shown for a state with only the full extract.
 const EXTRACT_ONLY: &[&[u8]] = &[
     b"item 23534 1260 DFROC1B F DFROC1A",
     b"floor 23534 1260 DFROC1B",

@@ -1,4 +1,5 @@
--- Each docker of the state that the thin changes of a file make, for the place and the day of these changes, is a docker of the state of the whole file.
+-- Thin changes of a file are made for one place and day. Each docker of the state that they make, for this place and day, is a docker of the state of the whole
+-- file.
 use Rattle.std.proofs.Common.{ap, sym, ◌∙◌, subst}
 use Rattle.docker_excerpt.specs.Values.{Excerpt, with_entries, StandsAt}
 use Rattle.docker_excerpt.proofs.ThinExcerpt.{given_is_state, state_is_summary, thin_stands}
