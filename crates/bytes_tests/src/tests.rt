@@ -193,8 +193,8 @@ fn day(rt: &impl Abort) -> Day {
     Day::from_iso("2024-06-15").expect(rt, "a day")
 }
 
-/// Asserts that a text has this fault. The text is first read with this limit. Then a parser with
-/// this limit is fed the text, `step` bytes at a time.
+/// Asserts that, with this limit, a text has this fault: when it is read, and when a parser is fed
+/// the text, `step` bytes at a time.
 fn refused_by(
     rt: &impl Abort,
     alloc: Global,

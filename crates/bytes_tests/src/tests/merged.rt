@@ -111,7 +111,7 @@ const SEVENTH: Records = &[HD_7B, BS_C10002, LO_1000, LT_1030, ZZ];
 /// An update of 9 June.
 const NINTH: Records = &[HD_9C, BS, LO_1100, LT_1130, ZZ];
 
-/// The text of the state of the three files.
+/// The text of the state of `FIFTH`, `SEVENTH` and `NINTH`.
 const OF_LATE: Records = &[
     MARK,
     TWO,
@@ -128,7 +128,7 @@ const OF_LATE: Records = &[
     LT_1030,
 ];
 
-/// The three files in each order, with a name for each order.
+/// The files `FIFTH`, `SEVENTH` and `NINTH` in each order, with a name for each order.
 const ORDERS: &[(&[Records], &str)] = &[
     (&[FIFTH, SEVENTH, NINTH], "5, 7, 9"),
     (&[FIFTH, NINTH, SEVENTH], "5, 9, 7"),
