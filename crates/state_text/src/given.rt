@@ -22,7 +22,7 @@ impl Model for Given {
 }
 
 impl Given {
-    /// Returns a value without entries.
+    /// Returns a `Given` without entries.
     pub fn new() -> Given
         ensures { result.entries ≡ [] }
     {
