@@ -34,6 +34,7 @@ open_line text = last_of (pieces_of text)
 abbrev pub complete_lines : List ℕ → Lines
 complete_lines text = map strip_carriage_return (but_last (pieces_of text))
 
--- a list with one line, the line in this piece, or the empty list if the piece is empty
+-- the line that the last piece of a text makes, as a list: the piece without a carriage return at
+-- its end, or no line if the piece is empty
 abbrev pub line_left : List ℕ → Lines
 line_left piece = map strip_carriage_return (last_piece piece)

@@ -9,13 +9,14 @@ use Rattle.docker_model.specs.file.Change.{Key, tiploc_key, association_key, sch
 use Rattle.docker_model.specs.state.Op.{Op, put_with, Entry}
 use Rattle.docker_model.specs.state.State.{State}
 
--- the state of a walk after any number of entries: the kept entries, and the entries of the current
--- run. The run may still be dropped
+-- what a walk has computed after any number of entries. The field `kept` has the entries that are
+-- in the excerpt for certain. The field `run` has the entries for the schedules of the current UID,
+-- which may still be dropped
 pub record ExcerptSoFar : Type 0 where
   pub kept : List (Key × Entry)
   pub run : List (Key × Entry)
 
--- the state of a walk before the first entry: no kept entries, and no run
+-- what a walk has before its first entry: the fields `kept` and `run` are empty
 abbrev pub nothing_kept : ExcerptSoFar
 nothing_kept = record { kept = []; run = [] }
 
@@ -44,7 +45,8 @@ abbrev pub is_call : List ℕ → Op → Bool
 is_call place (put_with (schedule_body lines)) = calls_at place lines
 is_call place _ = false
 
--- whether the run's UID is among these UIDs. For an empty run the result is false
+-- whether the UID of the schedules in a run is one of the UIDs in `names`. For an empty run the
+-- result is false
 abbrev pub is_run_named : List (List ℕ) → List (Key × Entry) → Bool
 is_run_named names [] = false
 is_run_named names (first ∷ run) = list_any (λ name. has_uid name first.0) names
@@ -53,13 +55,14 @@ is_run_named names (first ∷ run) = list_any (λ name. has_uid name first.0) na
 abbrev pub is_run_calling : List ℕ → List (Key × Entry) → Bool
 is_run_calling place run = list_any (λ entry. is_call place entry.1.op) run
 
--- whether the run is needed: its UID belongs to the associated train of a kept association, or one
--- of its entries puts a schedule that calls at the place
+-- whether the docker needs the schedules in `run`. It needs them if their UID belongs to the
+-- associated train of a kept association, or if one of these schedules is live and calls at the
+-- place
 abbrev pub is_run_needed : List ℕ → ExcerptSoFar → Bool
 is_run_needed place so_far = is_run_named (names_in so_far.kept) so_far.run || is_run_calling place so_far.run
 
--- the kept entries at the end of the run: the run is appended if it is needed, and dropped
--- otherwise
+-- the kept entries after the current run has ended. The entries in `run` are appended if the docker
+-- needs them, and dropped otherwise
 abbrev pub kept_after_run : List ℕ → ExcerptSoFar → List (Key × Entry)
 kept_after_run place so_far = if is_run_needed place so_far then so_far.kept ++ so_far.run else so_far.kept
 
@@ -68,7 +71,7 @@ abbrev pub goes_on : List (Key × Entry) → List ℕ → Bool
 goes_on [] uid = false
 goes_on (first ∷ run) uid = has_uid uid first.0
 
--- the state of the walk after one more entry, given as key and entry
+-- the fields `kept` and `run` after one more entry, which is given as a key and an entry
 abbrev pub with_entry_of : List ℕ → ExcerptSoFar → Key → Entry → ExcerptSoFar
 with_entry_of place so_far (schedule_key key) entry =
     if goes_on so_far.run key.uid then record { kept = so_far.kept; run = so_far.run ++ (schedule_key key, entry) ∷ [] }
@@ -77,15 +80,15 @@ with_entry_of place so_far key entry =
     if is_here place key then record { kept = kept_after_run place so_far ++ (key, entry) ∷ []; run = [] }
     else record { kept = kept_after_run place so_far; run = [] }
 
--- the state of the walk after one more entry, given as a pair
+-- the fields `kept` and `run` after one more entry, which is given as a pair
 abbrev pub next_kept : List ℕ → ExcerptSoFar → Key × Entry → ExcerptSoFar
 next_kept place so_far entry = with_entry_of place so_far entry.0 entry.1
 
--- the kept entries at the end of a walk that continues from this state over these entries
+-- the kept entries at the end of a walk that continues from `so_far` over the entries in `rest`
 abbrev pub kept_from : List ℕ → ExcerptSoFar → List (Key × Entry) → List (Key × Entry)
 kept_from place so_far rest = kept_after_run place (fold (next_kept place) so_far rest)
 
--- the state of a walk that has passed these entries, from the first to the last
+-- the fields `kept` and `run` after a walk over these entries
 abbrev pub kept_so_far : List ℕ → List (Key × Entry) → ExcerptSoFar
 kept_so_far place entries = fold (next_kept place) nothing_kept entries
 
@@ -93,8 +96,8 @@ kept_so_far place entries = fold (next_kept place) nothing_kept entries
 abbrev pub excerpt_for : List ℕ → State → State
 excerpt_for place state = record { horizon = state.horizon; ledger = state.ledger; entries = kept_after_run place (kept_so_far place state.entries) }
 
--- after these entries the walk has kept `kept`, and its current run is `run`. The flag `needed`
--- says whether this run is needed, given the kept entries
+-- after these entries, a walk has the fields `kept` and `run`. The flag `needed` says whether the
+-- docker needs the schedules in `run`
 pub record HasKept (place : List ℕ) (entries kept run : List (Key × Entry)) (needed : Bool) : Type 0 where
   pub so_far : kept_so_far place entries ≡ record { kept = kept; run = run }
   pub is_needed : is_run_needed place (record { kept = kept; run = run }) ≡ needed

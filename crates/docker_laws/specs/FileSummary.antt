@@ -17,8 +17,8 @@ placed Less entry first entries rest = entry ∷ first ∷ entries
 placed Equal entry first entries rest = first ∷ entries
 placed Greater entry first entries rest = first ∷ rest
 
--- the list, in key order, after one older entry is inserted. The older entry is left out if the
--- list already has an entry with the same key
+-- the list, in key order, after an entry is inserted. The entry is left out if the list already has
+-- an entry with the same key
 abbrev pub with_earlier : Key × Entry → List (Key × Entry) → List (Key × Entry)
 with_earlier entry [] = entry ∷ []
 with_earlier entry (first ∷ entries) = placed (key_cmp entry.0 first.0) entry first entries (with_earlier entry entries)

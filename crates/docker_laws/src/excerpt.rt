@@ -73,9 +73,9 @@ pub fn walk_leaves_excerpt()
 {}
 
 /// The walk that computes an excerpt can stop after any entry and continue from there, with the
-/// same result. The walk has a list of kept entries and the run of the current UID. The kept
-/// entries, followed by the run, are a sublist of the entries that the walk has passed. If a state
-/// may have the passed entries, it may also have this sublist.
+/// same result. The walk has a list of kept entries, and a run: the entries for the schedules of
+/// the current UID. The kept entries, followed by the run, are a sublist of the entries that the
+/// walk has passed. If a state may have the passed entries, it may also have this sublist.
 pub fn excerpt_in_a_walk()
     ensures none { (place : List ℕ) → kept_so_far place [] ≡ nothing_kept }
     ensures more { (place : List ℕ) (entries : List (Key × Entry)) (entry : Key × Entry)
@@ -100,11 +100,11 @@ pub fn excerpt_in_a_walk()
         ++ (kept_so_far place entries).run) }
 {}
 
-/// Each step of the walk that computes an excerpt handles one entry. When the walk reaches a TIPLOC
-/// or an association, its run is empty, because TIPLOCs and associations are before all schedules
-/// in key order. A TIPLOC or an association is kept if it is at the place. A schedule with the
-/// run's UID is appended to the run. A schedule with another UID ends the run and begins the next
-/// run.
+/// Each step of the walk that computes an excerpt handles one entry. The walk collects the
+/// schedules of one UID in a run. At a TIPLOC or an association the run is empty, because TIPLOCs
+/// and associations come before all schedules in key order. A TIPLOC or an association is kept if
+/// it is at the place. A schedule with the run's UID is appended to the run. A schedule with
+/// another UID ends the run and begins the next run.
 pub fn excerpt_by_entry()
     ensures no_run { (place : List ℕ) (state : State) (key : Key)
         → IsAboveEntries state key → ((uid : List ℕ) → has_uid uid key ≡ false)
@@ -156,10 +156,10 @@ pub fn run_of_one_uid()
         → Contains (kept_so_far place entries).run one → has_uid uid one.0 ≡ true }
 {}
 
-/// A loop can compute the excerpt from three values: the kept entries, the run of the current UID,
-/// and a flag that says whether the run is needed. At the start the kept entries and the run are
-/// empty. At the end the entries of the excerpt are the kept entries, followed by the run if it is
-/// needed.
+/// A loop can compute the excerpt from three values: the kept entries, a run, and a flag that says
+/// whether the docker needs the run. The run is all entries for the schedules of the current UID.
+/// At the start the kept entries and the run are empty. At the end the entries of the excerpt are
+/// the kept entries, followed by the run if it is needed.
 pub fn excerpt_in_a_loop()
     ensures first { (place : List ℕ) → HasKept place [] [] [] false }
     ensures alone { (place : List ℕ) (state : State) (kept run : List (Key × Entry))

@@ -36,7 +36,8 @@ pub fn thinned_table_has_one_docker()
         → HasGoodBodies live → HasGoodBodies (thinned place day live) }
 {}
 
-/// An excerpt of the thinned table for the same place has the same docker as the table.
+/// Suppose that a table is thinned for a place and a day. An excerpt of the result for this place
+/// has the same docker of the place on the day as the whole table.
 pub fn excerpt_of_thinned_has_one_docker()
     ensures list { (place : List ℕ) (day : ℕ) (live part : Table) (lines : List DockerLine)
         → HasGoodBodies live → IsExcerpt place (thinned place day live) part
@@ -220,9 +221,9 @@ pub fn state_of_thinning_has_one_docker()
         ↔ IsDockerText (live_table part) place day text }
 {}
 
-/// The value `summary_of` is the summary of one file, and is valid. The join of an empty state with
-/// a valid state is the valid state. The live table of the summary of a file equals the table after
-/// the file's changes.
+/// `summary_of` computes the summary of one file, and this summary is valid. The join of an empty
+/// state with a valid state is the valid state. The live table of the summary of a file equals the
+/// table after the file's changes.
 pub fn summary_of_one_file()
     ensures is { (file : List (List ℕ)) → IsSummary (file ∷ []) 0 (summary_of file) }
     ensures valid { (file : List (List ℕ)) → IsFile file → length file ≤ most_records

@@ -116,7 +116,7 @@ changes_of_rename : changes rename
     ∷ record { number = 2; key = tiploc_key (codes "ASHFLDN"); act = put (tiploc_body (columns 10 72 rename_amend)) } ∷ []
 changes_of_rename = refl
 
--- a TIPLOC amendment whose new code equals the old code puts the key only once
+-- a TIPLOC amendment whose new code equals the old code has only one change, the put of this code
 changes_of_same_code : changes (f2_header ∷ ta (codes "ASHFELD") (codes "ASHFIELD CENTRAL") (codes "ASHFELD") ∷ zz ∷ [])
     ≡ record {
       number = 2;

@@ -13,7 +13,7 @@ use Rattle.docker_model.specs.file.Text.{last_piece, without_empty_last, lines_o
 use Rattle.docker_model.specs.file.FaultSoFar.{last_of, sure_lines}
 use Rattle.cif_laws.specs.CompleteLines.{but_last, open_line, complete_lines, pieces_of, line_left, feeds, HasNoFeed}
 
--- ---- appended bytes extend the last piece of a text, or begin new pieces
+-- ---- how the split of a text changes when bytes are appended
 
 some_pieces : (p : ℕ → Bool) (text : List ℕ) → 0 < length (slice_split p text)
 some_pieces p text = let size = length-slice_split p text in omega arith
@@ -44,7 +44,7 @@ without_last_append [] piece pieces = refl
 without_last_append (first ∷ []) piece pieces = refl
 without_last_append (first ∷ second ∷ front) piece pieces = ap (λ rest. first ∷ rest) (without_last_append (second ∷ front) piece pieces)
 
--- the pieces, with these bytes prepended to the first piece
+-- the pieces of a split text, after these bytes are put in front of the first piece
 abbrev pub going_on : List ℕ → Lines → Lines
 going_on bytes [] = bytes ∷ []
 going_on bytes (piece ∷ pieces) = (bytes ++ piece) ∷ pieces
@@ -65,8 +65,8 @@ go_on_empty : (pieces : Lines) → 0 < length pieces → pieces ≡ going_on [] 
 go_on_empty [] some = absurd (omega arith)
 go_on_empty (piece ∷ pieces) some = refl
 
--- when bytes are appended to a text, the first piece of these bytes extends the last piece of the
--- text. The other pieces of these bytes follow as new pieces
+-- suppose that a text and the bytes `more` are each split into pieces. When `more` is appended to
+-- the text, its first piece extends the last piece of the text, and its other pieces follow
 pub split_append : (p : ℕ → Bool) (text more : List ℕ) → slice_split p (text ++ more) ≡ but_last (slice_split p text) ++ going_on (last_of (slice_split p text))
     (slice_split p more)
 split_append p [] more = go_on_empty (slice_split p more) (some_pieces p more)

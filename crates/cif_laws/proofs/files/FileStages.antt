@@ -299,7 +299,7 @@ next_of_stage stage lines line next found =
       place_is = λ i. in_stage_or (lines ++ line ∷ []) (told.stage_is i) (cond (may_end stage lines) (unit_by_kind (kind_of line) line) None);
     })
 
--- like `next_of_stage`, from the place that belongs to the stage
+-- like `next_of_stage`, for a reader whose `Place` belongs to the stage
 next_in : (stage : Stage) (lines : Lines) (line : List ℕ) (next : Stage) → next_stage stage lines line ≡ Some next
     → next_place (place_in stage lines) line ≡ Some (place_in next (lines ++ line ∷ []))
 next_in stage lines line next found = by stage (next_line_by_test stage lines line next found)

@@ -10,8 +10,8 @@ use Rattle.docker_model.specs.file.Text.{lines_of}
 use Rattle.docker_model.specs.file.FileFault.{FileFault, IsRecordFault, FileCause, bad_byte, bad_field, too_many, after_trailer, bad_length, bad_kind}
 use Rattle.docker_model.specs.file.FileFault.{bad_place, third_midnight, no_end, cause_rank, HoldsOf, IsCause, IsUnended, IsFileFault, IsFileText}
 
--- the first line of the list, or `line` if the list is empty. With this value, proofs compare the
--- indexes of two records of one list
+-- the first line of the list, or `line` if the list is empty. Proofs use this value to compare the
+-- indexes of two records in a list
 head_or : List ℕ → Lines → List ℕ
 head_or line [] = line
 head_or line (first ∷ rest) = first
@@ -98,7 +98,7 @@ column_is limit earlier line (bad_field at) holds = ap (λ o. unwrap_or o 0) hol
 column_is limit earlier line third_midnight holds = refl
 column_is limit earlier line no_end holds = refl
 
--- a record has at most one cause
+-- a record at fault has at most one cause
 pub one_cause : (limit : ℕ) (earlier : Lines) (line : List ℕ) (first second : FileCause) → IsCause limit earlier line first → IsCause limit earlier line second
     → first ≡ second
 one_cause limit earlier line first second is_first is_second = by (cases_order (cause_rank first) (cause_rank second))

@@ -25,7 +25,7 @@ records_of_80 (line ∷ rest) place final reached =
     let next = then_some (λ (n : Place). place_from n rest) (next_place place line) final reached in
     ((next_by_test place line next.0 next.1).is.0, records_of_80 rest next.0 final next.2)
 
--- the number of bytes in these pieces, plus one for each piece
+-- the number of bytes in these pieces of a split text, plus one for each piece
 bytes_in : Lines → ℕ
 bytes_in [] = 0
 bytes_in (piece ∷ pieces) = length piece + 1 + bytes_in pieces
@@ -35,7 +35,7 @@ unfolding bytes_in
 bytes_more b [] some = absurd (omega arith)
 bytes_more b (piece ∷ pieces) some = omega arith
 
--- for the pieces of a text, `bytes_in` is the length of the text plus one, since no line feed
+-- for the pieces of a split text, `bytes_in` is the length of the text plus one, since no separator
 -- follows the last piece
 bytes_of_split : (p : ℕ → Bool) (text : List ℕ) → bytes_in (slice_split p text) ≡ length text + 1
 unfolding bytes_in
@@ -58,7 +58,7 @@ bytes_but_last [] some = absurd (omega arith)
 bytes_but_last (piece ∷ []) some = omega arith
 bytes_but_last (piece ∷ next ∷ pieces) some = let rest = bytes_but_last (next ∷ pieces) (omega arith) in omega arith
 
--- if the line in each piece has 80 bytes, `bytes_in` is at most 82 for each piece
+-- if each piece has 80 bytes without its carriage return, `bytes_in` is at most 82 for each piece
 few_bytes : (pieces : Lines) → AllByRecursion Has80 (map strip_carriage_return pieces) → bytes_in pieces ≤ 82 * length pieces
 unfolding bytes_in
 few_bytes [] all = omega arith

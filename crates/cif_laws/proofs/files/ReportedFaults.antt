@@ -21,9 +21,9 @@ use Rattle.cif_laws.proofs.files.FileStages.{next_by_test, begins_iff_place, beg
 use Rattle.cif_laws.proofs.files.FileCauses.{Pass, HasRecordFault, pass_or_fault, record_fault}
 use Rattle.cif_laws.proofs.files.CompleteLines.{GoesOn, goes_on, lines_of_told, lines_of_open, sure_lines_is, sure_lines_grow, complete_lines_cut}
 
--- ---- the line in a piece of more than 81 bytes isn't a record
+-- ---- a piece of more than 81 bytes isn't a record, even without its carriage return
 
--- the line in a piece is at most one byte shorter than the piece
+-- removing a carriage return makes a piece at most one byte shorter
 pub strip_long : (piece : List ℕ) → length piece ≤ length (strip_carriage_return piece) + 1
 strip_long piece = by (slice_index piece (length piece - 1) == 13)
   where
@@ -31,7 +31,8 @@ strip_long piece = by (slice_index piece (length piece - 1) == 13)
     by true = let size = length-take-le (length piece - 1) piece (omega arith) in omega arith
     by false = omega arith
 
--- the line in a piece of more than 81 bytes doesn't have 80 bytes
+-- a piece of more than 81 bytes doesn't have 80 bytes after a carriage return is removed from its
+-- end
 pub not_80 : (piece : List ℕ) → 82 ≤ length piece → length (strip_carriage_return piece) ≢ 80
 not_80 piece long is = let most = strip_long piece in absurd (omega arith)
 
@@ -384,6 +385,6 @@ pub fault_at_end : (limit : ℕ) (text : List ℕ) (place : Place) → IsPlaceOf
 fault_at_end limit text place found within some here =
     inl (record_fault limit (complete_lines text) place (strip_carriage_return (open_line text)) found (lines_of text) [] (lines_of_open text some) within here)
 
--- if the incomplete line isn't empty, the text has one line more than its complete lines
+-- if the incomplete line isn't empty, the text has one more line than it has complete lines
 pub length_at_end : (text : List ℕ) → 0 < length (open_line text) → length (lines_of text) ≡ length (complete_lines text) + 1
 length_at_end text some = ap length (lines_of_open text some) ∙ length-append (complete_lines text) (strip_carriage_return (open_line text) ∷ [])

@@ -26,7 +26,7 @@ last_is (x ∷ y ∷ bytes) h =
     (last_is (y ∷ bytes) inner) in
     subst (λ k. (x ∷ y ∷ bytes) ≡ take k (x ∷ y ∷ bytes) ++ 13 ∷ []) (sym less) (ap (λ zs. x ∷ zs) rest)
 
--- a piece is its line by itself, or its line followed by a carriage return
+-- a piece of a split text is a line by itself, or a line followed by a carriage return
 piece_is : (piece : List ℕ) → (piece ≡ strip_carriage_return piece) ⊎ (piece ≡ strip_carriage_return piece ++ 13 ∷ [])
 piece_is piece = by (slice_index piece (length piece - 1) == 13) refl
   where
@@ -35,8 +35,8 @@ piece_is piece = by (slice_index piece (length piece - 1) == 13) refl
     by true h = inr (last_is piece (eqb-true _ _ h) ∙ (λ i. cond (sym h i) (take (length piece - 1) piece) piece ++ 13 ∷ []))
     by false h = inl (λ i. cond (sym h i) (take (length piece - 1) piece) piece)
 
--- suppose that a text consists of `lines`. If a piece and a line feed are put before the text, it
--- consists of the line in this piece, followed by `lines`
+-- suppose that a text consists of `lines`. If a piece and a line feed are put in front of the text,
+-- the new text consists of the piece's line, followed by `lines`
 one_more : (piece : List ℕ) (lines : List (List ℕ)) (rest : List ℕ) → IsTextOf lines rest → IsTextOf (strip_carriage_return piece ∷ lines) (piece ++ 10 ∷ rest)
 one_more piece [] rest told = by (piece_is piece)
   where
@@ -58,7 +58,8 @@ one_more piece (line ∷ lines) rest told = by (piece_is piece)
       told,
     )
 
--- if pieces are joined with line feeds, the text consists of the lines in these pieces
+-- a text that is made by joining pieces with line feeds consists of these pieces, without their
+-- carriage returns
 pieces_text : (pieces : List (List ℕ)) → IsTextOf (map strip_carriage_return (without_empty_last pieces)) (join_with_byte 10 pieces)
 pieces_text [] = refl
 pieces_text ([] ∷ []) = refl
@@ -92,7 +93,8 @@ keeps_first : (piece : List ℕ) (pieces : List (List ℕ)) → 0 < length piece
 keeps_first piece [] some = absurd (omega arith)
 keeps_first piece (next ∷ pieces) some = refl
 
--- if a text begins with a piece and a line feed, its first line is the line in this piece
+-- if a text begins with a piece and a line feed, its first line is this piece, without a carriage
+-- return at its end
 lines_after : (piece rest : List ℕ) → All (λ b. (b == 10) ≡ false) piece → lines_of (piece ++ 10 ∷ rest) ≡ strip_carriage_return piece ∷ lines_of rest
 lines_after piece rest plain =
     let split = slice_split_at (λ b. b == 10) piece 10 rest plain refl in

@@ -132,7 +132,8 @@ schedule_order a b good other =
     let right = of_three b.uid (to_be_bytes w16 b.runs_from) (b.indicator ∷ []) in
     sym ((λ i. bytes_cmp (left i) (right i)) ∙ whole)
 
--- well-formed keys are in the same order as their bytes, tag first
+-- well-formed keys are in the same order as their bytes, if the tag of each key is put before its
+-- bytes
 pub key_order : (first second : Key) → IsGoodKey first → IsGoodKey second
     → key_cmp first second ≡ bytes_cmp (key_tag first ∷ key_bytes first) (key_tag second ∷ key_bytes second)
 key_order (tiploc_key a) (tiploc_key b) good other = refl

@@ -92,7 +92,7 @@ rename_header = hd (codes "100624") (codes "2100") (codes "DFROC1B") (codes "DFR
 abbrev pub rename_amend : List ℕ
 rename_amend = ta (codes "ASHFELD") (codes "ASHFIELD NEW") (codes "ASHFLDN")
 
--- a file whose only unit is that amendment
+-- a file whose only unit is the amendment `rename_amend`
 abbrev pub rename : List (List ℕ)
 rename = rename_header ∷ rename_amend ∷ zz ∷ []
 

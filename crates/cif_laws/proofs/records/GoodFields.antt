@@ -15,7 +15,7 @@ use Rattle.docker_model.specs.records.Field.{is_tiploc, is_new_tiploc}
 use Rattle.cif_laws.proofs.records.Dates.{is_calendar_day-IsDate, day_number-day_count}
 use Rattle.cif_laws.proofs.lists.BoolsAndOptions.{both, either}
 
--- ---- the number of a good date is from 0 to 36524
+-- ---- the day number of a good date is from 0 to 36524
 
 digit_at : (field : List ℕ) (i : ℕ) → list_all is_ascii_digit field ≡ true → slice_index field i ≤ 57
 digit_at [] i all = omega arith
@@ -49,14 +49,14 @@ day_within year month day first last is =
     let end = new_year_2060 in
     omega arith
 
--- the number of a good date is from 0 to 36524
+-- the day number of a good date is from 0 to 36524
 pub date_is_day : (field : List ℕ) → is_date field ≡ true → IsDay (date_number field)
 date_is_day field is =
     let parts = both (list_all is_ascii_digit field) _ is in
     let year = year_is (two_digits field 0) (pair_below field 0 parts.0) in
     day_within (full_year (two_digits field 0)) (two_digits field 2) (two_digits field 4) year.0 year.1 parts.1
 
--- the number of a good date with the day first is from 0 to 36524
+-- the day number of a good date that is written with its day first is from 0 to 36524
 pub date_day_first_is_day : (field : List ℕ) → is_date_day_first field ≡ true → IsDay (date_number_day_first field)
 date_day_first_is_day field is =
     let parts = both (list_all is_ascii_digit field) _ is in

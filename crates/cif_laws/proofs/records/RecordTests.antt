@@ -80,12 +80,14 @@ fall_count-append [] later = omega arith
 fall_count-append (time ∷ []) later = omega arith
 fall_count-append (time ∷ next ∷ times) later = let rest = fall_count-append (next ∷ times) later in omega arith
 
--- appending times to a list with at least one time never lowers the number of falls
+-- appending times to a list with at least one time never lowers the number of falls, which are
+-- times earlier than the time before them
 pub fall_count_behind : (time : ℕ) (times later : List ℕ) → fall_count (time ∷ times) ≤ fall_count ((time ∷ times) ++ later)
 fall_count_behind time [] later = omega arith
 fall_count_behind time (next ∷ times) later = let rest = fall_count_behind next times later in omega arith
 
--- appending times never lowers the number of falls
+-- appending times never lowers the number of falls, which are times earlier than the time before
+-- them
 pub fewer_falls : (times later : List ℕ) → fall_count times ≤ fall_count (times ++ later)
 fewer_falls [] later = omega arith
 fewer_falls (time ∷ times) later = fall_count_behind time times later
@@ -119,7 +121,7 @@ no_fall_behind time [] all = by (nat_lt last_time time) refl
     by false h = λ i. cond (h i) 1 0 + 0
 no_fall_behind time (next ∷ times) all = ap (λ n. cond (nat_lt next time) 1 0 + n) (no_fall_behind next times all.1)
 
--- appending the time 23:59½ leaves the number of falls unchanged
+-- appending the time 23:59½ leaves the number of falls unchanged, since no time is later
 pub no_fall_last : (times : List ℕ) → AllByRecursion (λ t. t ≤ last_time) times → fall_count (times ++ last_time ∷ []) ≡ fall_count times
 no_fall_last [] all = refl
 no_fall_last (time ∷ times) all = no_fall_behind time times all
@@ -136,8 +138,8 @@ pub fewer_midnights : (lines more : List (List ℕ)) → midnights lines ≤ mid
 fewer_midnights lines more =
     subst (λ times. midnights lines ≤ fall_count times) (sym (times_append lines more)) (fewer_falls (times_along lines) (times_along more))
 
--- when a record is appended, the new number of falls is the old number plus the falls in the
--- record's times, counted from the last time before the record
+-- when a record is appended, the schedule passes midnight as often as before, plus once for each
+-- fall in the record's times. A fall is a time that is earlier than the time before it
 pub midnights_step : (lines : List (List ℕ)) (line : List ℕ) → midnights (lines ++ line ∷ []) ≡ midnights lines + falls_after (last_of (times_along lines))
     (times_along (line ∷ []))
 midnights_step lines line = ap fall_count (times_append lines (line ∷ [])) ∙ fall_count-append (times_along lines) (times_along (line ∷ []))

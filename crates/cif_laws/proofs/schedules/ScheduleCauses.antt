@@ -1,5 +1,5 @@
 -- The cause of a record that can't continue a schedule, given the reader's stage before the record.
--- The record has the same cause in a file.
+-- The cause is the same when the schedule is read as part of a file.
 use Rattle.std.proofs.Common.{◌≡◌, ℕ, List, refl, ap, ◌<◌, ◌⊎◌, inl, inr, sym, ◌∙◌, ◌≤◌, None}
 use Rattle.std.proofs.Common.{arith, [], ◌∷◌, Bool, true, false, cond, Some, ◌++◌, subst, length}
 use Rattle.std.specs.Prelude.{unwrap_or, Option, is_none, is_some, option_map, ◌&&◌, ◌==◌}
@@ -139,15 +139,15 @@ first_line_fault line is test = by (kind_of line) refl
 
 -- ---- a later record that can't continue the schedule has the cause `schedule_cause`
 
--- if a record has a next stage, the records up to and including this record begin a schedule
+-- if a record leads to a next stage, the records up to and including this record begin a schedule
 pub begins_next_stage : (lines : Lines) (stage : Stage) (line : List ℕ) (next : Stage) → stage_of lines ≡ Some stage → next_stage stage lines line ≡ Some next
     → BeginsSchedule (lines ++ line ∷ [])
 begins_next_stage [] stage line next at found = cc
 begins_next_stage (basic ∷ rest) stage line next at found =
     (begins_more_iff basic rest stage line at).1 (next, next_line_by_test stage (basic ∷ rest) line next found)
 
--- if records are at a stage, but begin no schedule with one more record, that record has no next
--- stage
+-- suppose that a reader is at a stage after some records. If these records and one more record
+-- begin no schedule, this record leads to no next stage
 pub no_next_stage : (lines : Lines) (stage : Stage) (line : List ℕ) → stage_of lines ≡ Some stage → ¬ BeginsSchedule (lines ++ line ∷ [])
     → next_stage stage lines line ≡ None
 no_next_stage lines stage line at here = by (next_stage stage lines line) refl
@@ -156,7 +156,7 @@ no_next_stage lines stage line at here = by (next_stage stage lines line) refl
     by None h = h
     by (Some next) h = absurd (here (begins_next_stage lines stage line next at h))
 
--- if a record has no next stage, its cause is `schedule_cause`
+-- if a record leads to no next stage, its cause is `schedule_cause`
 pub schedule_fault : (earlier : Lines) (stage : Stage) (line : List ℕ) → stage_of earlier ≡ Some stage → IsRecord line → next_stage stage earlier line ≡ None
     → IsScheduleFault earlier line (schedule_cause stage line)
 schedule_fault [] stage line at is nowhere = cc

@@ -328,7 +328,8 @@ small_along (line ∷ lines) good =
     times_of-times l = times_in (times_of l)
 
 -- a prefix of a list of times has at most as many falls as the whole list, and appending the time
--- 23:59½ leaves the number of falls unchanged
+-- 23:59½ leaves the number of falls unchanged. A fall is a time that is earlier than the time
+-- before it
 falls_front : (times more : List ℕ) → fall_count times ≤ fall_count (times ++ more)
 falls_front [] more = omega arith
 falls_front (time ∷ []) more = omega arith

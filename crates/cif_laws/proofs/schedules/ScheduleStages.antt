@@ -30,14 +30,15 @@ abbrev pub IsOpenJourney : Lines → Type 0
 IsOpenJourney journey =
     (first : List ℕ) × (between : Lines) × (journey ≡ first ∷ between) × HasKind origin_location first × AllByRecursion IsWithinJourney between
 
--- the extra details and the journey read have the structure that belongs to this stage
+-- the extra details and the journey, as far as they have been read, have the structure that belongs
+-- to this stage
 abbrev pub HasShape : Stage → Lines → Lines → Type 0
 HasShape after_basic extra journey = (extra ≡ []) × (journey ≡ [])
 HasShape after_details extra journey = AreExtraDetails extra × (journey ≡ [])
 HasShape in_journey extra journey = AreExtraDetails extra × IsOpenJourney journey
 HasShape after_journey extra journey = AreExtraDetails extra × IsJourney journey
 
--- the schedule is a deletion, or the journey read is sound
+-- the schedule is a deletion, or its journey is sound as far as it has been read
 abbrev pub IsSound : List ℕ → Lines → Type 0
 IsSound basic journey = (is_deletion basic ≡ true) ⊎ IsSoundJourney journey
 
@@ -84,7 +85,7 @@ first_line_iff_test line = (
       record { is = (record_iff_test line).1 first.0; kind = basic_by_test (kind_of line) first.1; fields = none_by_test (leftmost_bad_field line) parts.1 },
 )
 
--- a record that can be the first record of a schedule is, by itself, at the stage `after_basic`
+-- after a record that can be the first record of a schedule, a reader is at the stage `after_basic`
 pub front_of_basic : (line : List ℕ) → IsFirstLine line → IsFront after_basic (line ∷ [])
 front_of_basic line told = record {
   basic = line;
@@ -179,14 +180,15 @@ sound_more stage lines line front test = by (sound_next_by_test lines line test)
           falls = omega arith;
         })
 
--- the parts of the test of the next line: the line is a record, the record is sound, and `next` is
--- the next stage by the record's kind
+-- what the test of the next line requires: the line is a record, the record is sound, and its kind
+-- leads to the stage `next`
 pub record IsNextLine (stage : Stage) (lines : Lines) (line : List ℕ) (next : Stage) : Type 0 where
   pub is : IsRecord line
   pub sound : is_sound_next lines line ≡ true
   pub stage_is : stage_after stage (kind_of line) ≡ Some next
 
--- if a record has a next stage, the record is sound, and its kind leads the reader to that stage
+-- if a record leads to a next stage, the record is sound, and its kind leads the reader to that
+-- stage
 pub next_line_by_test : (stage : Stage) (lines : Lines) (line : List ℕ) (next : Stage) → next_stage stage lines line ≡ Some next
     → IsNextLine stage lines line next
 next_line_by_test stage lines line next is = by (is_record line && is_sound_next lines line) refl is
@@ -196,8 +198,8 @@ next_line_by_test stage lines line next is = by (is_record line && is_sound_next
     by true h found = let parts = both (is_record line) _ h in record { is = (record_iff_test line).1 parts.0; sound = parts.1; stage_is = found }
     by false h found = cc
 
--- if a record is sound, and its kind leads the reader to a next stage, the record has that next
--- stage
+-- if a record is sound, and its kind leads the reader to a next stage, the record itself leads to
+-- that stage
 pub test_by_next_line : (stage : Stage) (lines : Lines) (line : List ℕ) (next : Stage) → IsNextLine stage lines line next
     → next_stage stage lines line ≡ Some next
 test_by_next_line stage lines line next told =
@@ -214,8 +216,8 @@ journey_more journey line so_far is = (
   all_append IsWithinJourney so_far.1 (line ∷ []) so_far.4 (is, tt),
 )
 
--- after a record is appended whose kind leads the reader to a next stage, the schedule has the
--- structure of that stage
+-- if the kind of a record leads the reader to a next stage, the schedule with this record appended
+-- has the structure of that stage
 shape_more : (stage : Stage) (kind : Kind) (next : Stage) (extra journey : Lines) (line : List ℕ) → HasShape stage extra journey → HasKind kind line
     → stage_after stage (Some kind) ≡ Some next
     → (HasShape next extra (journey ++ line ∷ [])) ⊎ (HasShape next (line ∷ []) journey × (extra ≡ []) × (journey ≡ []))
@@ -250,15 +252,15 @@ shape_more in_journey terminating_location next extra journey line shape is afte
     ))
 shape_more _ _ next extra journey line shape is after = cc
 
--- a record of an unknown kind has no next stage
+-- a record of an unknown kind leads to no next stage
 pub no_stage_of_none : (stage : Stage) → stage_after stage None ≡ None
 no_stage_of_none after_basic = refl
 no_stage_of_none after_details = refl
 no_stage_of_none in_journey = refl
 no_stage_of_none after_journey = refl
 
--- suppose that records are at a stage, and that one more record has a next stage. With this record,
--- they are at the next stage
+-- if records have the structure of a stage, and one more record leads to a next stage, the records
+-- with this record have the structure of the next stage
 pub next_front : (stage : Stage) (lines : Lines) (line : List ℕ) (next : Stage) → IsFront stage lines → next_stage stage lines line ≡ Some next
     → IsFront next (lines ++ line ∷ [])
 next_front stage lines line next front test = by (kind_of line) refl (next_line_by_test stage lines line next test)
@@ -292,7 +294,7 @@ next_front stage lines line next front test = by (kind_of line) refl (next_line_
           sound = front.sound;
         }
 
--- ---- records at a stage at which the schedule may end are a schedule
+-- ---- records with the structure of a stage at which the schedule may end are a schedule
 
 -- if a basic schedule passes the test `may_lack`, its journey may be missing
 pub lack_by_test : (basic : List ℕ) → may_lack basic ≡ true → MayLackJourney basic
@@ -311,7 +313,7 @@ test_by_lack basic (inr letter) = or_right (is_deletion basic) (ap (λ n. n == 6
     or_right true h = refl
     or_right false h = h
 
--- records at a stage at which the schedule may end are a schedule
+-- records with the structure of a stage at which the schedule may end are a schedule
 pub schedule_of_front : (stage : Stage) (lines : Lines) → IsFront stage lines → may_end stage lines ≡ true → IsSchedule lines
 schedule_of_front stage lines front test = record {
   basic = front.basic;
@@ -415,7 +417,7 @@ witness_times intermediate_location = inl refl
 witness_times change_en_route = inl refl
 witness_times trailer = inl refl
 
--- the record `witness kind` is sound after the records at any stage
+-- after records with the structure of any stage, the record `witness kind` is sound
 pub witness_sound : (stage : Stage) (lines : Lines) (kind : Kind) → IsFront stage lines → is_sound_next lines (witness kind) ≡ true
 witness_sound stage lines kind front = test_by_sound_next lines (witness kind) (by front.sound)
   where
@@ -441,8 +443,8 @@ witness_sound stage lines kind front = test_by_sound_next lines (witness kind) (
             (along_within front.journey (recursion_from_All HasGoodFields front.journey good.fields)) in
             let falls = good.falls in omega arith
 
--- appending the record `witness kind` to records at a stage gives records at the next stage by this
--- kind
+-- if records have the structure of a stage, and a kind leads to a next stage, appending the record
+-- `witness kind` gives records with the structure of that next stage
 pub witness_front : (stage : Stage) (lines : Lines) (kind : Kind) (next : Stage) → IsFront stage lines → stage_after stage (Some kind) ≡ Some next
     → IsFront next (lines ++ witness kind ∷ [])
 witness_front stage lines kind next front after =
@@ -456,7 +458,7 @@ witness_front stage lines kind next front after =
 pub begins_shorter : (front rest : Lines) → BeginsSchedule (front ++ rest) → BeginsSchedule front
 begins_shorter front rest begins = (rest ++ begins.0, subst IsSchedule (append_assoc front rest begins.0) begins.1)
 
--- records at a stage begin some schedule
+-- records with the structure of a stage begin some schedule
 pub front_begins : (stage : Stage) (lines : Lines) → IsFront stage lines → BeginsSchedule lines
 front_begins stage lines front = by stage lines front
   where
@@ -518,7 +520,7 @@ stage_of_append (basic ∷ rest) stage more found = by (is_first_line basic) ref
         (λ i. cond (h i) (stage_from after_basic (basic ∷ []) (rest ++ more)) None) ∙ stage_from_append rest after_basic (basic ∷ []) stage more told
     by false h told = cc
 
--- the stage after one more record is the next stage of that record
+-- `next_stage` computes the stage after one more record
 pub stage_of_more : (lines : Lines) (stage : Stage) (line : List ℕ) → stage_of lines ≡ Some stage → stage_of (lines ++ line ∷ []) ≡ next_stage stage lines line
 stage_of_more lines stage line found = stage_of_append lines stage (line ∷ []) found ∙ some_then (next_stage stage lines line)
 
@@ -682,7 +684,7 @@ no_lines_begin =
     })))
 
 -- suppose that records lead the reader to a stage. With one more record they begin a schedule if
--- and only if this record has a next stage
+-- and only if this record leads to a next stage
 pub begins_more_iff : (basic : List ℕ) (rest : Lines) (stage : Stage) (line : List ℕ) → stage_of (basic ∷ rest) ≡ Some stage
     → BeginsSchedule (basic ∷ rest ++ line ∷ []) ↔ ((next : Stage) × IsNextLine stage (basic ∷ rest) line next)
 begins_more_iff basic rest stage line at = (
@@ -724,8 +726,8 @@ schedule_or_not lines = by (stage_of lines) refl
 
 -- ---- which kinds of record are allowed at a stage
 
--- if the kind of a record has no next stage, the record is out of place: no schedule has a record
--- of this kind after the earlier records
+-- if the kind of a record leads to no next stage, the record is out of place: no schedule has a
+-- record of this kind after the earlier records
 pub schedule_out_of_place : (basic : List ℕ) (rest : Lines) (stage : Stage) (line : List ℕ) → stage_of (basic ∷ rest) ≡ Some stage
     → stage_after stage (kind_of line) ≡ None
     → (next : List ℕ) → kind_of next ≡ kind_of line → ¬ BeginsSchedule (basic ∷ rest ++ next ∷ [])
@@ -733,14 +735,14 @@ schedule_out_of_place basic rest stage line at none next same begins =
     let told = (begins_more_iff basic rest stage next at).0 begins in
     let bad : None ≡ Some told.0 = sym none ∙ ap (stage_after stage) (sym same) ∙ told.1.stage_is in cc
 
--- if a kind has a next stage, the earlier records followed by `witness kind` begin a schedule
+-- if a kind leads to a next stage, the earlier records followed by `witness kind` begin a schedule
 pub schedule_in_place : (basic : List ℕ) (rest : Lines) (stage : Stage) (kind : Kind) (next : Stage) → stage_of (basic ∷ rest) ≡ Some stage
     → stage_after stage (Some kind) ≡ Some next
     → BeginsSchedule (basic ∷ rest ++ witness kind ∷ [])
 schedule_in_place basic rest stage kind next at found =
     front_begins next (basic ∷ rest ++ witness kind ∷ []) (witness_front stage (basic ∷ rest) kind next (front_of_stage (basic ∷ rest) stage at) found)
 
--- ---- the reason why a record has no next stage
+-- ---- the reason why a record leads to no next stage
 
 -- the record's kind is out of place, a field is bad, or the schedule passes midnight for the third
 -- time. In a deletion only the kind is checked
@@ -750,8 +752,8 @@ IsNoNextLine stage lines line =
     ⊎ (((at : ℕ) × (leftmost_bad_field line ≡ Some at) × (is_deletion (first_record lines) ≡ false))
     ⊎ (HasGoodFields line × (2 < midnights (lines ++ line ∷ [])) × (is_deletion (first_record lines) ≡ false)))
 
--- if a record has no next stage, its kind is out of place, a field is bad, or the schedule passes
--- midnight for the third time
+-- if a record leads to no next stage, its kind is out of place, a field is bad, or the schedule
+-- passes midnight for the third time
 pub no_next_line : (stage : Stage) (lines : Lines) (line : List ℕ) → IsRecord line → next_stage stage lines line ≡ None → IsNoNextLine stage lines line
 no_next_line stage lines line is nowhere = by (stage_after stage (kind_of line)) refl
   where

@@ -235,7 +235,8 @@ module _ (live : Table) (trains : List ℕ → ℕ → Option Train) (links : Gr
       by true (Some occasion) None = tt
       by true (Some occasion) (Some base) = at_day occasion base (first_event_at base.lines key.location key.suffix)
 
-  -- for a docker line of an association, the base train starts on one of the three start days
+  -- the base train of an association line starts on the docker's day or on one of the two days
+  -- before it
   pub association_starts : HasGoodBodies live → (docker_line : DockerLine) (made : IsAssociationLine live place day docker_line)
       → Contains (start_days day) made.start
   association_starts good docker_line made =

@@ -59,7 +59,8 @@ falls_more [] time = refl
 falls_more (first ∷ []) time = (let e : cond (nat_lt time first) 1 0 + 0 ≡ 0 + cond (nat_lt time first) 1 0 = omega arith in e)
 falls_more (first ∷ second ∷ times) time = let rest = falls_more (second ∷ times) time in omega arith
 
--- the number of falls up to an event depends only on the event's time and the times before it
+-- the number of falls up to an event depends only on the event's time and the times before it. A
+-- fall is a time that is earlier than the time before it
 pub falls_here : (lines : List (List ℕ)) (before later : List ℕ) (time : ℕ) (number : ℕ) → times_along lines ≡ (before ++ time ∷ []) ++ later
     → number ≡ length before + 1
     → falls_to lines number ≡ fall_count before + fall_at (last_time before) time

@@ -71,9 +71,9 @@ association_over one other group day key line same is = record {
 
 -- ---- a table that covers another table has all docker lines of that table
 
--- the table `other` has all schedules and associations on which the docker of the place in `one`
--- depends. These are all schedules of each UID on which the docker depends, and all associations of
--- each group at the place
+-- the table `other` agrees with the table `one` wherever the docker of the place depends on `one`.
+-- The two tables have the same schedules of each UID that the docker needs, and the same
+-- associations of each group at the place
 record Covers (one other : Table) (place : List ℕ) : Type 0 where
   calls : (key : ScheduleKey) (lines : List (List ℕ)) → one (schedule_key key) ≡ Some (schedule_body lines) → CallsAt place lines
       → HaveSameSchedules one other key.uid

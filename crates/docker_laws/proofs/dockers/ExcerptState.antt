@@ -154,7 +154,8 @@ excerpt_refuses place state part day is =
 -- ---- leaving out the keys that fail a test leaves the bodies at all other keys unchanged
 
 module _ (test : Key → Bool) where
-  -- a search for a key that passes the test finds the same entry among the entries that pass
+  -- a search for a key that passes the test finds the same entry in the filtered list as in the
+  -- whole list
   find_kept : (key : Key) → test key ≡ true → (xs : List Keyed) → find (λ entry. is_eq (key_cmp entry.0 key)) (filter (λ entry. test entry.0) xs)
       ≡ find (λ entry. is_eq (key_cmp entry.0 key)) xs
   find_kept key passes [] = refl
@@ -170,7 +171,7 @@ module _ (test : Key → Bool) where
       by false true h g rest = absurd (let bad : false ≡ true = sym h ∙ ap test (same_key x.0 key g) ∙ passes in cc)
       by false false h g rest = rest
 
-  -- a search for a key that fails the test finds no entry among the entries that pass
+  -- a search for a key that fails the test finds no entry in the filtered list
   find_dropped : (key : Key) → test key ≡ false → (xs : List Keyed)
       → find (λ entry. is_eq (key_cmp entry.0 key)) (filter (λ entry. test entry.0) xs) ≡ None
   find_dropped key fails xs = by (find (λ entry. is_eq (key_cmp entry.0 key)) (filter (λ entry. test entry.0) xs)) refl

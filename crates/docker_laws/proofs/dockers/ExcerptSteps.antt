@@ -1,6 +1,6 @@
--- Lemmas on the walk that computes an excerpt. They say which entries are kept after each step and
--- at the end. In key order the schedules of one UID are next to each other and form a run, which
--- the walk keeps or drops as a whole.
+-- Lemmas on the walk that computes an excerpt. They say which entries are in the field `kept` after
+-- each step and at the end. In key order the schedules of one UID are next to each other. The walk
+-- collects them in the field `run`, and then keeps or drops them together.
 use Rattle.std.proofs.Common.{All, ◌≡◌, ℕ, List, [], ◌∷◌, ◌++◌, subst, inl, inr, ◌⊎◌, refl, ap, sym}
 use Rattle.std.proofs.Common.{◌∙◌, Bool, true, false, cond, Some, Contains, append-nil, append_assoc}
 use Rattle.std.specs.Prelude.{Option, ◌||◌, ◌↔◌, filter, fold, option_and_then}
@@ -31,13 +31,13 @@ use Rattle.state_laws.proofs.indexes.CallsTest.{any_back, any_forth, calls_test,
 use Rattle.docker_laws.proofs.dockers.ExcerptState.{calls_as, names_as, is_name, is_needed, needed_passes, some_entries, or_left, or_right}
 use Rattle.docker_laws.proofs.dockers.ExcerptWalk.{false_true, uid_once, above_uid, name_of, walk_keeps}
 
--- ---- a property that each step preserves holds at each point of a walk
+-- ---- a property that each step of a walk preserves holds after each step
 
 fold_more : {A B : Type 0} (f : B → A → B) (first : B) (xs ys : List A) → fold f first (xs ++ ys) ≡ fold f (fold f first xs) ys
 fold_more f first [] ys = refl
 fold_more f first (x ∷ xs) ys = fold_more f (f first x) xs ys
 
--- `next_kept` computes the state of the walk after one more entry from the earlier state
+-- `next_kept` computes the fields `kept` and `run` after one more entry
 pub so_far_more : (place : List ℕ) (entries : List Keyed) (entry : Keyed)
     → kept_so_far place (entries ++ entry ∷ []) ≡ next_kept place (kept_so_far place entries) entry
 so_far_more place entries entry = fold_more (next_kept place) nothing_kept entries (entry ∷ [])
@@ -47,8 +47,8 @@ pub kept_from_there : (place : List ℕ) (front rest : List Keyed)
     → kept_from place (kept_so_far place front) rest ≡ kept_after_run place (kept_so_far place (front ++ rest))
 kept_from_there place front rest = ap (kept_after_run place) (sym (fold_more (next_kept place) nothing_kept front rest))
 
--- a property that holds before the first entry, and that each entry preserves, holds at each point
--- of the walk
+-- a property that holds before the first entry, and that each step of the walk preserves, holds
+-- after each entry
 module _ (place : List ℕ) (P : List Keyed → ExcerptSoFar → Type 0)
     (step : (done : List Keyed) (so_far : ExcerptSoFar) (x : Keyed) → P done so_far → P (done ++ x ∷ []) (next_kept place so_far x)) where
   onward : (rest done : List Keyed) (so_far : ExcerptSoFar) → P done so_far → P (done ++ rest) (fold (next_kept place) so_far rest)
@@ -60,10 +60,10 @@ module _ (place : List ℕ) (P : List Keyed → ExcerptSoFar → Type 0)
   all_along : P [] nothing_kept → (entries : List Keyed) → P entries (kept_so_far place entries)
   all_along first entries = onward entries [] nothing_kept first
 
--- ---- the kept entries and the run are a sublist of the entries passed
+-- ---- the entries in `kept` and `run` are a sublist of the entries that the walk has passed
 
--- at the end of a run, the kept entries are a sublist of the earlier kept entries followed by the
--- run
+-- when a run ends, the new list of kept entries is a sublist of the fields `kept` and `run` taken
+-- together
 pub after_run_within : (place : List ℕ) (so_far : ExcerptSoFar) → IsSublist (kept_after_run place so_far) (so_far.kept ++ so_far.run)
 after_run_within place so_far = by (is_run_needed place so_far)
   where
@@ -118,18 +118,19 @@ module _ (place : List ℕ) where
   within_more done so_far (tiploc_key code) entry here = within_other done so_far (tiploc_key code, entry) (is_here place (tiploc_key code)) here
   within_more done so_far (association_key key) entry here = within_other done so_far (association_key key, entry) (is_here place (association_key key)) here
 
-  -- the kept entries followed by the run are a sublist of the entries that the walk has passed
+  -- the entries in `kept`, followed by the entries in `run`, are a sublist of the entries that the
+  -- walk has passed
   pub so_far_within : (entries : List Keyed) → IsSublist ((kept_so_far place entries).kept ++ (kept_so_far place entries).run) entries
   so_far_within = all_along place Within (λ done so_far x here. within_more done so_far x.0 x.1 here) tt
 
-  -- if a state may have the entries that the walk has passed, it may also have the kept entries
-  -- followed by the run
+  -- if a state may have the entries that the walk has passed, it may also have only the entries in
+  -- `kept` and `run`
   pub so_far_good : (ledger : List LedgerItem) (entries : List Keyed) → AreEntries ledger entries
       → AreEntries ledger ((kept_so_far place entries).kept ++ (kept_so_far place entries).run)
   so_far_good ledger entries are =
       some_entries ledger ((kept_so_far place entries).kept ++ (kept_so_far place entries).run) entries are (so_far_within entries)
 
-  -- ---- the entries of a run have one UID
+  -- ---- all entries in the field `run` have the same UID
 
   abbrev OfOneUid : List Keyed → ExcerptSoFar → Type 0
   OfOneUid done so_far = (uid : List ℕ) × ((r : Keyed) → Contains so_far.run r → has_uid uid r.0 ≡ true)
@@ -173,7 +174,7 @@ module _ (place : List ℕ) where
   run_of_one_uid : (entries : List Keyed) → OfOneUid entries (kept_so_far place entries)
   run_of_one_uid = all_along place OfOneUid (λ done so_far x here. one_uid_more done so_far x.0 x.1 here) ([], λ r among. absurd (nil-Contains r among))
 
-  -- if a schedule with a UID continues the run, all entries of the run have this UID
+  -- if a schedule with a UID may be appended to `run`, all entries in `run` have this UID
   pub run_uid : (entries : List Keyed) (uid : List ℕ) (r : Keyed) → goes_on (kept_so_far place entries).run uid ≡ true
       → Contains (kept_so_far place entries).run r → has_uid uid r.0 ≡ true
   run_uid entries uid r goes among =
@@ -181,8 +182,8 @@ module _ (place : List ℕ) where
       let first = goes_first (kept_so_far place entries).run uid goes in
       subst (λ other. has_uid other r.0 ≡ true) (uid_once of.0 uid first.0.0 (of.1 first.0 first.1) first.2) (of.1 r among)
 
-  -- in key order, when the walk reaches a TIPLOC or an association, its run is empty, because
-  -- TIPLOCs and associations are before all schedules
+  -- in key order, when the walk reaches a TIPLOC or an association, the field `run` is empty,
+  -- because TIPLOCs and associations come before all schedules
   pub no_run_before : (entries : List Keyed) (key : Key) → All (λ (e : Keyed). IsBelow key_cmp e.0 key) entries
       → ((uid : List ℕ) → has_uid uid key ≡ false) → (kept_so_far place entries).run ≡ []
   no_run_before entries key above never =
@@ -193,7 +194,7 @@ module _ (place : List ℕ) where
       let is = above_uid r.0 key of.0 (member_of (λ (e : Keyed). IsBelow key_cmp e.0 key) entries r above inside) (of.1 r among) in
       false_true (sym (never is.0) ∙ is.1))
 
-  -- ---- the kept entries have the UIDs of all associated trains at the place
+  -- ---- the entries in `kept` name the associated trains of all associations at the place
 
   abbrev at_place : List Keyed → List Keyed
   at_place entries = filter (λ (entry : Keyed). is_here place entry.0) entries
@@ -257,14 +258,13 @@ module _ (place : List ℕ) where
   named_more done so_far (tiploc_key code) entry here = named_other done so_far (tiploc_key code, entry) (is_here place (tiploc_key code)) refl here
   named_more done so_far (association_key key) entry here = named_other done so_far (association_key key, entry) (is_here place (association_key key)) refl here
 
-  -- the UIDs of associated trains in the kept entries are the UIDs of associated trains in all
-  -- passed entries at the place
+  -- the entries in `kept` name the same associated trains as all entries at the place that the walk
+  -- has passed
   pub names_so_far : (entries : List Keyed)
       → names_in (kept_so_far place entries).kept ≡ names_in (filter (λ (entry : Keyed). is_here place entry.0) entries)
   names_so_far entries = (all_along place AreNamed (λ done so_far x here. named_more done so_far x.0 x.1 here) (refl, refl) entries).0
 
-  -- when the walk passes a schedule, the UIDs of associated trains in the kept entries stay the
-  -- same
+  -- when the walk passes a schedule, the entries in `kept` still name the same associated trains
   pub names_stay : (entries : List Keyed) (key : ScheduleKey) (entry : Entry)
       → names_in (kept_so_far place (entries ++ (schedule_key key, entry) ∷ [])).kept ≡ names_in (kept_so_far place entries).kept
   names_stay entries key entry =
@@ -275,29 +275,29 @@ module _ (place : List ℕ) where
 -- ---- each step of the walk keeps, drops or postpones an entry
 
 module _ (place : List ℕ) (so_far : ExcerptSoFar) where
-  -- a schedule of the run's UID is appended to the run
+  -- a schedule that has the UID of the entries in `run` is appended to `run`
   pub joins_run : (key : ScheduleKey) (entry : Entry) → goes_on so_far.run key.uid ≡ true
       → next_kept place so_far (schedule_key key, entry) ≡ record { kept = so_far.kept; run = so_far.run ++ (schedule_key key, entry) ∷ [] }
   joins_run key entry goes = λ i.
       cond (goes i) (record { kept = so_far.kept; run = so_far.run ++ (schedule_key key, entry) ∷ [] })
       (record { kept = kept_after_run place so_far; run = (schedule_key key, entry) ∷ [] })
 
-  -- a schedule of another UID ends the run and begins the next
+  -- a schedule with another UID than the entries in `run` ends this run and begins the next run
   pub begins_run : (key : ScheduleKey) (entry : Entry) → goes_on so_far.run key.uid ≡ false
       → next_kept place so_far (schedule_key key, entry) ≡ record { kept = kept_after_run place so_far; run = (schedule_key key, entry) ∷ [] }
   begins_run key entry stops = λ i.
       cond (stops i) (record { kept = so_far.kept; run = so_far.run ++ (schedule_key key, entry) ∷ [] })
       (record { kept = kept_after_run place so_far; run = (schedule_key key, entry) ∷ [] })
 
-  -- at its end, a run that is needed is kept
+  -- when a run ends and the docker needs it, its entries are appended to the kept entries
   pub keeps_run : is_run_needed place so_far ≡ true → kept_after_run place so_far ≡ so_far.kept ++ so_far.run
   keeps_run needed = λ i. cond (needed i) (so_far.kept ++ so_far.run) so_far.kept
 
-  -- at its end, a run that isn't needed is dropped
+  -- when a run ends and the docker doesn't need it, its entries are dropped
   pub drops_run : is_run_needed place so_far ≡ false → kept_after_run place so_far ≡ so_far.kept
   drops_run unneeded = λ i. cond (unneeded i) (so_far.kept ++ so_far.run) so_far.kept
 
-  -- if the run is empty, the end of the run leaves the kept entries unchanged
+  -- if the field `run` is empty, the end of the run leaves the kept entries unchanged
   pub ends_none : so_far.run ≡ [] → kept_after_run place so_far ≡ so_far.kept
   ends_none none = subst (λ (run : List Keyed). kept_after_run place (record { kept = so_far.kept; run = run }) ≡ so_far.kept) (sym none) refl
 
@@ -320,7 +320,7 @@ module _ (place : List ℕ) (so_far : ExcerptSoFar) where
   elsewhere_then x true h none = absurd (let bad : true ≡ false = h in cc)
   elsewhere_then x false h none = let back : [] ≡ so_far.run = sym none in λ i. record { kept = ends_none none i; run = back i }
 
-  -- a TIPLOC or an association of another place leaves the state of the walk unchanged
+  -- a TIPLOC or an association of another place leaves `kept` and `run` unchanged
   pub drops_elsewhere : (key : Key) (entry : Entry) → ((uid : List ℕ) → has_uid uid key ≡ false) → is_here place key ≡ false → so_far.run ≡ []
       → next_kept place so_far (key, entry) ≡ so_far
   drops_elsewhere (schedule_key key) entry never elsewhere none = false_true (sym (never key.uid) ∙ (bytes_eq-Decides key.uid key.uid).1 refl)
@@ -328,8 +328,8 @@ module _ (place : List ℕ) (so_far : ExcerptSoFar) where
   drops_elsewhere (association_key key) entry never elsewhere none =
       elsewhere_then (association_key key, entry) (is_here place (association_key key)) elsewhere none
 
--- `is_run_named` holds for a run if and only if the UID of its first schedule is in the list of
--- UIDs
+-- `is_run_named` holds for a list of schedules if and only if the UID of the first schedule is in
+-- `names`
 pub named_iff : (names : List (List ℕ)) (key : ScheduleKey) (entry : Entry) (others : List Keyed)
     → (is_run_named names ((schedule_key key, entry) ∷ others) ≡ true) ↔ Contains names key.uid
 named_iff names key entry others = (
@@ -339,8 +339,9 @@ named_iff names key entry others = (
   λ among. any_forth (λ name. bytes_eq key.uid name) names key.uid among ((bytes_eq-Decides key.uid key.uid).1 refl),
 )
 
--- a run is needed if and only if its UID belongs to the associated train of a kept association, or
--- one of its live schedules calls at the place
+-- the docker needs the schedules in `run` if and only if one of two things is true. Either their
+-- UID belongs to the associated train of a kept association, or one of these schedules is live and
+-- calls at the place
 pub run_needed_iff : (place : List ℕ) (so_far : ExcerptSoFar) (key : ScheduleKey) (entry : Entry) (others : List Keyed)
     → so_far.run ≡ (schedule_key key, entry) ∷ others
     → (is_run_needed place so_far ≡ true)
@@ -370,16 +371,16 @@ pub or_false : (b : Bool) → (b || false) ≡ b
 or_false true = refl
 or_false false = refl
 
--- a run with a schedule appended calls at the place if and only if the run or that schedule calls
--- at the place
+-- after an entry is appended to `run`, a schedule in `run` calls at the place if and only if one of
+-- the entries before or the appended entry calls there
 pub calls_more : (place : List ℕ) (run : List Keyed) (entry : Keyed)
     → is_run_calling place (run ++ entry ∷ []) ≡ (is_run_calling place run || is_call place entry.1.op)
 calls_more place run entry =
     list_any-append (λ (e : Keyed). is_call place e.1.op) run (entry ∷ [])
     ∙ ap (λ b. is_run_calling place run || b) (or_false (is_call place entry.1.op))
 
--- when an entry is appended to entries, the UID of its associated train, if any, is appended to the
--- UIDs of associated trains
+-- appending an entry to a list appends the UID of the entry's associated train, if it has one, to
+-- the UIDs that the list names
 pub names_with : (xs : List Keyed) (entry : Keyed) → names_in (xs ++ entry ∷ []) ≡ names_in xs ++ names_in (entry ∷ [])
 names_with xs entry = filter_map-append (λ (e : Keyed). name_in e.0 e.1.op) xs (entry ∷ [])
 

@@ -1,5 +1,5 @@
--- A loop can compute an excerpt from three values: the kept entries, the run, and a flag that says
--- whether the run is needed. A run is all entries for the schedules of one UID.
+-- A loop can compute an excerpt from three values: the kept entries, a run, and a flag that says
+-- whether the docker needs the run. A run is all entries for the schedules of one UID.
 use Rattle.std.proofs.Common.{◌≡◌, ℕ, List, [], ◌∷◌, ◌++◌, subst, refl, ap, sym, ◌∙◌, Bool, true, false, cond, Contains}
 use Rattle.std.specs.Prelude.{◌||◌, ◌↔◌}
 use Rattle.docker_model.specs.file.Change.{Key, schedule_key, ScheduleKey}
@@ -27,7 +27,7 @@ pub kept_first : (place : List ℕ) → HasKept place [] [] [] false
 kept_first place = record { so_far = refl; is_needed = refl }
 
 module _ (place : List ℕ) (entries kept run : List Keyed) (needed : Bool) (has : HasKept place entries kept run needed) where
-  -- `next_kept` computes the state of the walk after one more entry from the earlier state
+  -- `next_kept` computes the kept entries and the run after one more entry
   next_is : (x : Keyed) → kept_so_far place (entries ++ x ∷ []) ≡ next_kept place (at kept run) x
   next_is x = so_far_more place entries x ∙ ap (λ (so_far : ExcerptSoFar). next_kept place so_far x) has.so_far
 
@@ -36,8 +36,8 @@ module _ (place : List ℕ) (entries kept run : List Keyed) (needed : Bool) (has
   same_name names [] uid x goes = false_true goes
   same_name names (first ∷ rest) uid x goes = refl
 
-  -- a schedule with the run's UID is appended to the run. The run is then needed if it was needed
-  -- before, or if the schedule calls at the place
+  -- a schedule that has the UID of the entries in `run` is appended to `run`. The docker then needs
+  -- these entries if it needed them before, or if the schedule calls at the place
   pub kept_joins : (key : ScheduleKey) (entry : Entry) → goes_on run key.uid ≡ true
       → HasKept place (entries ++ (schedule_key key, entry) ∷ []) kept (run ++ (schedule_key key, entry) ∷ []) (needed || is_call place entry.op)
   kept_joins key entry goes = record {
@@ -48,7 +48,7 @@ module _ (place : List ℕ) (entries kept run : List Keyed) (needed : Bool) (has
         ∙ ap (λ b. b || is_call place entry.op) has.is_needed;
   }
 
-  -- at its end the run is kept if it is needed, and dropped otherwise
+  -- when a run ends, its entries are kept if they are needed, and dropped otherwise
   ended : kept_after_run place (at kept run) ≡ cond needed (kept ++ run) kept
   ended = λ i. cond (has.is_needed i) (kept ++ run) kept
 
@@ -65,7 +65,7 @@ module _ (place : List ℕ) (entries kept run : List Keyed) (needed : Bool) (has
       ∙ names_stay place entries key entry
       ∙ ap (λ (so_far : ExcerptSoFar). names_in so_far.kept) has.so_far
 
-  -- a schedule of another UID ends the run and begins the next run. The next run is needed if its
+  -- a schedule with another UID ends the run and begins the next run. The next run is needed if its
   -- UID belongs to the associated train of a kept association, or if the schedule calls at the
   -- place
   pub kept_begins : (key : ScheduleKey) (entry : Entry) (named : Bool) → goes_on run key.uid ≡ false
@@ -88,17 +88,18 @@ module _ (place : List ℕ) (entries kept run : List Keyed) (needed : Bool) (has
           same_tests (is_run_named (names_in (cond needed (kept ++ run) kept)) ((schedule_key key, entry) ∷ [])) named (λ h. tells.1 (told.0 h))
           (λ h. told.1 (tells.0 h))
 
-  -- the kept entries followed by the run are a sublist of the entries that the loop has passed
+  -- the entries in `kept`, followed by the entries in `run`, are a sublist of the entries that the
+  -- loop has passed
   pub kept_within : IsSublist (kept ++ run) entries
   kept_within = subst (λ (so_far : ExcerptSoFar). IsSublist (so_far.kept ++ so_far.run) entries) has.so_far (so_far_within place entries)
 
-  -- if a state may have the entries that the loop has passed, it may also have the kept entries
-  -- followed by the run
+  -- if a state may have the entries that the loop has passed, it may also have only the entries in
+  -- `kept` and `run`
   pub kept_good : (ledger : List LedgerItem) → AreEntries ledger entries → AreEntries ledger (kept ++ run)
   kept_good ledger are = subst (λ (so_far : ExcerptSoFar). AreEntries ledger (so_far.kept ++ so_far.run)) has.so_far (so_far_good place ledger entries are)
 
 module _ (place : List ℕ) (state : State) (kept run : List Keyed) (needed : Bool) (has : HasKept place state.entries kept run needed) where
-  -- when the loop reaches a TIPLOC or an association, its run is empty
+  -- when the loop reaches a TIPLOC or an association, `run` is empty
   pub kept_alone : (key : Key) → IsAboveEntries state key → ((uid : List ℕ) → has_uid uid key ≡ false) → run ≡ []
   kept_alone key above never = sym (ap (λ (so_far : ExcerptSoFar). so_far.run) has.so_far) ∙ no_run_before place state.entries key above never
 
@@ -121,6 +122,7 @@ module _ (place : List ℕ) (state : State) (kept run : List Keyed) (needed : Bo
     is_needed = refl;
   }
 
-  -- the entries of the excerpt are the kept entries at the end, followed by the run if it is needed
+  -- at the end of the loop, the entries of the excerpt are `kept`, followed by `run` if the docker
+  -- needs `run`
   pub kept_last : (excerpt_for place state).entries ≡ cond needed (kept ++ run) kept
   kept_last = ap (kept_after_run place) has.so_far ∙ ended place state.entries kept run needed has

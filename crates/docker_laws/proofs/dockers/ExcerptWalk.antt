@@ -124,9 +124,9 @@ same_tests false false to back = refl
 
 -- ---- the invariant of a walk
 
--- The invariant of the walk. The list of all entries is `done`, followed by the run of `so_far` and
--- by `rest`. The kept entries are the needed entries of `done`. All entries of the run have one
--- UID. No entry in `done` has a UID of the run or of `rest`.
+-- The invariant of the walk. The list of all entries is `done`, followed by the field `run` of
+-- `so_far` and by `rest`. The field `kept` has the needed entries of `done`. All entries in `run`
+-- have the same UID. No entry in `done` has the UID of an entry in `run` or `rest`.
 record IsAt (place : List ℕ) (all done : List Keyed) (so_far : ExcerptSoFar) (rest : List Keyed) : Type 0 where
   whole : all ≡ (done ++ so_far.run) ++ rest
   kept : so_far.kept ≡ filter (λ (entry : Keyed). is_needed place all entry.0) done
@@ -134,7 +134,7 @@ record IsAt (place : List ℕ) (all done : List Keyed) (so_far : ExcerptSoFar) (
   of_uid : (r : Keyed) → Contains so_far.run r → has_uid uid r.0 ≡ true
   apart : (z y : Keyed) (other : List ℕ) → Contains done z → Contains (so_far.run ++ rest) y → has_uid other z.0 ≡ true → has_uid other y.0 ≡ true → ⊥
 
--- no entry of `rest` has the run's UID
+-- no entry in `rest` has the UID of an entry in `run`
 abbrev IsEnded : List Keyed → List Keyed → Type 0
 IsEnded run rest = (r y : Keyed) (other : List ℕ) → Contains run r → Contains rest y → has_uid other r.0 ≡ true → has_uid other y.0 ≡ true → ⊥
 
@@ -162,13 +162,13 @@ module _ (place : List ℕ) (all : List Keyed) (order : AllLater Below all) wher
   needed_of_uid uid (tiploc_key code) h = false_true h
   needed_of_uid uid (association_key key) h = false_true h
 
-  -- ---- at the end of a run, the invariant still holds
+  -- ---- when a run of schedules with one UID ends, the invariant still holds
   module _ (done kept : List Keyed) (first : Keyed) (others rest : List Keyed)
       (at : IsAt place all done (record { kept = kept; run = first ∷ others }) rest) (ended : IsEnded (first ∷ others) rest) where
     of_first : has_uid at.uid first.0 ≡ true
     of_first = at.of_uid first (cons-Contains-first first others)
 
-    -- each entry is in `done`, in the run, or in `rest`
+    -- each entry is in `done`, in the run `first ∷ others`, or in `rest`
     place_of : (x : Keyed) → Contains all x → Contains done x ⊎ (Contains (first ∷ others) x ⊎ Contains rest x)
     place_of x among = outer (Contains-append_cases (done ++ first ∷ others) rest x (subst (λ xs. Contains xs x) at.whole among))
       where
@@ -272,7 +272,7 @@ module _ (place : List ℕ) (all : List Keyed) (order : AllLater Below all) wher
         ∙ ap (λ (ys : List Keyed). filter (λ (entry : Keyed). is_needed place all entry.0) done ++ ys) (sym of_run)
         ∙ sym (filter-append test done (first ∷ others))
 
-  -- at the end of the run, the kept entries are the passed entries whose keys are needed
+  -- when the run ends, the walk has kept exactly the passed entries whose keys the docker needs
   run_end : (done kept run rest : List Keyed) → IsAt place all done (record { kept = kept; run = run }) rest → IsEnded run rest
       → kept_after_run place (record { kept = kept; run = run }) ≡ filter (λ (entry : Keyed). is_needed place all entry.0) (done ++ run)
   run_end done kept [] rest at ended = at.kept ∙ ap (filter (λ (entry : Keyed). is_needed place all entry.0)) (sym (append-nil done))
@@ -280,14 +280,14 @@ module _ (place : List ℕ) (all : List Keyed) (order : AllLater Below all) wher
 
   -- ---- one more entry preserves the invariant
 
-  -- each entry of the run is below the next entry
+  -- each entry in `run` is below the next entry of the walk
   run_below : (done : List Keyed) (so_far : ExcerptSoFar) (x : Keyed) (rest : List Keyed) → IsAt place all done so_far (x ∷ rest) → (r : Keyed)
       → Contains so_far.run r → key_cmp r.0 x.0 ≡ Less
   run_below done so_far x rest at r among =
       later_across (done ++ so_far.run) (x ∷ rest) r x (subst (AllLater Below) at.whole order) (Contains-append_right done so_far.run r among)
       (cons-Contains-first x rest)
 
-  -- the next entry is below all entries after it
+  -- the next entry of the walk is below all entries after it
   next_below : (done : List Keyed) (so_far : ExcerptSoFar) (x : Keyed) (rest : List Keyed) → IsAt place all done so_far (x ∷ rest) → (y : Keyed)
       → Contains rest y → key_cmp x.0 y.0 ≡ Less
   next_below done so_far x rest at y among =
@@ -306,7 +306,8 @@ module _ (place : List ℕ) (all : List Keyed) (order : AllLater Below all) wher
   regrouped done run rest x =
       sym (append_assoc (done ++ run) (x ∷ []) rest) ∙ ap (λ (xs : List Keyed). xs ++ rest) (append_assoc done run (x ∷ []))
 
-  -- appending a schedule with the run's UID to the run preserves the invariant
+  -- appending a schedule to `run` preserves the invariant if the schedule has the UID of the
+  -- entries in `run`
   joins : (done : List Keyed) (so_far : ExcerptSoFar) (key : ScheduleKey) (entry : Entry) (rest : List Keyed)
       → IsAt place all done so_far ((schedule_key key, entry) ∷ rest) → goes_on so_far.run key.uid ≡ true
       → IsAt place all done (record { kept = so_far.kept; run = so_far.run ++ (schedule_key key, entry) ∷ [] }) rest
@@ -330,14 +331,15 @@ module _ (place : List ℕ) (all : List Keyed) (order : AllLater Below all) wher
           subst (λ (e : Keyed). has_uid at.uid e.0 ≡ true) (Contains-single {A = Keyed} (schedule_key key, entry) r last)
           ((bytes_eq-Decides key.uid at.uid).1 uid_is)
 
-  -- if the next entry is a schedule with another UID, no later entry has the run's UID
+  -- if the next entry is a schedule with another UID than the entries in `run`, no later entry has
+  -- their UID
   ends : (done : List Keyed) (so_far : ExcerptSoFar) (key : ScheduleKey) (entry : Entry) (rest : List Keyed)
       → IsAt place all done so_far ((schedule_key key, entry) ∷ rest) → goes_on so_far.run key.uid ≡ false
       → IsEnded so_far.run ((schedule_key key, entry) ∷ rest)
   ends done so_far key entry rest at stops r y other in_run behind of_r of_y =
       by (Contains-cons {A = Keyed} (schedule_key key, entry) rest y behind)
     where
-      -- the next entry doesn't have the run's UID
+      -- the next entry has another UID than the entries in `run`
       hit : has_uid other (schedule_key key) ≡ true → ⊥
       hit h =
           let same : at.uid ≡ key.uid = uid_once at.uid other r.0 (at.of_uid r in_run) of_r ∙ sym ((bytes_eq-Decides key.uid other).0 h) in
@@ -349,7 +351,8 @@ module _ (place : List ℕ) (all : List Keyed) (order : AllLater Below all) wher
           hit (between_uid r.0 (schedule_key key) y.0 other (run_below done so_far (schedule_key key, entry) rest at r in_run)
           (next_below done so_far (schedule_key key, entry) rest at y there) of_r of_y)
 
-  -- beginning the next run with a schedule of another UID preserves the invariant
+  -- if a schedule has another UID than the entries in `run`, beginning the next run with it
+  -- preserves the invariant
   begins : (done : List Keyed) (so_far : ExcerptSoFar) (key : ScheduleKey) (entry : Entry) (rest : List Keyed)
       → IsAt place all done so_far ((schedule_key key, entry) ∷ rest) → goes_on so_far.run key.uid ≡ false
       → IsAt place all (done ++ so_far.run) (record { kept = kept_after_run place so_far; run = (schedule_key key, entry) ∷ [] }) rest
@@ -386,7 +389,7 @@ module _ (place : List ℕ) (all : List Keyed) (order : AllLater Below all) wher
       by true goes = (done, joins done so_far key entry rest at goes)
       by false stops = (done ++ so_far.run, begins done so_far key entry rest at stops)
 
-  -- when the walk reaches a TIPLOC or an association, its run is empty
+  -- when the walk reaches a TIPLOC or an association, the field `run` is empty
   no_run : (done : List Keyed) (so_far : ExcerptSoFar) (key : Key) (entry : Entry) (rest : List Keyed) → ((uid : List ℕ) → ¬ (has_uid uid key ≡ true))
       → IsAt place all done so_far ((key, entry) ∷ rest) → (r : Keyed) → ¬ Contains so_far.run r
   no_run done so_far key entry rest never at r among =
@@ -458,7 +461,7 @@ module _ (place : List ℕ) (all : List Keyed) (order : AllLater Below all) wher
   one_more done so_far (tiploc_key code) entry rest at = other_more done so_far (tiploc_key code) entry rest (tiploc_never code) refl at
   one_more done so_far (association_key key) entry rest at = other_more done so_far (association_key key) entry rest (association_never key) refl at
 
-  -- ---- at the end of a walk, the needed entries are kept
+  -- ---- at the end of a walk, the kept entries are exactly the entries whose keys the docker needs
 
   from_here : (rest done : List Keyed) (so_far : ExcerptSoFar) → IsAt place all done so_far rest
       → kept_from place so_far rest ≡ filter (λ (entry : Keyed). is_needed place all entry.0) all
@@ -493,13 +496,13 @@ walk_is_excerpt place state up =
 pub walk_valid : (place : List ℕ) (state : State) → IsValid state → IsValid (excerpt_for place state)
 walk_valid place state valid = excerpt_valid place state (excerpt_for place state) valid (walk_is_excerpt place state valid.entries.1)
 
--- the excerpt has the same docker list for the place as the state
+-- a valid state and its excerpt for a place have the same docker list for the place
 pub walk_list_iff : (place : List ℕ) (state : State) (day : ℕ) (lines : List DockerLine) → IsValid state
     → IsDockerList (live_table state) place day lines ↔ IsDockerList (live_table (excerpt_for place state)) place day lines
 walk_list_iff place state day lines valid =
     excerpt_list_iff place (live_table state) (live_table (excerpt_for place state)) (walk_is_excerpt place state valid.entries.1).live day lines
 
--- the excerpt has the same docker text for the place as the state
+-- a valid state and its excerpt for a place have the same docker text for the place
 pub walk_text_iff : (place : List ℕ) (state : State) (day : ℕ) (text : List ℕ) → IsValid state
     → IsDockerText (live_table state) place day text ↔ IsDockerText (live_table (excerpt_for place state)) place day text
 walk_text_iff place state day text valid =

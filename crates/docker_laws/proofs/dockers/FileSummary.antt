@@ -43,10 +43,10 @@ not_both a b less back =
 not_itself : (a : Key) → ¬ (key_cmp a a ≡ Less)
 not_itself a less = let tied = tied_itself key_total a in cc
 
--- ---- inserting an older entry preserves the key order and all entries
+-- ---- `with_earlier` preserves the key order and all entries of a list
 
--- after an older entry is inserted, each entry of the list either was in the list before or is the
--- inserted entry. In the second case, the list had no entry with this key before
+-- after `with_earlier` inserts an entry, each entry of the new list either was in the list before
+-- or is the inserted entry. In the second case, the list had no entry with this key before
 member_forth : (entry : Keyed) (entries : List Keyed) → AreAscending entries → (z : Keyed) → Contains (with_earlier entry entries) z
     → Contains entries z ⊎ ((entry ≡ z) × NoEntry entries entry.0)
 member_forth entry [] up z among = inr (Contains-single entry z among, λ other inside. nil-Contains (entry.0, other) inside)
@@ -88,7 +88,7 @@ member_forth entry (first ∷ entries) up z among = by (key_cmp entry.0 first.0)
     by Equal h rest inside = inl inside
     by Greater h rest inside = after h rest (Contains-cons first (with_earlier entry entries) z inside)
 
--- inserting an older entry preserves each entry of the list
+-- `with_earlier` preserves each entry of the list
 member_still : (entry : Keyed) (entries : List Keyed) (z : Keyed) → Contains entries z → Contains (with_earlier entry entries) z
 member_still entry [] z among = absurd (nil-Contains z among)
 member_still entry (first ∷ entries) z among =
@@ -101,7 +101,7 @@ member_still entry (first ∷ entries) z among =
     by Greater rest (inl same) = subst (Contains (first ∷ with_earlier entry entries)) same (cons-Contains-first first (with_earlier entry entries))
     by Greater rest (inr inside) = cons-Contains first (with_earlier entry entries) z (rest inside)
 
--- an older entry is inserted if no entry in the list has the same key
+-- `with_earlier` inserts the entry if no entry in the list has the same key
 member_new : (entry : Keyed) (entries : List Keyed) → NoEntry entries entry.0 → Contains (with_earlier entry entries) entry
 member_new entry [] none = cons-Contains-first entry []
 member_new entry (first ∷ entries) none =
@@ -115,7 +115,7 @@ member_new entry (first ∷ entries) none =
         absurd (none first.1 (subst (Contains (first ∷ entries)) (λ i. (sym same i, first.1)) (cons-Contains-first first entries)))
     by Greater h rest = cons-Contains first (with_earlier entry entries) entry rest
 
--- inserting an older entry preserves the key order
+-- `with_earlier` preserves the key order of the list
 still_ascends : (entry : Keyed) (entries : List Keyed) → AreAscending entries → AreAscending (with_earlier entry entries)
 still_ascends entry [] up = (tt, tt)
 still_ascends entry (first ∷ entries) up = by (key_cmp entry.0 first.0) refl (still_ascends entry entries up.1)
@@ -152,7 +152,7 @@ latest_ascend : (entries : List Keyed) → AreAscending (latest_entries entries)
 latest_ascend [] = tt
 latest_ascend (entry ∷ entries) = still_ascends entry (latest_entries entries) (latest_ascend entries)
 
--- an earlier entry of a key is less than a later entry of the same key
+-- if the stamps increase along the list, an entry is less than each later entry with the same key
 not_above : (entry : Keyed) (entries : List Keyed) (key : Key) (last : Entry) → AllByRecursion (Ascends entry) entries → Contains entries (key, last)
     → (other : Entry) → entry ≡ (key, other) → entry_cmp other last ≡ Less
 not_above entry entries key last up inside other same =
@@ -170,7 +170,7 @@ latest_is (first ∷ entries) up key entry = (forth (latest_is entries up.1 key)
     Latest : Type 0
     Latest = (other : Entry) → Contains (latest_entries entries) (key, other) ↔ IsGreatestAmong entries key other
 
-    -- a key without a last entry has no entry
+    -- if `latest_entries` has no entry with a key, the whole list has no entry with this key
     none_of : Latest → NoEntry (latest_entries entries) key → NoEntry entries key ⊎ GreatestEntry entries key → NoEntry entries key
     none_of later none (inl never) = never
     none_of later none (inr best) = absurd (none best.0 ((later best.0).1 (record { among = best.1; greatest = best.2 })))

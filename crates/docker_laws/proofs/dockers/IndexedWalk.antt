@@ -1,4 +1,4 @@
--- A walk over the rows in the indexes for a place finds each docker line of the place.
+-- A walk over the rows that the indexes give for a place finds each docker line of the place.
 use Rattle.std.proofs.Common.{◌≡◌, ℕ, List, ◌++◌, refl, ap, sym, ◌∙◌, inl, inr, ◌⊎◌, Some, Contains}
 use Rattle.std.specs.Ordering.{on}
 use Rattle.std.proofs.lemmas.List.Elements.{Contains-append_left, Contains-append_right, Contains-append_cases}
@@ -33,8 +33,8 @@ module _ (live : Table) (place : List ℕ) (linked calling : List Row) (are_link
   live_row key body (inl here) = let one = (are_linked.members key body).0 here in ap live one.2 ∙ one.4.is_live ∙ ap Some (sym one.3)
   live_row key body (inr here) = let one = (are_calling.members key body).0 here in ap live one.2 ∙ one.4.is_live ∙ ap Some (sym one.3)
 
-  -- the rows in both indexes for a place are enough for a walk over the place: they satisfy
-  -- `IsWalk`
+  -- the rows linked at a place, followed by the rows that call there, are enough to find all docker
+  -- lines of the place: they satisfy `IsWalk`
   pub indexed_walk : IsWalk live place (linked ++ calling)
   indexed_walk = record {
     ascending = ascending_of (on (λ (row : Row). row.0) key_cmp) (linked ++ calling)
@@ -49,7 +49,8 @@ module _ (live : Table) (place : List ℕ) (linked calling : List Row) (are_link
         ((are_linked.members (association_key key) (association_body line)).1 (key, line, refl, refl, record { is_live = is; here = here }));
   }
 
--- the lines of the rows in both indexes, after sorting, are the docker list
+-- the lines gathered from the linked rows and the calling rows of a place are, after sorting, the
+-- docker list
 pub indexed_docker : (live : Table) (place : List ℕ) (day : ℕ) (rows linked calling : List Row) (lines : List DockerLine) → HasGoodBodies live
     → AreRowsOf live rows
     → AreLinked live place linked → AreCalling live place calling

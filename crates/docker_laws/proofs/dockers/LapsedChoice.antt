@@ -1,6 +1,5 @@
--- On each day that isn't before a horizon, a table and the table lapsed under the horizon choose
--- the same schedules and associations. A schedule or association that runs on such a day hasn't
--- lapsed.
+-- If a day isn't before a horizon, lapsing a table at this horizon leaves the chosen schedules and
+-- associations of the day unchanged. A schedule or association that runs on the day hasn't lapsed.
 use Rattle.std.proofs.Common.{ℕ, ◌≤◌, List, Bool, true, false, cond, arith}
 use Rattle.std.specs.Prelude.{◌↔◌, ◌&&◌, IsTrue, nat_le}
 use Rattle.std.proofs.lemmas.Bool.{leb-true}
@@ -21,8 +20,8 @@ within_end first last days day runs =
     let dates = (both (nat_le (date_number first) day && nat_le day (end_number last)) (runs_on_weekday days (weekday_of day)) runs).0 in
     leb-true day (end_number last) (both (nat_le (date_number first) day) (nat_le day (end_number last)) dates).1
 
--- if a day isn't before the horizon, an end date that isn't before the day isn't before the horizon
--- either
+-- if neither a day is before the horizon, nor an end date before the day, the end date isn't before
+-- the horizon
 end_reached : (horizon day : ℕ) (last : List ℕ) → horizon ≤ no_end_number → horizon ≤ day → day ≤ end_number last → horizon ≤ readable_end last
 end_reached horizon day last bound from to = by (is_end_date last)
   where
@@ -32,7 +31,7 @@ end_reached horizon day last bound from to = by (is_end_date last)
 
 module _ (horizon : ℕ) (bound : horizon ≤ no_end_number) (live : Table) where
   module _ (day : ℕ) (from : horizon ≤ day) where
-    -- ---- both tables choose the same schedules
+    -- ---- lapsing leaves the chosen schedules unchanged
     running_forth : (uid : List ℕ) (key : ScheduleKey) (lines : List (List ℕ)) → IsRunning live uid day key lines
         → IsRunning (lapse_table horizon live) uid day key lines
     running_forth uid key lines is = record {
@@ -48,7 +47,8 @@ module _ (horizon : ℕ) (bound : horizon ≤ no_end_number) (live : Table) wher
     running_back uid key lines is =
         record { uid_is = is.uid_is; is_live = was_live horizon live (schedule_key key) (schedule_body lines) is.is_live; runs_then = is.runs_then }
 
-    -- on a day that isn't before the horizon, both tables choose the same schedule
+    -- on a day that isn't before the horizon, the table and the lapsed table choose the same
+    -- schedule of a UID
     pub chosen_iff : (uid : List ℕ) (key : ScheduleKey) (lines : List (List ℕ)) → IsChosen live uid day key lines ↔ IsChosen
         (lapse_table horizon live) uid day key lines
     chosen_iff uid key lines = (
@@ -64,7 +64,8 @@ module _ (horizon : ℕ) (bound : horizon ≤ no_end_number) (live : Table) wher
       },
     )
 
-    -- on a day that isn't before the horizon, both tables have the same train
+    -- on a day that isn't before the horizon, the table and the lapsed table have the same train of
+    -- a UID
     pub train_iff : (uid : List ℕ) (key : ScheduleKey) (lines : List (List ℕ)) → TrainRuns live uid day key lines ↔ TrainRuns
         (lapse_table horizon live) uid day key lines
     train_iff uid key lines = (
@@ -72,7 +73,7 @@ module _ (horizon : ℕ) (bound : horizon ≤ no_end_number) (live : Table) wher
       λ is. record { chosen = (chosen_iff uid key lines).1 is.chosen; no_cancellation = is.no_cancellation },
     )
 
-    -- ---- both tables choose the same associations
+    -- ---- lapsing leaves the chosen associations unchanged
     associated_forth : (group : Group) (key : AssociationKey) (line : List ℕ) → IsAssociated live group day key line
         → IsAssociated (lapse_table horizon live) group day key line
     associated_forth group key line is = record {
@@ -88,7 +89,8 @@ module _ (horizon : ℕ) (bound : horizon ≤ no_end_number) (live : Table) wher
     associated_back group key line is =
         record { group_is = is.group_is; is_live = was_live horizon live (association_key key) (association_body line) is.is_live; runs_then = is.runs_then }
 
-    -- on a day that isn't before the horizon, both tables choose the same association
+    -- on a day that isn't before the horizon, the table and the lapsed table choose the same
+    -- association of a group
     pub association_iff : (group : Group) (key : AssociationKey) (line : List ℕ) → IsChosenAssociation live group day key line ↔ IsChosenAssociation
         (lapse_table horizon live) group day key line
     association_iff group key line = (

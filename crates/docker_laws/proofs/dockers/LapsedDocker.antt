@@ -1,5 +1,5 @@
--- On each day from the third day after the horizon, a table and the table lapsed under the horizon
--- have the same dockers.
+-- Lapsing a table at a horizon leaves the dockers of all days from the third day after the horizon
+-- unchanged.
 use Rattle.std.proofs.Common.{◌≡◌, ℕ, ◌+◌, ◌-◌, ◌≤◌, List, ◌++◌, inl, inr, ◌⊎◌, refl, ap, sym, ◌∙◌, Bool, true, false, cond, Some, None, arith}
 use Rattle.std.specs.Prelude.{Option, ◌↔◌, ◌==◌, nat_lt, option_and_then, codes}
 use Rattle.std.specs.List.{flat_map}
@@ -102,7 +102,7 @@ association_line_over one other place day carries line is =
     }
 
 module _ (horizon : ℕ) (bound : horizon ≤ no_end_number) (live : Table) where
-  -- ---- the lapse leaves the identity of an associated train unchanged
+  -- ---- lapsing leaves the identity of an associated train unchanged
 
   identity_iff : (uid identity : List ℕ) (day : ℕ) → horizon ≤ day → IsIdentityOn live uid identity day ↔ IsIdentityOn
       (lapse_table horizon live) uid identity day
@@ -122,7 +122,7 @@ module _ (horizon : ℕ) (bound : horizon ≤ no_end_number) (live : Table) wher
   partner_iff uid identity (Some day) from = identity_iff uid identity day (from day refl)
 
   module _ (few : HasFewMidnights live) (place : List ℕ) (day : ℕ) (from : horizon + 3 ≤ day) where
-    -- ---- the lapse leaves the lines of a docker unchanged
+    -- ---- lapsing leaves the lines of a docker unchanged
 
     -- a train with an event on the day started at least one day after the horizon
     started_after : (uid : List ℕ) (start : ℕ) (key : ScheduleKey) (lines : List (List ℕ)) → TrainRuns live uid start key lines → (event : Event)
@@ -182,7 +182,7 @@ module _ (horizon : ℕ) (bound : horizon ≤ no_end_number) (live : Table) wher
     association_line_iff line =
         (association_line_over live (lapse_table horizon live) place day over line, association_line_over (lapse_table horizon live) live place day back line)
 
-    -- ---- the lapse leaves the list and the text of a docker unchanged
+    -- ---- lapsing leaves the list and the text of a docker unchanged
 
     lists_along : (P Q : DockerLine → Type 0) → ((line : DockerLine) → P line ↔ Q line) → (lines : List DockerLine) → Lists P lines → Lists Q lines
     lists_along P Q same lines is = record {
@@ -214,7 +214,7 @@ module _ (horizon : ℕ) (bound : horizon ≤ no_end_number) (live : Table) wher
           (λ line. IsEventLine live place day line ⊎ IsAssociationLine live place day line) (λ line. ((line_iff line).1, (line_iff line).0)) lines,
     )
 
-    -- the lapse leaves the description of a place unchanged, since a TIPLOC has no end
+    -- lapsing leaves the description of a place unchanged, since TIPLOCs don't lapse
     description_stays : description_in (lapse_table horizon live (tiploc_key place)) ≡ description_in (live (tiploc_key place))
     description_stays = by (live (tiploc_key place))
       where

@@ -90,7 +90,8 @@ partner_near day start within indicator partner is =
 -- ---- two tables with the same associations, and with the same schedules near a day, have the same
 -- dockers
 
--- each schedule of `one` that runs on a start day near the day also runs in `other`
+-- each schedule of `one` that runs on a start day near the day is in `other`, and runs on the same
+-- start day there
 abbrev RunsOver : Table → Table → ℕ → Type 0
 RunsOver one other day =
     (start : ℕ) → IsStartNear day start → (uid : List ℕ) (key : ScheduleKey) (lines : List (List ℕ)) → IsRunning one uid start key lines
@@ -101,7 +102,7 @@ abbrev LinksOver : Table → Table → Type 0
 LinksOver one other =
     (group : Group) (start : ℕ) (key : AssociationKey) (line : List ℕ) → IsAssociated one group start key line → IsAssociated other group start key line
 
--- both tables have the same schedules that run near the day, and the same associations
+-- the two tables have the same schedules that run near the day, and the same associations
 record AreAlike (one other : Table) (day : ℕ) : Type 0 where
   runs : RunsOver one other day
   runs_back : RunsOver other one day
@@ -172,7 +173,7 @@ list_over one other place day forth back lines is = record {
   );
 }
 
--- ---- leaving out schedules that don't run near a day leaves the dockers unchanged
+-- ---- removing schedules that don't run near a day leaves the dockers of that day unchanged
 
 -- the key may be left out: its body is a schedule that runs on no start day near the day
 abbrev pub IsLeftOut : ℕ → Table → Key → Type 0

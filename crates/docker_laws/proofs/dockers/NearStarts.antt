@@ -38,7 +38,7 @@ association_near live place day line good made =
 pub start_days_are : (day start : ℕ) → Contains (start_days day) start ↔ ((start ≤ day) × (day ≤ start + 2))
 start_days_are day start = ((start_days_iff day start).0, (start_days_iff day start).1)
 
--- the rows of a whole table are enough for a walk over any place: they satisfy `IsWalk`
+-- the rows of a whole table are enough to find all docker lines of any place: they satisfy `IsWalk`
 pub whole_walk : (live : Table) (place : List ℕ) (rows : List Row) → AreRowsOf live rows → IsWalk live place rows
 whole_walk live place rows are = record {
   ascending = are.ascending;

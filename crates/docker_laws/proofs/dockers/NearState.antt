@@ -29,8 +29,8 @@ may_not day (put_with (association_body line)) h = absurd (let bad : true ≡ fa
 may_not day deleted h = absurd (let bad : true ≡ false = h in cc)
 may_not day lapsed h = absurd (let bad : true ≡ false = h in cc)
 
--- the live table of the state with only the entries that may count is the live table without the
--- schedules that don't run near the day
+-- if a state keeps only the entries that may count on a day, its live table loses only schedules
+-- that don't run near the day
 pub near_part : (day : ℕ) (state : State) → AreAscending state.entries → IsNearPart day (live_table state) (live_table (near_state day state))
 near_part day state up key = by (find_in (near_entries day state.entries) key) (find_in state.entries key)
   where
@@ -66,14 +66,16 @@ pub near_valid : (day : ℕ) (state : State) → IsValid state → IsValid (near
 near_valid day state valid =
     some_valid state (near_state day state) valid refl refl (sublist_filter (λ (entry : Keyed). may_count day entry.1.op) state.entries)
 
--- the state with only the entries that may count has the same docker list on the day
+-- a valid state and its part with only the entries that may count on a day have the same docker
+-- list on that day
 pub near_state_list : (place : List ℕ) (day : ℕ) (state : State) (lines : List DockerLine) → IsValid state
     → IsDockerList (live_table state) place day lines ↔ IsDockerList (live_table (near_state day state)) place day lines
 near_state_list place day state lines valid =
     near_list_iff day (live_table state) (live_table (near_state day state)) (near_part day state valid.entries.1)
     (bodies_few (live_table state) (good_bodies state valid)) place lines
 
--- the state with only the entries that may count has the same docker text on the day
+-- a valid state and its part with only the entries that may count on a day have the same docker
+-- text on that day
 pub near_state_text : (place : List ℕ) (day : ℕ) (state : State) (text : List ℕ) → IsValid state
     → IsDockerText (live_table state) place day text ↔ IsDockerText (live_table (near_state day state)) place day text
 near_state_text place day state text valid =
@@ -86,7 +88,7 @@ near_state_text place day state text valid =
 pub excerpt_on_valid : (place : List ℕ) (day : ℕ) (state : State) → IsValid state → IsValid (excerpt_on place day state)
 excerpt_on_valid place day state valid = walk_valid place (near_state day state) (near_valid day state valid)
 
--- the excerpt has the same docker list for the place and the day as the state
+-- a valid state and its excerpt for a place and a day have the same docker list for them
 pub excerpt_on_list : (place : List ℕ) (day : ℕ) (state : State) (lines : List DockerLine) → IsValid state
     → IsDockerList (live_table state) place day lines ↔ IsDockerList (live_table (excerpt_on place day state)) place day lines
 excerpt_on_list place day state lines valid =
@@ -94,7 +96,7 @@ excerpt_on_list place day state lines valid =
     let walk = walk_list_iff place (near_state day state) day lines (near_valid day state valid) in
     (λ is. walk.0 (near.0 is), λ is. near.1 (walk.1 is))
 
--- the excerpt has the same docker text for the place and the day as the state
+-- a valid state and its excerpt for a place and a day have the same docker text for them
 pub excerpt_on_text : (place : List ℕ) (day : ℕ) (state : State) (text : List ℕ) → IsValid state
     → IsDockerText (live_table state) place day text ↔ IsDockerText (live_table (excerpt_on place day state)) place day text
 excerpt_on_text place day state text valid =
@@ -102,19 +104,19 @@ excerpt_on_text place day state text valid =
     let walk = walk_text_iff place (near_state day state) day text (near_valid day state valid) in
     (λ is. walk.0 (near.0 is), λ is. near.1 (walk.1 is))
 
--- ---- the entries that may count can be found entry by entry
+-- ---- `near_entries` decides on each entry by itself
 
 one_kept : (test : Keyed → Bool) (entry : Keyed) (b : Bool) → test entry ≡ b → filter test (entry ∷ []) ≡ cond b (entry ∷ []) []
 one_kept test entry b h = λ i. cond (h i) (entry ∷ []) []
 
--- filtering keeps an appended entry that may count
+-- `near_entries` keeps an appended entry that may count on the day
 pub near_with : (day : ℕ) (entries : List Keyed) (entry : Keyed) → may_count day entry.1.op ≡ true
     → near_entries day (entries ++ entry ∷ []) ≡ near_entries day entries ++ entry ∷ []
 near_with day entries entry h =
     filter-append (λ (e : Keyed). may_count day e.1.op) entries (entry ∷ [])
     ∙ ap (λ (more : List Keyed). near_entries day entries ++ more) (one_kept (λ (e : Keyed). may_count day e.1.op) entry true h)
 
--- filtering leaves out an appended entry that can't count
+-- `near_entries` leaves out an appended entry that can't count on the day
 pub near_without : (day : ℕ) (entries : List Keyed) (entry : Keyed) → may_count day entry.1.op ≡ false
     → near_entries day (entries ++ entry ∷ []) ≡ near_entries day entries
 near_without day entries entry h =

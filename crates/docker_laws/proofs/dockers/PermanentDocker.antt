@@ -96,9 +96,9 @@ permanent_line live place day line (inr association) =
     let is = (was_counted is_permanent live (association_key association.key) _ association.chosen.associated.is_live).0 in
     ap (λ (it : DockerLine). it.indicator) association.is ∙ eqb-true association.key.indicator 80 is
 
--- ---- the lapse commutes with leaving out the short-term plan
+-- ---- lapsing commutes with leaving out the short-term plan
 
--- the lapse commutes with leaving out the short-term plan
+-- lapsing commutes with leaving out the short-term plan
 lapses_alike : (horizon : ℕ) (live : Table) → permanent_table (lapse_table horizon live) ≡ lapse_table horizon (permanent_table live)
 lapses_alike horizon live = λ i key. by (is_permanent key) (live key) i
   where
@@ -106,7 +106,8 @@ lapses_alike horizon live = λ i key. by (is_permanent key) (live key) i
     by true found = refl
     by false found = refl
 
--- a horizon that doesn't refuse the day leaves the permanent docker of a table unchanged
+-- if a horizon doesn't refuse the day, lapsing a table at this horizon leaves its permanent docker
+-- unchanged
 lapsed_iff : (horizon : ℕ) (live : Table) (place : List ℕ) (day : ℕ) (text : List ℕ) → IsDay horizon → HasGoodBodies live → ¬ IsDayRefused horizon day
     → IsDockerText (permanent_table live) place day text ↔ IsDockerText (permanent_table (lapse_table horizon live)) place day text
 lapsed_iff horizon live place day text is_day good printed =
@@ -137,7 +138,8 @@ permanent_is_plain files horizon state table place day text are is_day summary p
     subst (λ (t : Table). IsDockerText (permanent_table t) place day text ↔ IsDockerText (permanent_table table) place day text)
     (sym (live_is_lapsed_plain files horizon state table summary plain)) (told.1, told.0)
 
--- a horizon that doesn't refuse the day leaves the permanent docker of a state unchanged
+-- if a horizon doesn't refuse the day, lapsing a state at this horizon leaves its permanent docker
+-- unchanged
 permanent_stays : (horizon : ℕ) (state : State) (place : List ℕ) (day : ℕ) (text : List ℕ) → IsDay horizon → IsValid state → ¬ IsDayRefused horizon day
     → IsDockerText (permanent_table (live_table state)) place day text → IsDockerText (permanent_table (live_table (lapse_state horizon state))) place day text
 permanent_stays horizon state place day text is_day valid printed is =

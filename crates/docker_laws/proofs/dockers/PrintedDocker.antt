@@ -25,14 +25,14 @@ use Rattle.docker_laws.proofs.dockers.GoodBodies.{good_bodies}
 use Rattle.docker_laws.proofs.dockers.LapsedDocker.{docker_list_iff, docker_text_iff}
 use Rattle.state_laws.proofs.states.PlainLive.{lapse_table_none, live_is_lapsed_plain}
 
--- a horizon is at most 65535, the end number that means no end
+-- a horizon is at most 65535, the day number that stands for no end
 pub day_bound : (horizon : ℕ) → IsDay horizon → horizon ≤ no_end_number
 day_bound horizon day = omega arith
 
--- ---- a valid state has the same dockers before and after the lapse
+-- ---- lapsing leaves the dockers of a valid state unchanged
 
 -- on each day from the third day after the horizon, a state has the same docker list before and
--- after the lapse
+-- after its entries lapse
 pub state_list_iff : (horizon : ℕ) (state : State) (place : List ℕ) (day : ℕ) (lines : List DockerLine) → IsDay horizon → IsValid state → horizon + 3 ≤ day
     → IsDockerList (live_table state) place day lines ↔ IsDockerList (live_table (lapse_state horizon state)) place day lines
 state_list_iff horizon state place day lines is_day valid from =
@@ -40,7 +40,7 @@ state_list_iff horizon state place day lines is_day valid from =
     (docker_list_iff horizon (day_bound horizon is_day) (live_table state) (bodies_few (live_table state) (good_bodies state valid)) place day from lines)
 
 -- on each day from the third day after the horizon, a state has the same docker text before and
--- after the lapse
+-- after its entries lapse
 pub state_text_iff : (horizon : ℕ) (state : State) (place : List ℕ) (day : ℕ) (text : List ℕ) → IsDay horizon → IsValid state → horizon + 3 ≤ day
     → IsDockerText (live_table state) place day text ↔ IsDockerText (live_table (lapse_state horizon state)) place day text
 state_text_iff horizon state place day text is_day valid from =

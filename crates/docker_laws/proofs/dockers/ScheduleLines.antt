@@ -163,7 +163,7 @@ module _ (live : Table) (trains : List ℕ → ℕ → Option Train) (tell : Tel
       by true = event_lines_apart place day start key lines
       by false = tt
 
-  -- the train of an event starts on one of the three start days
+  -- the train of an event line starts on the docker's day or on one of the two days before it
   pub event_starts : HasGoodBodies live → (line : DockerLine) (made : IsEventLine live place day line) → Contains (start_days day) made.start
   event_starts good line made =
       let few = bodies_few live good made.key made.schedule made.train_runs.chosen.running.is_live in

@@ -94,7 +94,7 @@ thin_is lines is =
     ∙ (λ i. no_end_extra is.extra is.details i ++ ends_in is.journey)
     )
 
--- ---- two ends pass midnight at most once
+-- ---- a journey of only an origin and a terminus passes midnight at most twice
 
 -- the times in a list of occasions with times
 abbrev times_in : List (Occasion × ℕ) → List ℕ
@@ -207,7 +207,7 @@ module _ (lines : List (List ℕ)) (is : IsSchedule lines) where
       by (inl journey) = subst (λ ends. IsSchedule (is.basic ∷ ends)) (sym (ends_of_journey is.journey journey)) (with_ends journey)
       by (inr none) = subst (λ ends. IsSchedule (is.basic ∷ ends)) (sym (ap ends_in none.0)) (alone none.1)
 
--- ---- a schedule with another origin and terminus is a schedule
+-- ---- a schedule is still a schedule if its origin and its terminus are replaced
 
 -- the basic schedule with any good origin and any good terminus is a schedule
 with_any_ends : (lines : List (List ℕ)) → IsSchedule lines → (first last : List ℕ) → IsRecord first → IsRecord last → HasKind origin_location first
@@ -237,8 +237,8 @@ with_any_ends lines is first last first_is last_is origin terminus first_good la
       });
     })
 
--- the basic schedule, with any origin and any terminus that have good fields, is a schedule of the
--- same key
+-- the basic schedule, with any origin and any terminus that have good fields, is a schedule with
+-- the same key as the original schedule
 pub any_ends_of_key : (key : ScheduleKey) (lines : List (List ℕ)) → IsScheduleOf key lines → (first last : List ℕ) → IsRecord first → IsRecord last
     → HasKind origin_location first → HasKind terminating_location last → HasGoodFields first → HasGoodFields last
     → IsScheduleOf key (first_record lines ∷ first ∷ last ∷ [])
@@ -249,9 +249,9 @@ any_ends_of_key key lines is first last first_is last_is origin terminus first_g
   key_is = is.key_is;
 }
 
--- ---- the thinned body belongs to the same key
+-- ---- a thinned body belongs to the same key as the whole body
 
--- the thin records are a schedule of the same key
+-- the thin records of a schedule are a schedule with the same key
 pub thin_of_key : (key : ScheduleKey) (lines : List (List ℕ)) → IsScheduleOf key lines → IsScheduleOf key (thin_lines lines)
 thin_of_key key lines is = record {
   schedule = thin_is_schedule lines is.schedule;
@@ -260,7 +260,7 @@ thin_of_key key lines is = record {
   key_is = ap schedule_named (first_of_thin lines) ∙ is.key_is;
 }
 
--- the records that the docker of a place needs are a schedule of the same key
+-- the records of a schedule that the docker of a place needs are a schedule with the same key
 pub needed_of_key : (place : List ℕ) (key : ScheduleKey) (lines : List (List ℕ)) → IsScheduleOf key lines → IsScheduleOf key (lines_for place lines)
 needed_of_key place key lines is = by (calls_at place lines)
   where
@@ -268,7 +268,7 @@ needed_of_key place key lines is = by (calls_at place lines)
     by true = is
     by false = thin_of_key key lines is
 
--- the body that the docker of a place needs belongs to the same key
+-- the body that the docker of a place needs belongs to the same key as the whole body
 pub needed_is_body : (place : List ℕ) (key : Key) (body : Body) → IsBodyOf key body → IsBodyOf key (body_for place body)
 needed_is_body place (schedule_key key) (schedule_body lines) is = needed_of_key place key lines is
 needed_is_body place (schedule_key key) (tiploc_body bytes) is = is

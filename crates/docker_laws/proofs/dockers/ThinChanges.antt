@@ -37,7 +37,7 @@ left_by act = body_of (op_of act)
 
 -- ---- thinning commutes with one change
 
--- the body after the thin form of an act is the thinned body after the act
+-- the thin form of an act leaves the thinned form of the body that the act leaves
 thin_left : (place : List ℕ) (day : ℕ) (act : Act) → left_by (thin_act place day act) ≡ option_and_then (thin_body place day) (left_by act)
 thin_left place day delete = refl
 thin_left place day (put body) = by (may_count day (put_with body))
@@ -78,8 +78,8 @@ module _ (place : List ℕ) (day : ℕ) where
           nothing (after_change table change) none ∙ sym (nothing table none)
       by false h = left_at place day (after_change table change) table key (after_there table change key h)
 
-  -- thinning commutes with a change whose key may matter. If `left` is the thinned table, then
-  -- `left` after the thin form of the change is the thinning of the table after the change
+  -- thinning commutes with a change whose key may matter. If `left` is the thinned table, applying
+  -- the thin form of the change to `left` gives the thinned form of the table after the change
   step_kept : (table left : Table) (change : Change) (key : Key) → may_matter place change.key ≡ true → left key ≡ thinned place day table key
       → after_change left (thin_change place day change) key ≡ thinned place day (after_change table change) key
   step_kept table left change key matters same = by (is_of key change) refl
@@ -131,8 +131,7 @@ module _ (place : List ℕ) (day : ℕ) where
 
 -- ---- a thinning can be made change by change
 
--- the table after changes with one change appended is the table after these changes and then that
--- change
+-- applying a list of changes with one change appended equals applying the list and then that change
 table_more : (table : Table) (changes : List Change) (change : Change)
     → fold after_change table (changes ++ change ∷ []) ≡ after_change (fold after_change table changes) change
 table_more table [] change = refl
@@ -189,7 +188,7 @@ module _ (place : List ℕ) (day : ℕ) where
     all_more : (key : Key) → thinned place day (table_of (changes ++ change ∷ [])) key ≡ thinned place day (after_change (table_of changes) change) key
     all_more key = ap (λ (table : Table). thinned place day table key) (table_more empty_table changes change)
 
-    -- a change to a key that can't matter may be dropped
+    -- a change to a key that can't matter at the place may be dropped
     enough_elsewhere : may_matter place change.key ≡ false → AreEnough place day (changes ++ change ∷ []) kept
     enough_elsewhere no_matter key =
         so_far key ∙ sym (step_elsewhere place day (table_of changes) change key no_matter) ∙ sym (all_more key)
@@ -201,7 +200,8 @@ module _ (place : List ℕ) (day : ℕ) where
         ∙ step_kept place day (table_of changes) (table_of kept) change key matters (so_far key)
         ∙ sym (all_more key)
 
-    -- after a deletion the thinned table has no body at the key
+    -- if the thin form of a change is a deletion, the thinned table has no body at this key after
+    -- the change
     none_left : thin_act place day change.act ≡ delete → (key : Key) → is_of key change ≡ true
         → thinned place day (after_change (table_of changes) change) key ≡ None
     none_left deletes key h =
@@ -310,7 +310,7 @@ module _ (place : List ℕ) (day : ℕ) where
         (sublist_append others before (thin_change place day change ∷ []) (thin_change place day change ∷ [])
         (sublist_onward others kept before inside is.some) (sublist_itself (thin_change place day change ∷ [])))
 
-    -- a change to a key that can't matter may be dropped
+    -- a change to a key that can't matter at the place may be dropped
     pub thinning_elsewhere : may_matter place change.key ≡ false → IsThinning place day (changes ++ change ∷ []) kept
     thinning_elsewhere no_matter = record {
       some = still_some kept (sublist_itself kept);
@@ -346,8 +346,8 @@ module _ (place : List ℕ) (day : ℕ) where
       enough = enough_replaced place day changes kept change is.enough matters;
     }
 
--- a thinning can be continued: of the later changes, it is enough to keep, in its thin form, each
--- change whose key may matter
+-- a thinning of some changes can be continued with more changes, by keeping the thin form of each
+-- further change whose key may matter
 pub thinning_more : (place : List ℕ) (day : ℕ) (all kept more : List Change) → IsThinning place day all kept
     → IsThinning place day (all ++ more) (kept ++ thin_changes place day more)
 thinning_more place day all kept [] is =
@@ -377,20 +377,21 @@ thinning_more place day all kept (change ∷ more) is =
 -- ---- the thin form of an act in each case
 
 module _ (place : List ℕ) (day : ℕ) (lines : List (List ℕ)) where
-  -- if a schedule can't count, the thin form of its put is a deletion
+  -- if a schedule doesn't run near the day, the thin form of its put is a deletion
   pub act_far : runs_near day (first_record lines) ≡ false → thin_act place day (put (schedule_body lines)) ≡ delete
   act_far far = λ i. cond (far i) (put (schedule_body (lines_for place lines))) delete
 
   act_near : runs_near day (first_record lines) ≡ true → thin_act place day (put (schedule_body lines)) ≡ put (schedule_body (lines_for place lines))
   act_near near = λ i. cond (near i) (put (schedule_body (lines_for place lines))) delete
 
-  -- if a schedule may count and calls at the place, the thin form of its put is the same put
+  -- if a schedule runs near the day and calls at the place, the thin form of its put is the same
+  -- put
   pub act_calls : runs_near day (first_record lines) ≡ true → calls_at place lines ≡ true
       → thin_act place day (put (schedule_body lines)) ≡ put (schedule_body lines)
   act_calls near calls = act_near near ∙ (λ i. put (schedule_body (cond (calls i) lines (thin_lines lines))))
 
-  -- if a schedule may count and doesn't call at the place, the thin form of its put is a put of the
-  -- thin records
+  -- if a schedule runs near the day but doesn't call at the place, the thin form of its put is a
+  -- put of the thin records
   pub act_thin : runs_near day (first_record lines) ≡ true → calls_at place lines ≡ false
       → thin_act place day (put (schedule_body lines)) ≡ put (schedule_body (thin_lines lines))
   act_thin near none = act_near near ∙ (λ i. put (schedule_body (cond (none i) lines (thin_lines lines))))
@@ -401,9 +402,9 @@ near_of_new day line = λ i. list_any
     (λ start. runs_within (new_columns line 10 15 (omega arith) i) (new_columns line 16 21 (omega arith) i) (new_columns line 22 28 (omega arith) i) start)
     (near_starts day)
 
--- ---- no kept change has a key above an upper bound of the kept keys
+-- ---- upper bounds of the keys of the kept changes
 
--- if a key is above an upper bound of the kept keys, no kept change has this key
+-- if a key is above an upper bound of the keys of the kept changes, no kept change has this key
 pub none_above : (highest key : Key) (kept : List Change) → AreAtMost highest kept → IsBelow key_cmp highest key → HasNoChangeOf key kept
 none_above highest key kept low below change among same =
     low change among (subst (λ (k : Key). key_cmp k highest ≡ Greater) (sym same) (key_total.antisymm key highest ∙ ap ordering_reverse below))
@@ -412,7 +413,7 @@ none_above highest key kept low below change among same =
 pub none_at_first : (highest : Key) → AreAtMost highest []
 none_at_first highest change among = absurd (nil-Contains change among)
 
--- if one more change is kept, and its key isn't above an upper bound of the kept keys, the bound is
+-- if one more change is kept, and its key isn't above the upper bound `highest`, this bound is
 -- still an upper bound
 pub still_at_most : (highest : Key) (kept : List Change) (change : Change) → AreAtMost highest kept → IsAtMost key_cmp change.key highest
     → AreAtMost highest (kept ++ change ∷ [])
@@ -422,8 +423,8 @@ still_at_most highest kept change low more other among = by (Contains-append_cas
     by (inl before) = low other before
     by (inr last) = subst (λ (c : Change). IsAtMost key_cmp c.key highest) (Contains-single change other last) more
 
--- if one more change is kept, and its key is above an upper bound of the kept keys, this key is the
--- new upper bound
+-- if one more change is kept, and its key is above the upper bound `highest`, this key is an upper
+-- bound of all keys
 pub raised_at_most : (highest : Key) (kept : List Change) (change : Change) → AreAtMost highest kept → IsBelow key_cmp highest change.key
     → AreAtMost change.key (kept ++ change ∷ [])
 raised_at_most highest kept change low below =

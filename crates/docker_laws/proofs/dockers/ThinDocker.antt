@@ -69,11 +69,11 @@ needed_stand_in place day lines = by (calls_at place lines) refl
     by true h = record { runs = λ start near. refl; identity = refl; calls = λ either. refl }
     by false h = stand_in_by_first place day lines (thin_lines lines) (first_of_thin lines) h (thin_elsewhere place lines h)
 
--- ---- two tables have the same docker if each has all parts that the docker needs
+-- ---- two tables have the same docker if each has all that the docker needs of the other table
 
--- the table `other` has all parts of `one` that the docker needs. For each schedule of `one` that
--- runs near the day, `other` has a schedule that may replace it. Each association of `one` at the
--- place is also in `other`. A schedule of `one` that calls at the place passes midnight at most
+-- the table `other` has all that the docker needs of the table `one`. For each schedule of `one`
+-- that runs near the day, `other` has a schedule that may replace it. Each association of `one` at
+-- the place is also in `other`. A schedule of `one` that calls at the place passes midnight at most
 -- twice
 record Covers (one other : Table) (place : List ℕ) (day : ℕ) : Type 0 where
   runs : (start : ℕ) → IsStartNear day start → (uid : List ℕ) (key : ScheduleKey) (lines : List (List ℕ)) → IsRunning one uid start key lines
@@ -100,7 +100,7 @@ module _ (one other : Table) (place : List ℕ) (day : ℕ) (forth : Covers one 
         found.2,
       )
 
-  -- a train that calls at the place runs by the same records in the other table
+  -- a train that calls at the place runs by the same records in both tables
   calling_over : (start : ℕ) → IsStartNear day start → (uid : List ℕ) (key : ScheduleKey) (lines : List (List ℕ)) → CallsAt place lines
       → TrainRuns one uid start key lines → TrainRuns other uid start key lines
   calling_over start near uid key lines calls is =
@@ -191,7 +191,7 @@ module _ (one other : Table) (place : List ℕ) (day : ℕ) (forth : Covers one 
   line_over line (inl event) = inl (event_line_over one other place day forth back line event)
   line_over line (inr association) = inr (association_line_over line association)
 
--- two tables have the same docker list, if each has all parts that the docker of the other needs
+-- two tables have the same docker list if each has all that the docker needs of the other table
 list_over : (one other : Table) (place : List ℕ) (day : ℕ) → Covers one other place day → Covers other one place day → (lines : List DockerLine)
     → IsDockerList one place day lines → IsDockerList other place day lines
 list_over one other place day forth back lines is = record {
@@ -347,7 +347,8 @@ module _ (place : List ℕ) (day : ℕ) (live : Table) where
         stand_in_text_iff place day live (thinned place day live) (thinned_stands good) (bodies_few live good)
         (bodies_few (thinned place day live) (thin_good good)) text
 
-    -- any excerpt of the thinned table for the place has the same docker list as the table
+    -- an excerpt of the thinned table has the same docker list for the place and the day as the
+    -- whole table
     pub thin_excerpt_list : (part : Table) → IsExcerpt place (thinned place day live) part → (lines : List DockerLine)
         → IsDockerList live place day lines ↔ IsDockerList part place day lines
     thin_excerpt_list part is lines =
@@ -355,7 +356,8 @@ module _ (place : List ℕ) (day : ℕ) (live : Table) where
         let excerpt = excerpt_list_iff place (thinned place day live) part is day lines in
         (λ told. excerpt.0 (thin.0 told), λ told. thin.1 (excerpt.1 told))
 
-    -- any excerpt of the thinned table for the place has the same docker text as the table
+    -- an excerpt of the thinned table has the same docker text for the place and the day as the
+    -- whole table
     pub thin_excerpt_text : (part : Table) → IsExcerpt place (thinned place day live) part → (text : List ℕ)
         → IsDockerText live place day text ↔ IsDockerText part place day text
     thin_excerpt_text part is text =

@@ -36,7 +36,7 @@ use Rattle.docker_laws.proofs.dockers.GoodBodies.{good_bodies}
 use Rattle.docker_laws.proofs.dockers.ThinBody.{needed_is_body}
 use Rattle.docker_laws.proofs.dockers.ThinDocker.{thin_list_iff, thin_text_iff}
 
--- ---- the live table of the state equals the table after its changes
+-- ---- the live table of the state equals the table after the kept changes
 
 module _ (file : List (List ℕ)) (kept : List Change) (state : State) (of : IsStateOfChanges file kept state) where
   abbrev entries : List Keyed
@@ -49,8 +49,8 @@ module _ (file : List (List ℕ)) (kept : List Change) (state : State) (of : IsS
   at_least entry other (inr below) greater =
       let less : entry_cmp other entry ≡ Less = (λ i. ordering_then (below i) (op_cmp other.op entry.op)) in cc
 
-  -- the live table of the state equals the table after the changes, if later changes to the same
-  -- key have higher record numbers
+  -- the live table of the state equals the table after the kept changes, if later changes to the
+  -- same key have higher record numbers
   live_is_made : AllLater Apart kept → (key : Key) → live_table state key ≡ table_of kept key
   live_is_made apart key =
       by (last_there entries empty_table key (later_map_weaker (entry_of_change file) Apart Ascends (within_file file) kept apart)) (find_in state.entries key)
@@ -148,7 +148,7 @@ ledger_of_one item good = by good.indicator
       kept = all_members (λ (i : LedgerItem). IsKept None i.stamp) (item ∷ []) (is_item (λ (i : LedgerItem). IsKept None i.stamp) tt);
     }
 
--- without a horizon no op has to lapse
+-- if the horizon is 0, no entry has to lapse, whatever its op is
 pub no_lapse : (op : Op) → HasNotToLapse 0 op
 no_lapse deleted = tt
 no_lapse lapsed = tt

@@ -1,5 +1,5 @@
--- A worked gathering of lines: a train ends at COLWELL at 23:50 and becomes the train that leaves
--- COLWELL after midnight.
+-- A worked example of the docker lines that a walk gathers. A train ends at COLWELL at 23:50 and
+-- becomes the train that leaves COLWELL after midnight.
 use Rattle.std.proofs.Common.{◌≡◌, ℕ, List, [], ◌∷◌, map, refl, true, false}
 use Rattle.std.specs.Prelude.{codes}
 use Rattle.jiff_core.specs.Calendar.{days_from_civil, day_count, days_of_years, days_of_months}

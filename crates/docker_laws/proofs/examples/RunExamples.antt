@@ -17,7 +17,7 @@ known = known_sets 2 events replies
 horizons : List Known → List ℕ
 horizons xs = map (λ (one : Known). one.horizon) xs
 
--- an office with a horizon loses the horizon when it reloads an older message
+-- office 0 loses its horizon when it reloads a message that it sent before it set the horizon
 offices_at_end : horizons known.offices ≡ 0 ∷ 23542 ∷ []
 unfolding known horizons
 offices_at_end = refl

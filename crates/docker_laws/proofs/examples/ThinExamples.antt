@@ -103,7 +103,7 @@ differ whole wrong day line has no_event no_association same = nil-Contains line
 abbrev put_schedule : ℕ → ScheduleKey → List (List ℕ) → Change
 put_schedule number key lines = change_of number (schedule_key key) (put (schedule_body lines))
 
--- the changes without the last one
+-- a single change: the put of the train that ends at COLWELL
 abbrev stops_alone : List Change
 stops_alone = put_schedule 2 stops_key stops ∷ []
 
@@ -128,7 +128,7 @@ only_stops other others h = by (is_eq (schedule_key_cmp stops_key other)) refl h
     by true same is = same_schedule stops_key other same
     by false same is = none_some (schedule_body others) is
 
--- after the first change the train runs and has a docker line
+-- in the table after `stops_alone`, the train runs and has a docker line
 stops_line : (start : ℕ) → schedule_runs (first_record stops) start ≡ true → event_day start stops arrives ≡ start
     → IsEventLine (table_of stops_alone) place start (line_of_event stops_key start stops arrives)
 stops_line start runs today = record {

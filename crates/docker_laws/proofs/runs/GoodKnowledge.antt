@@ -30,7 +30,7 @@ none_good dks_2 = omega arith
 no_files_good : AreFiles []
 no_files_good = (All-nil IsFile, All-nil (λ file. length file ≤ most_records))
 
--- the knowledge of no file and no horizon is good
+-- an office that knows no file and no horizon has good knowledge
 pub nothing_good : (format : Format) → IsGoodKnown format nothing
 nothing_good format = (no_files_good, none_good format)
 
@@ -41,7 +41,7 @@ united_good format first second one two = (
   max_good format first.horizon second.horizon one.1 two.1,
 )
 
--- a file that was read under a limit is good knowledge
+-- if an office accepts a file within a limit, the knowledge of this one file is good
 pub file_good : (format : Format) (text : List ℕ) (limit : ℕ) → limit ≤ most_records → IsFileText limit text (lines_of text)
     → IsGoodKnown format (record { files = lines_of text ∷ []; horizon = 0 })
 file_good format text limit low file =
@@ -55,7 +55,7 @@ file_good format text limit low file =
       none_good format,
     )
 
--- a horizon that the format allows is good knowledge
+-- if a format allows a horizon, the knowledge of this horizon alone is good
 pub horizon_good : (format : Format) (day : ℕ) → IsHorizonOf format day → IsGoodKnown format (record { files = []; horizon = day })
 horizon_good format day is = (no_files_good, is)
 
@@ -66,7 +66,7 @@ good_at P [] i d all one = one
 good_at P (x ∷ xs) zero d all one = All-head P x xs all
 good_at P (x ∷ xs) (suc i) d all one = good_at P xs i d (All-tail P x xs all) one
 
--- the knowledge of each office and each message is good
+-- the knowledge of each office, and the knowledge that each message brings, is good
 abbrev pub AllGood : Format → KnownSets → Type 0
 AllGood format known = All (IsGoodKnown format) known.offices × All (IsGoodKnown format) known.messages
 
@@ -123,7 +123,8 @@ module _ (format : Format) where
       good_along (after_reply known (event, reply)) events replies (good_after known event reply good (All-head (IsGoodEvent format) event events each) are.0)
       (All-tail (IsGoodEvent format) event events each) are.1
 
-  -- after a run of good events, the knowledge of each office and each message is good
+  -- after a run of good events, the knowledge of each office, and the knowledge that each message
+  -- brings, is good
   pub good_in_run : (offices : ℕ) (events : List RunEvent) (replies : List Reply) → All (IsGoodEvent format) events
       → AreReplies (none_known offices) events replies
       → AllGood format (known_sets offices events replies)

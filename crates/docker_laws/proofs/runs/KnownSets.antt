@@ -1,4 +1,5 @@
--- The knowledge after one more event of a run, and the number of offices and messages.
+-- Lemmas on the knowledge after one more event of a run, and on the numbers of offices and
+-- messages.
 use Rattle.std.proofs.Common.{◌≡◌, ℕ, suc, ◌+◌, Bool, true, false, cond, List, [], ◌∷◌, ◌++◌, length, refl, ap, ◌∙◌, arith, length-append, length-set}
 use Rattle.std.specs.Prelude.{fold, filter}
 use Rattle.std.specs.List.{zip}
@@ -14,8 +15,8 @@ zip_more [] (b ∷ ys) x y same = absurd (omega arith)
 zip_more (a ∷ xs) [] x y same = absurd (omega arith)
 zip_more (a ∷ xs) (b ∷ ys) x y same = ap (λ rest. (a, b) ∷ rest) (zip_more xs ys x y (omega arith))
 
--- `after_reply` computes the knowledge after one more event from the earlier knowledge and from
--- this event with its reply
+-- `after_reply` computes the knowledge after one more event from the knowledge before the event,
+-- from the event and from its reply
 pub sets_more : (offices : ℕ) (events : List RunEvent) (replies : List Reply) (event : RunEvent) (reply : Reply) → length events ≡ length replies
     → known_sets offices (events ++ event ∷ []) (replies ++ reply ∷ []) ≡ after_reply (known_sets offices events replies) (event, reply)
 sets_more offices events replies event reply same =
@@ -42,7 +43,7 @@ replies_after known (other ∷ events) [] event reply are is = absurd are
 replies_after known (other ∷ events) (answer ∷ replies) event reply are is =
     (are.0, replies_after (after_reply known (other, answer)) events replies event reply are.1 is)
 
--- like `replies_after`, for a run that begins without any knowledge
+-- like `replies_after`, for a run in which the offices know nothing at the start
 pub replies_more : (offices : ℕ) (events : List RunEvent) (replies : List Reply) (event : RunEvent) (reply : Reply)
     → AreReplies (none_known offices) events replies → IsReply (known_sets offices events replies) event reply → AreReplies (none_known offices)
     (events ++ event ∷ []) (replies ++ reply ∷ [])

@@ -1,5 +1,5 @@
--- Each format can hold the summary of good knowledge. The counts in a text of fewer than 2^64 bytes
--- fit in eight bytes.
+-- If knowledge is good, its format can hold the summary of the known files. The counts in a text of
+-- fewer than 2^64 bytes fit in eight bytes.
 use Rattle.std.proofs.Common.{◌≡◌, ℕ, ◌+◌, ◌^◌, ◌<◌, ◌≤◌, List, [], ◌∷◌, ◌++◌, length, sym, ◌∙◌, ap, subst, arith, length-append}
 use Rattle.std.specs.List.{flat_map}
 use Rattle.std.specs.Int.{w64, to_be_bytes}
@@ -21,7 +21,7 @@ use Rattle.state_laws.proofs.states.SummaryValid.{summary_is_valid}
 
 -- ---- the counts in a text fit in eight bytes
 
--- if each piece has at least one byte, the number of pieces is at most the number of bytes
+-- if each element gives at least one byte, a list has at most as many elements as bytes
 at_least : {A : Type 0} (f : A → List ℕ) → ((x : A) → 1 ≤ length (f x)) → (xs : List A) → length xs ≤ length (flat_map f xs)
 at_least f one [] = omega arith
 at_least f one (x ∷ xs) = let here = one x in let rest = at_least f one xs in let whole = length-append (f x) (flat_map f xs) in omega arith
@@ -51,7 +51,7 @@ counts_fit format state short =
         (flat_map entry_bytes s.entries) in
         omega arith
 
--- ---- each format can hold the ops of a summary under a horizon that the format allows
+-- ---- each format can hold the ops of a summary whose horizon the format allows
 
 -- the format DKS1 can hold the op of any act, because the op of an act is never `lapsed`
 act_told : (act : Act) → TellsOp dks_1 (op_of act)
@@ -68,7 +68,7 @@ op_told dks_2 horizon act day = any (lapse horizon (op_of act))
     any lapsed = tt
     any (put_with body) = tt
 
--- the summary of good knowledge is a valid state that the format can hold
+-- if knowledge is good, the summary of the known files is a valid state that the format can hold
 pub summary_told : (format : Format) (known : Known) (state : State) → IsGoodKnown format known → IsStateOf known state → IsToldState format state
 summary_told format known state good summary = record {
   valid = summary_is_valid known.files known.horizon state (horizon_day format known.horizon good.1) good.0.0 good.0.1 summary;

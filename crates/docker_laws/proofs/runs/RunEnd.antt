@@ -39,7 +39,7 @@ run_holds format offices events exchange each run =
     let good = good_in_run format offices events exchange.replies each run.replies in
     record { offices = good.0; sent = good.1; states_are = run.states; messages_are = run.messages }
 
--- ---- two states of the same files have the same dockers
+-- ---- two summaries of the same files have the same dockers
 
 -- if neither of two horizons refuses a day, the greater of them doesn't refuse it
 pub greater_prints : (a b day : ℕ) → ¬ IsDayRefused a day → ¬ IsDayRefused b day → ¬ IsDayRefused (max a b) day
@@ -49,7 +49,8 @@ greater_prints a b day first second = by (nat_lt a b) refl
     by true h = let below = ltb-true a b h in subst (λ n. ¬ IsDayRefused n day) (sym (max-eq_right (omega arith))) second
     by false h = subst (λ n. ¬ IsDayRefused n day) (sym (max-eq_left (ltb-false a b h))) first
 
--- a horizon that doesn't refuse the day leaves the docker unchanged
+-- if a horizon doesn't refuse the day, lapsing a state at this horizon leaves the docker of the day
+-- unchanged
 docker_stays : (horizon : ℕ) (state : State) (place : List ℕ) (day : ℕ) (text : List ℕ) → IsDay horizon → IsValid state → ¬ IsDayRefused horizon day
     → IsDockerText (live_table state) place day text → IsDockerText (live_table (lapse_state horizon state)) place day text
 docker_stays horizon state place day text is_day valid printed is = by (nat_lt 0 horizon) (nat_lt day (horizon + 3)) refl refl
@@ -68,7 +69,7 @@ pub one_text : (live : Table) (place : List ℕ) (day : ℕ) (text other : List 
     → text ≡ other
 one_text live place day text other is that = is.2 ∙ ap (docker_text live place day) (docker_unique _ is.0 that.0 is.1 that.1) ∙ sym that.2
 
--- two states of the same files have the same docker for each place and each day that neither
+-- two summaries of the same files have the same docker for each place and each day that neither
 -- horizon refuses
 pub docker_of_files : (format : Format) (one two : Known) (first second : State) → IsGoodKnown format one → IsGoodKnown format two → IsStateOf one first
     → IsStateOf two second
@@ -129,7 +130,7 @@ module _ (format : Format) (offices others : ℕ) (events more : List RunEvent) 
         (subst (λ h. ¬ IsDayRefused h day) that_state.horizon_is prints_too)
         text other is that
 
-  -- two messages with the same knowledge have equal texts
+  -- two messages that bring the same knowledge have equal texts
   pub same_message : IsMessage (sets_of offices events one) i → IsMessage (sets_of others more two) j
       → AreOneKnowledge (message_known (sets_of offices events one) i) (message_known (sets_of others more two) j)
       → message_text one.messages i ≡ message_text two.messages j

@@ -1,6 +1,6 @@
 -- `Holds` is true at the start of a run and after each event. `Holds` says that the states and
--- messages match the knowledge. Each state is the summary of the files that its office knows, and
--- each message is the text of the summary of the files that the message knows.
+-- messages match the knowledge. Each state is the summary of the files that its office knows. Each
+-- message is the text of the summary of the files that its sender knew.
 use Rattle.std.proofs.Common.{◌≡◌, ℕ, ◌^◌, ◌<◌, ◌≤◌, List, [], ◌∷◌, ◌++◌, length, refl, sym, ◌∙◌, subst, arith, All, set}
 use Rattle.std.proofs.Math.Nat.{max_comm}
 use Rattle.std.proofs.lemmas.List.Elements.{All-set, All-push, All-nil, All-replicate, All-get_or}
@@ -28,7 +28,7 @@ module _ (format : Format) (known : KnownSets) (states : List State) (messages :
   pub office_is : (office : ℕ) → IsOffice known office → IsStateOf (office_known known office) (office_state states office)
   office_is office there = zip_at IsStateOf known.offices states office nothing (record { horizon = 0; ledger = []; entries = [] }) holds.states_are there
 
-  -- the bytes of a message are the text of the summary of the files that the message knows
+  -- the bytes of a message are the text of the summary of the files that the message's sender knew
   pub message_is : (message : ℕ) → IsMessage known message → IsMessageOf format (message_known known message) (message_text messages message)
   message_is message there = zip_at (IsMessageOf format) known.messages messages message nothing [] holds.messages_are there
 
@@ -36,7 +36,8 @@ module _ (format : Format) (known : KnownSets) (states : List State) (messages :
   pub office_good : (office : ℕ) → IsOffice known office → IsGoodKnown format (office_known known office)
   office_good office there = All-get_or (IsGoodKnown format) known.offices office nothing there holds.offices
 
-  -- the knowledge of a message is good: its files are CIF files, and the format allows its horizon
+  -- the knowledge that a message brings is good: its files are CIF files, and the format allows its
+  -- horizon
   pub message_good : (message : ℕ) → IsMessage known message → IsGoodKnown format (message_known known message)
   message_good message there = All-get_or (IsGoodKnown format) known.messages message nothing there holds.sent
 
@@ -50,7 +51,7 @@ module _ (format : Format) (known : KnownSets) (states : List State) (messages :
   office_told office there = summary_told format (office_known known office) (office_state states office) (office_good office there) (office_is office there)
 
   -- a message can be read with a limit equal to its length: the message is the text of the summary
-  -- of the files that the message knows
+  -- of the files that its sender knew
   pub message_reads : (message : ℕ) → IsMessage known message → length (message_text messages message) < 2 ^ 64
       → (state : State) × IsStateOf (message_known known message) state × IsStateText format (length (message_text messages message))
       (message_text messages message) state
@@ -66,7 +67,8 @@ module _ (format : Format) (known : KnownSets) (states : List State) (messages :
         },
       )
 
-  -- the state that is read from a message is the summary of the files that the message knows
+  -- the state that is read from a message is the summary of the files that the message's sender
+  -- knew
   pub what_is_read : (message : ℕ) → IsMessage known message → length (message_text messages message) < 2 ^ 64 → (limit : ℕ) (state : State)
       → IsStateText format limit (message_text messages message) state → IsStateOf (message_known known message) state
   what_is_read message there short limit state is =
@@ -150,7 +152,7 @@ module _ (format : Format) (known : KnownSets) (states : List State) (messages :
       (raised_summary (office_known known office).files (office_known known office).horizon day (office_state states office) (office_is office there)))
 
 -- at the start of a run, states and messages match the knowledge (`Holds`), if each office's state
--- is the summary of no files without a horizon
+-- is a summary without files and without a horizon
 pub holds_at_first : (format : Format) (offices : ℕ) (states : List State) → length states ≡ offices → All (IsSummary [] 0) states
     → Holds format (none_known offices) states []
 holds_at_first format offices states long all = record {

@@ -16,8 +16,8 @@ use Rattle.cif_laws.proofs.records.Builders.{f2_basic, f2_schedule}
 use Rattle.state_laws.proofs.examples.StateExamples.{f2_item, end_of_f2}
 use Rattle.state_laws.proofs.examples.SummaryExamples as plain
 
--- the schedule ends on 14 June, day 23541. Under the horizon 14 June the schedule is live, and
--- under the horizon 15 June it has lapsed
+-- the schedule ends on 14 June, day 23541. With the horizon 14 June the schedule is live, and with
+-- the horizon 15 June it has lapsed
 lives : lapse 23541 (put_with (schedule_body f2_schedule)) ≡ put_with (schedule_body f2_schedule)
 unfolding days_from_civil day_count days_of_years days_of_months
 lives = refl
@@ -30,7 +30,8 @@ lapses = refl
 tiploc_stays : lapse 36524 (put_with (tiploc_body [])) ≡ put_with (tiploc_body [])
 tiploc_stays = refl
 
--- under the horizon 14 June the docker of 16 June is refused, and the docker of 17 June is made
+-- with the horizon 14 June, the program refuses the docker of 16 June and makes the docker of 17
+-- June
 day_is_refused : IsDayRefused 23541 23543
 day_is_refused = (lit< tt, lit< tt)
 
@@ -51,7 +52,7 @@ state_with horizon entries = record { horizon = horizon; ledger = f2_item ∷ []
 abbrev pub f2_state : State
 f2_state = state_with 0 ((schedule_key f2_key, record { stamp = record { file = f2_item.stamp; number = 2 }; op = put_with (schedule_body f2_schedule) }) ∷ [])
 
--- the entry of the worked file's state after the lapse
+-- the entry of the worked file's state after it has lapsed
 abbrev pub lapsed_entry : Key × Entry
 lapsed_entry = (schedule_key f2_key, record { stamp = record { file = f2_item.stamp; number = 2 }; op = lapsed })
 
@@ -65,7 +66,7 @@ length_of_first = refl
 length_of_second : length (state_text dks_2 f2_state) ≡ 311
 length_of_second = refl
 
--- under the horizon 15 June the entry has lapsed: its stamp is unchanged, and it has no body
+-- with the horizon 15 June the entry has lapsed: its stamp is unchanged, and it has no body
 pub raised_state : raise_horizon 23542 f2_state ≡ state_with 23542 (lapsed_entry ∷ [])
 unfolding days_from_civil day_count days_of_years days_of_months
 raised_state = refl
@@ -120,7 +121,7 @@ cut_in_horizon : IsStateFault dks_2 1000 (take 5 text) (record { at = 4; cause =
 cut_in_horizon =
     inr (inr (inl (record { before = before_horizon; good = tt; rest = 0 ∷ []; whole = refl; ends = lit< tt; within = lit≤ tt; cause = refl; item_at = refl })))
 
--- the format can hold the worked state without its entry, under any horizon
+-- the format can hold the worked state without its entry, with any day as the horizon
 told_without : (horizon : ℕ) → IsDay horizon → IsToldState dks_2 (state_with horizon [])
 told_without horizon day = record {
   valid = record {
@@ -204,7 +205,7 @@ ends_before = inl (record {
   item_at = refl;
 })
 
--- under the horizon of its last day the schedule hasn't lapsed
+-- if the horizon is the last day of the schedule, the schedule hasn't lapsed
 abbrev last_day_state : State
 last_day_state = record { horizon = 23541; ledger = f2_state.ledger; entries = f2_state.entries }
 

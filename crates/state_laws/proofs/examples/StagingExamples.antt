@@ -1,4 +1,5 @@
--- A worked staging: an office under the horizon 15 June receives a schedule that ends on 14 June.
+-- A worked example of staging: an office with the horizon 15 June receives a schedule that ends on
+-- 14 June.
 use Rattle.std.proofs.Common.{◌≡◌, ap, ◌∙◌, arith, [], ◌∷◌, Contains, subst, inl, inr, None}
 use Rattle.docker_model.specs.file.Change.{Key}
 use Rattle.docker_model.specs.state.Stamp.{LedgerItem}

@@ -17,7 +17,7 @@ use Rattle.state_laws.proofs.states.Lapse.{below_or, put_lapses, put_stays}
 use Rattle.state_laws.proofs.states.TableLapsed.{body_gone, live_stays}
 use Rattle.state_laws.proofs.joins.StagedEntry.{entry_at_iff}
 
--- after the lapse an op has the same body as before, or no body
+-- lapsing leaves the body of an op unchanged, or removes the body
 lapsed_body : (horizon : ℕ) (op : Op) → (body_of (lapse horizon op) ≡ body_of op) ⊎ (body_of (lapse horizon op) ≡ None)
 lapsed_body horizon deleted = inl refl
 lapsed_body horizon lapsed = inl refl

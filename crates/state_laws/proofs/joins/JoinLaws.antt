@@ -18,9 +18,9 @@ use Rattle.state_laws.proofs.states.PlainTable.{one_per_key}
 use Rattle.state_laws.proofs.states.ReducedEntries.{IsReduced, reduced_twice}
 use Rattle.state_laws.proofs.states.ReducedMembers.{reduced_along, reduced_unique}
 
--- ---- a join is the reduction of both states' items and entries
+-- ---- `IsJoin` can be stated with `IsReduced`
 
--- a join of two states is the reduction of both states' items and entries under the join's horizon
+-- a join of two states satisfies `IsReduced` for the ledger items and the entries of both states
 pub join_reduced : (a b c : State) → IsJoin a b c → IsReduced (a.ledger ++ b.ledger) (a.entries ++ b.entries) c
 join_reduced a b c is = record {
   floor = is.floor;
@@ -31,8 +31,8 @@ join_reduced a b c is = record {
   of_keys = is.entries;
 }
 
--- the reduction of two states' items and entries under the greater horizon is the join of the
--- states
+-- if a state has the greater horizon of two states, and satisfies `IsReduced` for the ledger items
+-- and the entries of both states, it is their join
 pub reduced_join : (a b c : State) → c.horizon ≡ max a.horizon b.horizon → IsReduced (a.ledger ++ b.ledger) (a.entries ++ b.entries) c → IsJoin a b c
 reduced_join a b c horizon is = record {
   horizon = horizon;

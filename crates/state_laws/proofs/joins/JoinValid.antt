@@ -34,8 +34,8 @@ kept_floor items ledger (Some stamp) greatest from to = record {
   greatest = λ item among. greatest.greatest item (from item among);
 }
 
--- if the joined ledger contains each item of a ledger that isn't below the floor, it contains the
--- file stamps of these items
+-- suppose that the joined ledger has each item of a ledger that isn't below the floor. It also has
+-- the file stamp of each of these items
 pub stamp_stays : (ledger joined : List LedgerItem) (floor : Option FileStamp) → ((item : LedgerItem) → Contains ledger item → IsKept floor item.stamp
     → Contains joined item)
     → (stamp : FileStamp) → IsKept floor stamp → Contains (map (λ (item : LedgerItem). item.stamp) ledger) stamp
@@ -45,7 +45,7 @@ stamp_stays ledger joined floor to stamp kept among =
     subst (Contains (map (λ (item : LedgerItem). item.stamp) joined)) found.2
     (map-Contains (λ (item : LedgerItem). item.stamp) joined found.0 (to found.0 found.1 (subst (IsKept floor) (sym found.2) kept)))
 
--- a well-formed op is well formed after the lapse
+-- lapsing leaves a well-formed op well formed
 op_lapses : (horizon : ℕ) (key : Key) (op : Op) → IsOpOf key op → IsOpOf key (lapse horizon op)
 op_lapses horizon key deleted good = tt
 op_lapses horizon key lapsed good = tt
@@ -55,7 +55,7 @@ op_lapses horizon key (put_with body) good = by (below_or horizon body)
     by (inl below) = subst (IsOpOf key) (sym (put_lapses horizon body below)) tt
     by (inr above) = subst (IsOpOf key) (sym (put_stays horizon body above)) good
 
--- a good entry is good after the lapse
+-- lapsing leaves a good entry good
 pub good_lapses : (horizon : ℕ) (ledger : List LedgerItem) (key : Key) (entry : Entry) → IsGoodEntry ledger (key, entry)
     → IsGoodEntry ledger (key, lapse_entry horizon entry)
 good_lapses horizon ledger key entry good = record { key = good.key; stamp = good.stamp; op = op_lapses horizon key entry.op good.op }
@@ -113,7 +113,7 @@ join_is_valid first second joined one two is = record {
         moved second.ledger (λ item among keeps. (is.ledger item).1 (Contains-append_right first.ledger second.ledger item among, keeps)) entry kept
         (All-contains (IsGoodEntry second.ledger) second.entries entry two.entries.0 here)
 
--- a valid state is valid after the lapse, if the horizon is a day number
+-- lapsing leaves a valid state valid, if the horizon is a day number
 pub lapsed_is_valid : (horizon : ℕ) (state : State) → IsDay horizon → IsValid state → IsValid (lapse_state horizon state)
 lapsed_is_valid horizon state day valid = record {
   horizon = day;

@@ -1,5 +1,5 @@
 -- Setting a horizon that isn't greater than the state's horizon leaves a valid state unchanged. A
--- horizon may be set after a join instead of before the join. Without a horizon no entry lapses.
+-- horizon may be set after a join instead of before the join. If the horizon is 0, no entry lapses.
 use Rattle.std.proofs.Common.{◌≡◌, ℕ, ◌≤◌, List, [], ◌∷◌, Contains, subst, ap, sym, ◌∙◌, arith}
 use Rattle.std.specs.Prelude.{Option, ◌↔◌, max}
 use Rattle.std.proofs.Math.Nat.{le-max_left, max-eq_left, max-zero, zero-max}
@@ -19,7 +19,8 @@ use Rattle.state_laws.proofs.states.KeptEntries.{lapse_ascends, entries_stay}
 
 -- ---- setting a horizon that isn't greater than the state's horizon leaves a valid state unchanged
 
--- if no body ended before a horizon, the lapse under this horizon changes only the state's horizon
+-- if no body in a state ended before a horizon, lapsing the state with this horizon changes only
+-- the state's horizon
 pub lapsed_already : (horizon : ℕ) (state : State) → HaveLapsed horizon state.entries
     → lapse_state horizon state ≡ record { horizon = horizon; ledger = state.ledger; entries = state.entries }
 lapsed_already horizon state all = λ i. record {
@@ -28,7 +29,7 @@ lapsed_already horizon state all = λ i. record {
   entries = entries_stay horizon state.entries (recursion_from_All (λ (entry : Keyed). HasNotToLapse horizon entry.1.op) state.entries all) i;
 }
 
--- no entry of a valid state lapses under the state's horizon
+-- with a valid state's own horizon, lapsing leaves each entry of the state unchanged
 pub entry_of_valid_stays : (state : State) (key : Key) (entry : Entry) → IsValid state → Contains state.entries (key, entry)
     → lapse_entry state.horizon entry ≡ entry
 entry_of_valid_stays state key entry valid among =
@@ -73,13 +74,13 @@ join_then_set a b c is = record {
     twofold : (entry : Entry) → lapse_entry (max c.horizon b.horizon) (lapse_entry c.horizon entry) ≡ lapse_entry (max c.horizon b.horizon) entry
     twofold entry = entry_twice (max c.horizon b.horizon) c.horizon entry ∙ ap (λ h. lapse_entry h entry) (max-eq_left (le-max_left c.horizon b.horizon))
 
--- without a horizon no op lapses
+-- if the horizon is 0, no op has to lapse
 pub none_has_to : (op : Op) → HasNotToLapse 0 op
 none_has_to deleted = tt
 none_has_to lapsed = tt
 none_has_to (put_with body) = omega arith
 
--- without a horizon no entry lapses
+-- if the horizon is 0, no entry has to lapse
 pub none_to_lapse : (entries : List Keyed) → HaveLapsed 0 entries
 none_to_lapse entries = All-from_recursion (λ (entry : Keyed). HasNotToLapse 0 entry.1.op) entries (each entries)
   where
@@ -87,8 +88,8 @@ none_to_lapse entries = All-from_recursion (λ (entry : Keyed). HasNotToLapse 0 
     each [] = tt
     each (x ∷ xs) = (none_has_to x.1.op, each xs)
 
--- `state` is the summary of the files without a horizon: each key has its greatest entry, which no
--- lapse has changed
+-- `state` is the summary of the files without a horizon: each key has its greatest entry, and no
+-- entry has lapsed
 pub record IsPlainSummary (files : List (List (List ℕ))) (state : State) : Type 0 where
   pub no_horizon : state.horizon ≡ 0
   pub floor : Option FileStamp
@@ -101,7 +102,7 @@ pub record IsPlainSummary (files : List (List (List ℕ))) (state : State) : Typ
 lapse_entry_none : (entry : Entry) → lapse_entry 0 entry ≡ entry
 lapse_entry_none entry = λ i. record { stamp = entry.stamp; op = lapse_none entry.op i }
 
--- the summary without a horizon is the summary under the horizon 0
+-- `IsPlainSummary` holds for a state if and only if the state is a summary with the horizon 0
 pub plain_summary : (files : List (List (List ℕ))) (state : State) → IsPlainSummary files state ↔ IsSummary files 0 state
 plain_summary files state = (
   λ is. record {

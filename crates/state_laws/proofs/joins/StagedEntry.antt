@@ -118,10 +118,10 @@ module _ (own : State) (floor : Option FileStamp) (offered staged : List (Key ×
       back k e to_stage (inr here) =
           absurd (out (subst (λ (v : Key × Entry). IsToStage own floor v.0 v.1) (sym (Contains-single (key, entry) (k, e) here)) to_stage))
 
--- ---- after all offers, the state after the commit is the join
+-- ---- after all entries are offered, the commit makes the join
 
 -- after all entries of a received state are offered and the staged entries are committed, the
--- result is the join with the received state without its horizon
+-- result is the join of `own` with the received state without its horizon
 pub staging_joins_before : (own received : State) (floor : Option FileStamp) (staged : List (Key × Entry)) (after : State) → IsValid own → IsValid received
     → IsFloor (own.ledger ++ received.ledger) floor → IsStaged own floor received.entries staged → IsCommit own received.ledger staged after
     → IsJoin own (without_horizon received) after
@@ -131,7 +131,7 @@ staging_joins_before own received floor staged after valid valid_too is_floor st
     commit_is_join own received valid valid_too staged after commit (subst (λ f. IsStaged own f received.entries staged) floors stages)
 
 -- after all entries of a received state are offered, the staged entries are committed and the
--- received horizon is set, the result is the join with the received state
+-- received horizon is set, the result is the join of `own` with the received state
 pub staging_joins : (own received : State) (floor : Option FileStamp) (staged : List (Key × Entry)) (after : State) → IsValid own → IsValid received
     → IsFloor (own.ledger ++ received.ledger) floor → IsStaged own floor received.entries staged → IsCommit own received.ledger staged after
     → IsJoin own received (raise_horizon received.horizon after)

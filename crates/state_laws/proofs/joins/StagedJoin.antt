@@ -1,5 +1,5 @@
--- After all entries of a received state are offered and the staged entries are committed, the
--- result is the join with the received state without its horizon.
+-- An office offers all entries of a received state to its own state, and commits the staged
+-- entries. The result is the join of its own state with the received state without its horizon.
 use Rattle.std.proofs.Common.{◌≡◌, ℕ, List, ◌++◌, ap, sym, ◌∙◌, subst, inl, inr, ◌⊎◌, Some, None, Contains}
 use Rattle.std.specs.Prelude.{Option}
 use Rattle.std.specs.declared.cmp.Ordering.TheVariants.{Equal}
@@ -137,7 +137,7 @@ module _ (own received : State) (valid : IsValid own) (valid_too : IsValid recei
       by (inl here) = inr (here, best.1, none_staged here)
       by (inr here) = as_received here (find_in own.entries key)
 
-  -- the state after a commit is the join with the received state without its horizon
+  -- the state after a commit is the join of `own` with the received state without its horizon
   pub commit_is_join : IsJoin own (without_horizon received) after
   unfolding Best
   commit_is_join = record {

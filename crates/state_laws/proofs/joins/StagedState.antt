@@ -1,5 +1,5 @@
--- A state with only the received ledger items and the staged entries is valid. The join with this
--- state equals the state after the commit.
+-- A state with only the received ledger items and the staged entries is valid. The join of an
+-- office's own state with this state equals the state after the commit.
 use Rattle.std.proofs.Common.{◌≡◌, List, ◌++◌, ◌∙◌, ap, subst, arith, inl, inr, ◌⊎◌, Contains}
 use Rattle.std.specs.Prelude.{Option}
 use Rattle.std.specs.Ordering.{ordering_reverse}
@@ -90,8 +90,8 @@ module _ (own received : State) (floor : Option FileStamp) (staged : List (Key �
           subst (λ e. IsAtMost entry_cmp other e) (one_per_key own.entries up key other entry here told.0) (at_most_itself entry_total other)
       under other (inr there) = absurd (told.2 other there)
 
-  -- the join with the state of only the received ledger items and the staged entries is the state
-  -- after the commit
+  -- the join of `own` with the state of only the received ledger items and the staged entries is
+  -- the state after the commit
   pub join_with_staged : IsCommit own received.ledger staged after
   unfolding Best
   join_with_staged = record {

@@ -1,5 +1,5 @@
--- Lemmas on entries under a floor and a horizon. If an entry isn't below the floor, no greater
--- entry is below the floor. The lapse preserves the key order of entries.
+-- Lemmas on how a floor and a horizon affect entries. If an entry isn't below the floor, no greater
+-- entry is below the floor. Lapsing preserves the key order of entries.
 use Rattle.std.proofs.Common.{◌≡◌, ℕ, ◌<◌, ◌≤◌, List, [], ◌∷◌, subst, inl, inr, ◌⊎◌, refl, sym, ◌∙◌, Some, None}
 use Rattle.std.specs.Prelude.{Option}
 use Rattle.std.specs.List.{AllByRecursion}
@@ -23,7 +23,7 @@ kept_up (Some floor) low high most kept =
     at_most_trans file_stamp_total floor low.stamp.file high.stamp.file kept
     (λ greater. most (λ i. ordering_then (ordering_then (greater i) (nat_cmp low.stamp.number high.stamp.number)) (op_cmp low.op high.op)))
 
--- an op after the lapse is at most the op before it
+-- lapsing never makes an op greater
 op_lapse_below : (horizon : ℕ) (op : Op) → IsAtMost op_cmp (lapse horizon op) op
 op_lapse_below horizon deleted = at_most_itself op_total deleted
 op_lapse_below horizon lapsed = at_most_itself op_total lapsed
@@ -33,7 +33,7 @@ op_lapse_below horizon (put_with body) = by (below_or horizon body)
     by (inl below) = subst (λ op. IsAtMost op_cmp op (put_with body)) (sym (put_lapses horizon body below)) (λ greater. cc)
     by (inr above) = subst (λ op. IsAtMost op_cmp op (put_with body)) (sym (put_stays horizon body above)) (at_most_itself op_total (put_with body))
 
--- an entry after the lapse is at most the entry before it
+-- lapsing never makes an entry greater
 pub lapse_below : (horizon : ℕ) (entry : Entry) → IsAtMost entry_cmp (lapse_entry horizon entry) entry
 lapse_below horizon entry = by (stamp_cmp entry.stamp entry.stamp) (at_most_itself entry_total entry)
   where
@@ -48,14 +48,14 @@ tied_lapsed deleted tied = cc
 tied_lapsed lapsed tied = refl
 tied_lapsed (put_with body) tied = cc
 
--- two entries that tie in the order are equal, if one has lapsed
+-- if two entries tie in the order, and one of them has lapsed, they are equal
 pub level_lapsed : (first second : Entry) → second.op ≡ lapsed → IsAtMost entry_cmp first second → IsAtMost entry_cmp second first → first ≡ second
 level_lapsed first second is up down =
     let parts = then_equal (stamp_cmp first.stamp second.stamp) (op_cmp first.op second.op) (level entry_total first second up down) in
     let ops : first.op ≡ second.op = tied_lapsed first.op (subst (λ op. op_cmp first.op op ≡ Equal) is parts.1) ∙ sym is in
     λ i. record { stamp = exact_stamp first.stamp second.stamp parts.0 i; op = ops i }
 
--- an op after the lapse is `lapsed`, or the op doesn't have to lapse
+-- lapsing an op gives `lapsed`, or the op doesn't have to lapse
 pub lapses_or_not : (horizon : ℕ) (op : Op) → (lapse horizon op ≡ lapsed) ⊎ HasNotToLapse horizon op
 lapses_or_not horizon deleted = inr tt
 lapses_or_not horizon lapsed = inl refl
@@ -65,19 +65,19 @@ lapses_or_not horizon (put_with body) = by (below_or horizon body)
     by (inl below) = inl (put_lapses horizon body below)
     by (inr above) = inr above
 
--- ---- the lapse preserves the key order of entries
+-- ---- lapsing preserves the key order of entries
 
 above_lapsed : (horizon : ℕ) (first : Keyed) (entries : List Keyed) → AllByRecursion (IsBelow (on (λ (entry : Keyed). entry.0) key_cmp) first) entries
     → AllByRecursion (IsBelow (on (λ (entry : Keyed). entry.0) key_cmp) (lapse_keyed horizon first)) (lapse_entries horizon entries)
 above_lapsed horizon first [] all = tt
 above_lapsed horizon first (entry ∷ entries) all = (all.0, above_lapsed horizon first entries all.1)
 
--- the lapse preserves the key order of entries
+-- lapsing preserves the key order of entries
 pub lapse_ascends : (horizon : ℕ) (entries : List Keyed) → AreAscending entries → AreAscending (lapse_entries horizon entries)
 lapse_ascends horizon [] up = tt
 lapse_ascends horizon (entry ∷ entries) up = (above_lapsed horizon entry entries up.0, lapse_ascends horizon entries up.1)
 
--- the lapse leaves entries that don't have to lapse unchanged
+-- lapsing leaves entries that don't have to lapse unchanged
 pub entries_stay : (horizon : ℕ) (entries : List Keyed) → AllByRecursion (λ (entry : Keyed). HasNotToLapse horizon entry.1.op) entries
     → lapse_entries horizon entries ≡ entries
 entries_stay horizon [] all = refl

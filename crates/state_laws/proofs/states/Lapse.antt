@@ -1,5 +1,5 @@
--- The lapse is monotone: it preserves the order of ops and entries. The lapse is idempotent. The
--- lapse under one horizon and then under another equals the lapse under the greater horizon.
+-- Lapsing is monotone: it preserves the order of ops and entries. Lapsing is idempotent. Lapsing
+-- with one horizon and then with another equals lapsing with the greater horizon.
 use Rattle.std.proofs.Common.{◌≡◌, ℕ, ◌<◌, ◌≤◌, subst, inl, inr, ◌⊎◌, refl, ap, sym, ◌∙◌, Bool, true, false, cond, arith}
 use Rattle.std.specs.Prelude.{max, nat_lt}
 use Rattle.std.specs.declared.cmp.Ordering.{Ordering}
@@ -28,17 +28,17 @@ below_or horizon body = by (nat_lt (body_end body) horizon) refl
 pub put_lapses : (horizon : ℕ) (body : Body) → body_end body < horizon → lapse horizon (put_with body) ≡ lapsed
 put_lapses horizon body below = λ i. cond (lt-ltb (body_end body) horizon below i) lapsed (put_with body)
 
--- if a body didn't end before the horizon, the lapse leaves a put of this body unchanged
+-- if a body didn't end before the horizon, lapsing leaves a put of this body unchanged
 pub put_stays : (horizon : ℕ) (body : Body) → horizon ≤ body_end body → lapse horizon (put_with body) ≡ put_with body
 put_stays horizon body above = λ i. cond (le-ltb (body_end body) horizon above i) lapsed (put_with body)
 
--- the lapse leaves an op that doesn't have to lapse unchanged
+-- lapsing leaves an op that doesn't have to lapse unchanged
 pub op_stays : (horizon : ℕ) (op : Op) → HasNotToLapse horizon op → lapse horizon op ≡ op
 op_stays horizon deleted has_not = refl
 op_stays horizon lapsed has_not = refl
 op_stays horizon (put_with body) has_not = put_stays horizon body has_not
 
--- an op after the lapse doesn't have to lapse again under the same horizon
+-- after an op has been lapsed with a horizon, it doesn't have to lapse again with the same horizon
 pub has_lapsed : (horizon : ℕ) (op : Op) → HasNotToLapse horizon (lapse horizon op)
 has_lapsed horizon deleted = tt
 has_lapsed horizon lapsed = tt
@@ -48,17 +48,17 @@ has_lapsed horizon (put_with body) = by (below_or horizon body)
     by (inl below) = subst (HasNotToLapse horizon) (sym (put_lapses horizon body below)) tt
     by (inr above) = subst (HasNotToLapse horizon) (sym (put_stays horizon body above)) above
 
--- the lapse under a horizon is idempotent
+-- lapsing an op twice with the same horizon equals lapsing it once
 pub lapse_again : (horizon : ℕ) (op : Op) → lapse horizon (lapse horizon op) ≡ lapse horizon op
 lapse_again horizon op = op_stays horizon (lapse horizon op) (has_lapsed horizon op)
 
--- the lapse under the horizon 0 leaves each op unchanged
+-- with the horizon 0, lapsing leaves each op unchanged
 pub lapse_none : (op : Op) → lapse 0 op ≡ op
 lapse_none deleted = refl
 lapse_none lapsed = refl
 lapse_none (put_with body) = put_stays 0 body (omega arith)
 
--- ---- the lapse under two horizons equals the lapse under the greater horizon
+-- ---- lapsing with two horizons equals lapsing with the greater horizon
 
 -- if two numbers are at most `n`, the greater of them is at most `n`
 pub max_most : (a b n : ℕ) → a ≤ n → b ≤ n → max a b ≤ n
@@ -68,8 +68,7 @@ max_most a b n first second = by (nat_lt a b) refl
     by true h = let below = ltb-true a b h in subst (λ m. m ≤ n) (sym (max-eq_right (omega arith))) second
     by false h = subst (λ m. m ≤ n) (sym (max-eq_left (ltb-false a b h))) first
 
--- the lapse of an op under one horizon and then under another equals the lapse under the greater
--- horizon
+-- lapsing an op with one horizon and then with another equals lapsing it with the greater horizon
 pub lapse_twice : (second first : ℕ) (op : Op) → lapse second (lapse first op) ≡ lapse (max second first) op
 lapse_twice second first deleted = refl
 lapse_twice second first lapsed = refl
@@ -87,9 +86,9 @@ lapse_twice second first (put_with body) = by (below_or first body) (below_or se
         ap (lapse second) (put_stays first body above) ∙ put_stays second body over
         ∙ sym (put_stays (max second first) body (max_most second first (body_end body) over above))
 
--- ---- the lapse of ops is monotone
+-- ---- lapsing preserves the order of ops
 
--- the op `lapsed` is at most each put after the lapse
+-- the op `lapsed` is at most the result of lapsing any put
 lapsed_least : (horizon : ℕ) (body : Body) → IsAtMost op_cmp lapsed (lapse horizon (put_with body))
 lapsed_least horizon body = by (below_or horizon body)
   where
@@ -107,7 +106,8 @@ deleted_least horizon body = by (below_or horizon body)
 number_above : (m n : ℕ) → n < m → nat_cmp m n ≡ Greater
 number_above m n below = sym (nat_cmp_is m n Greater below)
 
--- if one body is at most another in the order, its end number is at most the other's
+-- if one body is at most another body in the order, the first body's end number is at most the
+-- second body's end number
 ends_in_order : (a b : Body) → IsAtMost body_cmp a b → body_end a ≤ body_end b
 ends_in_order a b most = by (nat_lt (body_end b) (body_end a)) refl
   where
@@ -117,7 +117,7 @@ ends_in_order a b most = by (nat_lt (body_end b) (body_end a)) refl
         (nat_cmp (body_tag a) (body_tag b)))))
     by false h = ltb-false _ _ h
 
--- the lapse of ops is monotone
+-- lapsing preserves the order of ops
 pub lapse_keeps_order : (horizon : ℕ) (a b : Op) → IsAtMost op_cmp a b → IsAtMost op_cmp (lapse horizon a) (lapse horizon b)
 lapse_keeps_order horizon deleted deleted most = most
 lapse_keeps_order horizon deleted lapsed most = most
@@ -136,7 +136,7 @@ lapse_keeps_order horizon (put_with a) (put_with b) most = by (below_or horizon 
         subst (λ op. IsAtMost op_cmp op (lapse horizon (put_with b))) (sym (put_stays horizon a above))
         (subst (IsAtMost op_cmp (put_with a)) (sym (put_stays horizon b (omega arith))) most)
 
--- the lapse of entries is monotone
+-- lapsing preserves the order of entries
 pub lapse_entry_keeps_order : (horizon : ℕ) (a b : Entry) → IsAtMost entry_cmp a b → IsAtMost entry_cmp (lapse_entry horizon a) (lapse_entry horizon b)
 lapse_entry_keeps_order horizon a b most = by (stamp_cmp a.stamp b.stamp) most
   where
@@ -145,13 +145,13 @@ lapse_entry_keeps_order horizon a b most = by (stamp_cmp a.stamp b.stamp) most
     by Equal told = lapse_keeps_order horizon a.op b.op told
     by Greater told = told
 
--- ---- the lapse of entries has the same laws
+-- ---- lapsing of entries has the same laws as lapsing of ops
 
--- the lapse of an entry under one horizon and then under another equals the lapse under the greater
+-- lapsing an entry with one horizon and then with another equals lapsing it with the greater
 -- horizon
 pub entry_twice : (second first : ℕ) (entry : Entry) → lapse_entry second (lapse_entry first entry) ≡ lapse_entry (max second first) entry
 entry_twice second first entry = λ i. record { stamp = entry.stamp; op = lapse_twice second first entry.op i }
 
--- the lapse leaves an entry that doesn't have to lapse unchanged
+-- lapsing leaves an entry that doesn't have to lapse unchanged
 pub entry_stays : (horizon : ℕ) (entry : Entry) → HasNotToLapse horizon entry.op → lapse_entry horizon entry ≡ entry
 entry_stays horizon entry has_not = λ i. record { stamp = entry.stamp; op = op_stays horizon entry.op has_not i }

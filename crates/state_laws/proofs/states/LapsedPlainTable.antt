@@ -1,5 +1,5 @@
--- If the files of a set have distinct moments, the live table of their summary under a horizon is
--- their plain table, lapsed under the horizon.
+-- If the files of a set have distinct moments, lapsing their plain table with a horizon gives the
+-- live table of their summary with this horizon.
 use Rattle.std.proofs.Common.{◌≡◌, ℕ, List, Contains, subst, inl, inr, ◌⊎◌, ap, sym, ◌∙◌, None}
 use Rattle.std.specs.Prelude.{fold, option_and_then}
 use Rattle.std.specs.declared.cmp.Ordering.TheVariants.{Less, Greater}

@@ -1,5 +1,5 @@
--- If the files of a set have distinct moments, the live table of their summary is their plain
--- table, lapsed under the horizon.
+-- If the files of a set have distinct moments, lapsing their plain table with a horizon gives the
+-- live table of their summary with this horizon.
 use Rattle.std.proofs.Common.{◌≡◌, ℕ, List, refl, ◌∙◌, Some, None, arith}
 use Rattle.std.specs.Prelude.{Option, option_and_then}
 use Rattle.docker_model.specs.file.Change.{Key, Body}
@@ -11,7 +11,7 @@ use Rattle.state_laws.proofs.states.MomentOrder.{moment_order}
 use Rattle.state_laws.proofs.states.TableLapsed.{body_stays}
 use Rattle.state_laws.proofs.states.LapsedPlainTable.{live_is_plain}
 
--- the lapse under the horizon 0 leaves each table unchanged
+-- with the horizon 0, lapsing leaves each table unchanged
 pub lapse_table_none : (table : Table) (key : Key) → lapse_table 0 table key ≡ table key
 lapse_table_none table key = by (table key)
   where
@@ -19,7 +19,7 @@ lapse_table_none table key = by (table key)
     by None = refl
     by (Some body) = body_stays 0 body (omega arith)
 
--- the live table of a summary is the plain table after the lapse
+-- the live table of a summary is the plain table, lapsed with the summary's horizon
 pub live_is_lapsed_plain : (files : List (List (List ℕ))) (horizon : ℕ) (state : State) (table : Table) → IsSummary files horizon state
     → IsPlainTable files table → live_table state ≡ lapse_table horizon table
 live_is_lapsed_plain files horizon state table summary plain = λ i key. live_is_plain files horizon state table summary plain key i

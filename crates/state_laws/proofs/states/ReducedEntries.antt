@@ -1,8 +1,8 @@
--- The reduction of ledger items and entries under a horizon is a state. It has the items that
--- aren't below the floor of all items, and the greatest entry of each key if that entry isn't below
--- the floor. Each entry whose body ended before the horizon has lapsed. A reduction in two steps
--- equals the reduction in one step, if the horizon of the first step is at most the horizon of the
--- second.
+-- Ledger items and entries can be reduced with a horizon. The result is a state. It has the items
+-- that aren't below the floor of all items, and the greatest entry of each key if that entry isn't
+-- below the floor. Each entry whose body ended before the horizon has lapsed. A reduction in two
+-- steps equals the reduction in one step, if the horizon of the first step is at most the horizon
+-- of the second step.
 use Rattle.std.proofs.Common.{◌≡◌, ℕ, ◌≤◌, List, ◌++◌, Contains, subst, inl, inr, ◌⊎◌, ap, sym, ◌∙◌, Some, None}
 use Rattle.std.specs.Prelude.{Option, ◌↔◌}
 use Rattle.std.proofs.Math.Nat.{max-eq_left}
@@ -20,8 +20,8 @@ use Rattle.state_laws.proofs.states.GreatestEntry.{NoEntry, GreatestEntry, great
 use Rattle.state_laws.proofs.states.Lapse.{lapse_entry_keeps_order, entry_twice, entry_stays}
 use Rattle.state_laws.proofs.states.KeptEntries.{kept_up, lapse_below, level_lapsed, lapses_or_not}
 
--- the entry is the key's entry in the reduction: the greatest of the key's entries after its lapse
--- under the horizon, if that entry isn't below the floor
+-- the entry is what a reduction keeps for the key. It is the key's greatest entry, lapsed with the
+-- horizon. The greatest entry isn't below the floor
 abbrev pub KeptOf : List Keyed → Option FileStamp → ℕ → Key → Entry → Type 0
 KeptOf entries floor horizon key entry =
     (greatest : Entry) × IsGreatestAmong entries key greatest × IsKept floor greatest.stamp.file × (lapse_entry horizon greatest ≡ entry)
