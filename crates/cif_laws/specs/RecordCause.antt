@@ -1,4 +1,4 @@
--- The cause of a record at fault, given the reader's place in the file before the record. The
+-- The cause of a record at fault, given the reader's `Place` in the file before the record. The
 -- causes are tested in the order of their ranks.
 use Rattle.std.specs.Prelude.{Bool, true, false, ℕ, Some, None, List, length, Option, is_none, ◌==◌, nat_le}
 use Rattle.std.proofs.Common.{cond}
@@ -8,7 +8,7 @@ use Rattle.docker_model.specs.file.FileFault.{FileCause, bad_field, third_midnig
 use Rattle.cif_laws.specs.FileStage.{Place, after_end, place_by_kind}
 use Rattle.cif_laws.specs.ScheduleStage.{Stage, stage_after, is_basic_kind}
 
--- whether the place is after the trailer
+-- whether the `Place` is after the trailer
 abbrev pub is_after_end : Place → Bool
 is_after_end after_end = true
 is_after_end _ = false
@@ -23,7 +23,7 @@ with_column cause None other = other
 abbrev pub field_cause : List ℕ → FileCause
 field_cause line = with_column bad_field (leftmost_bad_field line) third_midnight
 
--- the cause `bad_place` if no record of this kind may follow at this place, and otherwise
+-- the cause `bad_place` if no record of this kind may follow at this `Place`, and otherwise
 -- `field_cause`
 abbrev pub place_cause : Place → List ℕ → FileCause
 place_cause place line = cond (is_none (place_by_kind place (kind_of line) line)) bad_place (field_cause line)
@@ -41,7 +41,7 @@ byte_cause place line = with_column bad_byte (leftmost_bad_byte line) (kind_caus
 abbrev pub length_cause : Place → List ℕ → FileCause
 length_cause place line = cond (length line == 80) (byte_cause place line) bad_length
 
--- the cause `after_trailer` if the place is after the trailer, and otherwise `length_cause`
+-- the cause `after_trailer` if the `Place` is after the trailer, and otherwise `length_cause`
 abbrev pub end_cause : Place → List ℕ → FileCause
 end_cause place line = cond (is_after_end place) after_trailer (length_cause place line)
 

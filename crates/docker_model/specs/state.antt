@@ -1,4 +1,4 @@
--- States: orders, stamps and the floor, ops and entries, the plain table, the lapse, joins,
+-- States: orders, stamps and the floor, ops and entries, the plain table, lapsing, joins,
 -- summaries, and the texts of states.
 
 pub mod Order

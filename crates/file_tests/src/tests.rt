@@ -196,7 +196,7 @@ const REFUSED: &[Refused] = &[
     ),
 ];
 
-/// Asserts that `F2`, with its five records, is refused under a limit of three.
+/// Asserts that `F2`, with its five records, is refused if the limit is three records.
 fn check_limit(rt: &impl Abort, alloc: Global) {
     let text = text(alloc, &F2, b"\n").expect(rt, "room");
     let fault = read_pieces(alloc, &[text.as_slice()], 3).err();
@@ -217,8 +217,7 @@ fn changes_are(rt: &impl Abort, alloc: Global, records: &[&[u8]], wanted: &[Chan
     same(rt, changes.as_slice(), wanted);
 }
 
-/// Asserts that the changes of the file with these records are made by the records with these
-/// numbers.
+/// Asserts which records make the changes of the file: the records with these numbers.
 fn changes_stand_at(rt: &impl Abort, alloc: Global, records: &[&[u8]], numbers: &[u32]) {
     let changes = changes(rt, alloc, records);
     same(rt, changes.len(), numbers.len());
@@ -227,7 +226,7 @@ fn changes_stand_at(rt: &impl Abort, alloc: Global, records: &[&[u8]], numbers: 
     }
 }
 
-/// The change with which the second record deletes this key.
+/// A change that deletes this key. The second record of a file makes this change.
 fn deletion(key: &Key) -> Change {
     Change {
         number: 2,
@@ -236,7 +235,8 @@ fn deletion(key: &Key) -> Change {
     }
 }
 
-/// The change with which the second record puts this body under the key of a timing point.
+/// A change that puts this body under the key of a timing point. The second record of a file makes
+/// this change.
 fn put(key: &Key, body: [u8; 63]) -> Change {
     Change {
         number: 2,
@@ -435,8 +435,9 @@ fn a_journey(rt: HostRuntime) {
     same(&rt, journey.complete(), true);
 }
 
-/// The out-of-memory fault that each later call must return: the earlier fault if a call has
-/// returned one, and otherwise the fault returned at this record's line feed.
+/// The fault that each further call of a parser must return. It is `wanting`, the out-of-memory
+/// fault of an earlier call, if there is one. Otherwise, if `fed` is a fault, it is out of memory
+/// at the record with this number.
 fn memory_fault_from(
     fed: Option<FileFault>,
     wanting: Option<FileFault>,

@@ -1,4 +1,4 @@
--- The point that a reader reaches after each part of a state's text.
+-- The stage that a reader reaches after each part of a state's text.
 use Rattle.std.specs.Prelude.{ℕ, List, length, nat_le, if◌then◌else◌, [], ◌∷◌, ◌++◌, slice_index}
 use Rattle.std.proofs.Common.{zero, suc}
 use Rattle.std.specs.Int.{w32, from_be_bytes, w16, w64}
@@ -10,12 +10,12 @@ use Rattle.docker_model.specs.state.StateText.{key_in, stamp_in, Format, dks_1, 
 use Rattle.docker_model.specs.state.StatePart.{Before, before_item, before_entry_count, before_tag, in_entry, at_end, before_line, before_body}
 use Rattle.docker_model.specs.state.StatePart.{EntryPart, before_key, before_stamp, before_op, before_horizon, before_ledger_count, before_mark}
 
--- the point after these ledger items of a ledger with `count` items: before the next item, or
+-- the stage after these ledger items of a ledger with `count` items: before the next item, or
 -- before the number of entries
 abbrev pub after_items : (horizon : ℕ) → ℕ → List LedgerItem → Before
 after_items horizon count ledger = if nat_le count (length ledger) then before_entry_count horizon ledger else before_item horizon count ledger
 
--- the point after these entries of a state with `count` entries: before the next entry, or at the
+-- the stage after these entries of a state with `count` entries: before the next entry, or at the
 -- end
 abbrev pub after_entries : ℕ → State → Before
 after_entries count state = if nat_le count (length state.entries) then at_end state else in_entry count state before_tag
@@ -25,28 +25,28 @@ abbrev pub with_entry : State → Key → Stamp → Op → State
 with_entry state key stamp op =
     record { horizon = state.horizon; ledger = state.ledger; entries = state.entries ++ (key, record { stamp = stamp; op = op }) ∷ [] }
 
--- the point after these lines of a schedule with `n` lines: before the next line, or after the
+-- the stage after these lines of a schedule with `n` lines: before the next line, or after the
 -- entry
 abbrev pub after_lines : ℕ → State → ScheduleKey → Stamp → ℕ → List (List ℕ) → Before
 after_lines count state key stamp n lines =
     if nat_le n (length lines) then after_entries count (with_entry state (schedule_key key) stamp (put_with (schedule_body lines)))
     else in_entry count state (before_line key stamp n lines)
 
--- the point after the first byte of an op. After the byte 1 a body follows. After the byte 0, for
+-- the stage after the first byte of an op. After the byte 1 a body follows. After the byte 0, for
 -- deleted, and after the byte 2, for lapsed, the entry ends
 abbrev pub after_op : ℕ → State → Key → Stamp → ℕ → Before
 after_op count state key stamp zero = after_entries count (with_entry state key stamp deleted)
 after_op count state key stamp (suc zero) = in_entry count state (before_body key stamp)
 after_op count state key stamp (suc (suc op)) = after_entries count (with_entry state key stamp lapsed)
 
--- the point after a body, or after a schedule's number of lines
+-- the stage after a body, or after a schedule's number of lines
 abbrev pub after_body : ℕ → State → Key → Stamp → List ℕ → Before
 after_body count state (tiploc_key code) stamp bytes = after_entries count (with_entry state (tiploc_key code) stamp (put_with (tiploc_body bytes)))
 after_body count state (association_key key) stamp bytes =
     after_entries count (with_entry state (association_key key) stamp (put_with (association_body bytes)))
 after_body count state (schedule_key key) stamp bytes = after_lines count state key stamp (from_be_bytes w32 bytes) []
 
--- the point after the next part of an entry, if this part has these bytes
+-- the stage after the next part of an entry, if this part has these bytes
 abbrev pub after_part : ℕ → State → EntryPart → List ℕ → Before
 after_part count state before_tag bytes = in_entry count state (before_key (slice_index bytes 0))
 after_part count state (before_key tag) bytes = in_entry count state (before_stamp (key_in tag bytes))
@@ -55,12 +55,12 @@ after_part count state (before_op key stamp) bytes = after_op count state key st
 after_part count state (before_body key stamp) bytes = after_body count state key stamp bytes
 after_part count state (before_line key stamp n lines) bytes = after_lines count state key stamp n (lines ++ bytes ∷ [])
 
--- the point after the mark
+-- the stage after the mark
 abbrev pub after_mark : Format → Before
 after_mark dks_1 = before_ledger_count 0
 after_mark dks_2 = before_horizon
 
--- the point after the next part of the text, if this part has these bytes
+-- the stage after the next part of the text, if this part has these bytes
 abbrev pub advance : (format : Format) → Before → List ℕ → Before
 advance format before_mark bytes = after_mark format
 advance format before_horizon bytes = before_ledger_count (from_be_bytes w16 bytes)

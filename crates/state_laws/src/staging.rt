@@ -12,9 +12,9 @@ ghost use Rattle.state_laws.specs.LawTerms.{HoldsOnceCommitted};
 
 /// A state is received in three steps: all its entries are offered for staging, the staged entries
 /// are committed, and then its horizon is set. The result is the join of the receiving state with
-/// the received state. Before the horizon is set, the result is the join with the received state
-/// without its horizon. A join with only the received ledger items and the staged entries has the
-/// same result.
+/// the received state. Before the horizon is set, the result is the join of the receiving state
+/// with the received state without its horizon. Joining only the received ledger items and the
+/// staged entries gives the same result.
 pub fn staging_and_commit_is_join()
     ensures join { (own received : State) (floor : Option FileStamp) (staged : List (Key × Entry))
         (after : State)
@@ -44,8 +44,9 @@ pub fn staging_and_commit_is_join()
 {}
 
 /// The horizon of a received state may be set last. If the horizon of a state is removed and set
-/// again, the result is the same state. If the received state is joined without its horizon, and
-/// this horizon is set afterwards, the result is the join with the received state.
+/// again, the result is the same state. If a received state is joined without its horizon, and this
+/// horizon is set afterwards, the result is the join of the receiving state with the whole received
+/// state.
 pub fn horizon_is_set_last()
     ensures state { (state : State) → IsValid state
         → raise_horizon state.horizon (without_horizon state) ≡ state }

@@ -13,7 +13,7 @@ ghost use Rattle.docker_model.specs.state.Table.{Table, IsPlainTable};
 ghost use Rattle.docker_model.specs.file.File.{IsFile, most_records};
 ghost use Rattle.state_laws.specs.LawTerms.{first_full_stamp};
 
-/// A set of files has at most one summary under each horizon. The order of the list of files makes
+/// For each horizon, a set of files has at most one summary. The order of the list of files makes
 /// no difference.
 pub fn one_summary()
     ensures { (files others : List (List (List ℕ)))
@@ -21,16 +21,16 @@ pub fn one_summary()
         (one two : State) → IsSummary files horizon one → IsSummary others horizon two → one ≡ two }
 {}
 
-/// The join of two summaries is the summary of both sets of files together, under the greater of
-/// the two horizons.
+/// The join of two summaries is the summary of both sets of files together, with the greater of the
+/// two horizons.
 pub fn join_of_summaries()
     ensures { (files others : List (List (List ℕ))) (g h : ℕ) (one two joined : State)
         → IsSummary files g one → IsSummary others h two → IsJoin one two joined
         → IsSummary (files ++ others) (max g h) joined }
 {}
 
-/// If the files of a set have distinct moments, the live table of their summary is their plain
-/// table, lapsed under the horizon.
+/// If the files of a set have distinct moments, lapsing their plain table with a horizon gives the
+/// live table of their summary with this horizon.
 pub fn live_table_of_summary()
     ensures none { (files : List (List (List ℕ))) (state : State)
         → IsSummary files 0 state → HaveDistinctMoments files
@@ -74,7 +74,7 @@ pub fn floor_of_ledger()
         → IsFloor state.ledger (first_full_stamp state.ledger) }
 {}
 
-/// The summary of files under a horizon is a valid state, if each file has at most 4,294,967,294
+/// The summary of files with a horizon is a valid state, if each file has at most 4,294,967,294
 /// records.
 pub fn summary_is_valid()
     ensures { (files : List (List (List ℕ))) (horizon : ℕ) (state : State)
@@ -82,9 +82,10 @@ pub fn summary_is_valid()
         → IsSummary files horizon state → IsValid state }
 {}
 
-/// The lapse of ops is monotone, so the lapse of the greatest op is the greatest op after the
-/// lapse. The lapse is idempotent. The lapse under one horizon and then under another equals the
-/// lapse under the greater horizon. The lapse under the horizon 0 leaves each op unchanged.
+/// Lapsing is monotone: it preserves the order of ops, so it maps the greatest op of a list to the
+/// greatest op of the lapsed list. Lapsing is idempotent. Lapsing with one horizon and then with
+/// another equals lapsing with the greater horizon. With the horizon 0, lapsing leaves each op
+/// unchanged.
 pub fn laws_of_lapse()
     ensures order { (horizon : ℕ) (first second : Op) → IsAtMost op_cmp first second
         → IsAtMost op_cmp (lapse horizon first) (lapse horizon second) }
@@ -103,8 +104,8 @@ pub fn laws_of_lapse()
 {}
 
 /// A valid state is still valid after a horizon is set, if the horizon is a day number. Setting a
-/// horizon that isn't greater than the state's horizon leaves a valid state unchanged, since no
-/// entry of a valid state lapses under the state's horizon.
+/// horizon that isn't greater than the state's horizon leaves a valid state unchanged, since all
+/// bodies that ended before the state's horizon have lapsed already.
 pub fn laws_of_setting()
     ensures valid { (horizon : ℕ) (state : State) → IsDay horizon → IsValid state
         → IsValid (raise_horizon horizon state) }
@@ -115,8 +116,7 @@ pub fn laws_of_setting()
         → lapse_entry state.horizon entry ≡ entry }
 {}
 
-/// After a horizon is set on a summary, the state is the summary under the greater of the two
-/// horizons.
+/// Setting a horizon on a summary gives the summary with the greater of the two horizons.
 pub fn setting_on_summary()
     ensures { (files : List (List (List ℕ))) (g h : ℕ) (state : State)
         → IsSummary files g state → IsSummary files (max g h) (raise_horizon h state) }

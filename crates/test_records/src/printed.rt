@@ -7,7 +7,7 @@ DOCKER ASHFELD 2024-06-10
 END                                                     
 ";
 
-/// The docker of Ashfeld on 10 June: the morning train leaves five minutes later.
+/// The docker of Ashfeld on 10 June: the morning train leaves at 09:05.
 pub const ASHFELD_0905: &str = "\
 DOCKER ASHFELD 2024-06-10                               
 0905  D 1A10 C10001 P   1   SL      0905 ASHFELD BRAYTON

@@ -78,14 +78,14 @@ trailer_among records is =
     (let among = Contains-append_right (is.first ∷ flat_map (λ unit. unit) is.units) (is.last ∷ []) is.last (cons-Contains-first is.last []) in
     (among.0, is.last, among.1, among.2, is.trailer_kind))
 
--- ---- which kinds of record are allowed at a place
+-- ---- which kinds of record are allowed at a `Place`
 
 same_unit_by_kind : (kind : Option Kind) (first second : List ℕ) → is_some (unit_by_kind kind first) ≡ is_some (unit_by_kind kind second)
 same_unit_by_kind None first second = refl
 same_unit_by_kind (Some basic_schedule) first second = refl
 same_unit_by_kind (Some _) first second = refl
 
--- whether a record is allowed at a place depends only on the record's kind
+-- whether a record is allowed at a `Place` depends only on the record's kind
 pub same_place_by_kind : (place : Place) (kind : Option Kind) (first second : List ℕ) → is_some (place_by_kind place kind first) ≡ is_some
     (place_by_kind place kind second)
 same_place_by_kind before_header kind first second = refl
@@ -191,7 +191,7 @@ module _ (limit : ℕ) (earlier : Lines) (place : Place) (line : List ℕ) (foun
   none_below rank most r0 r1 r2 r3 r4 r5 r6 third_midnight below holds = absurd (omega arith)
   none_below rank most r0 r1 r2 r3 r4 r5 r6 no_end below holds = holds
 
-  -- if the kind of a record isn't allowed at the place, the record is out of place
+  -- if the kind of a record isn't allowed at the `Place`, the record is out of place
   pub out_of_place : place_by_kind place (kind_of line) line ≡ None → IsOutOfPlace earlier line
   out_of_place none next same begins =
       let told = (begins_next_iff earlier place next found).0 begins in
@@ -199,7 +199,7 @@ module _ (limit : ℕ) (earlier : Lines) (place : Place) (line : List ℕ) (foun
       ∙ ap is_some told.1.place_is in
       let bad : false ≡ true = (λ i. is_some (sym none i)) ∙ same_place_by_kind place (kind_of line) line next ∙ some in cc
 
-  -- if the kind of a record is allowed at the place, the record isn't out of place
+  -- if the kind of a record is allowed at the `Place`, the record isn't out of place
   pub in_place : (next : Place) → ¬ (kind_of line ≡ None) → place_by_kind place (kind_of line) line ≡ Some next → ¬ IsOutOfPlace earlier line
   in_place next known told out = by (kind_of line) refl
     where
@@ -322,7 +322,7 @@ module _ (limit : ℕ) (earlier : Lines) (place : Place) (line : List ℕ) (foun
           let reached = trailer_leads earlier before_header place any.1 found (any.0, any.2, any.3) any.4 in
           let bad : true ≡ false = sym (ap is_after_end reached) ∙ h in cc) nowhere
 
-  -- the cause computed from the reader's place is the cause of the record
+  -- the cause computed from the reader's `Place` is the cause of the record
   pub cause_is : (limit ≤ length earlier) ⊎ (next_place place line ≡ None) → IsCause limit earlier line (cause_of limit (length earlier) place line)
   cause_is here = by (nat_le limit (length earlier)) refl here
     where
@@ -332,8 +332,8 @@ module _ (limit : ℕ) (earlier : Lines) (place : Place) (line : List ℕ) (foun
       by false h (inl over) = let under = leb-false limit (length earlier) h in absurd (omega arith)
       by false h (inr nowhere) = let under = leb-false limit (length earlier) h in end_is (λ over. omega arith) nowhere
 
-  -- the record at fault is the first record that leads the reader to no next place or is beyond the
-  -- limit
+  -- the record at fault is the first record that leads the reader to no next `Place` or is beyond
+  -- the limit
   pub record_fault : (records later : Lines) → records ≡ earlier ++ line ∷ later → length earlier ≤ limit → (limit ≤ length earlier)
       ⊎ (next_place place line ≡ None)
       → IsRecordFault limit records (record { number = length earlier + 1; cause = cause_of limit (length earlier) place line })
@@ -355,7 +355,7 @@ module _ (limit : ℕ) (earlier : Lines) (place : Place) (line : List ℕ) (foun
           let reached = (begins_iff_place (earlier ++ line ∷ [])).0 begins in
           let bad : None ≡ Some reached.0 = sym nowhere ∙ sym (place_of_more earlier place line found) ∙ reached.1 in cc)
 
--- if records within the limit lead the reader to a place other than `after_end`, their fault is
+-- if records within the limit lead the reader to a `Place` other than `after_end`, their fault is
 -- `no_end`
 pub no_end_behind : (limit : ℕ) (records : Lines) (place : Place) → IsPlaceOf records place → is_after_end place ≡ false → length records ≤ limit
     → IsUnended limit records (record { number = length records + 1; cause = no_end })
@@ -371,7 +371,7 @@ no_end_behind limit records place found open_end within = record {
 
 -- ---- a text is the text of a file, or has a fault
 
--- no record is at fault: the records are within the limit and lead the reader to a place
+-- no record is at fault: the records are within the limit and lead the reader to a `Place`
 abbrev pub Pass : ℕ → Lines → Type 0
 Pass limit records = (place : Place) × IsPlaceOf records place × (length records ≤ limit)
 

@@ -1,5 +1,5 @@
--- The place of a reader in a file determines which records may follow, and whether the records read
--- are a file. Each record leads the reader from one place to the next.
+-- The `Place` of a reader in a file determines which records may follow, and whether the records
+-- read are a file. Each record leads the reader from one `Place` to the next.
 use Rattle.std.proofs.Common.{◌≡◌, ℕ, List, ◌∷◌, ◌++◌, [], true, Some, refl, Bool, false, cond, None, ◌∙◌, ap, sym}
 use Rattle.std.proofs.Common.{append-nil, inl, inr, subst, append_assoc, ◌<◌, length, arith, length-append, ◌⊎◌}
 use Rattle.std.specs.Prelude.{◌&&◌, Option, is_some, option_and_then, ◌↔◌, ⊤}
@@ -26,7 +26,7 @@ use Rattle.cif_laws.proofs.schedules.ScheduleStages.{IsFront, front_of_basic, sc
 use Rattle.cif_laws.proofs.schedules.ScheduleStages.{witness, witness_kind, witness_record, witness_fields, witness_sound}
 use Rattle.cif_laws.proofs.schedules.ScheduleStages.{next_line_by_test, IsNextLine, first_line_iff_test, stage_of_schedule, stage_of_more}
 
--- ---- for each place, the structure of the records that lead the reader to it
+-- ---- for each `Place`, the structure of the records that lead the reader to it
 
 -- the records are a header and complete units
 pub record IsBetween (records : Lines) : Type 0 where
@@ -45,7 +45,7 @@ pub record IsWithin (stage : Stage) (lines records : Lines) : Type 0 where
   pub between : IsBetween before
   pub front : IsFront stage lines
 
--- the records have the structure that belongs to this place: no records, a header and complete
+-- the records have the structure that belongs to this `Place`: no records, a header and complete
 -- units, an incomplete schedule after these, or a whole file
 abbrev pub IsAt : Place → Lines → Type 0
 IsAt before_header records = records ≡ []
@@ -53,16 +53,17 @@ IsAt between_units records = IsBetween records
 IsAt (in_schedule stage lines) records = IsWithin stage lines records
 IsAt after_end records = IsFile records
 
--- ---- a record leads to a next place if and only if it is sound and its kind leads to that place
+-- ---- a record leads to a next `Place` if and only if it is sound and its kind leads to that
+-- `Place`
 
--- the record is sound at this place, and its kind leads the reader to the place `next`
+-- the record is sound at this `Place`, and its kind leads the reader to the `Place` `next`
 pub record IsNext (place : Place) (line : List ℕ) (next : Place) : Type 0 where
   pub is : IsRecord line
   pub sound : is_sound_at place line ≡ true
   pub place_is : place_by_kind place (kind_of line) line ≡ Some next
 
--- if a record leads the reader to a next place, the record is sound, and its kind leads to that
--- place
+-- if a record leads the reader to a next `Place`, the record is sound, and its kind leads to that
+-- `Place`
 pub next_by_test : (place : Place) (line : List ℕ) (next : Place) → next_place place line ≡ Some next → IsNext place line next
 next_by_test place line next found = by (is_record line && is_sound_at place line) refl found
   where
@@ -71,8 +72,8 @@ next_by_test place line next found = by (is_record line && is_sound_at place lin
     by true h told = let parts = both (is_record line) _ h in record { is = (record_iff_test line).1 parts.0; sound = parts.1; place_is = told }
     by false h told = cc
 
--- if a record is sound, and its kind leads to a next place, the record leads the reader to that
--- place
+-- if a record is sound, and its kind leads to a next `Place`, the record leads the reader to that
+-- `Place`
 pub test_by_next : (place : Place) (line : List ℕ) (next : Place) → IsNext place line next → next_place place line ≡ Some next
 test_by_next place line next told =
     (λ i. cond (and_true (is_record line) _ ((record_iff_test line).0 told.is) told.sound i) (place_by_kind place (kind_of line) line) None) ∙ told.place_is
@@ -93,7 +94,7 @@ between_more records unit between is = record {
 }
 
 -- if the records are a header and complete units, appending a good record of this kind gives
--- records with the structure of the next place
+-- records with the structure of the next `Place`
 unit_more : (records : Lines) (kind : Kind) (line : List ℕ) (next : Place) → IsBetween records → IsRecord line → HasKind kind line → HasGoodFields line
     → unit_by_kind (Some kind) line ≡ Some next
     → IsAt next (records ++ line ∷ [])
@@ -130,7 +131,7 @@ unit_more records trailer line next between is kind fields found =
 unit_more records _ line next between is kind fields found = cc
 
 -- if the records are a header and complete units, appending a good record gives records with the
--- structure of the next place
+-- structure of the next `Place`
 unit_more_of : (records : Lines) (line : List ℕ) (next : Place) → IsBetween records → IsRecord line → HasGoodFields line
     → unit_by_kind (kind_of line) line ≡ Some next → IsAt next (records ++ line ∷ [])
 unit_more_of records line next between is fields found = by (kind_of line) refl found
@@ -159,8 +160,9 @@ within_more stage lines records line next within found = record {
   front = next_front stage lines line next within.front found;
 }
 
--- suppose that records have the structure of a place, and that one more record leads the reader
--- from this place to a next place. With that record, they have the structure of the next place
+-- suppose that records have the structure of a `Place`, and that one more record leads the reader
+-- from this `Place` to a next `Place`. With that record, they have the structure of the next
+-- `Place`
 pub next_at : (place : Place) (records : Lines) (line : List ℕ) (next : Place) → IsAt place records → next_place place line ≡ Some next
     → IsAt next (records ++ line ∷ [])
 next_at before_header records line next at found = by (next_by_test before_header line next found) (kind_of line) refl
@@ -217,14 +219,14 @@ at_from (line ∷ rest) place records final at found =
     subst (IsAt final) (append_assoc records (line ∷ []) rest)
     (at_from rest step.0 (records ++ line ∷ []) final (next_at place records line step.0 at step.1) step.2)
 
--- records that lead the reader to a place have the structure of that place
+-- records that lead the reader to a `Place` have the structure of that `Place`
 pub at_of_place : (records : Lines) (place : Place) → IsPlaceOf records place → IsAt place records
 at_of_place records place found = at_from records before_header [] place refl found
 
--- ---- records that lead the reader to a place begin some file
+-- ---- records that lead the reader to a `Place` begin some file
 
--- for each kind of record that is allowed at a place, some good record of this kind leads the
--- reader to a next place
+-- for each kind of record that is allowed at a `Place`, some good record of this kind leads the
+-- reader to a next `Place`
 pub witness_next : (place : Place) (records : Lines) (kind : Kind) (next : Place) → IsAt place records → place_by_kind place (Some kind)
     (witness kind) ≡ Some next → next_place place (witness kind) ≡ Some next
 witness_next place records kind next at found = test_by_next place (witness kind) next (record {
@@ -263,7 +265,7 @@ journey_begins lines records at =
     begins_front records (witness terminating_location ∷ [])
     (between_begins (records ++ witness terminating_location ∷ []) (leads (in_schedule in_journey lines) records terminating_location between_units at refl))
 
--- records with the structure of a place begin some file
+-- records with the structure of a `Place` begin some file
 pub at_begins : (place : Place) (records : Lines) → IsAt place records → BeginsFile records
 at_begins before_header records at =
     begins_front records (witness header ∷ []) (between_begins (records ++ witness header ∷ []) (leads before_header records header between_units at refl))
@@ -278,7 +280,7 @@ at_begins (in_schedule in_journey lines) records at = journey_begins lines recor
 at_begins (in_schedule after_journey lines) records at = between_begins records (within_ended after_journey lines records at refl)
 at_begins after_end records at = file_begins records at
 
--- ---- the records of a whole file lead the reader to the place after the trailer
+-- ---- the records of a whole file lead the reader to the `Place` after the trailer
 
 place_from_append : (front : Lines) (place middle : Place) (more : Lines) → place_from place front ≡ Some middle
     → place_from place (front ++ more) ≡ place_from middle more
@@ -287,8 +289,8 @@ place_from_append (line ∷ front) place middle more found =
     let step = then_some (λ next. place_from next front) (next_place place line) middle found in
     (λ i. option_and_then (λ next. place_from next (front ++ more)) (step.1 i)) ∙ place_from_append front step.0 middle more step.2
 
--- if a record has a next stage in a schedule, it leads a reader of the file to the place with that
--- stage. If the journey is then complete, the place is between units
+-- if a record has a next stage in a schedule, it leads a reader of the file to the `Place` with
+-- that stage. If the journey is then complete, the `Place` is between units
 pub next_of_stage : (stage : Stage) (lines : Lines) (line : List ℕ) (next : Stage) → next_stage stage lines line ≡ Some next
     → next_place (in_schedule stage lines) line ≡ Some (place_in next (lines ++ line ∷ []))
 next_of_stage stage lines line next found =
@@ -356,7 +358,7 @@ stage_stops in_journey (Some terminating_location) h = cc
 stage_stops _ _ h = refl
 
 -- at a stage at which the schedule may end, a record that can't follow a basic schedule leads the
--- reader to the same next place as between two units
+-- reader to the same next `Place` as between two units
 pub next_behind : (stage : Stage) (lines : Lines) (line : List ℕ) → may_end stage lines ≡ true → follows_basic (kind_of line) ≡ false
     → next_place (in_schedule stage lines) line ≡ next_place between_units line
 next_behind stage lines line may anew =
@@ -423,7 +425,7 @@ place_from_front (line ∷ front) rest place final found =
     let more = place_from_front front rest step.0 final step.2 in
     (more.0, (λ i. option_and_then (λ next. place_from next front) (step.1 i)) ∙ more.1)
 
--- records begin a file if and only if they lead the reader to a place
+-- records begin a file if and only if they lead the reader to a `Place`
 pub begins_iff_place : (records : Lines) → BeginsFile records ↔ ((place : Place) × IsPlaceOf records place)
 begins_iff_place records = (
   λ begins. place_from_front records begins.0 before_header after_end (place_of_file (records ++ begins.0) begins.1),
@@ -434,17 +436,17 @@ begins_iff_place records = (
 pub file_iff_place : (records : Lines) → IsFile records ↔ IsPlaceOf records after_end
 file_iff_place records = (place_of_file records, at_of_place records after_end)
 
--- records lead the reader to at most one place
+-- records lead the reader to at most one `Place`
 pub one_place : (records : Lines) (first second : Place) → IsPlaceOf records first → IsPlaceOf records second → first ≡ second
 one_place records first second one two = let both_are : Some first ≡ Some second = sym one ∙ two in cc
 
--- after records that lead the reader to a place, `next_place` computes the place to which one more
--- record leads
+-- after records that lead the reader to a `Place`, `next_place` computes the `Place` to which one
+-- more record leads
 pub place_of_more : (records : Lines) (place : Place) (line : List ℕ) → IsPlaceOf records place → place_at (records ++ line ∷ []) ≡ next_place place line
 place_of_more records place line found = place_from_append records before_header place (line ∷ []) found ∙ some_then (next_place place line)
 
--- suppose that records lead the reader to a place. With one more record they begin a file if and
--- only if this record leads from that place to a next place
+-- suppose that records lead the reader to a `Place`. With one more record they begin a file if and
+-- only if this record leads from that `Place` to a next `Place`
 pub begins_next_iff : (records : Lines) (place : Place) (line : List ℕ) → IsPlaceOf records place → BeginsFile (records ++ line ∷ [])
     ↔ ((next : Place) × IsNext place line next)
 begins_next_iff records place line found = (
@@ -461,9 +463,9 @@ begins_file_or_not records = by (place_at records) refl
     by None h = inr (λ begins. let at = (begins_iff_place records).0 begins in let bad : None ≡ Some at.0 = sym h ∙ at.1 in cc)
     by (Some place) h = inl ((begins_iff_place records).1 (place, h))
 
--- ---- a place inside a schedule has the stage of the schedule's records
+-- ---- a `Place` inside a schedule has the stage of the schedule's records
 
--- if the place is inside a schedule, its stage is the stage of that schedule's records, and the
+-- if the `Place` is inside a schedule, its stage is the stage of that schedule's records, and the
 -- journey isn't complete
 abbrev pub IsTracked : Place → Type 0
 IsTracked (in_schedule stage lines) = (stage_of lines ≡ Some stage) × ¬ (stage ≡ after_journey)
@@ -516,7 +518,7 @@ tracked_from (line ∷ rest) place final tracked found =
     let step = then_some (λ next. place_from next rest) (next_place place line) final found in
     tracked_from rest step.0 final (next_tracked place line step.0 tracked (next_by_test place line step.0 step.1)) step.2
 
--- if records lead the reader to a place inside a schedule, the stage of the place is the stage of
--- that schedule's records
+-- if records lead the reader to a `Place` inside a schedule, the stage of the `Place` is the stage
+-- of that schedule's records
 pub tracked_place : (records : Lines) (place : Place) → IsPlaceOf records place → IsTracked place
 tracked_place records place found = tracked_from records before_header place tt found

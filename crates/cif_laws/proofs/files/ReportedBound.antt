@@ -18,7 +18,7 @@ use Rattle.cif_laws.proofs.files.ReportedFaults.{strip_long, TellsNoFault, fault
 abbrev Has80 : List ℕ → Type 0
 Has80 line = length line ≡ 80
 
--- if records lead the reader to a place, each record has 80 bytes
+-- if records lead the reader to a `Place`, each record has 80 bytes
 records_of_80 : (records : Lines) (place final : Place) → place_from place records ≡ Some final → AllByRecursion Has80 records
 records_of_80 [] place final reached = tt
 records_of_80 (line ∷ rest) place final reached =

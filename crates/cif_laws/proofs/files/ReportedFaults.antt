@@ -36,7 +36,7 @@ strip_long piece = by (slice_index piece (length piece - 1) == 13)
 pub not_80 : (piece : List ℕ) → 82 ≤ length piece → length (strip_carriage_return piece) ≢ 80
 not_80 piece long is = let most = strip_long piece in absurd (omega arith)
 
--- a line that doesn't have 80 bytes leads the reader to no next place
+-- a line that doesn't have 80 bytes leads the reader to no next `Place`
 pub no_next_place : (place : Place) (line : List ℕ) → length line ≢ 80 → next_place place line ≡ None
 no_next_place place line apart = by (next_place place line) refl
   where
@@ -318,7 +318,7 @@ cause_of_length limit count place line apart =
     λ i. cond (nat_le limit count) too_many
     (cond (is_after_end place) after_trailer (cond (ne_eqb (length line) 80 apart i) (byte_cause place line) bad_length))
 
--- if the complete lines are within the limit and lead the reader to a place, and the incomplete
+-- if the complete lines are within the limit and lead the reader to a `Place`, and the incomplete
 -- line has at most 81 bytes, the bytes determine no fault
 pub no_fault_told : (limit : ℕ) (text : List ℕ) (place : Place) → IsPlaceOf (complete_lines text) place → length (complete_lines text) ≤ limit
     → length (open_line text) ≤ 81
@@ -330,7 +330,7 @@ no_fault_told limit text place found within short fault =
       short = short;
     }))
 
--- a complete line that leads the reader to no next place is at fault, whatever bytes follow the
+-- a complete line that leads the reader to no next `Place` is at fault, whatever bytes follow the
 -- line
 pub fault_at_feed : (limit : ℕ) (text front rest : List ℕ) (place : Place) → HasNoFeed front → IsPlaceOf (complete_lines text) place
     → length (complete_lines text) ≤ limit
@@ -373,7 +373,7 @@ fault_at_long limit text place found within long =
     })
 
 -- at the end of a text, an incomplete line that isn't empty is the last line. If that line leads
--- the reader to no next place or is beyond the limit, the line is at fault
+-- the reader to no next `Place` or is beyond the limit, the line is at fault
 pub fault_at_end : (limit : ℕ) (text : List ℕ) (place : Place) → IsPlaceOf (complete_lines text) place → length (complete_lines text) ≤ limit
     → 0 < length (open_line text)
     → (limit ≤ length (complete_lines text)) ⊎ (next_place place (strip_carriage_return (open_line text)) ≡ None)

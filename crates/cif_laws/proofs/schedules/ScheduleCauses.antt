@@ -265,8 +265,8 @@ no_other stage lines line (inr none) = by (may_end stage lines)
     by true = none
     by false = refl
 
--- if a record can only belong to the schedule, it leads a reader of the file to the place with the
--- schedule's next stage
+-- if a record can only belong to the schedule, it leads a reader of the file to the `Place` with
+-- the schedule's next stage
 pub next_place_of_stage : (stage : Stage) (lines : Lines) (line : List ℕ) → IsOfSchedule stage lines line
     → next_place (in_schedule stage lines) line ≡ option_map (λ next. place_in next (lines ++ line ∷ [])) (next_stage stage lines line)
 next_place_of_stage stage lines line of =

@@ -41,8 +41,9 @@ partner_start indicator day =
 abbrev pub RunsNot : Table → List ℕ → ℕ → Type 0
 RunsNot live uid day = (key : ScheduleKey) (lines : List (List ℕ)) → ¬ TrainRuns live uid day key lines
 
--- this is the train identity that is printed for a UID on a day. If a train of the UID starts on
--- the day, the identity is taken from the train's basic schedule. Otherwise the identity is `????`
+-- `identity` is the train identity that is printed for a UID on a day. If a train of the UID starts
+-- on the day, the identity is taken from the train's basic schedule. Otherwise the identity is
+-- `????`
 abbrev pub IsIdentityOn : Table → List ℕ → List ℕ → ℕ → Type 0
 IsIdentityOn live uid identity day =
     ((key : ScheduleKey) × (lines : List (List ℕ)) × TrainRuns live uid day key lines × (identity ≡ columns 33 36 (first_record lines)))
@@ -53,10 +54,11 @@ abbrev pub IsPartnerIdentity : Table → List ℕ → Option ℕ → List ℕ �
 IsPartnerIdentity live uid None identity = identity ≡ codes "????"
 IsPartnerIdentity live uid (Some day) identity = IsIdentityOn live uid identity day
 
--- this is a docker line of an association, for the place and the day. The association is the chosen
--- association of its group on the base train's start day. The association isn't a cancellation. Its
--- category is a join, a division or a next working, and its date indicator is S, a space, N or P.
--- The base train's first event with the association's TIPLOC and suffix is at the place, on the day
+-- `line` is a docker line of an association, for the place and the day. The association is the
+-- chosen association of its group on the base train's start day. The association isn't a
+-- cancellation. Its category is a join, a division or a next working, and its date indicator is S,
+-- a space, N or P. The base train's first event with the association's TIPLOC and suffix is at the
+-- place, on the day
 pub record IsAssociationLine (live : Table) (place : List ℕ) (day : ℕ) (line : DockerLine) : Type 0 where
   pub start : ℕ
   pub key : AssociationKey

@@ -10,9 +10,9 @@ use Rattle.docker_model.specs.file.Change.{association_key, schedule_key, Associ
 use Rattle.docker_model.specs.state.Order.{IsAtMost}
 use Rattle.docker_model.specs.state.Table.{Table}
 
--- whether a day is from the first date to the last date, both included, and the day's weekday is
--- marked in the days run. The first date and the last date are fields of six bytes, and the days
--- run are a field of seven bytes, all of one schedule or one association
+-- whether a day is from the first date to the last date, both included, and is on a weekday of the
+-- days run. The first date and the last date are fields of six bytes, and the days run are a field
+-- of seven bytes, all of one schedule or one association
 abbrev pub runs_within : List ℕ → List ℕ → List ℕ → ℕ → Bool
 runs_within first last days day =
     nat_le (date_number first) day && nat_le day (end_number last) && runs_on_weekday days (weekday_of day)
@@ -106,8 +106,8 @@ pub record Train : Type 0 where
   pub key : ScheduleKey
   pub lines : List (List ℕ)
 
--- this is the UID's chosen schedule on the day, or it is `None` and no schedule of the UID runs on
--- the day. The chosen schedule may be a cancellation
+-- the option is the UID's chosen schedule on the day, or it is `None` and no schedule of the UID
+-- runs on the day. The chosen schedule may be a cancellation
 abbrev pub IsChosenOn : Table → List ℕ → ℕ → Option Train → Type 0
 IsChosenOn live uid day None = (key : ScheduleKey) (lines : List (List ℕ)) → ¬ IsRunning live uid day key lines
 IsChosenOn live uid day (Some train) = IsChosen live uid day train.key train.lines

@@ -59,7 +59,7 @@ abbrev pub docker_text : Table → List ℕ → ℕ → List DockerLine → List
 docker_text live place day lines =
     ended (heading live place day) ++ flat_map (λ line. ended (line_text line)) lines ++ ended last_line
 
--- this is the printed docker of a live table, for a place and a day from 0 to 36524
+-- the text is the printed docker of a live table, for a place and a day from 0 to 36524
 abbrev pub IsDockerText : Table → List ℕ → ℕ → List ℕ → Type 0
 IsDockerText live place day text = (lines : List DockerLine) × IsDockerList live place day lines × (text ≡ docker_text live place day lines)
 

@@ -33,7 +33,7 @@ abbrev pub falls_to : List (List ℕ) → ℕ → ℕ
 falls_to lines number = fall_count (take number (times_along lines))
 
 -- the day of an event, for a train that starts on this day. For example, if a train starts on day
--- 10, the events after the first midnight, up to the second, are on day 11
+-- 10, the events after the first midnight, up to the second midnight, are on day 11
 abbrev pub event_day : ℕ → List (List ℕ) → Event → ℕ
 event_day start lines event = start + falls_to lines event.number
 

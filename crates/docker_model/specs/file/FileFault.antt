@@ -66,7 +66,7 @@ HoldsOf limit earlier line (bad_field at) = leftmost_bad_field line ≡ Some at
 HoldsOf limit earlier line third_midnight = HasThirdFall earlier line
 HoldsOf limit earlier line no_end = ⊥
 
--- this is the cause that is reported for a record: it applies to the record, and no cause of a
+-- `cause` is the cause that is reported for a record: it applies to the record, and no cause of a
 -- lower rank does
 pub record IsCause (limit : ℕ) (earlier : List (List ℕ)) (line : List ℕ) (cause : FileCause) : Type 0 where
   pub holds : HoldsOf limit earlier line cause
@@ -78,7 +78,7 @@ pub record FileFault : Type 0 where
   pub number : ℕ
   pub cause : FileCause
 
--- this is the fault of the first record at fault. The records before that record are within the
+-- `fault` is the fault of the first record at fault. The records before that record are within the
 -- limit and begin a file. With that record appended, the records exceed the limit or no longer
 -- begin a file
 pub record IsRecordFault (limit : ℕ) (records : List (List ℕ)) (fault : FileFault) : Type 0 where
@@ -92,8 +92,8 @@ pub record IsRecordFault (limit : ℕ) (records : List (List ℕ)) (fault : File
   pub here : (limit ≤ length earlier) ⊎ (¬ BeginsFile (earlier ++ line ∷ []))
   pub cause : IsCause limit earlier line fault.cause
 
--- this is the fault `no_end`: no record is at fault, but a file needs more records. The fault has
--- the number of the first missing record
+-- `fault` is the fault `no_end`: no record is at fault, but a file needs more records. The fault
+-- has the number of the first missing record
 pub record IsUnended (limit : ℕ) (records : List (List ℕ)) (fault : FileFault) : Type 0 where
   pub within : length records ≤ limit
   pub begin : BeginsFile records
@@ -101,7 +101,7 @@ pub record IsUnended (limit : ℕ) (records : List (List ℕ)) (fault : FileFaul
   pub number : fault.number ≡ length records + 1
   pub cause : fault.cause ≡ no_end
 
--- this is the fault of a text, if a file may have at most `limit` records
+-- the text has this fault, if a file may have at most `limit` records
 abbrev pub IsFileFault : ℕ → List ℕ → FileFault → Type 0
 IsFileFault limit text fault = IsRecordFault limit (lines_of text) fault ⊎ IsUnended limit (lines_of text) fault
 

@@ -18,7 +18,7 @@ HaveSameFiles first second = (file : List (List ℕ)) → Contains first file �
 abbrev pub AreOneKnowledge : Known → Known → Type 0
 AreOneKnowledge first second = HaveSameFiles first.files second.files × (first.horizon ≡ second.horizon)
 
--- each of these is a CIF file of at most 4,294,967,294 records
+-- each file in the list is a CIF file of at most 4,294,967,294 records
 abbrev pub AreFiles : Files → Type 0
 AreFiles files = All IsFile files × All (λ file. length file ≤ most_records) files
 
@@ -33,10 +33,9 @@ IsGoodEvent format (take_file office text limit) = limit ≤ most_records
 IsGoodEvent format (horizon_event office day) = IsHorizonOf format day
 IsGoodEvent format _ = ⊤
 
--- the states and the texts of the messages match what the offices and the messages know. Each state
--- is the summary of the files that its office knows. Each message is the text of the summary of the
--- files that the message knows. Every known file is a CIF file, and the format allows every known
--- horizon
+-- the states and the texts of the messages match the knowledge. Each state is the summary of the
+-- files that its office knows. Each message is the text of the summary of the files that its sender
+-- knew. Every known file is a CIF file, and the format allows every known horizon
 pub record Holds (format : Format) (known : KnownSets) (states : List State) (messages : List (List ℕ)) : Type 0 where
   pub offices : All (IsGoodKnown format) known.offices
   pub sent : All (IsGoodKnown format) known.messages
@@ -53,7 +52,7 @@ office_state states office = slice_index_or states office (record { horizon = 0;
 abbrev pub message_text : List (List ℕ) → ℕ → List ℕ
 message_text messages message = slice_index_or messages message []
 
--- the knowledge of each office and each message at the end of a run
+-- the knowledge of each office, and the knowledge that each message brings, at the end of a run
 abbrev pub sets_of : ℕ → List RunEvent → Exchange → KnownSets
 sets_of offices events exchange = known_sets offices events exchange.replies
 

@@ -51,7 +51,7 @@ nothing = record { files = []; horizon = 0 }
 abbrev pub united : Known → Known → Known
 united first second = record { files = first.files ++ second.files; horizon = max first.horizon second.horizon }
 
--- the knowledge of each office and of each message
+-- the knowledge of each office, and the knowledge that each message brings
 pub record KnownSets : Type 0 where
   pub offices : List Known
   pub messages : List Known
@@ -149,7 +149,7 @@ AreReplies known [] (reply ∷ replies) = ⊥
 AreReplies known (event ∷ events) [] = ⊥
 AreReplies known (event ∷ events) (reply ∷ replies) = IsReply known event reply × AreReplies (after_reply known (event, reply)) events replies
 
--- the state is the summary of the known files under the known horizon
+-- the state is the summary of the known files with the known horizon
 abbrev pub IsStateOf : Known → State → Type 0
 IsStateOf known state = IsSummary known.files known.horizon state
 
@@ -167,7 +167,7 @@ pub record Exchange : Type 0 where
 
 -- this exchange is a possible result of these events at this many offices. Each reply is allowed
 -- for its event. Each state is the summary of what its office knows at the end. Each message is the
--- text, in this format, of the summary of what the message knows
+-- text, in this format, of the summary of what its sender knew
 pub record IsRun (format : Format) (offices : ℕ) (events : List RunEvent) (exchange : Exchange) : Type 0 where
   pub replies : AreReplies (none_known offices) events exchange.replies
   pub states : AllZip IsStateOf (known_sets offices events exchange.replies).offices exchange.states

@@ -77,7 +77,7 @@ IsFull item = item.indicator ≡ 70
 abbrev pub HasNoFull : List LedgerItem → Type 0
 HasNoFull items = (item : LedgerItem) → Contains items item → ¬ IsFull item
 
--- this is the file stamp of the newest full extract among the items
+-- `stamp` is the file stamp of the newest full extract among the items
 pub record IsGreatestFull (items : List LedgerItem) (stamp : FileStamp) : Type 0 where
   pub full : LedgerItem
   pub among : Contains items full
@@ -85,8 +85,8 @@ pub record IsGreatestFull (items : List LedgerItem) (stamp : FileStamp) : Type 0
   pub stamped : full.stamp ≡ stamp
   pub greatest : (item : LedgerItem) → Contains items item → IsFull item → IsAtMost file_stamp_cmp item.stamp stamp
 
--- this is the floor of the items: the file stamp of the newest full extract among them, or `None`
--- if no item is for a full extract. Files older than the floor don't count
+-- the option is the floor of the items: the file stamp of the newest full extract among them, or
+-- `None` if no item is for a full extract. Files older than the floor don't count
 abbrev pub IsFloor : List LedgerItem → Option FileStamp → Type 0
 IsFloor items None = HasNoFull items
 IsFloor items (Some stamp) = IsGreatestFull items stamp

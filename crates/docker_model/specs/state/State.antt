@@ -20,7 +20,7 @@ pub record State : Type 0 where
   pub ledger : List LedgerItem
   pub entries : List (Key × Entry)
 
--- this can be the ledger item of a file: its day and minute are in range, and its references and
+-- `item` can be the ledger item of a file: its day and minute are in range, and its references and
 -- indicator are well formed
 pub record IsGoodItem (item : LedgerItem) : Type 0 where
   pub day : IsDay item.stamp.moment.day
@@ -29,7 +29,7 @@ pub record IsGoodItem (item : LedgerItem) : Type 0 where
   pub indicator : (item.indicator ≡ 70) ⊎ (item.indicator ≡ 85)
   pub last_reference : IsTextOfLength 7 item.last_reference
 
--- this can be the key of an association record: each field of the key is well formed
+-- `key` can be the key of an association record: each field of the key is well formed
 pub record IsGoodAssociationKey (key : AssociationKey) : Type 0 where
   pub base : IsTextOfLength 6 key.base
   pub associated : IsTextOfLength 6 key.associated
@@ -38,13 +38,13 @@ pub record IsGoodAssociationKey (key : AssociationKey) : Type 0 where
   pub suffix : IsTrue (is_printable key.suffix)
   pub indicator : IsStpLetter key.indicator
 
--- this can be the key of a basic schedule: each field of the key is well formed
+-- `key` can be the key of a basic schedule: each field of the key is well formed
 pub record IsGoodScheduleKey (key : ScheduleKey) : Type 0 where
   pub uid : IsTextOfLength 6 key.uid
   pub runs_from : IsDay key.runs_from
   pub indicator : IsStpLetter key.indicator
 
--- this can be the key of some record: each field of the key is well formed
+-- the key can be the key of some record: each field of the key is well formed
 abbrev pub IsGoodKey : Key → Type 0
 IsGoodKey (tiploc_key code) = IsTiploc code
 IsGoodKey (association_key key) = IsGoodAssociationKey key
@@ -106,8 +106,8 @@ pub record IsGoodEntry (ledger : List LedgerItem) (entry : Key × Entry) : Type 
 abbrev pub AreAscending : List (Key × Entry) → Type 0
 AreAscending entries = IsStrictlyAscending (on (λ (entry : Key × Entry). entry.0) key_cmp) entries
 
--- these may be the entries of a state with this ledger: each entry is well formed, and the entries
--- are strictly ascending by key
+-- a state with this ledger may have these entries: each entry is well formed, and the entries are
+-- strictly ascending by key
 abbrev pub AreEntries : List LedgerItem → List (Key × Entry) → Type 0
 AreEntries ledger entries = All (IsGoodEntry ledger) entries × AreAscending entries
 
@@ -152,15 +152,15 @@ raise_horizon horizon state = lapse_state (max state.horizon horizon) state
 abbrev pub without_horizon : State → State
 without_horizon state = record { horizon = 0; ledger = state.ledger; entries = state.entries }
 
--- this is the greatest of all entries that the list has for this key
+-- `entry` is the greatest of all entries that the list has for this key
 pub record IsGreatestAmong (entries : List (Key × Entry)) (key : Key) (entry : Entry) : Type 0 where
   pub among : Contains entries (key, entry)
   pub greatest : (other : Entry) → Contains entries (key, other) → IsAtMost entry_cmp other entry
 
--- this is the join of two states: the result of merging one into the other. The join's ledger is
--- the union of both ledgers, and for each key the join has the greater of the two entries. Ledger
--- items and entries below the floor of the union are left out. The join's horizon is the greater of
--- the two horizons, and each entry whose body ended before that horizon has lapsed
+-- `joined` is the join of two states: the result of merging one into the other. The join's ledger
+-- is the union of both ledgers, and for each key the join has the greater of the two entries.
+-- Ledger items and entries below the floor of the union are left out. The join's horizon is the
+-- greater of the two horizons, and each entry whose body ended before that horizon has lapsed
 pub record IsJoin (first second joined : State) : Type 0 where
   pub horizon : joined.horizon ≡ max first.horizon second.horizon
   pub floor : Option FileStamp

@@ -79,8 +79,8 @@ IsBadPart format (before_entry_count horizon ledger) bytes cause = ⊥
 IsBadPart format (in_entry count state part) bytes cause = IsBadEntryPart format state part bytes cause
 IsBadPart format (at_end state) bytes cause = ⊥
 
--- this is the fault of a bad part that ends within the limit. The fault's offset is the beginning
--- of the item to which the bad part belongs
+-- `fault` is the fault of a bad part that ends within the limit. The fault's offset is the
+-- beginning of the item to which the bad part belongs
 pub record HasBadPart (format : Format) (limit : ℕ) (text : List ℕ) (fault : StateFault) : Type 0 where
   pub before : Before
   pub good : AreGood format before
@@ -92,8 +92,8 @@ pub record HasBadPart (format : Format) (limit : ℕ) (text : List ℕ) (fault :
   pub bad : IsBadPart format before bytes fault.cause
   pub item_at : fault.at ≡ length (items_before format before)
 
--- this is the fault `too_long`: the next part would go past the limit, and the text is longer than
--- the limit. The fault's offset is the limit
+-- `fault` is the fault `too_long`: the next part would go past the limit, and the text is longer
+-- than the limit. The fault's offset is the limit
 pub record IsLong (format : Format) (limit : ℕ) (text : List ℕ) (fault : StateFault) : Type 0 where
   pub before : Before
   pub good : AreGood format before
@@ -105,8 +105,8 @@ pub record IsLong (format : Format) (limit : ℕ) (text : List ℕ) (fault : Sta
   pub cause : fault.cause ≡ too_long
   pub limit_at : fault.at ≡ limit
 
--- this is the fault `too_short`: the text ends before the next part is complete. The fault's offset
--- is the beginning of the item to which the incomplete part belongs
+-- `fault` is the fault `too_short`: the text ends before the next part is complete. The fault's
+-- offset is the beginning of the item to which the incomplete part belongs
 pub record IsShort (format : Format) (limit : ℕ) (text : List ℕ) (fault : StateFault) : Type 0 where
   pub before : Before
   pub good : AreGood format before
@@ -117,7 +117,7 @@ pub record IsShort (format : Format) (limit : ℕ) (text : List ℕ) (fault : St
   pub cause : fault.cause ≡ too_short
   pub item_at : fault.at ≡ length (items_before format before)
 
--- this is the fault `has_tail`: more bytes follow a complete state. The fault's offset is the
+-- `fault` is the fault `has_tail`: more bytes follow a complete state. The fault's offset is the
 -- beginning of these bytes
 pub record HasTail (format : Format) (limit : ℕ) (text : List ℕ) (fault : StateFault) : Type 0 where
   pub state : State
@@ -129,8 +129,8 @@ pub record HasTail (format : Format) (limit : ℕ) (text : List ℕ) (fault : St
   pub cause : fault.cause ≡ has_tail
   pub end_at : fault.at ≡ length (state_text format state)
 
--- this is the fault of a text that is read as a state in this format, if the text may have at most
--- `limit` bytes
+-- the text, read as a state in this format, has this fault, if the text may have at most `limit`
+-- bytes
 abbrev pub IsStateFault : Format → ℕ → List ℕ → StateFault → Type 0
 IsStateFault format limit text fault =
     HasBadPart format limit text fault ⊎ IsLong format limit text fault ⊎ IsShort format limit text fault ⊎ HasTail format limit text fault

@@ -1,7 +1,7 @@
--- The parts of a state's text, in the order in which a reader judges them. For each point of the
--- text, the definitions say how many bytes the next part has, and whether the parts before the
--- point are good. An item is the mark, the horizon, a count, a ledger item or an entry. Only an
--- entry has several parts.
+-- The parts of a state's text, in the order in which a reader judges them. For each stage of a
+-- reader, the definitions say how many bytes the next part has, and whether the parts before it are
+-- good. An item is the mark, the horizon, a count, a ledger item or an entry. Only an entry has
+-- several parts.
 use Rattle.std.specs.Int.{w32, to_be_bytes}
 use Rattle.std.specs.List.{concat}
 use Rattle.std.specs.Prelude.{ℕ, List, [], length, ◌∷◌, ◌++◌, ◌==◌, if◌then◌else◌, ◌≡◌, ◌⊎◌, ◌-◌, ◌^◌, ◌<◌, All, ◌≤◌, ⊤}
@@ -15,7 +15,7 @@ use Rattle.docker_model.specs.state.State.{State, IsGoodKey, IsStampIn, IsLedger
 use Rattle.docker_model.specs.state.StateText.{Format, head_text, mark, ledger_text, entries_text, state_text}
 use Rattle.docker_model.specs.state.StateText.{key_bytes, stamp_bytes, IsHorizonOf, IsToldState, TellsHorizon}
 
--- a point between two parts of an entry, with the values of the entry's parts before that point
+-- how far a reader has come in an entry: which part is next, with the values of the parts before it
 pub data EntryPart : Type 0 where
   before_tag : EntryPart
   before_key : (tag : ℕ) → EntryPart
@@ -24,9 +24,9 @@ pub data EntryPart : Type 0 where
   before_body : (key : Key) (stamp : Stamp) → EntryPart
   before_line : (key : ScheduleKey) (stamp : Stamp) (count : ℕ) (lines : List (List ℕ)) → EntryPart
 
--- a point between two parts of a state's text, with the values of the parts before that point. The
--- values are the horizon, the counts, the ledger, the complete entries, and the parts of an
--- incomplete entry
+-- how far a reader has come in a state's text: which part is next, with the values of the parts
+-- before it. The values are the horizon, the counts, the ledger, the complete entries, and the
+-- parts of an incomplete entry
 pub data Before : Type 0 where
   before_mark : Before
   before_horizon : Before
@@ -36,7 +36,7 @@ pub data Before : Type 0 where
   in_entry : (count : ℕ) (state : State) (part : EntryPart) → Before
   at_end : (state : State) → Before
 
--- the bytes of all complete items before this point
+-- the bytes of all complete items that have been read at this stage
 abbrev pub items_before : Format → Before → List ℕ
 items_before format before_mark = []
 items_before format before_horizon = mark format
@@ -50,7 +50,7 @@ items_before format (at_end state) = state_text format state
 abbrev pub key_text : Key → List ℕ
 key_text key = key_tag key ∷ key_bytes key
 
--- the bytes of an entry before this point in the entry
+-- the bytes of an entry before its next part
 abbrev pub part_text : EntryPart → List ℕ
 part_text before_tag = []
 part_text (before_key tag) = tag ∷ []
@@ -60,13 +60,13 @@ part_text (before_body key stamp) = key_text key ++ stamp_bytes stamp ++ 1 ∷ [
 part_text (before_line key stamp count lines) =
     key_text (schedule_key key) ++ stamp_bytes stamp ++ 1 ∷ to_be_bytes w32 count ++ concat lines
 
--- the bytes before this point that belong to an incomplete item. Only an entry can be incomplete,
--- because every other item is one part
+-- the bytes of an incomplete item that have been read at this stage. Only an entry can be
+-- incomplete, because every other item is one part
 abbrev pub parts_before : Before → List ℕ
 parts_before (in_entry count state part) = part_text part
 parts_before _ = []
 
--- the bytes before this point: first the complete items, then the incomplete item
+-- the bytes that have been read at this stage: first the complete items, then the incomplete item
 abbrev pub text_before : Format → Before → List ℕ
 text_before format before = items_before format before ++ parts_before before
 
@@ -104,7 +104,7 @@ width (at_end state) = 0
 abbrev pub IsTag : ℕ → Type 0
 IsTag tag = (tag ≡ 1) ⊎ (tag ≡ 2) ⊎ (tag ≡ 3)
 
--- this can be a schedule's number of lines: it is from 1 to 4,294,967,294
+-- the number can be a schedule's number of lines: it is from 1 to 4,294,967,294
 abbrev pub IsLineCount : ℕ → Type 0
 IsLineCount count = (0 < count) × (count < 2 ^ 32 - 1)
 
@@ -133,11 +133,11 @@ pub record AreLinesUpTo (key : ScheduleKey) (count : ℕ) (lines : List (List �
   pub lines_of : AreLinesOf key lines
   pub complete : length lines ≡ count → IsSchedule lines
 
--- the key is good at this point of a text: well formed, and above the keys before it
+-- the key is good after the entries of this state: it is well formed, and above the keys before it
 abbrev pub IsKeyHere : State → Key → Type 0
 IsKeyHere state key = IsGoodKey key × IsAboveEntries state key
 
--- the key and the stamp of an entry are good at this point of a text
+-- the key and the stamp of an entry are good after the entries of this state
 abbrev pub IsStampHere : State → Key → Stamp → Type 0
 IsStampHere state key stamp = IsKeyHere state key × IsStampIn state.ledger stamp
 
@@ -145,7 +145,7 @@ IsStampHere state key stamp = IsKeyHere state key × IsStampIn state.ledger stam
 abbrev pub HaveNotToLapse : State → List (List ℕ) → Type 0
 HaveNotToLapse state lines = state.horizon ≤ body_end (schedule_body lines)
 
--- the parts of an entry before this point in the entry are good
+-- the parts of an entry before its next part are good
 abbrev pub IsPartHere : State → EntryPart → Type 0
 IsPartHere state before_tag = ⊤
 IsPartHere state (before_key tag) = IsTag tag
@@ -160,7 +160,7 @@ IsPartHere state (before_line key stamp count lines) =
 abbrev pub IsCount : ℕ → Type 0
 IsCount count = count < 2 ^ 64
 
--- all parts of the text before this point are good
+-- all parts of the text that have been read at this stage are good
 abbrev pub AreGood : Format → Before → Type 0
 AreGood format before_mark = ⊤
 AreGood format before_horizon = TellsHorizon format

@@ -1,5 +1,5 @@
--- The summary of a set of files under a horizon, which is the state of an office that knows these
--- files. The set is represented by a list in any order.
+-- The summary of a set of files with a horizon, which is the state of an office that knows these
+-- files and this horizon. The set is represented by a list in any order.
 use Rattle.std.specs.Prelude.{◌≡◌, ℕ, ◌↔◌, List, map, Option, Contains}
 use Rattle.docker_model.specs.file.Change.{Key, Change, changes}
 use Rattle.docker_model.specs.state.Order.{IsStrictlyAscending, IsAtMost}
@@ -8,8 +8,8 @@ use Rattle.docker_model.specs.state.Op.{Entry, entry_cmp, op_of}
 use Rattle.docker_model.specs.state.Lapse.{lapse_entry}
 use Rattle.docker_model.specs.state.State.{State, AreAscending}
 
--- this is the floor of a set of files: the file stamp of the newest full extract in the set, or
--- `None` if the set has no full extract
+-- the option is the floor of a set of files: the file stamp of the newest full extract in the set,
+-- or `None` if the set has no full extract
 abbrev pub IsFloorOf : List (List (List ℕ)) → Option FileStamp → Type 0
 IsFloorOf files floor = IsFloor (map ledger_item_of files) floor
 
@@ -33,15 +33,16 @@ pub record IsEntryOf (files : List (List (List ℕ))) (floor : Option FileStamp)
   pub key_is : change.key ≡ key
   pub entry_is : entry_of file change ≡ entry
 
--- this is the greatest entry that a change to this key leaves, in any file that belongs to the set
--- and isn't older than the floor
+-- `entry` is the greatest entry that a change to this key leaves, in any file that belongs to the
+-- set and isn't older than the floor
 pub record IsGreatestEntryOf (files : List (List (List ℕ))) (floor : Option FileStamp) (key : Key) (entry : Entry) : Type 0 where
   pub is : IsEntryOf files floor key entry
   pub greatest : (other : Entry) → IsEntryOf files floor key other → IsAtMost entry_cmp other entry
 
--- this state is the summary of the files under a horizon, where 0 means none. Only files that
--- aren't older than the floor count. The ledger has an item for each of these files. Each key has
--- the greatest entry that a change in these files leaves, after the lapse under the horizon
+-- `state` is the summary of the files with a horizon, where 0 means none. Only files that aren't
+-- older than the floor count. The ledger has an item for each of these files. Each key has the
+-- greatest entry that a change in these files leaves, and this entry has lapsed if its body ended
+-- before the horizon
 pub record IsSummary (files : List (List (List ℕ))) (horizon : ℕ) (state : State) : Type 0 where
   pub horizon_is : state.horizon ≡ horizon
   pub floor : Option FileStamp

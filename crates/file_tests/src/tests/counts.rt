@@ -1,4 +1,4 @@
-//! Files that are checked and counted without being kept.
+//! Tests of files that are checked, and whose records and changes are counted but not stored.
 ghost use Rattle.std.specs.Prelude.{◌<◌};
 
 use super::compare::{same, same_in};

@@ -1,4 +1,4 @@
-//! Files that are read from a source.
+//! Tests of files that are read from a source.
 ghost use Rattle.std.specs.Prelude.{◌<◌};
 
 use super::compare::{prints, same, same_in};
@@ -45,7 +45,7 @@ impl Source for Broken<'_> {
 }
 
 /// Asserts that this text, read in pieces of `step` bytes, is read as `F2`, and that it is refused
-/// under a limit of four records.
+/// if the limit is four records.
 fn check_reads(rt: &impl Abort, alloc: Global, text: &[u8], step: usize)
     requires { 0 < step }
 {

@@ -1,4 +1,5 @@
-//! The devices in memory, and a sink that fails once and can't show what was written to it.
+//! Tests of the devices in memory, and of a sink that fails once and can't show what was written to
+//! it.
 ghost use Rattle.std.specs.Prelude.{◌-◌, ◌^◌, ◌<◌, ◌≡◌, None};
 
 use super::compare::{prints, same};

@@ -33,7 +33,7 @@ fn faults_in_words(rt: HostRuntime) {
     prints(&rt, rt.alloc(), LineFault::Byte(20), "Byte 20");
 }
 
-// Asserts whether a byte is printable, whichever column it is in.
+// Asserts that a byte is printable, or that it isn't, in each of the 80 columns.
 fn byte_is(rt: &impl Abort, byte: u8, printable: bool) {
     for column in 0..80usize {
         let mut bytes = [b'A'; 80];

@@ -1,4 +1,4 @@
-//! For each kind of record, its view and its leftmost bad field.
+//! Tests of the view and the leftmost bad field of each kind of record.
 use super::compare::{prints, same};
 use cif_line::{
     Assoc, Basic, Call, ChangeEnRoute, Days, Extract, FieldFault, Header, Kind, Line, Origin, Stp,

@@ -130,8 +130,8 @@ staging_joins_before own received floor staged after valid valid_too is_floor st
     (λ item. (λ x. x, λ x. x)) floor commit.floor is_floor commit.is_floor in
     commit_is_join own received valid valid_too staged after commit (subst (λ f. IsStaged own f received.entries staged) floors stages)
 
--- after all entries of a received state are offered, the staged entries are committed and the
--- received horizon is set, the result is the join of `own` with the received state
+-- all entries of a received state are offered, the staged entries are committed, and then the
+-- received horizon is set. The result is the join of `own` with the received state
 pub staging_joins : (own received : State) (floor : Option FileStamp) (staged : List (Key × Entry)) (after : State) → IsValid own → IsValid received
     → IsFloor (own.ledger ++ received.ledger) floor → IsStaged own floor received.entries staged → IsCommit own received.ledger staged after
     → IsJoin own received (raise_horizon received.horizon after)

@@ -26,9 +26,9 @@ abbrev pub KeptOf : List Keyed → Option FileStamp → ℕ → Key → Entry �
 KeptOf entries floor horizon key entry =
     (greatest : Entry) × IsGreatestAmong entries key greatest × IsKept floor greatest.stamp.file × (lapse_entry horizon greatest ≡ entry)
 
--- the state is the reduction of these items and entries under its horizon. The state has the items
--- that aren't below the floor of all items, and the greatest entry of each key after its lapse,
--- unless that entry is below the floor
+-- the state is made by reducing these items and entries with its horizon. It has the items that
+-- aren't below the floor of all items. It has the greatest entry of each key, lapsed with the
+-- horizon, unless that entry is below the floor
 pub record IsReduced (items : List LedgerItem) (entries : List Keyed) (state : State) : Type 0 where
   pub floor : Option FileStamp
   pub is_floor : IsFloor items floor
@@ -119,8 +119,8 @@ module _ (items more : List LedgerItem) (entries others : List Keyed) (once twic
             (subst (λ e. IsAtMost entry_cmp e told.0) told.3 (lapse_below once.horizon told.0))
             (is.greatest told.0 (Contains-append_left entries others (key, told.0) told.1.among))
 
-    -- if the greatest of all entries isn't below the floor, either it is among the other entries,
-    -- or its lapse is in the result of the first step
+    -- if the greatest of all entries isn't below the floor, it is among the other entries, or the
+    -- result of the first step contains it after lapsing
     stands : (best : Entry) → IsGreatestAmong (entries ++ others) key best → IsKept second.floor best.stamp.file
         → Contains once.entries (key, lapse_entry once.horizon best) ⊎ Contains others (key, best)
     stands best is kept = by (Contains-append_cases entries others (key, best) is.among)
@@ -135,14 +135,13 @@ module _ (items more : List LedgerItem) (entries others : List Keyed) (once twic
           λ i. lapse_entry once.horizon best,
         ))
 
-    -- the greatest entry of the second step and the greatest of all entries are equal after the
-    -- lapse
+    -- lapsing makes the greatest entry of the second step equal to the greatest of all entries
     same_lapse : (best top : Entry) → IsGreatestAmong (entries ++ others) key best → IsGreatestAmong (once.entries ++ others) key top
         → IsKept second.floor best.stamp.file → IsKept second.floor top.stamp.file → lapse_entry twice.horizon best ≡ lapse_entry twice.horizon top
     same_lapse best top is_best is_top kept_best kept_top = by (stands best is_best kept_best)
       where
-        -- if the second step contains the greatest of all entries itself, the greatest entry of the
-        -- second step has the same lapse
+        -- if the second step contains the greatest of all entries itself, lapsing this entry gives
+        -- the same result as lapsing the greatest entry of the second step
         itself : Contains (once.entries ++ others) (key, best) → lapse_entry twice.horizon best ≡ lapse_entry twice.horizon top
         itself there =
             one_per_key twice.entries second.entries_ascend key (lapse_entry twice.horizon best) (lapse_entry twice.horizon top)
@@ -155,8 +154,8 @@ module _ (items more : List LedgerItem) (entries others : List Keyed) (once twic
             ))
             ((second.of_keys key (lapse_entry twice.horizon top)).1 (top, is_top, kept_top, λ i. lapse_entry twice.horizon top))
 
-        -- if the second step contains the lapse of the greatest of all entries, the greatest entry
-        -- of the second step has the same lapse
+        -- if the second step contains the greatest of all entries after it has lapsed, lapsing this
+        -- entry gives the same result as lapsing the greatest entry of the second step
         between : lapse once.horizon best.op ≡ lapsed → Contains once.entries (key, lapse_entry once.horizon best)
             → lapse_entry twice.horizon best ≡ lapse_entry twice.horizon top
         between has there =

@@ -1,6 +1,6 @@
--- A set of files has at most one summary under each horizon. The join of two summaries is the
--- summary of both sets of files together, under the greater horizon. After a horizon is set on a
--- summary, the state is the summary under the greater of the two horizons.
+-- A set of files has at most one summary for each horizon. The join of two summaries is the summary
+-- of both sets of files together, with the greater horizon. Setting a horizon on a summary gives
+-- the summary with the greater of the two horizons.
 use Rattle.std.proofs.Common.{◌≡◌, ℕ, ◌≤◌, List, ◌++◌, map, Contains, subst, inl, inr, ◌⊎◌, ap, sym, ◌∙◌}
 use Rattle.std.specs.Prelude.{max}
 use Rattle.std.specs.List.{flat_map}
@@ -87,7 +87,7 @@ entries_of_union files others entry = (
 
 -- ---- the laws of summaries
 
--- a set of files has at most one summary under a horizon, whatever the order of the list
+-- for each horizon, a set of files has at most one summary, whatever the order of the list
 pub summary_unique : (files others : List File) → SameMembers files others → (horizon : ℕ) (s t : State) → IsSummary files horizon s
     → IsSummary others horizon t → s ≡ t
 summary_unique files others same horizon s t is_s is_t =
@@ -97,7 +97,7 @@ summary_unique files others same horizon s t is_s is_t =
     (summary_reduced files horizon s is_s))
     (summary_reduced others horizon t is_t)
 
--- the join of two summaries is the summary of both sets of files together, under the greater of the
+-- the join of two summaries is the summary of both sets of files together, with the greater of the
 -- two horizons
 pub join_is_summary : (files others : List File) (g h : ℕ) (one two joined : State) → IsSummary files g one → IsSummary others h two → IsJoin one two joined
     → IsSummary (files ++ others) (max g h) joined
@@ -114,8 +114,8 @@ join_is_summary files others g h one two joined of_files of_others is =
     (entries_along (files ++ others))
     (items_of_union files others) (entries_of_union files others) joined second)
 
--- the lapse of a summary under a horizon that is at least the summary's horizon is the summary
--- under that horizon
+-- lapsing a summary with a horizon that is at least the summary's horizon gives the summary with
+-- the new horizon
 pub lapsed_summary : (files : List File) (low high : ℕ) (state : State) → low ≤ high → IsSummary files low state → IsSummary files high (lapse_state high state)
 lapsed_summary files low high state rises is = record {
   horizon_is = λ i. high;
@@ -139,8 +139,7 @@ lapsed_summary files low high state rises is = record {
     twofold : (entry : Entry) → lapse_entry high (lapse_entry low entry) ≡ lapse_entry high entry
     twofold entry = entry_twice high low entry ∙ ap (λ h. lapse_entry h entry) (max-eq_left rises)
 
--- after a horizon is set on a summary, the state is the summary under the greater of the two
--- horizons
+-- setting a horizon on a summary gives the summary with the greater of the two horizons
 pub raised_summary : (files : List File) (g h : ℕ) (state : State) → IsSummary files g state → IsSummary files (max g h) (raise_horizon h state)
 raised_summary files g h state is =
     let same : max state.horizon h ≡ max g h = ap (λ n. max n h) is.horizon_is in

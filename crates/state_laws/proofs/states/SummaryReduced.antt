@@ -1,4 +1,4 @@
--- A summary is the reduction of its files' ledger items and of the entries that the files' changes
+-- A summary is made by reducing its files' ledger items and the entries that the files' changes
 -- leave.
 use Rattle.std.proofs.Common.{◌≡◌, ℕ, List, map, Contains, subst, inl, inr, ◌⊎◌, ap, sym, ◌∙◌, Some, None}
 use Rattle.std.specs.Prelude.{Option}
@@ -41,8 +41,8 @@ below_kept (Some floor) low high kept = by (at_most_or file_stamp_total floor lo
         (op_cmp low.op high.op)))
 
 module _ (files : List File) (floor : Option FileStamp) (key : Key) where
-  -- an entry left by a file that isn't older than the floor is among the entries of all files, and
-  -- its file stamp isn't below the floor
+  -- each entry that is left by a file that isn't older than the floor is among the entries of all
+  -- files. The file stamp of this entry isn't below the floor
   pub entry_in : (entry : Entry) → IsEntryOf files floor key entry → Contains (entries_along files) (key, entry) × IsKept floor entry.stamp.file
   entry_in entry made =
       let pair : entry_of_change made.file made.change ≡ (key, entry) = (λ i. (made.key_is i, made.entry_is i)) in (
@@ -51,8 +51,8 @@ module _ (files : List File) (floor : Option FileStamp) (key : Key) where
         subst (λ (e : Entry). IsKept floor e.stamp.file) made.entry_is made.kept.kept,
       )
 
-  -- if the file stamp of an entry isn't below the floor, a file that isn't older than the floor
-  -- left the entry
+  -- if the file stamp of an entry isn't below the floor, the entry was left by a file that isn't
+  -- older than the floor
   pub entry_out : (entry : Entry) → Contains (entries_along files) (key, entry) → IsKept floor entry.stamp.file → IsEntryOf files floor key entry
   entry_out entry among kept =
       let found = Contains-flat_map entries_of files (key, entry) among in
@@ -89,7 +89,7 @@ module _ (files : List File) (floor : Option FileStamp) (key : Key) where
     greatest = λ other made. best.greatest other (entry_in other made).0;
   }
 
--- a summary is the reduction of its files' items and entries
+-- a summary satisfies `IsReduced` for the ledger items and the entries of its files
 pub summary_reduced : (files : List File) (horizon : ℕ) (state : State) → IsSummary files horizon state → IsReduced (map ledger_item_of files)
     (entries_along files) state
 summary_reduced files horizon state summary = record {
@@ -124,7 +124,8 @@ summary_reduced files horizon state summary = record {
   );
 }
 
--- the reduction of files' items and entries is the summary of the files
+-- a state that satisfies `IsReduced` for the ledger items and the entries of files is the summary
+-- of these files
 pub reduced_summary : (files : List File) (horizon : ℕ) (state : State) → state.horizon ≡ horizon → IsReduced (map ledger_item_of files)
     (entries_along files) state → IsSummary files horizon state
 reduced_summary files horizon state horizon_is is = record {

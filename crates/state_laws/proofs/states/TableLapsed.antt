@@ -1,5 +1,5 @@
--- The lapse of a table under a horizon, which leaves the bodies that didn't end before the horizon.
--- The live table of a state after a lapse is the lapse of the state's live table.
+-- Lapsing a table with a horizon keeps exactly the bodies that didn't end before the horizon.
+-- Lapsing a state lapses its live table.
 use Rattle.std.proofs.Common.{◌≡◌, ℕ, ◌<◌, ◌≤◌, List, [], ◌∷◌, inl, inr, ◌⊎◌, refl, ap, sym, ◌∙◌, Bool, true, false, cond, Some, None}
 use Rattle.std.specs.Prelude.{Option, find, option_and_then}
 use Rattle.std.specs.Ordering.{is_eq}
@@ -22,12 +22,12 @@ body_gone horizon body below = λ i. cond (lt-ltb (body_end body) horizon below 
 pub body_stays : (horizon : ℕ) (body : Body) → horizon ≤ body_end body → unlapsed horizon body ≡ Some body
 body_stays horizon body above = λ i. cond (le-ltb (body_end body) horizon above i) None (Some body)
 
--- if a body in a table didn't end before the horizon, it is still in the table after the lapse
+-- if a body in a table didn't end before the horizon, it is still in the table after lapsing
 pub live_stays : (horizon : ℕ) (table : Table) (key : Key) (body : Body) → table key ≡ Some body → horizon ≤ body_end body
     → lapse_table horizon table key ≡ Some body
 live_stays horizon table key body is above = ap (option_and_then (unlapsed horizon)) is ∙ body_stays horizon body above
 
--- each body in a table after the lapse is in the table before the lapse
+-- each body in a lapsed table is in the table before lapsing
 pub was_live : (horizon : ℕ) (table : Table) (key : Key) (body : Body) → lapse_table horizon table key ≡ Some body → table key ≡ Some body
 was_live horizon table key body is = by (table key) is
   where
@@ -39,9 +39,9 @@ was_live horizon table key body is = by (table key) is
         which (inl below) = let gone = body_gone horizon here below in cc
         which (inr above) = sym (body_stays horizon here above) ∙ some
 
--- ---- the live table of a state after the lapse is the lapse of the state's live table
+-- ---- lapsing a state lapses its live table
 
--- the body of an op after the lapse is the op's body, unless that body ended before the horizon
+-- a lapsed op has the body that the op had before, unless this body ended before the horizon
 pub body_lapses : (horizon : ℕ) (op : Op) → body_of (lapse horizon op) ≡ option_and_then (unlapsed horizon) (body_of op)
 body_lapses horizon deleted = refl
 body_lapses horizon lapsed = refl
@@ -69,10 +69,10 @@ found_lapsed horizon (first ∷ entries) key = by (is_eq (key_cmp first.0 key)) 
     by true rest = body_lapses horizon first.1.op
     by false rest = rest
 
--- at each key the live table of a state after the lapse is the lapse of the state's live table
+-- at each key, the live table of a lapsed state equals the lapsed live table of the state
 pub live_lapsed_at : (horizon : ℕ) (state : State) (key : Key) → live_table (lapse_state horizon state) key ≡ lapse_table horizon (live_table state) key
 live_lapsed_at horizon state key = found_lapsed horizon state.entries key
 
--- the live table of a state after the lapse is the lapse of the state's live table
+-- the live table of a lapsed state equals the lapsed live table of the state
 pub live_lapsed : (horizon : ℕ) (state : State) → live_table (lapse_state horizon state) ≡ lapse_table horizon (live_table state)
 live_lapsed horizon state = λ i key. live_lapsed_at horizon state key i

@@ -1,4 +1,4 @@
--- After a good part of a state's text, a reader reaches the point before the next part.
+-- A good part of a state's text leads a reader to the next stage.
 use Rattle.std.proofs.Common.{refl, arith, ◌≡◌, ℕ, ap, sym, subst, [], ◌++◌, ◌∙◌, append-nil, ◌<◌}
 use Rattle.std.proofs.Common.{◌^◌, List, ◌∷◌, length, append_assoc, length-append, inl, inr, ◌≤◌}
 use Rattle.std.specs.List.{flat_map, concat}
@@ -21,7 +21,8 @@ use Rattle.state_laws.proofs.texts.StateReadBack.{read_16, item_read, item_width
 use Rattle.state_laws.proofs.texts.TextStages.{Leads, one_step, then_leads}
 use Rattle.state_laws.proofs.texts.TextsBefore.{after_items_text, read_64, after_entries_text, entry_done_text, after_lines_text, read_32}
 
--- after the mark, a reader reaches the number of items in the format DKS1, and the horizon in DKS2
+-- after the mark, the next part is the number of items in the format DKS1, and the horizon in the
+-- format DKS2
 step_mark_1 : Leads dks_1 before_mark (before_ledger_count 0)
 step_mark_1 = one_step dks_1 before_mark (before_ledger_count 0) (mark dks_1) refl (omega arith) (λ cause bad. bad.1 refl) refl refl
 
@@ -36,7 +37,7 @@ step_horizon horizon day =
     one_step dks_2 before_horizon (before_ledger_count horizon) (to_be_bytes w16 horizon) refl (omega arith)
     (λ cause bad. bad.1 (subst IsDay (sym (day_read horizon day)) day)) (ap before_ledger_count (day_read horizon day)) refl
 
--- in the format with a horizon, a reader reaches the horizon after the mark
+-- in the format with a horizon, the next part after the mark is the horizon
 pub horizon_leads : (format : Format) → AreGood format before_horizon → Leads format before_mark before_horizon
 horizon_leads dks_1 good = absurd good
 horizon_leads dks_2 good = step_mark_2
@@ -46,7 +47,7 @@ pub head_leads : (format : Format) (horizon : ℕ) → IsHorizonOf format horizo
 head_leads dks_1 horizon none = subst (λ h. Leads dks_1 before_mark (before_ledger_count h)) (sym none) step_mark_1
 head_leads dks_2 horizon day = then_leads dks_2 before_mark before_horizon (before_ledger_count horizon) step_mark_2 (step_horizon horizon day)
 
--- the text up to the point after the number of items ends with this number
+-- the text up to and including the number of items ends with this number
 pub count_of_ledger : (format : Format) (horizon count : ℕ) → text_before format (after_items horizon count []) ≡ text_before format
     (before_ledger_count horizon) ++ to_be_bytes w64 count
 count_of_ledger format horizon count =
@@ -60,7 +61,7 @@ step_ledger_count format horizon count fits =
     one_step format (before_ledger_count horizon) (after_items horizon count []) (to_be_bytes w64 count) refl (omega arith) (λ cause bad. bad)
     (ap (λ n. after_items horizon n []) (read_64 count fits)) (count_of_ledger format horizon count)
 
--- the text up to the point after an item ends with the bytes of the item
+-- the text up to and including an item ends with the bytes of the item
 pub item_text : (format : Format) (horizon : ℕ) → (count : ℕ) (ledger : List LedgerItem) (item : LedgerItem) → length ledger < count
     → text_before format (after_items horizon count (ledger ++ item ∷ [])) ≡ text_before format (before_item horizon count ledger) ++ item_bytes item
 item_text format horizon count ledger item below =
@@ -103,8 +104,8 @@ step_entry_count format horizon count ledger fits =
     ∙ ap (λ xs. xs ++ to_be_bytes w64 count) (sym (append-nil (ledger_text format horizon (length ledger) ledger)))
     )
 
--- the text up to the point after one more part of an entry is the earlier text, followed by this
--- part
+-- the text up to and including one more part of an entry is the text before this part, followed by
+-- the part
 pub part_more : (format : Format) → (count : ℕ) (state : State) (old part : List ℕ) → entries_text format count state ++ (old ++ part) ≡
     (entries_text format count state ++ old) ++ part
 part_more format count state old part = sym (append_assoc (entries_text format count state) old part)
@@ -169,7 +170,7 @@ step_deleted format count state key stamp below =
     (λ cause bad. bad.1 (zero_told format)) refl
     (entry_done_text format count state key stamp deleted below ∙ part_more format count state (key_text key ++ stamp_bytes stamp) (0 ∷ []))
 
--- after a lapsed op, in a format that has such ops, a reader reaches the part after the op's entry
+-- in a format that has lapsed ops, a reader gets from a lapsed op to the part after the op's entry
 pub step_lapsed : (format : Format) → (count : ℕ) (state : State) (key : Key) (stamp : Stamp) → TellsOp format lapsed → length state.entries < count
     → Leads format (in_entry count state (before_op key stamp)) (after_entries count (with_entry state key stamp lapsed))
 step_lapsed format count state key stamp told below =
@@ -185,7 +186,7 @@ step_put format count state key stamp =
     (λ cause bad. bad.1 (one_told format)) refl
     (part_more format count state (key_text key ++ stamp_bytes stamp) (1 ∷ []))
 
--- the text up to the point after an entry that puts a body ends with the bytes of this body
+-- the text up to and including an entry that puts a body ends with the bytes of this body
 pub body_text : (format : Format) → (count : ℕ) (state : State) (key : Key) (stamp : Stamp) (body : Body) → length state.entries < count
     → text_before format (after_entries count (with_entry state key stamp (put_with body))) ≡
     (entries_text format count state ++ (key_text key ++ stamp_bytes stamp ++ 1 ∷ [])) ++ put_bytes body
@@ -215,7 +216,7 @@ step_association format count state key stamp line below is stays =
     (after_entries count (with_entry state (association_key key) stamp (put_with (association_body line)))) line is.is_record.0 (omega arith)
     (λ cause bad. bad.1 (is, stays)) refl (body_text format count state (association_key key) stamp (association_body line) below)
 
--- the text up to the point after a schedule's number of lines ends with this number
+-- the text up to and including a schedule's number of lines ends with this number
 pub count_text : (format : Format) → (count : ℕ) (state : State) (key : ScheduleKey) (stamp : Stamp) (n : ℕ) → length state.entries < count
     → text_before format (after_lines count state key stamp n []) ≡ text_before format
     (in_entry count state (before_body (schedule_key key) stamp)) ++ to_be_bytes w32 n
@@ -240,7 +241,7 @@ concat-append : (xs ys : List (List ℕ)) → concat (xs ++ ys) ≡ concat xs ++
 concat-append [] ys = refl
 concat-append (x ∷ xs) ys = ap (λ zs. x ++ zs) (concat-append xs ys) ∙ sym (append_assoc x (concat xs) (concat ys))
 
--- the text up to the point after a line of a schedule ends with this line
+-- the text up to and including a line of a schedule ends with this line
 pub line_text : (format : Format) → (count : ℕ) (state : State) (key : ScheduleKey) (stamp : Stamp) (n : ℕ) (lines : List (List ℕ)) (line : List ℕ)
     → length state.entries < count → length lines < n
     → text_before format (after_lines count state key stamp n (lines ++ line ∷ [])) ≡ text_before format

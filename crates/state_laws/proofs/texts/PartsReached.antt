@@ -1,4 +1,4 @@
--- If all parts before a point of a state's text are good, a reader reaches this point part by part.
+-- If all parts before a stage of a state's text are good, a reader gets to this stage part by part.
 use Rattle.std.proofs.Common.{List, ◌∷◌, ◌++◌, ◌≡◌, [], refl, ap, sym, ◌∙◌, subst, Contains, Some, None, ℕ, ◌<◌}
 use Rattle.std.proofs.Common.{◌≤◌, length, arith, append_assoc, append-nil, length-append, inl, inr, ◌^◌, ◌⊎◌}
 use Rattle.std.specs.Prelude.{Option}
@@ -61,7 +61,7 @@ item_floor (first ∷ before) item later is raises =
     by None none kept = none item among raises.0
     by (Some stamp) greatest kept = not_above stamp (file_stamp_cmp stamp first.stamp) refl kept (greatest.greatest item among raises.0)
 
--- after the first items of a ledger, a reader reaches the point after all its items
+-- from the end of a ledger's first items, a reader gets to the end of all its items
 pub items_lead : (format : Format) (horizon : ℕ) → (count : ℕ) (before later : List LedgerItem) → IsLedger (before ++ later) → length (before ++ later) ≤ count
     → Leads format (after_items horizon count before) (after_items horizon count (before ++ later))
 items_lead format horizon count before [] is within = no_step format _ _ (ap (after_items horizon count) (sym (append-nil before)))
@@ -111,7 +111,7 @@ line_size lines line more begins =
     let all = recursion_from_All IsRecord ((lines ++ line ∷ more) ++ begins.0) begins.1.records in
     (all_behind IsRecord lines (line ∷ more) (all_front IsRecord (lines ++ line ∷ more) begins.0 all)).0.0
 
--- after the first lines of a schedule, a reader reaches the point after all its lines
+-- from the end of a schedule's first lines, a reader gets to the end of all its lines
 pub lines_lead : (format : Format) → (count : ℕ) (state : State) (key : ScheduleKey) (stamp : Stamp) (n : ℕ) (lines more : List (List ℕ))
     → length state.entries < count
     → AreLinesUpTo key n (lines ++ more) → HaveNotToLapse state (lines ++ more) → length (lines ++ more) ≤ n
@@ -138,7 +138,7 @@ is_tag (tiploc_key code) = inl refl
 is_tag (association_key key) = inr (inl refl)
 is_tag (schedule_key key) = inr (inr refl)
 
--- from the beginning of an entry, a reader reaches each part of the entry and then the point after
+-- from the beginning of an entry, a reader gets to each part of the entry, and then to the end of
 -- the entry
 tag_leads : (format : Format) → (count : ℕ) (state : State) (tag : ℕ) → length state.entries < count → IsTag tag → Leads format (after_entries count state)
     (in_entry count state (before_key tag))
@@ -208,7 +208,7 @@ entry_leads format count state key stamp (put_with body) below ledger told above
 abbrev state_of : (horizon : ℕ) → List LedgerItem → List (Key × Entry) → State
 state_of horizon ledger entries = record { horizon = horizon; ledger = ledger; entries = entries }
 
--- after the first entries of a state, a reader reaches the point after all its entries
+-- from the end of a state's first entries, a reader gets to the end of all its entries
 pub entries_lead : (format : Format) (horizon : ℕ) → (count : ℕ) (ledger : List LedgerItem) (before later : List (Key × Entry)) → IsLedger ledger
     → AllByRecursion (IsToldEntry format horizon ledger) later → AreAscending (before ++ later)
     → length (before ++ later) ≤ count → Leads format (after_entries count (record { horizon = horizon; ledger = ledger; entries = before }))
@@ -225,7 +225,7 @@ entries_lead format horizon count ledger before (entry ∷ later) is good up wit
     then_leads format _ _ _ (entry_leads format count (state_of horizon ledger before) entry.0 entry.1.stamp entry.1.op (omega arith) is good.0 above)
     (then_leads format _ _ _ rest (no_step format _ _ (ap (λ entries. after_entries count (state_of horizon ledger entries)) grouped)))
 
--- from the beginning of a text, a reader reaches the point after the first items of the ledger
+-- from the beginning of a text, a reader gets to the end of the ledger's first items
 ledger_leads : (format : Format) (horizon : ℕ) → (count : ℕ) (ledger : List LedgerItem) → IsHorizonOf format horizon → IsLedger ledger → count < 2 ^ 64
     → length ledger ≤ count → Leads format before_mark (after_items horizon count ledger)
 ledger_leads format horizon count ledger is_horizon is fits within =
@@ -277,7 +277,7 @@ part_leads format count state (before_line key stamp n lines) below ledger here 
         let more = here.2 in
         lines_lead format count state key stamp n [] lines below (record { lines_of = are.0; complete = λ whole. absurd (omega arith) }) are.1 (omega arith)
 
--- from the beginning of a text, a reader reaches each point before which all parts are good
+-- from the beginning of a text, a reader gets to each stage before which all parts are good
 pub reach : (format : Format) (before : Before) → AreGood format before → Leads format before_mark before
 reach format before_mark good = no_step format _ _ refl
 reach format before_horizon good = horizon_leads format good

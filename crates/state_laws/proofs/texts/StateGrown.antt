@@ -84,8 +84,7 @@ one_entry_more format state key stamp op told here of stays tells = record {
   ops = one_more (λ (e : Key × Entry). TellsOp format e.1.op) state.entries (key, record { stamp = stamp; op = op }) told.ops tells;
 }
 
--- if the horizon and the ledger are good, all parts up to the point after the ledger's items are
--- good
+-- if the horizon and the ledger are good, all parts up to and including the ledger's items are good
 pub good_after_items : (format : Format) (horizon : ℕ) → (count : ℕ) (ledger : List LedgerItem) → IsHorizonOf format horizon → IsLedger ledger
     → length ledger ≤ count → count < 2 ^ 64 → AreGood format (after_items horizon count ledger)
 good_after_items format horizon count ledger is_horizon is within fits = by (leb_tells count (length ledger))
@@ -97,7 +96,7 @@ good_after_items format horizon count ledger is_horizon is within fits = by (leb
     by (inr told) =
         subst (λ b. AreGood format (cond b (before_entry_count horizon ledger) (before_item horizon count ledger))) (sym told.0) (is_horizon, is, told.1, fits)
 
--- if the format can hold a state, all parts up to the point after the state's entries are good
+-- if the format can hold a state, all parts up to and including the state's entries are good
 pub good_after_entries : (format : Format) → (count : ℕ) (state : State) → IsToldState format state → length state.ledger < 2 ^ 64
     → length state.entries ≤ count → count < 2 ^ 64 → AreGood format (after_entries count state)
 good_after_entries format count state valid items within fits = by (leb_tells count (length state.entries))

@@ -1,5 +1,5 @@
 -- A reader reads a text part by part. The text read is the concatenation of the parts read. Of two
--- different points in one text, one is later.
+-- different stages of one text, one is later.
 use Rattle.std.proofs.Common.{◌≡◌, ℕ, ◌<◌, List, ◌++◌, length, [], ◌∷◌, ap, ◌∙◌, sym, subst, append_assoc, append-nil, ◌⊎◌, refl, inl, inr}
 use Rattle.std.specs.Prelude.{⊤}
 use Rattle.std.specs.List.{concat}
@@ -22,22 +22,22 @@ abbrev pub Follow : (format : Format) → Before → List (List ℕ) → Type 0
 Follow format before [] = ⊤
 Follow format before (part ∷ parts) = IsNextPart format before part × Follow format (advance format before part) parts
 
--- the point after these parts
+-- the stage after these parts
 abbrev pub after_parts : (format : Format) → Before → List (List ℕ) → Before
 after_parts format before [] = before
 after_parts format before (part ∷ parts) = after_parts format (advance format before part) parts
 
--- a reader reaches the point `after` from the point `before`, part by part, and no part is bad
+-- a reader gets from the stage `before` to the stage `after`, part by part, and no part is bad
 pub record Leads (format : Format) (before after : Before) : Type 0 where
   pub parts : List (List ℕ)
   pub follow : Follow format before parts
   pub to : after_parts format before parts ≡ after
 
--- from any point a reader reaches this point itself, without reading a part
+-- a reader gets from any stage to the same stage without reading a part
 pub no_step : (format : Format) → (before after : Before) → before ≡ after → Leads format before after
 no_step format before after same = record { parts = []; follow = tt; to = same }
 
--- if a part isn't bad, a reader reaches the point after the part from the point before the part
+-- if a part isn't bad, it leads a reader from the stage before the part to the stage after the part
 pub one_step : (format : Format) → (before after : Before) (part : List ℕ) → length part ≡ width before → 0 < width before
     → ((cause : StateCause) → ¬ IsBadPart format before part cause) → advance format before part ≡ after
     → text_before format after ≡ text_before format before ++ part → Leads format before after
@@ -57,8 +57,8 @@ then_leads format before between after first second = by before first.parts firs
         let rest = by (advance format from part) parts follow.1 to in
         record { parts = part ∷ rest.parts; follow = (follow.0, rest.follow); to = rest.to }
 
--- the text up to the point after these parts is the text up to the point before them, followed by
--- the concatenation of the parts
+-- the text up to and including these parts is the text before them, followed by the concatenation
+-- of the parts
 pub after_text : (format : Format) → (before : Before) (parts : List (List ℕ)) → Follow format before parts
     → text_before format (after_parts format before parts) ≡ text_before format before ++ concat parts
 after_text format before [] follow = sym (append-nil (text_before format before))
@@ -66,15 +66,15 @@ after_text format before (part ∷ parts) follow =
     after_text format (advance format before part) parts follow.1 ∙ ap (λ front. front ++ concat parts) follow.0.text
     ∙ append_assoc (text_before format before) part (concat parts)
 
--- the point `after` is later than the point `before`: the text before `after` is the text before
--- `before`, followed by the part that begins at `before` and any further bytes
+-- the stage `after` is later than the stage `before`. The text read at `after` is the text read at
+-- `before`, followed by the next part and any further bytes
 pub record IsLater (format : Format) (before after : Before) : Type 0 where
   pub part : List ℕ
   pub more : List ℕ
   pub is_next : IsNextPart format before part
   pub text : text_before format after ≡ text_before format before ++ part ++ more
 
--- two points are equal, or one is later than the other
+-- two stages are equal, or one is later than the other
 abbrev pub AreInLine : (format : Format) → Before → Before → Type 0
 AreInLine format first second = (first ≡ second) ⊎ (IsLater format first second ⊎ IsLater format second first)
 
@@ -104,7 +104,7 @@ in_line_from format from (part ∷ parts) (other ∷ others) rest more f g same 
     (after_parts format (advance format from v) others)) told.0
     (λ follow. in_line_from format (advance format from part) parts others rest more f.1 follow told.1) g.1
 
--- two points that are reached in one text are equal, or one is later than the other
+-- two stages that a reader reaches in one text are equal, or one is later than the other
 pub in_line : (format : Format) → (from first second : Before) (rest more : List ℕ) → Leads format from first → Leads format from second
     → text_before format first ++ rest ≡ text_before format second ++ more → AreInLine format first second
 in_line format from first second rest more one two same =

@@ -1,5 +1,5 @@
--- States with the same text are equal. A reader of a text under a limit stops at no more than one
--- point.
+-- States with the same text are equal. A reader of a text with a limit stops at no more than one
+-- stage.
 use Rattle.std.proofs.Common.{◌≡◌, ℕ, ◌+◌, ◌≤◌, List, [], ◌++◌, length, ap, sym, ◌∙◌, subst, inl, inr, arith, append_assoc, append-nil, length-append}
 use Rattle.std.proofs.lemmas.List.{append_cancel_left}
 use Rattle.docker_model.specs.state.State.{State}
@@ -10,21 +10,21 @@ use Rattle.cif_laws.proofs.lists.Fronts.{same_front}
 use Rattle.state_laws.proofs.texts.TextStages.{IsLater, AreInLine, in_line}
 use Rattle.state_laws.proofs.texts.PartsReached.{reach}
 
--- the state at this point if the point is the end of a text, and otherwise the state `other`
+-- the state at this stage if the stage is the end of a text, and otherwise the state `other`
 pub state_or : State → Before → State
 state_or other (at_end state) = state
 state_or other _ = other
 
--- if two end points are equal, their states are equal
+-- if the stages `at_end` of two states are equal, the states are equal
 pub same_end : (first second : State) → at_end first ≡ at_end second → first ≡ second
 unfolding state_or
 same_end first second same = ap (state_or first) same
 
--- no point is later than the end
+-- no stage is later than the end of the text
 pub no_part_at_end : (format : Format) → (state : State) (after : Before) → IsLater format (at_end state) after → ⊥
 no_part_at_end format state after later = let some = later.is_next.some in omega arith
 
--- if all parts before two points of one text are good, the points are equal, or one is later than
+-- if all parts before two stages of one text are good, the stages are equal, or one is later than
 -- the other
 pub both_in_line : (format : Format) → (text : List ℕ) (first second : Before) (rest more : List ℕ) → AreGood format first → AreGood format second
     → text ≡ text_before format first ++ rest → text ≡ text_before format second ++ more → AreInLine format first second
@@ -51,7 +51,7 @@ pub one_text : (format : Format) → (first second : State) → AreGood format (
     → state_text format first ≡ state_text format second → first ≡ second
 one_text format first second good also same = (no_front format first second [] good also (append-nil (state_text format first) ∙ same)).0
 
--- no point of a text is later than a bad part
+-- no stage of a text is later than a bad part
 pub bad_stops : (format : Format) → (text : List ℕ) (before after : Before) (bytes rest more : List ℕ) (cause : StateCause) → length bytes ≡ width before
     → IsBadPart format before bytes cause
     → text ≡ text_before format before ++ bytes ++ rest → text ≡ text_before format after ++ more → IsLater format before after → ⊥
@@ -80,8 +80,8 @@ no_bad_part format limit text state rest fault good is has =
     by (inr (inl later)) = bad_stops format text has.before (at_end state) has.bytes has.rest rest fault.cause has.size has.bad has.whole whole later
     by (inr (inr later)) = no_part_at_end format state has.before later
 
--- a reader of the text under the limit stops at this point: the reader reaches this point, and no
--- later point
+-- a reader of the text with the limit stops at this stage: the reader reaches this stage, and no
+-- later stage
 pub record IsStopped (format : Format) (limit : ℕ) (text : List ℕ) (before : Before) : Type 0 where
   pub good : AreGood format before
   pub rest : List ℕ
@@ -90,7 +90,7 @@ pub record IsStopped (format : Format) (limit : ℕ) (text : List ℕ) (before :
   pub stops : (after : Before) (more : List ℕ) → IsLater format before after → text ≡ text_before format after ++ more
       → length (text_before format after) ≤ limit → ⊥
 
--- a reader of a text under a limit stops at no more than one point
+-- a reader of a text with a limit stops at no more than one stage
 pub one_stop : (format : Format) → (limit : ℕ) (text : List ℕ) (first second : Before) → IsStopped format limit text first → IsStopped format limit text second
     → first ≡ second
 one_stop format limit text first second one two = by (both_in_line format text first second one.rest two.rest one.good two.good one.whole two.whole)
@@ -100,8 +100,8 @@ one_stop format limit text first second one two = by (both_in_line format text f
     by (inr (inl later)) = absurd (one.stops second two.rest later two.whole two.within)
     by (inr (inr later)) = absurd (two.stops first one.rest later one.whole one.within)
 
--- from an earlier point to a later point, the text grows by the width of the next part and the
--- length of the bytes after that part
+-- from one stage to a later stage, the text read grows by the width of the next part and the length
+-- of the bytes after that part
 pub later_size : (format : Format) → (before after : Before) (later : IsLater format before after)
     → length (text_before format before) + width before + length later.more ≡ length (text_before format after)
 later_size format before after later =

@@ -1,4 +1,5 @@
--- Lemmas on the point after the first items, entries or lines, and on the text up to that point.
+-- Lemmas on the stage after the first items, entries or lines, and on the text that has been read
+-- at this stage.
 use Rattle.std.proofs.Common.{◌≡◌, ℕ, ◌<◌, ◌≤◌, ◌^◌, List, [], ◌∷◌, ◌++◌, length, ap, sym, ◌∙◌, inl, inr, ◌⊎◌}
 use Rattle.std.proofs.Common.{arith, append_assoc, append-nil, length-append, true, false, nat_le, cond}
 use Rattle.std.specs.List.{concat, flat_map}
@@ -58,7 +59,7 @@ all_lines count state key stamp lines =
     (after_entries count (with_entry state (schedule_key key) stamp (put_with (schedule_body lines))))
     (in_entry count state (before_line key stamp (length lines) lines))
 
--- the text up to the point after the first items of a ledger is `ledger_text` of these items
+-- the text up to and including the first items of a ledger is `ledger_text` of these items
 pub after_items_text : (format : Format) (horizon : ℕ) → (count : ℕ) (ledger : List LedgerItem) → length ledger ≤ count
     → text_before format (after_items horizon count ledger) ≡ ledger_text format horizon count ledger
 after_items_text format horizon count ledger within = by (leb_tells count (length ledger))
@@ -74,7 +75,7 @@ after_items_text format horizon count ledger within = by (leb_tells count (lengt
         (λ i. text_before format (cond (told.0 i) (before_entry_count horizon ledger) (before_item horizon count ledger)))
         ∙ append-nil (ledger_text format horizon count ledger)
 
--- the text up to the point after the first entries of a state is `entries_text` of these entries
+-- the text up to and including the first entries of a state is `entries_text` of these entries
 pub after_entries_text : (format : Format) → (count : ℕ) (state : State) → length state.entries ≤ count
     → text_before format (after_entries count state) ≡ entries_text format count state
 after_entries_text format count state within = by (leb_tells count (length state.entries))
@@ -99,7 +100,7 @@ with_entry_text format count state key stamp op =
     ∙ ap (λ xs. flat_map entry_bytes state.entries ++ xs) (append-nil bytes))
     ∙ sym (append_assoc front (flat_map entry_bytes state.entries) bytes)
 
--- the text up to the point after an entry ends with the bytes of the entry
+-- the text up to and including an entry ends with the bytes of the entry
 pub entry_done_text : (format : Format) → (count : ℕ) (state : State) (key : Key) (stamp : Stamp) (op : Op) → length state.entries < count
     → text_before format (after_entries count (with_entry state key stamp op)) ≡ entries_text format count state ++
     (key_text key ++ stamp_bytes stamp ++ op_bytes op)
@@ -107,7 +108,7 @@ entry_done_text format count state key stamp op below =
     let size = length-append state.entries ((key, record { stamp = stamp; op = op }) ∷ []) in
     after_entries_text format count (with_entry state key stamp op) (omega arith) ∙ with_entry_text format count state key stamp op
 
--- the text up to the point after the first lines of a schedule ends with these lines
+-- the text up to and including the first lines of a schedule ends with these lines
 pub after_lines_text : (format : Format) → (count : ℕ) (state : State) (key : ScheduleKey) (stamp : Stamp) (n : ℕ) (lines : List (List ℕ))
     → length state.entries < count → length lines ≤ n
     → text_before format (after_lines count state key stamp n lines) ≡ entries_text format count state ++ part_text (before_line key stamp n lines)

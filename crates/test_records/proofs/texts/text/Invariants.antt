@@ -1,4 +1,5 @@
--- The text has all records before the current one.
+-- The loop invariant of `text`: the text so far is the records that the loop has passed, each with
+-- its line end.
 use Rattle.std.proofs.Common.{◌≡◌, ◌++◌, take}
 use Rattle.std.specs.List.{flat_map}
 use Rattle.test_records.proofs.texts.text.Given as goal
