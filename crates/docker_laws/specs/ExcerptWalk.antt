@@ -1,6 +1,6 @@
 -- The excerpt of a state for a place, computed by a walk over the state's entries in key order. In
--- this order the schedules of one UID are next to each other and form a run. A run is kept or
--- dropped as a whole, at its end.
+-- this order the schedules of one UID are next to each other. The walk collects them in the field
+-- `run`, and then keeps or drops them together.
 use Rattle.std.specs.Prelude.{◌≡◌, ℕ, Bool, false, ◌||◌, if◌then◌else◌, List, [], ◌∷◌, ◌++◌, fold, Option, Some, None}
 use Rattle.std.specs.List.{filter_map, list_any}
 use Rattle.std.specs.Str.{bytes_eq}
@@ -45,13 +45,13 @@ abbrev pub is_call : List ℕ → Op → Bool
 is_call place (put_with (schedule_body lines)) = calls_at place lines
 is_call place _ = false
 
--- whether the UID of the schedules in a run is one of the UIDs in `names`. For an empty run the
--- result is false
+-- whether the UID of the collected schedules is one of the UIDs in `names`. If no schedule is
+-- collected, the result is false
 abbrev pub is_run_named : List (List ℕ) → List (Key × Entry) → Bool
 is_run_named names [] = false
 is_run_named names (first ∷ run) = list_any (λ name. has_uid name first.0) names
 
--- whether some entry of the run puts a schedule that calls at the place
+-- whether one of the collected entries puts a schedule that calls at the place
 abbrev pub is_run_calling : List ℕ → List (Key × Entry) → Bool
 is_run_calling place run = list_any (λ entry. is_call place entry.1.op) run
 
@@ -61,12 +61,12 @@ is_run_calling place run = list_any (λ entry. is_call place entry.1.op) run
 abbrev pub is_run_needed : List ℕ → ExcerptSoFar → Bool
 is_run_needed place so_far = is_run_named (names_in so_far.kept) so_far.run || is_run_calling place so_far.run
 
--- the kept entries after the current run has ended. The entries in `run` are appended if the docker
--- needs them, and dropped otherwise
+-- the kept entries after all schedules of a UID are collected in `run`. The entries in `run` are
+-- appended if the docker needs them, and dropped otherwise
 abbrev pub kept_after_run : List ℕ → ExcerptSoFar → List (Key × Entry)
 kept_after_run place so_far = if is_run_needed place so_far then so_far.kept ++ so_far.run else so_far.kept
 
--- whether a schedule of this UID belongs to the current run
+-- whether the collected schedules have this UID. If no schedule is collected, the result is false
 abbrev pub goes_on : List (Key × Entry) → List ℕ → Bool
 goes_on [] uid = false
 goes_on (first ∷ run) uid = has_uid uid first.0

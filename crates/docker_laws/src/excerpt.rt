@@ -31,8 +31,9 @@ pub fn excerpt_has_one_docker()
         → IsExcerpt place live part → HasGoodBodies live → HasGoodBodies part }
 {}
 
-/// An excerpt of a valid state for a place is valid. It has the same dockers of the place, and its
-/// horizon refuses the same days. The relation "is an excerpt of" is reflexive and transitive.
+/// An excerpt of a valid state for a place is valid. It has the same dockers of the place as the
+/// state, and the program refuses them for the same days. The relation "is an excerpt of" is
+/// reflexive and transitive.
 pub fn excerpt_of_state()
     ensures valid { (place : List ℕ) (state part : State)
         → IsValid state → IsExcerptState place state part → IsValid part }
@@ -218,8 +219,8 @@ pub fn some_of_entries()
 {}
 
 /// Schedules that run on no start day near a day may be left out of a valid state. The state
-/// without them is valid and has the same dockers on the day, and its horizon refuses the same
-/// days.
+/// without them is valid and has the same dockers on the day. Its horizon is unchanged, so the
+/// program refuses dockers for the same days.
 pub fn near_state_has_one_docker()
     ensures valid { (day : ℕ) (state : State) → IsValid state → IsValid (near_state day state) }
     ensures refused { (day other : ℕ) (state : State)
@@ -233,7 +234,7 @@ pub fn near_state_has_one_docker()
 {}
 
 /// The excerpt of a valid state for a place and a day is valid and has the same docker of the place
-/// on the day. Its horizon refuses the same days.
+/// on the day. Its horizon is unchanged, so the program refuses dockers for the same days.
 pub fn excerpt_on_has_one_docker()
     ensures valid { (place : List ℕ) (day : ℕ) (state : State)
         → IsValid state → IsValid (excerpt_on place day state) }

@@ -29,8 +29,9 @@ pub fn permanent_lines_are_permanent()
         → IsDockerLine (permanent_table live) place day line → line.indicator ≡ 80 }
 {}
 
-/// Two summaries of the same files have the same permanent docker for each place and each day that
-/// neither horizon refuses. The horizons may differ.
+/// Two summaries of the same files have the same permanent docker for each place and each day,
+/// unless the program refuses the docker because of a horizon. The horizons of the summaries may
+/// differ.
 pub fn known_files_fix_permanent_dockers()
     ensures { (files others : List (List (List ℕ))) (horizon theirs : ℕ) (one two : State)
         → AreFiles files → AreFiles others → HaveSameFiles files others → IsDay horizon
@@ -41,8 +42,8 @@ pub fn known_files_fix_permanent_dockers()
 {}
 
 /// If the files of a set have distinct moments, a permanent docker printed from their summary is
-/// the permanent docker of their plain table. The summary may have any horizon that doesn't refuse
-/// the day.
+/// the permanent docker of their plain table. The summary may have any horizon with which the
+/// program doesn't refuse the docker.
 pub fn permanent_docker_is_plain()
     ensures { (files : List (List (List ℕ))) (horizon : ℕ) (state : State) (table : Table)
         (place : List ℕ) (day : ℕ) (text : List ℕ) → AreFiles files → IsDay horizon

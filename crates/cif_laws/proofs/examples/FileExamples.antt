@@ -1,4 +1,4 @@
--- The worked file is a CIF file, and its text has no fault. Two other texts have a fault.
+-- The example file is a CIF file, and its text has no fault. Two other texts have a fault.
 use Rattle.std.proofs.Common.{◌≡◌, ℕ, List, [], ◌∷◌, ◌++◌, refl, inl, inr, lit≤, ◌<◌, arith, ap, sym, ◌∙◌}
 use Rattle.std.proofs.lemmas.List.Elements.{All-from_recursion}
 use Rattle.docker_model.specs.records.Record.{HasKind, header, kind_of}
@@ -9,7 +9,7 @@ use Rattle.docker_model.specs.file.FileFault.{bad_length, bad_byte, bad_kind, ba
 use Rattle.cif_laws.proofs.records.Builders.{f2, f2_header, f2_basic, f2_origin, f2_terminus, f2_schedule, zz}
 use Rattle.cif_laws.proofs.schedules.WorkedSchedule.{record_by_test, f2_is_schedule}
 
--- the worked file is a CIF file
+-- the example file is a CIF file
 pub f2_is_file : IsFile f2
 f2_is_file = record {
   first = f2_header;
@@ -24,14 +24,14 @@ f2_is_file = record {
   trailer_kind = refl;
 }
 
--- the worked text: the records of the worked file, each followed by a line feed
+-- the example text: the records of the example file, each followed by a line feed
 abbrev pub f2_text : List ℕ
 f2_text = f2_header ++ 10 ∷ f2_basic ++ 10 ∷ f2_origin ++ 10 ∷ f2_terminus ++ 10 ∷ zz ++ 10 ∷ []
 
 lines_of_f2 : lines_of f2_text ≡ f2
 lines_of_f2 = refl
 
--- the worked text is the text of the worked file
+-- the example text is the text of the example file
 pub f2_text_is : IsFileText 5 f2_text f2
 f2_text_is = record { lines = refl; is = f2_is_file; within = lit≤ tt }
 

@@ -59,7 +59,7 @@ deleted_alone : place_at (f2_header ∷ deleted_basic ∷ zz ∷ []) ≡ Some af
 deleted_alone = refl
 
 -- an intermediate location at COLWELL that the train passes at this time. In the examples below, a
--- schedule passes midnight for the third time at such a record
+-- schedule passes midnight for the third time at a record that `call_at` makes
 abbrev call_at : List ℕ → List ℕ
 call_at time = li (codes "COLWELL") no_text no_text no_text time no_text no_text no_text no_text no_text
 

@@ -78,7 +78,7 @@ pub test_by_next : (place : Place) (line : List ℕ) (next : Place) → IsNext p
 test_by_next place line next told =
     (λ i. cond (and_true (is_record line) _ ((record_iff_test line).0 told.is) told.sound i) (place_by_kind place (kind_of line) line) None) ∙ told.place_is
 
--- ---- one more record preserves the structure
+-- ---- after one more record, the records have the structure of the next `Place`
 
 between_more : (records unit : Lines) → IsBetween records → IsUnit unit → IsBetween (records ++ unit)
 between_more records unit between is = record {

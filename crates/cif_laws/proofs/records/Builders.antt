@@ -50,23 +50,23 @@ lt code suffix arrives public platform path =
 abbrev pub zz : List ℕ
 zz = wide 80 (codes "ZZ")
 
--- the header of the worked file
+-- the header of the example file
 abbrev pub f2_header : List ℕ
 f2_header = hd (codes "090624") (codes "2100") (codes "DFROC1A") (codes "DFROC1Z") (codes "U")
 
--- the basic schedule of the worked file
+-- the basic schedule of the example file
 abbrev pub f2_basic : List ℕ
 f2_basic = bs (codes "N") (codes "C10001") (codes "240610") (codes "240614") (codes "1111100") (codes "1A10") (codes "P")
 
--- the origin of the worked file
+-- the origin of the example file
 abbrev pub f2_origin : List ℕ
 f2_origin = lo (codes "ASHFELD") no_text (codes "0900") (codes "0900") (codes "1") (codes "SL")
 
--- the terminus of the worked file
+-- the terminus of the example file
 abbrev pub f2_terminus : List ℕ
 f2_terminus = lt (codes "BRAYTON") no_text (codes "0930") (codes "0932") (codes "2") (codes "FL")
 
--- the worked file: one schedule from ASHFELD to BRAYTON
+-- the example file: one schedule from ASHFELD to BRAYTON
 abbrev pub f2 : List (List ℕ)
 f2 = f2_header ∷ f2_basic ∷ f2_origin ∷ f2_terminus ∷ zz ∷ []
 
@@ -80,7 +80,7 @@ aa transaction base associated first last days category indicator location base_
 abbrev pub cr : List ℕ → List ℕ → List ℕ → List ℕ
 cr code suffix identity = wide 80 (codes "CR" ++ wide 7 code ++ wide 1 suffix ++ codes "OO" ++ wide 4 identity)
 
--- the schedule of the worked file
+-- the schedule of the example file
 abbrev pub f2_schedule : List (List ℕ)
 f2_schedule = f2_basic ∷ f2_origin ∷ f2_terminus ∷ []
 

@@ -121,7 +121,8 @@ no_fall_behind time [] all = by (nat_lt last_time time) refl
     by false h = λ i. cond (h i) 1 0 + 0
 no_fall_behind time (next ∷ times) all = ap (λ n. cond (nat_lt next time) 1 0 + n) (no_fall_behind next times all.1)
 
--- appending the time 23:59½ leaves the number of falls unchanged, since no time is later
+-- appending the time 23:59½ leaves the number of falls unchanged. A fall is a time that is earlier
+-- than the time before it, and no time of a day is later than 23:59½
 pub no_fall_last : (times : List ℕ) → AllByRecursion (λ t. t ≤ last_time) times → fall_count (times ++ last_time ∷ []) ≡ fall_count times
 no_fall_last [] all = refl
 no_fall_last (time ∷ times) all = no_fall_behind time times all

@@ -240,7 +240,7 @@ goes_on_or_fault (basic ∷ rest) line begins is = by ((begins_iff_stage basic r
         staged None h = inr (schedule_cause at.0 line, schedule_fault (basic ∷ rest) at.0 line at.1 is h)
         staged (Some next) h = inl (begins_next_stage (basic ∷ rest) at.0 line next at.1 h)
 
--- ---- a record inside a schedule has the same cause in the file
+-- ---- a record of a schedule is at fault for the same cause when the schedule is read in a file
 
 -- a record that can follow a basic schedule begins no unit
 pub no_unit_by_kind : (kind : Option Kind) (line : List ℕ) → follows_basic kind ≡ true → unit_by_kind kind line ≡ None

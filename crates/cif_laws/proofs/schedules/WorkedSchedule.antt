@@ -1,4 +1,4 @@
--- The schedule of the worked file is a schedule.
+-- The schedule of the example file is a schedule.
 use Rattle.std.proofs.Common.{◌≡◌, ℕ, List, [], ◌∷◌, length, refl, inl, inr, true, lit≤}
 use Rattle.std.specs.List.{list_all}
 use Rattle.std.proofs.lemmas.List.Elements.{All-from_recursion}
@@ -12,7 +12,7 @@ use Rattle.cif_laws.proofs.records.Builders.{f2_basic, f2_origin, f2_terminus, f
 pub record_by_test : (bytes : List ℕ) → length bytes ≡ 80 → list_all is_printable bytes ≡ true → IsRecord bytes
 record_by_test bytes size printable = (size, AllPass-from_list_all is_printable bytes printable)
 
--- the worked journey is a journey
+-- the example journey is a journey
 pub f2_journey : IsJourney (f2_origin ∷ f2_terminus ∷ [])
 f2_journey = record {
   first = f2_origin;
@@ -24,7 +24,7 @@ f2_journey = record {
   terminus = refl;
 }
 
--- the worked schedule is a schedule
+-- the example schedule is a schedule
 pub f2_is_schedule : IsSchedule f2_schedule
 f2_is_schedule = record {
   basic = f2_basic;

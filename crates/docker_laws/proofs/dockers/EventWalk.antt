@@ -50,10 +50,10 @@ from_is n place (line ∷ lines) =
 pub events_walked : (lines : List (List ℕ)) → events_of lines ≡ events_from 1 0 lines
 events_walked lines = from_is 1 0 lines
 
--- ---- the number of falls can be computed time by time
+-- ---- how often a schedule passes midnight can be computed time by time
 
--- appending a time adds one fall if the time is earlier than the last time, and otherwise leaves
--- the number of falls unchanged
+-- a fall is a time that is earlier than the time before it. Appending a time adds one fall if the
+-- time is earlier than the last time, and otherwise leaves the number of falls unchanged
 pub falls_more : (times : List ℕ) (time : ℕ) → fall_count (times ++ time ∷ []) ≡ fall_count times + fall_at (last_time times) time
 falls_more [] time = refl
 falls_more (first ∷ []) time = (let e : cond (nat_lt time first) 1 0 + 0 ≡ 0 + cond (nat_lt time first) 1 0 = omega arith in e)

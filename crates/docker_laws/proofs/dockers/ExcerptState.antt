@@ -1,6 +1,6 @@
--- An excerpt of a valid state for a place is valid. It has the same dockers of the place, and its
--- horizon refuses the same days. One excerpt of a state has exactly the entries whose keys the
--- docker of the place needs.
+-- An excerpt of a valid state for a place is valid. It has the same dockers of the place as the
+-- state, and the program refuses them for the same days. One excerpt of a state has exactly the
+-- entries whose keys the docker of the place needs.
 use Rattle.std.proofs.Common.{◌++◌, ◌≡◌, ℕ, List, [], ◌∷◌, subst, inl, inr, ◌⊎◌, refl, ap, sym, ◌∙◌, Bool, true, false, cond, Some, None}
 use Rattle.std.specs.Prelude.{Option, ◌↔◌, ◌&&◌, ◌||◌, filter, find, option_and_then}
 use Rattle.std.specs.List.{list_any}
@@ -145,7 +145,8 @@ excerpt_again place state part smaller is further = record {
     by key (inl same) = inner key same (is.live key)
     by key (inr none) = inr (none.0, λ needed. none.1 (needed_still key needed))
 
--- the horizon of an excerpt refuses the same days as the horizon of the state
+-- the program refuses the dockers of a state and of its excerpt for the same days, since both have
+-- the same horizon
 pub excerpt_refuses : (place : List ℕ) (state part : State) (day : ℕ) → IsExcerptState place state part
     → IsDayRefused state.horizon day ↔ IsDayRefused part.horizon day
 excerpt_refuses place state part day is =

@@ -62,8 +62,7 @@ module _ (place : List ℕ) (P : List Keyed → ExcerptSoFar → Type 0)
 
 -- ---- the entries in `kept` and `run` are a sublist of the entries that the walk has passed
 
--- when a run ends, the new list of kept entries is a sublist of the fields `kept` and `run` taken
--- together
+-- `kept_after_run` gives a sublist of the entries in `kept` and `run`
 pub after_run_within : (place : List ℕ) (so_far : ExcerptSoFar) → IsSublist (kept_after_run place so_far) (so_far.kept ++ so_far.run)
 after_run_within place so_far = by (is_run_needed place so_far)
   where
@@ -282,22 +281,23 @@ module _ (place : List ℕ) (so_far : ExcerptSoFar) where
       cond (goes i) (record { kept = so_far.kept; run = so_far.run ++ (schedule_key key, entry) ∷ [] })
       (record { kept = kept_after_run place so_far; run = (schedule_key key, entry) ∷ [] })
 
-  -- a schedule with another UID than the entries in `run` ends this run and begins the next run
+  -- at a schedule with another UID than the entries in `run`, the walk keeps or drops these
+  -- entries, and then has only the schedule in `run`
   pub begins_run : (key : ScheduleKey) (entry : Entry) → goes_on so_far.run key.uid ≡ false
       → next_kept place so_far (schedule_key key, entry) ≡ record { kept = kept_after_run place so_far; run = (schedule_key key, entry) ∷ [] }
   begins_run key entry stops = λ i.
       cond (stops i) (record { kept = so_far.kept; run = so_far.run ++ (schedule_key key, entry) ∷ [] })
       (record { kept = kept_after_run place so_far; run = (schedule_key key, entry) ∷ [] })
 
-  -- when a run ends and the docker needs it, its entries are appended to the kept entries
+  -- if the docker needs the entries in `run`, `kept_after_run` appends them to the kept entries
   pub keeps_run : is_run_needed place so_far ≡ true → kept_after_run place so_far ≡ so_far.kept ++ so_far.run
   keeps_run needed = λ i. cond (needed i) (so_far.kept ++ so_far.run) so_far.kept
 
-  -- when a run ends and the docker doesn't need it, its entries are dropped
+  -- if the docker doesn't need the entries in `run`, `kept_after_run` drops them
   pub drops_run : is_run_needed place so_far ≡ false → kept_after_run place so_far ≡ so_far.kept
   drops_run unneeded = λ i. cond (unneeded i) (so_far.kept ++ so_far.run) so_far.kept
 
-  -- if the field `run` is empty, the end of the run leaves the kept entries unchanged
+  -- if the field `run` is empty, `kept_after_run` leaves the kept entries unchanged
   pub ends_none : so_far.run ≡ [] → kept_after_run place so_far ≡ so_far.kept
   ends_none none = subst (λ (run : List Keyed). kept_after_run place (record { kept = so_far.kept; run = run }) ≡ so_far.kept) (sym none) refl
 

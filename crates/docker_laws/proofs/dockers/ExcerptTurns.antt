@@ -1,5 +1,5 @@
--- A loop can compute an excerpt from three values: the kept entries, a run, and a flag that says
--- whether the docker needs the run. A run is all entries for the schedules of one UID.
+-- A loop can compute an excerpt from three values. They are the kept entries, the entries for the
+-- schedules of the current UID, and a flag that says whether the docker needs these schedules.
 use Rattle.std.proofs.Common.{◌≡◌, ℕ, List, [], ◌∷◌, ◌++◌, subst, refl, ap, sym, ◌∙◌, Bool, true, false, cond, Contains}
 use Rattle.std.specs.Prelude.{◌||◌, ◌↔◌}
 use Rattle.docker_model.specs.file.Change.{Key, schedule_key, ScheduleKey}
@@ -22,12 +22,12 @@ or_assoc : (a b c : Bool) → (a || (b || c)) ≡ ((a || b) || c)
 or_assoc true b c = refl
 or_assoc false b c = refl
 
--- before the first entry, the kept entries and the run are empty
+-- before its first entry, the loop has no kept entries, and no entries of a current UID
 pub kept_first : (place : List ℕ) → HasKept place [] [] [] false
 kept_first place = record { so_far = refl; is_needed = refl }
 
 module _ (place : List ℕ) (entries kept run : List Keyed) (needed : Bool) (has : HasKept place entries kept run needed) where
-  -- `next_kept` computes the kept entries and the run after one more entry
+  -- `next_kept` computes the lists `kept` and `run` after one more entry
   next_is : (x : Keyed) → kept_so_far place (entries ++ x ∷ []) ≡ next_kept place (at kept run) x
   next_is x = so_far_more place entries x ∙ ap (λ (so_far : ExcerptSoFar). next_kept place so_far x) has.so_far
 
@@ -48,7 +48,8 @@ module _ (place : List ℕ) (entries kept run : List Keyed) (needed : Bool) (has
         ∙ ap (λ b. b || is_call place entry.op) has.is_needed;
   }
 
-  -- when a run ends, its entries are kept if they are needed, and dropped otherwise
+  -- `kept_after_run` appends the entries in `run` to the kept entries if they are needed, and drops
+  -- them otherwise
   ended : kept_after_run place (at kept run) ≡ cond needed (kept ++ run) kept
   ended = λ i. cond (has.is_needed i) (kept ++ run) kept
 
@@ -65,9 +66,9 @@ module _ (place : List ℕ) (entries kept run : List Keyed) (needed : Bool) (has
       ∙ names_stay place entries key entry
       ∙ ap (λ (so_far : ExcerptSoFar). names_in so_far.kept) has.so_far
 
-  -- a schedule with another UID ends the run and begins the next run. The next run is needed if its
-  -- UID belongs to the associated train of a kept association, or if the schedule calls at the
-  -- place
+  -- at a schedule with another UID than the entries in `run`, the loop keeps or drops these
+  -- entries, and then has only the schedule in `run`. The docker needs this schedule if its UID
+  -- belongs to the associated train of a kept association, or if the schedule calls at the place
   pub kept_begins : (key : ScheduleKey) (entry : Entry) (named : Bool) → goes_on run key.uid ≡ false
       → (named ≡ true) ↔ Contains (names_in kept) key.uid
       → HasKept place (entries ++ (schedule_key key, entry) ∷ []) (cond needed (kept ++ run) kept) ((schedule_key key, entry) ∷ [])

@@ -162,13 +162,13 @@ module _ (place : List ℕ) (all : List Keyed) (order : AllLater Below all) wher
   needed_of_uid uid (tiploc_key code) h = false_true h
   needed_of_uid uid (association_key key) h = false_true h
 
-  -- ---- when a run of schedules with one UID ends, the invariant still holds
+  -- ---- after the entries in `run` are kept or dropped, the invariant still holds
   module _ (done kept : List Keyed) (first : Keyed) (others rest : List Keyed)
       (at : IsAt place all done (record { kept = kept; run = first ∷ others }) rest) (ended : IsEnded (first ∷ others) rest) where
     of_first : has_uid at.uid first.0 ≡ true
     of_first = at.of_uid first (cons-Contains-first first others)
 
-    -- each entry is in `done`, in the run `first ∷ others`, or in `rest`
+    -- each entry is in `done`, in `first ∷ others`, or in `rest`
     place_of : (x : Keyed) → Contains all x → Contains done x ⊎ (Contains (first ∷ others) x ⊎ Contains rest x)
     place_of x among = outer (Contains-append_cases (done ++ first ∷ others) rest x (subst (λ xs. Contains xs x) at.whole among))
       where
@@ -272,7 +272,7 @@ module _ (place : List ℕ) (all : List Keyed) (order : AllLater Below all) wher
         ∙ ap (λ (ys : List Keyed). filter (λ (entry : Keyed). is_needed place all entry.0) done ++ ys) (sym of_run)
         ∙ sym (filter-append test done (first ∷ others))
 
-  -- when the run ends, the walk has kept exactly the passed entries whose keys the docker needs
+  -- `kept_after_run` gives exactly the passed entries whose keys the docker needs
   run_end : (done kept run rest : List Keyed) → IsAt place all done (record { kept = kept; run = run }) rest → IsEnded run rest
       → kept_after_run place (record { kept = kept; run = run }) ≡ filter (λ (entry : Keyed). is_needed place all entry.0) (done ++ run)
   run_end done kept [] rest at ended = at.kept ∙ ap (filter (λ (entry : Keyed). is_needed place all entry.0)) (sym (append-nil done))
@@ -351,8 +351,8 @@ module _ (place : List ℕ) (all : List Keyed) (order : AllLater Below all) wher
           hit (between_uid r.0 (schedule_key key) y.0 other (run_below done so_far (schedule_key key, entry) rest at r in_run)
           (next_below done so_far (schedule_key key, entry) rest at y there) of_r of_y)
 
-  -- if a schedule has another UID than the entries in `run`, beginning the next run with it
-  -- preserves the invariant
+  -- at a schedule with another UID than the entries in `run`, the walk keeps or drops these
+  -- entries, and then has only the schedule in `run`. This preserves the invariant
   begins : (done : List Keyed) (so_far : ExcerptSoFar) (key : ScheduleKey) (entry : Entry) (rest : List Keyed)
       → IsAt place all done so_far ((schedule_key key, entry) ∷ rest) → goes_on so_far.run key.uid ≡ false
       → IsAt place all (done ++ so_far.run) (record { kept = kept_after_run place so_far; run = (schedule_key key, entry) ∷ [] }) rest

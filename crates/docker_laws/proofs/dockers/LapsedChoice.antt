@@ -1,5 +1,6 @@
--- If a day isn't before a horizon, lapsing a table at this horizon leaves the chosen schedules and
--- associations of the day unchanged. A schedule or association that runs on the day hasn't lapsed.
+-- If a day isn't before a horizon, lapsing a table with this horizon leaves the chosen schedules
+-- and associations of the day unchanged. A schedule or association that runs on the day hasn't
+-- lapsed.
 use Rattle.std.proofs.Common.{ℕ, ◌≤◌, List, Bool, true, false, cond, arith}
 use Rattle.std.specs.Prelude.{◌↔◌, ◌&&◌, IsTrue, nat_le}
 use Rattle.std.proofs.lemmas.Bool.{leb-true}

@@ -1,5 +1,5 @@
--- Lapsing a table at a horizon leaves the dockers of all days from the third day after the horizon
--- unchanged.
+-- Lapsing a table with a horizon leaves the dockers of all days from the third day after the
+-- horizon unchanged.
 use Rattle.std.proofs.Common.{◌≡◌, ℕ, ◌+◌, ◌-◌, ◌≤◌, List, ◌++◌, inl, inr, ◌⊎◌, refl, ap, sym, ◌∙◌, Bool, true, false, cond, Some, None, arith}
 use Rattle.std.specs.Prelude.{Option, ◌↔◌, ◌==◌, nat_lt, option_and_then, codes}
 use Rattle.std.specs.List.{flat_map}

@@ -185,7 +185,7 @@ abbrev pub IsNearPart : ℕ → Table → Table → Type 0
 IsNearPart day live part = (key : Key) → (part key ≡ live key) ⊎ ((part key ≡ None) × IsLeftOut day live key)
 
 module _ (day : ℕ) (live part : Table) (is : IsNearPart day live part) where
-  -- a body in `part` is in the table, at the same key
+  -- a body in the table `part` is in the table `live`, at the same key
   was_there : (key : Key) (body : Body) → part key ≡ Some body → live key ≡ Some body
   was_there key body there = by (is key)
     where
@@ -239,11 +239,11 @@ module _ (day : ℕ) (live part : Table) (is : IsNearPart day live part) where
         carries_over part live day (turned live part day alike)
         (λ key lines there. few key lines (was_there (schedule_key key) (schedule_body lines) there))
 
-    -- the table and `part` have the same docker list on the day
+    -- the tables `live` and `part` have the same docker list on the day
     pub near_list_iff : (place : List ℕ) (lines : List DockerLine) → IsDockerList live place day lines ↔ IsDockerList part place day lines
     near_list_iff place lines = (list_over live part place day forth back lines, list_over part live place day back forth lines)
 
-  -- the table and `part` have the same description of a place, since no TIPLOC is left out
+  -- the tables `live` and `part` have the same description of a place, since no TIPLOC is left out
   pub near_description : (place : List ℕ) → description_in (part (tiploc_key place)) ≡ description_in (live (tiploc_key place))
   near_description place = by (is (tiploc_key place))
     where
@@ -255,7 +255,7 @@ module _ (day : ℕ) (live part : Table) (is : IsNearPart day live part) where
   text_same : (place : List ℕ) (lines : List DockerLine) → docker_text part place day lines ≡ docker_text live place day lines
   text_same place lines = ap (text_with place day lines) (near_description place)
 
-  -- the table and `part` have the same docker text on the day
+  -- the tables `live` and `part` have the same docker text on the day
   pub near_text_iff : HasFewMidnights live → (place text : List ℕ) → IsDockerText live place day text ↔ IsDockerText part place day text
   near_text_iff few place text = (
     λ told. (told.0, (near_list_iff few place told.0).0 told.1, told.2 ∙ sym (text_same place told.0)),

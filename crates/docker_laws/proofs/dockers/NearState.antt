@@ -1,5 +1,6 @@
--- A valid state with only the entries that may count on a day is valid, and has the same dockers on
--- that day. Its excerpt for a place is valid, and has the same docker of the place on that day.
+-- If a valid state keeps only the entries that may count on a day, it is still valid, and its
+-- dockers of that day are unchanged. Its excerpt for a place is valid too, and has the same docker
+-- of the place on that day.
 use Rattle.std.proofs.Common.{◌≡◌, ℕ, List, [], ◌∷◌, ◌++◌, inl, inr, ◌⊎◌, refl, ap, sym, ◌∙◌, Bool, true, false, cond, None, Contains, append-nil}
 use Rattle.std.specs.Prelude.{◌↔◌, filter}
 use Rattle.std.proofs.lemmas.List.Elements.{filter-append}

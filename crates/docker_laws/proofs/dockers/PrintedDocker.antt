@@ -1,5 +1,6 @@
 -- If the files of a set have distinct moments, every docker printed from their summary is the
--- docker of their plain table. The summary may have any horizon that doesn't refuse the day.
+-- docker of their plain table. The summary may have any horizon with which the program doesn't
+-- refuse the docker.
 use Rattle.std.proofs.Common.{◌≡◌, ℕ, ◌+◌, ◌≤◌, List, length, map, All, subst, inl, inr, ◌⊎◌, refl, ap, sym, ◌∙◌, Bool, true, false, Some, None, arith}
 use Rattle.std.specs.Prelude.{Option, ◌↔◌, nat_lt, fold}
 use Rattle.std.proofs.lemmas.Bool.{ltb-true, ltb-false}

@@ -1,5 +1,5 @@
--- A worked association line: the train that ends at COLWELL at 23:50 becomes the train that leaves
--- COLWELL after midnight.
+-- An example of an association line: the train that ends at COLWELL at 23:50 becomes the train that
+-- leaves COLWELL after midnight.
 use Rattle.std.proofs.Common.{◌≡◌, ℕ, List, [], ◌∷◌, refl, inl, inr, Some, None, arith, ap, sym, ◌∙◌, subst, Contains, ◌⊎◌}
 use Rattle.std.specs.Prelude.{codes, Option, slice_index}
 use Rattle.jiff_core.specs.Calendar.{days_from_civil, day_count, days_of_years, days_of_months}
@@ -156,7 +156,7 @@ at_colwell = record { number = 2; place = 2; occasion = arrival; time = 2860 }
 abbrev the_line : DockerLine
 the_line = line_of_association next_working 80 base_key 23537 base_lines at_colwell (codes "C40002") (codes "4D42")
 
--- the worked line is an association's line in the docker
+-- the example line is an association's line in the docker
 pub works_on : IsAssociationLine (live_table linked) (codes "COLWELL") 23537 the_line
 works_on = record {
   start = 23537;

@@ -12,18 +12,18 @@ use Rattle.docker_model.specs.docker.DockerText.{line_text, last_line, descripti
 use Rattle.state_laws.proofs.examples.StateExamples.{f2_item}
 use Rattle.cif_laws.proofs.records.Builders.{f2_schedule, night_schedule, changing_schedule, rename_amend}
 
--- the departure of the train in the worked file
+-- the departure of the train in the example file
 abbrev pub leaves_f2 : Event
 leaves_f2 = record { number = 1; place = 1; occasion = departure; time = 1080 }
 
--- the arrival of the train in the worked file
+-- the arrival of the train in the example file
 abbrev pub ends_f2 : Event
 ends_f2 = record { number = 2; place = 2; occasion = arrival; time = 1140 }
 
 events_of_f2 : events_of f2_schedule ≡ leaves_f2 ∷ ends_f2 ∷ []
 events_of_f2 = refl
 
--- the key of the schedule in the worked file
+-- the key of the schedule in the example file
 abbrev pub f2_key : ScheduleKey
 f2_key = record { uid = codes "C10001"; runs_from = 23537; indicator = 80 }
 

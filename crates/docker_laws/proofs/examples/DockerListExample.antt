@@ -1,4 +1,4 @@
--- The docker of the worked file at ASHFELD on 10 June 2024 has only one line.
+-- The docker of the example file at ASHFELD on 10 June 2024 has only one line.
 use Rattle.std.proofs.Common.{◌≡◌, ℕ, zero, suc, ◌+◌, List, [], ◌∷◌, length, refl, inl, inr, Some, None, lit<}
 use Rattle.std.proofs.Common.{◌<◌, arith, ap, sym, ◌∙◌, subst, Contains, get_or, Bool, true, false, ◌⊎◌, ◌++◌}
 use Rattle.std.specs.Prelude.{codes, Option, slice_index}
@@ -142,7 +142,7 @@ only_line : (line : DockerLine) → IsEventLine live (codes "ASHFELD") 23537 lin
 only_line line (inl made) = only_event_line line made
 only_line line (inr made) = absurd (no_association_line line made)
 
--- the docker list of the worked file has only this line
+-- the docker list of the example file has only this line
 pub f2_docker : IsDockerList live (codes "ASHFELD") 23537 (the_line ∷ [])
 f2_docker = record {
   ascending = (tt, tt);
@@ -152,7 +152,7 @@ f2_docker = record {
   );
 }
 
--- the text with this one line is the docker text of the worked file
+-- the text with this one line is the docker text of the example file
 pub f2_docker_text : IsDockerText live (codes "ASHFELD") 23537 (docker_text live (codes "ASHFELD") 23537 (the_line ∷ []))
 f2_docker_text = (the_line ∷ [], f2_docker, refl)
 

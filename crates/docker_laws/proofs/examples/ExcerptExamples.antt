@@ -1,5 +1,5 @@
--- Worked excerpts for COLWELL: the entries that the docker of COLWELL needs, and the excerpt that
--- the walk computes. Without the needed entries the docker would be wrong.
+-- Examples of excerpts for COLWELL: the entries that the docker of COLWELL needs, and the excerpt
+-- that the walk computes. Without the needed entries the docker would be wrong.
 use Rattle.std.proofs.Common.{◌≡◌, ℕ, List, [], ◌∷◌, refl, inl, inr, Some, None, arith, ap, ◌∙◌, subst, Contains, ◌⊎◌}
 use Rattle.std.specs.Prelude.{codes, slice_index}
 use Rattle.jiff_core.specs.Calendar.{days_from_civil, day_count, days_of_years, days_of_months}
@@ -252,7 +252,7 @@ partner_is_kept = refl
 partner_alone_is_dropped : (excerpt_for place (state_of (put_in (schedule_key partner_key) (schedule_body partner) ∷ []))).entries ≡ []
 partner_alone_is_dropped = refl
 
--- ---- a worked walk
+-- ---- an example of a walk
 
 abbrev other : List (List ℕ)
 other = week (codes "C40003") (codes "4D43") (codes "ASHFELD") (codes "BRAYTON")

@@ -108,7 +108,8 @@ division_at_colwell : map line_text (gathered (train_in divided) (link_in divide
 unfolding days_from_civil day_count days_of_years days_of_months
 division_at_colwell = refl
 
--- both trains call at COLWELL, and the first train doesn't call at ELM
+-- the trains `twice_lines` and `divided_lines` call at COLWELL, and `twice_lines` doesn't call at
+-- ELM
 colwell_called_at : (calls_at (codes "COLWELL") twice_lines ≡ true) × (calls_at (codes "COLWELL") divided_lines ≡ true)
     × (calls_at (codes "ELM    ") twice_lines ≡ false)
 colwell_called_at = (refl, refl, refl)

@@ -374,7 +374,7 @@ dropped_partner_is_wrong (inr none) = let first : ◌≡◌ {A = ℕ} 52 63 = ap
 
 -- ---- the summary of a file
 
--- the summary of the worked file is the worked state
+-- the summary of the example file is the example state
 summary_of_f2 : summary_of f2 ≡ f2_state
 unfolding days_from_civil day_count days_of_years days_of_months
 summary_of_f2 = refl

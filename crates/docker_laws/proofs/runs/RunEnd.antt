@@ -41,7 +41,7 @@ run_holds format offices events exchange each run =
 
 -- ---- two summaries of the same files have the same dockers
 
--- if neither of two horizons refuses a day, the greater of them doesn't refuse it
+-- if two horizons both allow the docker of a day, the greater of them also allows it
 pub greater_prints : (a b day : ℕ) → ¬ IsDayRefused a day → ¬ IsDayRefused b day → ¬ IsDayRefused (max a b) day
 greater_prints a b day first second = by (nat_lt a b) refl
   where
@@ -49,7 +49,7 @@ greater_prints a b day first second = by (nat_lt a b) refl
     by true h = let below = ltb-true a b h in subst (λ n. ¬ IsDayRefused n day) (sym (max-eq_right (omega arith))) second
     by false h = subst (λ n. ¬ IsDayRefused n day) (sym (max-eq_left (ltb-false a b h))) first
 
--- if a horizon doesn't refuse the day, lapsing a state at this horizon leaves the docker of the day
+-- if a horizon allows the docker of a day, lapsing a state with this horizon leaves the docker
 -- unchanged
 docker_stays : (horizon : ℕ) (state : State) (place : List ℕ) (day : ℕ) (text : List ℕ) → IsDay horizon → IsValid state → ¬ IsDayRefused horizon day
     → IsDockerText (live_table state) place day text → IsDockerText (live_table (lapse_state horizon state)) place day text
@@ -69,8 +69,8 @@ pub one_text : (live : Table) (place : List ℕ) (day : ℕ) (text other : List 
     → text ≡ other
 one_text live place day text other is that = is.2 ∙ ap (docker_text live place day) (docker_unique _ is.0 that.0 is.1 that.1) ∙ sym that.2
 
--- two summaries of the same files have the same docker for each place and each day that neither
--- horizon refuses
+-- two summaries of the same files have the same docker for each place and each day, unless the
+-- program refuses the docker because of a horizon
 pub docker_of_files : (format : Format) (one two : Known) (first second : State) → IsGoodKnown format one → IsGoodKnown format two → IsStateOf one first
     → IsStateOf two second
     → HaveSameFiles one.files two.files → (place : List ℕ) (day : ℕ) → ¬ IsDayRefused one.horizon day → ¬ IsDayRefused two.horizon day → (text other : List ℕ)
@@ -111,8 +111,8 @@ module _ (format : Format) (offices others : ℕ) (events more : List RunEvent) 
         (office_state one.states i) (office_state two.states j)
         (subst (λ h. IsSummary (office_known (sets_of offices events one) i).files h (office_state one.states i)) same.1 this_state) that_state
 
-    -- offices that know the same files print the same docker for each place and each day that
-    -- neither office refuses
+    -- offices that know the same files print the same docker for each place and each day, unless
+    -- the program refuses the docker because of a horizon
     pub same_docker : All (IsGoodEvent format) events → All (IsGoodEvent format) more → HaveSameFiles (office_known (sets_of offices events one) i).files
         (office_known (sets_of others more two) j).files
         → (place : List ℕ) (day : ℕ) → ¬ IsDayRefused (office_state one.states i).horizon day → ¬ IsDayRefused (office_state two.states j).horizon day

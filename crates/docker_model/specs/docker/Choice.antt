@@ -43,7 +43,7 @@ IsCancellation indicator = indicator ≡ 67
 
 -- the order of choice between two schedules or two associations, each given by its STP indicator
 -- and its first date. The indicators are compared first, in the order C, N, O, P. If both
--- indicators are equal, the later first date comes first
+-- indicators are equal, the schedule or association with the later first date is chosen
 abbrev pub choice_cmp : ℕ → ℕ → ℕ → ℕ → Ordering
 choice_cmp indicator first other_indicator other_first = ordering_then (nat_cmp indicator other_indicator) (nat_cmp other_first first)
 
@@ -56,16 +56,16 @@ schedule_choice_cmp a b = choice_cmp a.indicator a.runs_from b.indicator b.runs_
 abbrev pub association_choice_cmp : AssociationKey → AssociationKey → Ordering
 association_choice_cmp a b = choice_cmp a.indicator a.start b.indicator b.start
 
--- this schedule is in the live table, belongs to the UID and runs on the day. Several schedules of
--- one UID may run on the same day
+-- the schedule with this key and these records is in the live table, belongs to the UID and runs on
+-- the day. Several schedules of one UID may run on the same day
 pub record IsRunning (live : Table) (uid : List ℕ) (day : ℕ) (key : ScheduleKey) (lines : List (List ℕ)) : Type 0 where
   pub uid_is : key.uid ≡ uid
   pub is_live : live (schedule_key key) ≡ Some (schedule_body lines)
   pub runs_then : IsTrue (schedule_runs (first_record lines) day)
 
--- this is the chosen schedule of the UID on the day. Of all schedules of the UID that run on the
--- day, this schedule comes first in the order of choice. For example, an overlay is chosen before a
--- permanent schedule, and a cancellation before both
+-- the schedule with this key and these records is the chosen schedule of the UID on the day. Of all
+-- schedules of the UID that run on the day, it comes first in the order of choice. For example, an
+-- overlay is chosen before a permanent schedule, and a cancellation before both
 pub record IsChosen (live : Table) (uid : List ℕ) (day : ℕ) (key : ScheduleKey) (lines : List (List ℕ)) : Type 0 where
   pub running : IsRunning live uid day key lines
   pub first : (other : ScheduleKey) (others : List (List ℕ)) → IsRunning live uid day other others → IsAtMost schedule_choice_cmp key other
@@ -88,15 +88,15 @@ pub record Group : Type 0 where
 abbrev pub group_of : AssociationKey → Group
 group_of key = record { base = key.base; associated = key.associated; location = key.location; suffix = key.suffix }
 
--- this association is in the live table, belongs to the group and runs on the day. The dates of an
--- association are start days of the base train
+-- the association with this key and this record is in the live table, belongs to the group and runs
+-- on the day. The dates of an association are start days of the base train
 pub record IsAssociated (live : Table) (group : Group) (day : ℕ) (key : AssociationKey) (line : List ℕ) : Type 0 where
   pub group_is : group_of key ≡ group
   pub is_live : live (association_key key) ≡ Some (association_body line)
   pub runs_then : IsTrue (association_runs line day)
 
--- this is the chosen association of the group on the day. Of all associations of the group that run
--- on the day, this association comes first in the order of choice
+-- the association with this key and this record is the chosen association of the group on the day.
+-- Of all associations of the group that run on the day, it comes first in the order of choice
 pub record IsChosenAssociation (live : Table) (group : Group) (day : ℕ) (key : AssociationKey) (line : List ℕ) : Type 0 where
   pub associated : IsAssociated live group day key line
   pub first : (other : AssociationKey) (others : List ℕ) → IsAssociated live group day other others → IsAtMost association_choice_cmp key other

@@ -35,7 +35,7 @@ day_number year month day = unsigned_abs (days_from_civil (pos year) month day +
 abbrev pub last_day : ℕ
 last_day = 36524
 
--- this is the number of a day from 1960 to 2059
+-- `day` is the number of a day from 1960 to 2059
 abbrev pub IsDay : ℕ → Type 0
 IsDay day = day ≤ last_day
 

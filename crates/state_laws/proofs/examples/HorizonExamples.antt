@@ -40,19 +40,19 @@ day_is_printed told = let before = told.1 in omega arith
 
 -- ---- texts
 
--- the key of the schedule in the worked file
+-- the key of the schedule in the example file
 abbrev pub f2_key : ScheduleKey
 f2_key = record { uid = codes "C10001"; runs_from = 23537; indicator = 80 }
 
--- a state that has the ledger of the worked file, this horizon and these entries
+-- a state that has the ledger of the example file, this horizon and these entries
 abbrev pub state_with : ℕ → List (Key × Entry) → State
 state_with horizon entries = record { horizon = horizon; ledger = f2_item ∷ []; entries = entries }
 
--- the state of the worked file
+-- the state of the example file
 abbrev pub f2_state : State
 f2_state = state_with 0 ((schedule_key f2_key, record { stamp = record { file = f2_item.stamp; number = 2 }; op = put_with (schedule_body f2_schedule) }) ∷ [])
 
--- the entry of the worked file's state after it has lapsed
+-- the entry of the example file's state after it has lapsed
 abbrev pub lapsed_entry : Key × Entry
 lapsed_entry = (schedule_key f2_key, record { stamp = record { file = f2_item.stamp; number = 2 }; op = lapsed })
 
@@ -121,7 +121,7 @@ cut_in_horizon : IsStateFault dks_2 1000 (take 5 text) (record { at = 4; cause =
 cut_in_horizon =
     inr (inr (inl (record { before = before_horizon; good = tt; rest = 0 ∷ []; whole = refl; ends = lit< tt; within = lit≤ tt; cause = refl; item_at = refl })))
 
--- the format can hold the worked state without its entry, with any day as the horizon
+-- the format can hold the example state without its entry, with any day as the horizon
 told_without : (horizon : ℕ) → IsDay horizon → IsToldState dks_2 (state_with horizon [])
 told_without horizon day = record {
   valid = record {

@@ -10,7 +10,7 @@ use Rattle.docker_model.specs.state.State.{State}
 use Rattle.docker_model.specs.state.StateText.{dks_1, state_text, item_in, stamp_in, key_in}
 use Rattle.cif_laws.proofs.records.Builders.{f2, f2_basic, f2_schedule}
 
--- the ledger item of the worked file
+-- the ledger item of the example file
 abbrev pub f2_item : LedgerItem
 f2_item = record {
   stamp = record { moment = record { day = 23536; minute = 1260 }; reference = codes "DFROC1A" };
@@ -18,22 +18,22 @@ f2_item = record {
   last_reference = codes "DFROC1Z";
 }
 
--- the ledger item of the worked file is `f2_item`
+-- the ledger item of the example file is `f2_item`
 pub item_of_f2 : ledger_item_of f2 ≡ f2_item
 unfolding days_from_civil day_count days_of_years days_of_months
 item_of_f2 = refl
 
--- the key of the schedule in the worked file
+-- the key of the schedule in the example file
 pub key_of_f2 : schedule_named f2_basic ≡ schedule_key (record { uid = codes "C10001"; runs_from = 23537; indicator = 80 })
 unfolding days_from_civil day_count days_of_years days_of_months
 key_of_f2 = refl
 
--- the end number of the schedule in the worked file is 23541, for 14 June 2024
+-- the end number of the schedule in the example file is 23541, for 14 June 2024
 pub end_of_f2 : body_end (schedule_body f2_schedule) ≡ 23541
 unfolding days_from_civil day_count days_of_years days_of_months
 end_of_f2 = refl
 
--- the state of the worked file
+-- the state of the example file
 abbrev pub f2_state : State
 f2_state = record {
   horizon = 0;

@@ -89,7 +89,7 @@ item_twice = inl (record {
   item_at = refl;
 })
 
--- the worked state without its entry
+-- the example state without its entry
 abbrev without_entry : State
 without_entry = record { horizon = 0; ledger = f2_item ∷ []; entries = [] }
 

@@ -1,4 +1,4 @@
--- The worked state is valid, and is the summary of the worked file.
+-- The example state is valid, and is the summary of the example file.
 use Rattle.std.proofs.Common.{refl, inr, lit≤, lit<, ◌≡◌, [], ◌∷◌, arith, ap, ◌∙◌, Contains, None, sym, subst}
 use Rattle.std.specs.Prelude.{⊤, codes}
 use Rattle.std.proofs.lemmas.List.Elements.{All-from_recursion}
@@ -19,7 +19,7 @@ use Rattle.cif_laws.proofs.schedules.WorkedSchedule.{f2_is_schedule}
 use Rattle.state_laws.proofs.joins.RaisedHorizon.{plain_summary}
 use Rattle.cif_laws.proofs.lists.Membership.{Contains-single, single-Contains}
 
--- the ledger item of the worked file is well formed
+-- the ledger item of the example file is well formed
 pub good_item : IsGoodItem f2_item
 good_item = record {
   day = lit≤ tt;
@@ -32,7 +32,7 @@ good_item = record {
 no_full : (item : LedgerItem) → Contains (f2_item ∷ []) item → item.indicator ≡ 70 → ⊥
 no_full item among full = let same = ap (λ (i : LedgerItem). i.indicator) (Contains-single f2_item item among) ∙ full in omega arith
 
--- the ledger of the worked state is well formed
+-- the ledger of the example state is well formed
 pub good_ledger : IsLedger (f2_item ∷ [])
 good_ledger = record {
   each = All-from_recursion IsGoodItem (f2_item ∷ []) (good_item, tt);
@@ -51,7 +51,7 @@ f2_entry = record { stamp = record { file = f2_item.stamp; number = 2 }; op = pu
 schedule_of_key : IsScheduleOf f2_key f2_schedule
 schedule_of_key = record { schedule = f2_is_schedule; few = lit< tt; new = refl; key_is = key_of_f2 }
 
--- the entry of the worked state is well formed
+-- the entry of the example state is well formed
 pub good_entry : IsGoodEntry (f2_item ∷ []) (schedule_key f2_key, f2_entry)
 good_entry = record {
   key = record { uid = (refl, AllPass-from_list_all is_printable f2_key.uid refl); runs_from = lit≤ tt; indicator = refl };
@@ -59,7 +59,7 @@ good_entry = record {
   op = schedule_of_key;
 }
 
--- the worked state is valid
+-- the example state is valid
 pub f2_state_valid : IsValid f2_state
 f2_state_valid = record {
   horizon = lit≤ tt;
@@ -68,7 +68,7 @@ f2_state_valid = record {
   entries = (All-from_recursion (IsGoodEntry (f2_item ∷ [])) ((schedule_key f2_key, f2_entry) ∷ []) (good_entry, tt), (tt, tt));
 }
 
--- the ledger item of the worked file
+-- the ledger item of the example file
 item_is : ledger_item_of f2 ≡ f2_item
 item_is = item_of_f2
 
@@ -94,7 +94,7 @@ f2_entry_of = record {
   entry_is = entry_is;
 }
 
--- the changes of the worked file leave only this entry
+-- the changes of the example file leave only this entry
 only_entry : (key : Key) (entry : Entry) (made : IsEntryOf (f2 ∷ []) None key entry) → (schedule_key f2_key ≡ key) × (f2_entry ≡ entry)
 only_entry key entry made =
     let file_is : f2 ≡ made.file = Contains-single f2 made.file made.kept.among in
@@ -111,7 +111,7 @@ not_above other made greater =
     let tied = (tied_itself entry_total f2_entry) in
     cc
 
--- the worked state is the summary of the worked file
+-- the example state is the summary of the example file
 pub f2_summary : IsSummary (f2 ∷ []) 0 f2_state
 f2_summary = (plain_summary (f2 ∷ []) f2_state).0 (record {
   no_horizon = refl;

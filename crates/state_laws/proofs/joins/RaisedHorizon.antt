@@ -46,8 +46,8 @@ set_last state valid =
 
 -- ---- a horizon may be set after a join instead of before
 
--- a state may be joined without its horizon if this horizon is set afterwards: the result is the
--- join with the whole state
+-- a state `b` may be joined without its horizon if this horizon is set afterwards: the result is
+-- the join of `a` with the whole state `b`
 pub join_then_set : (a b c : State) → IsJoin a (without_horizon b) c → IsJoin a b (raise_horizon b.horizon c)
 join_then_set a b c is = record {
   horizon = horizons;

@@ -75,7 +75,7 @@ nothing_staged own floor = record {
 
 module _ (own : State) (floor : Option FileStamp) (offered staged : List (Key × Entry)) (key : Key) (entry : Entry)
     (stages : IsStaged own floor offered staged) where
-  -- if an offered entry is to be staged, the offer appends it to the staged entries
+  -- if an offered entry is to be staged, it is appended to the staged entries
   pub one_staged_more : ((other : Key × Entry) → Contains staged other → key_cmp other.0 key ≡ Less) → IsToStage own floor key entry
       → IsStaged own floor (offered ++ (key, entry) ∷ []) (staged ++ (key, entry) ∷ [])
   one_staged_more above to = record {
@@ -102,7 +102,7 @@ module _ (own : State) (floor : Option FileStamp) (offered staged : List (Key ×
       back k e to_stage (inl here) = Contains-append_left staged ((key, entry) ∷ []) (k, e) ((stages.members k e).1 (here, to_stage))
       back k e to_stage (inr here) = Contains-append_right staged ((key, entry) ∷ []) (k, e) here
 
-  -- if an offered entry isn't to be staged, the offer leaves the staged entries unchanged
+  -- if an offered entry isn't to be staged, the staged entries are unchanged
   pub one_left_out : ¬ IsToStage own floor key entry → IsStaged own floor (offered ++ (key, entry) ∷ []) staged
   one_left_out out = record {
     ascending = stages.ascending;

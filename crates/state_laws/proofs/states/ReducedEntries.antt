@@ -40,7 +40,7 @@ pub record IsReduced (items : List LedgerItem) (entries : List Keyed) (state : S
 module _ (items more : List LedgerItem) (entries others : List Keyed) (once twice : State) (first : IsReduced items entries once)
     (second : IsReduced (once.ledger ++ more) (once.entries ++ others) twice)
     (rises : once.horizon ≤ twice.horizon) where
-  -- ---- the ledger after two steps equals the ledger after one step
+  -- ---- reducing ledgers in two steps gives the same ledger as reducing them in one step
   Top : LedgerItem → Type 0
   Top item = (top : LedgerItem) × Contains (once.ledger ++ more) top × IsFull top × IsAtMost file_stamp_cmp item.stamp top.stamp
 
@@ -101,12 +101,13 @@ module _ (items more : List LedgerItem) (entries others : List Keyed) (once twic
       by (inl here) = Contains-append_left once.ledger more item ((first.ledger item).1 (here, kept_first item.stamp kept))
       by (inr here) = Contains-append_right once.ledger more item here
 
-  -- ---- the entries after two steps equal the entries after one step
+  -- ---- reducing entries in two steps gives the same entries as reducing them in one step
   module _ (key : Key) where
     Whole : Type 0
     Whole = (best : Entry) × IsGreatestAmong (entries ++ others) key best
 
-    -- each entry of the second step is at most the greatest of all entries of the key
+    -- each entry of a key in the second step of the reduction is at most the greatest of all
+    -- entries of the key
     under_best : (best : Entry) → IsGreatestAmong (entries ++ others) key best → (other : Entry) → Contains (once.entries ++ others) (key, other)
         → IsAtMost entry_cmp other best
     under_best best is other among = by (Contains-append_cases once.entries others (key, other) among)
@@ -119,8 +120,8 @@ module _ (items more : List LedgerItem) (entries others : List Keyed) (once twic
             (subst (λ e. IsAtMost entry_cmp e told.0) told.3 (lapse_below once.horizon told.0))
             (is.greatest told.0 (Contains-append_left entries others (key, told.0) told.1.among))
 
-    -- if the greatest of all entries isn't below the floor, it is among the other entries, or the
-    -- result of the first step contains it after lapsing
+    -- suppose that the greatest of all entries of a key isn't below the floor. Either it is in
+    -- `others`, or the first step of the reduction keeps it, lapsed with the horizon of this step
     stands : (best : Entry) → IsGreatestAmong (entries ++ others) key best → IsKept second.floor best.stamp.file
         → Contains once.entries (key, lapse_entry once.horizon best) ⊎ Contains others (key, best)
     stands best is kept = by (Contains-append_cases entries others (key, best) is.among)
@@ -135,13 +136,14 @@ module _ (items more : List LedgerItem) (entries others : List Keyed) (once twic
           λ i. lapse_entry once.horizon best,
         ))
 
-    -- lapsing makes the greatest entry of the second step equal to the greatest of all entries
+    -- let `best` be the greatest of all entries of a key, and `top` the greatest entry in the
+    -- second step of the reduction. Lapsing makes them equal
     same_lapse : (best top : Entry) → IsGreatestAmong (entries ++ others) key best → IsGreatestAmong (once.entries ++ others) key top
         → IsKept second.floor best.stamp.file → IsKept second.floor top.stamp.file → lapse_entry twice.horizon best ≡ lapse_entry twice.horizon top
     same_lapse best top is_best is_top kept_best kept_top = by (stands best is_best kept_best)
       where
-        -- if the second step contains the greatest of all entries itself, lapsing this entry gives
-        -- the same result as lapsing the greatest entry of the second step
+        -- lapsing makes `best` and `top` equal, if the second step of the reduction contains `best`
+        -- itself
         itself : Contains (once.entries ++ others) (key, best) → lapse_entry twice.horizon best ≡ lapse_entry twice.horizon top
         itself there =
             one_per_key twice.entries second.entries_ascend key (lapse_entry twice.horizon best) (lapse_entry twice.horizon top)
@@ -154,8 +156,7 @@ module _ (items more : List LedgerItem) (entries others : List Keyed) (once twic
             ))
             ((second.of_keys key (lapse_entry twice.horizon top)).1 (top, is_top, kept_top, λ i. lapse_entry twice.horizon top))
 
-        -- if the second step contains the greatest of all entries after it has lapsed, lapsing this
-        -- entry gives the same result as lapsing the greatest entry of the second step
+        -- lapsing makes `best` and `top` equal, if the first step of the reduction lapses `best`
         between : lapse once.horizon best.op ≡ lapsed → Contains once.entries (key, lapse_entry once.horizon best)
             → lapse_entry twice.horizon best ≡ lapse_entry twice.horizon top
         between has there =
