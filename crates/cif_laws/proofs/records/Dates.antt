@@ -143,7 +143,7 @@ module _ (y m d : ℕ) (year : 1960 ≤ y) (last : y ≤ 2059) (civil : IsCivilD
       let here = number_here in
       lt-leb (day_number (1960 + i) 1 1) (day_number y m d) (omega arith)
 
-  -- `year_of` of a date's number is the year of the date
+  -- `year_of` converts the day number of a date to the year of the date
   pub year_of-day_number : year_of (day_number y m d) ≡ y
   year_of-day_number =
       let counted = count_prefix (λ v. nat_le (day_number v 1 1) (day_number y m d)) 1960 100 (y - 1959) (omega arith) year_passes year_fails in
@@ -176,13 +176,13 @@ module _ (y m d : ℕ) (year : 1960 ≤ y) (last : y ≤ 2059) (civil : IsCivilD
       let here = number_here in
       lt-leb (day_number y (1 + i) 1) (day_number y m d) (omega arith)
 
-  -- `month_of` of a date's number is the month of the date
+  -- `month_of` converts the day number of a date to the month of the date
   pub month_of-day_number : month_of (day_number y m d) ≡ m
   month_of-day_number =
       let counted = count_prefix (λ v. nat_le (day_number y v 1) (day_number y m d)) 1 12 m civil.1.1 month_passes month_fails in
       (λ i. count_by (λ v. nat_le (day_number (year_of-day_number i) v 1) (day_number y m d)) (range_with_len 1 12)) ∙ counted
 
-  -- `day_of_month` of a date's number is the day of the date
+  -- `day_of_month` converts the day number of a date to the day of the month
   pub day_of_month-day_number : day_of_month (day_number y m d) ≡ d
   day_of_month-day_number =
       let there = day_number-day_count y m 1 year (omega arith) civil.1.0 (omega arith) in

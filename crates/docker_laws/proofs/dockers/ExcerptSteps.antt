@@ -371,8 +371,8 @@ pub or_false : (b : Bool) → (b || false) ≡ b
 or_false true = refl
 or_false false = refl
 
--- after an entry is appended to `run`, a schedule in `run` calls at the place if and only if one of
--- the entries before or the appended entry calls there
+-- `is_run_calling` holds for a list with an entry appended if and only if it holds for the list, or
+-- the appended entry is a schedule that calls at the place
 pub calls_more : (place : List ℕ) (run : List Keyed) (entry : Keyed)
     → is_run_calling place (run ++ entry ∷ []) ≡ (is_run_calling place run || is_call place entry.1.op)
 calls_more place run entry =

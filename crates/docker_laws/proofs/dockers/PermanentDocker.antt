@@ -106,8 +106,8 @@ lapses_alike horizon live = λ i key. by (is_permanent key) (live key) i
     by true found = refl
     by false found = refl
 
--- if a horizon is early enough for the docker of the day, lapsing a table with this horizon leaves
--- its permanent docker unchanged
+-- suppose that the program doesn't refuse dockers of the day because of a horizon. Lapsing a table
+-- with this horizon leaves the permanent docker of the table unchanged
 lapsed_iff : (horizon : ℕ) (live : Table) (place : List ℕ) (day : ℕ) (text : List ℕ) → IsDay horizon → HasGoodBodies live → ¬ IsDayRefused horizon day
     → IsDockerText (permanent_table live) place day text ↔ IsDockerText (permanent_table (lapse_table horizon live)) place day text
 lapsed_iff horizon live place day text is_day good printed =
@@ -138,8 +138,8 @@ permanent_is_plain files horizon state table place day text are is_day summary p
     subst (λ (t : Table). IsDockerText (permanent_table t) place day text ↔ IsDockerText (permanent_table table) place day text)
     (sym (live_is_lapsed_plain files horizon state table summary plain)) (told.1, told.0)
 
--- if a horizon is early enough for the docker of the day, lapsing a state with this horizon leaves
--- its permanent docker unchanged
+-- suppose that the program doesn't refuse dockers of the day because of a horizon. Lapsing a state
+-- with this horizon leaves the permanent docker of the state unchanged
 permanent_stays : (horizon : ℕ) (state : State) (place : List ℕ) (day : ℕ) (text : List ℕ) → IsDay horizon → IsValid state → ¬ IsDayRefused horizon day
     → IsDockerText (permanent_table (live_table state)) place day text → IsDockerText (permanent_table (live_table (lapse_state horizon state))) place day text
 permanent_stays horizon state place day text is_day valid printed is =

@@ -47,15 +47,15 @@ one_calling_index live a b one two =
 pub one_linked_index : (live : Table) (a b : List LinkedRow) → IsLinkedIndex live a → IsLinkedIndex live b → a ≡ b
 one_linked_index live a b one two = same_list linked_total a b one.ascending two.ascending (λ row. through (one.members row.0 row.1) (two.members row.0 row.1))
 
--- a place has at most one list of rows of the schedules that call at the place
+-- for each place, the list of rows for the schedules that call at the place is unique
 pub one_calling : (live : Table) (place : List ℕ) (a b : List Row) → AreCalling live place a → AreCalling live place b → a ≡ b
 one_calling live place a b one two = same_list rows_total a b one.ascending two.ascending (λ row. through (one.members row.0 row.1) (two.members row.0 row.1))
 
--- a place has at most one list of rows of its associations
+-- for each place, the list of rows for its associations is unique
 pub one_linked : (live : Table) (place : List ℕ) (a b : List Row) → AreLinked live place a → AreLinked live place b → a ≡ b
 one_linked live place a b one two = same_list rows_total a b one.ascending two.ascending (λ row. through (one.members row.0 row.1) (two.members row.0 row.1))
 
--- a UID has at most one list of rows of its schedules
+-- for each UID, the list of rows for its schedules is unique
 pub one_of_uid : (live : Table) (uid : List ℕ) (a b : List Row) → AreOfUid live uid a → AreOfUid live uid b → a ≡ b
 one_of_uid live uid a b one two = same_list rows_total a b one.ascending two.ascending (λ row. through (one.members row.0 row.1) (two.members row.0 row.1))
 

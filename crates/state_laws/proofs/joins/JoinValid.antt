@@ -34,8 +34,8 @@ kept_floor items ledger (Some stamp) greatest from to = record {
   greatest = λ item among. greatest.greatest item (from item among);
 }
 
--- suppose that the joined ledger has each item of a ledger that isn't below the floor. It also has
--- the file stamp of each of these items
+-- suppose that the joined ledger has each item of a ledger that isn't below the floor. Then the
+-- joined ledger also has the file stamp of each of these items
 pub stamp_stays : (ledger joined : List LedgerItem) (floor : Option FileStamp) → ((item : LedgerItem) → Contains ledger item → IsKept floor item.stamp
     → Contains joined item)
     → (stamp : FileStamp) → IsKept floor stamp → Contains (map (λ (item : LedgerItem). item.stamp) ledger) stamp

@@ -95,7 +95,7 @@ last_there (entry ∷ entries) table key up = by (last_there entries (step table
     by (inl none) = first_alone entry entries table key (is_eq (key_cmp entry.0 key)) refl none
     by (inr last) = inr (not_first entry entries table key up.0 last)
 
--- ---- the table after files is the table after the entries of their changes
+-- ---- applying the changes of files to a table equals applying the entries that these changes leave
 
 -- the entry that a change of a file leaves, with its key
 abbrev pub entry_of_change : List (List ℕ) → Change → Keyed
@@ -109,7 +109,7 @@ entries_of file = map (entry_of_change file) (changes file)
 abbrev pub entries_along : List (List (List ℕ)) → List Keyed
 entries_along files = flat_map entries_of files
 
--- the table after the changes of a file equals the table after the entries of these changes
+-- applying changes of a file to a table equals applying the entries that these changes leave
 pub fold_entries : (file : List (List ℕ)) (table : Table) (cs : List Change) → fold after_change table cs ≡ fold step table (map (entry_of_change file) cs)
 fold_entries file table [] = refl
 fold_entries file table (change ∷ cs) = fold_entries file (after_change table change) cs
@@ -118,7 +118,7 @@ fold_append : (table : Table) (xs ys : List Keyed) → fold step table (xs ++ ys
 fold_append table [] ys = refl
 fold_append table (x ∷ xs) ys = fold_append (step table x) xs ys
 
--- the table after files equals the table after the entries of their changes
+-- applying the changes of files to a table equals applying the entries that these changes leave
 pub after_files_is : (table : Table) (files : List (List (List ℕ))) → after_files table files ≡ fold step table (entries_along files)
 after_files_is table [] = refl
 after_files_is table (file ∷ files) =

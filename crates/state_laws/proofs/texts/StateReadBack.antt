@@ -190,7 +190,7 @@ schedule_sized key good =
     let one = length-append key.uid (to_be_bytes w16 key.runs_from ++ (key.indicator ∷ [])) in
     omega arith
 
--- the number of bytes of a well-formed key is `key_width` of its tag
+-- `key_width` computes the number of bytes of a well-formed key from the key's tag
 pub key_width_is : (key : Key) → IsGoodKey key → length (key_bytes key) ≡ key_width (key_tag key)
 key_width_is (tiploc_key code) good = good.0.0
 key_width_is (association_key key) good = ap length (association_bytes_are key) ∙ association_sized key good

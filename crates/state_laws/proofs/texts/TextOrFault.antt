@@ -33,7 +33,8 @@ part_some state (before_body (association_key key) stamp) here = omega arith
 part_some state (before_body (schedule_key key) stamp) here = omega arith
 part_some state (before_line key stamp n lines) here = omega arith
 
--- a stage of a text is the end of a state, or a part of at least one byte comes next
+-- at each stage of a text, a reader is at the end of a state, or a part of at least one byte comes
+-- next
 pub end_or_part : (format : Format) → (before : Before) → AreGood format before → ((state : State) × (before ≡ at_end state)) ⊎ (0 < width before)
 end_or_part format before_mark good = inr (omega arith)
 end_or_part format before_horizon good = inr (omega arith)
