@@ -31,19 +31,19 @@ abbrev pub start_days : ℕ → List ℕ
 start_days day = map (λ back. day - back) (filter (λ back. nat_le back day) (0 ∷ 1 ∷ 2 ∷ []))
 
 -- the docker lines of a train's events at the place on the day. The train starts on the day `start`
--- and runs by this schedule
+-- and runs according to this schedule
 abbrev pub event_lines : List ℕ → ℕ → ℕ → ScheduleKey → List (List ℕ) → List DockerLine
 event_lines place day start key lines =
     map (line_of_event key start lines)
     (filter (λ event. bytes_eq (columns 3 9 (event_line lines event)) place && (event_day start lines event == day)) (events_of lines))
 
--- whether there is a train, and that train runs by the schedule with this key
+-- whether there is a train, and that train runs according to the schedule with this key
 abbrev pub runs_by : Option Train → ScheduleKey → Bool
 runs_by None key = false
 runs_by (Some train) key = is_eq (schedule_key_cmp train.key key)
 
 -- the docker lines of a schedule at the place on the day: for each start day on which the train
--- runs by this schedule, the lines of its events
+-- runs according to this schedule, the lines of its events
 abbrev pub schedule_lines : (List ℕ → ℕ → Option Train) → List ℕ → ℕ → ScheduleKey → List (List ℕ) → List DockerLine
 schedule_lines trains place day key lines =
     flat_map (λ start. if runs_by (trains key.uid start) key then event_lines place day start key lines else []) (start_days day)

@@ -71,8 +71,8 @@ is_choice trains uid day train =
 abbrev pub chosen_in : List Row → List ℕ → ℕ → Option Train
 chosen_in rows uid day = find (is_choice (schedules_in rows) uid day) (schedules_in rows)
 
--- the train that runs by the chosen schedule, or `None` if there is no chosen schedule or the
--- chosen schedule is a cancellation
+-- the train that runs according to the chosen schedule, or `None` if there is no chosen schedule or
+-- the chosen schedule is a cancellation
 abbrev pub unless_cancelled : Option Train → Option Train
 unless_cancelled None = None
 unless_cancelled (Some train) = if train.key.indicator == 67 then None else Some train

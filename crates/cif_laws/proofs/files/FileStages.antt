@@ -289,8 +289,8 @@ place_from_append (line ∷ front) place middle more found =
     let step = then_some (λ next. place_from next front) (next_place place line) middle found in
     (λ i. option_and_then (λ next. place_from next (front ++ more)) (step.1 i)) ∙ place_from_append front step.0 middle more step.2
 
--- if a record has a next stage in a schedule, it leads a reader of the file to the `Place` with
--- that stage. If the journey is then complete, the `Place` is between units
+-- if a record leads to a next stage of a schedule, it leads a reader of the file to the `Place`
+-- with that stage. If the journey is then complete, the `Place` is between units
 pub next_of_stage : (stage : Stage) (lines : Lines) (line : List ℕ) (next : Stage) → next_stage stage lines line ≡ Some next
     → next_place (in_schedule stage lines) line ≡ Some (place_in next (lines ++ line ∷ []))
 next_of_stage stage lines line next found =
@@ -340,7 +340,7 @@ unit_from (basic ∷ rest) stage more found = by (is_first_line basic) refl foun
         ∙ schedule_from rest after_basic (basic ∷ []) stage more told
     by false h told = cc
 
--- a record that can't follow a basic schedule has no next stage
+-- a record that can't follow a basic schedule leads to no next stage
 pub stage_stops : (stage : Stage) (kind : Option Kind) → follows_basic kind ≡ false → stage_after stage kind ≡ None
 stage_stops stage None h = by stage
   where
@@ -415,7 +415,7 @@ place_of_file file is =
     }) i))
     ∙ units_pass is.units is.last (recursion_from_All IsUnit is.units is.each) is.trailer_record is.trailer_kind
 
--- ---- the laws of places
+-- ---- the laws of `Place`
 
 place_from_front : (front rest : Lines) (place final : Place) → place_from place (front ++ rest) ≡ Some final
     → (middle : Place) × (place_from place front ≡ Some middle)

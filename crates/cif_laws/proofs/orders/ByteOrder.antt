@@ -45,7 +45,7 @@ digits_cmp m n few others Equal low above behind = by low behind
     by Equal is = nat_cmp_is m n Equal (let it = level in let rest = ranked (m % 256) (n % 256) Equal is in omega arith)
     by Greater is = nat_cmp_is m n Greater (let it = level in let rest = ranked (m % 256) (n % 256) Greater is in omega arith)
 
--- two numbers below 2^16 compare like their two bytes, high byte first
+-- two numbers below 2^16 compare like their two bytes, if the high byte is first
 pub two_bytes_cmp : (m n : ℕ) → m < 2 ^ 16 → n < 2 ^ 16 → bytes_cmp (to_be_bytes w16 m) (to_be_bytes w16 n) ≡ nat_cmp m n
 two_bytes_cmp m n few others =
     ap (ordering_then (nat_cmp (m / 256 % 256) (n / 256 % 256))) (then_equal_right (nat_cmp (m % 256) (n % 256))) ∙ digits_cmp m n few others _ _ refl refl

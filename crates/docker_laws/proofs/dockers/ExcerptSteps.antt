@@ -366,7 +366,7 @@ run_needed_iff place so_far key entry others is =
         or_right (is_run_named (names_in so_far.kept) so_far.run) (is_run_calling place so_far.run)
         (any_forth (λ (e : Keyed). is_call place e.1.op) so_far.run call.0 call.1 call.2)
 
--- for any test `b`, "`b` or false" is `b`
+-- for any Boolean `b`, "`b` or false" is `b`
 pub or_false : (b : Bool) → (b || false) ≡ b
 or_false true = refl
 or_false false = refl

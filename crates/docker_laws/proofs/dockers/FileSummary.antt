@@ -229,7 +229,7 @@ latest_is (first ∷ entries) up key entry = (forth (latest_is entries up.1 key)
             member_still first (latest_entries entries) (key, entry)
             ((later entry).1 (record { among = inside; greatest = λ other among. is.greatest other (cons-Contains first entries (key, other) among) }))
 
--- ---- the computed state is the summary of the file
+-- ---- `summary_of` computes the summary of the file
 
 module _ (file : List (List ℕ)) where
   -- the stamp of a file isn't below the floor of a ledger that has only this file
@@ -292,7 +292,7 @@ module _ (file : List (List ℕ)) where
     );
   }
 
-  -- the computed state is the summary of the file
+  -- `summary_of` computes the summary of the file
   pub summary_is : IsSummary (file ∷ []) 0 (summary_of file)
   summary_is =
       reduced_summary (file ∷ []) 0 (summary_of file) refl

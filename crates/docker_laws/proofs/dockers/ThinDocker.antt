@@ -100,7 +100,7 @@ module _ (one other : Table) (place : List ℕ) (day : ℕ) (forth : Covers one 
         found.2,
       )
 
-  -- a train that calls at the place runs by the same records in both tables
+  -- a train that calls at the place runs according to the same records in both tables
   calling_over : (start : ℕ) → IsStartNear day start → (uid : List ℕ) (key : ScheduleKey) (lines : List (List ℕ)) → CallsAt place lines
       → TrainRuns one uid start key lines → TrainRuns other uid start key lines
   calling_over start near uid key lines calls is =

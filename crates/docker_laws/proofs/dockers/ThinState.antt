@@ -111,7 +111,7 @@ thin_op place day key (put body) good = by (may_count day (put_with body))
     by true = needed_is_body place key body good
     by false = tt
 
--- ---- the state is valid
+-- ---- the state made from the kept changes is valid
 
 -- a ledger with only one well-formed item is well formed
 ledger_of_one : (item : LedgerItem) → IsGoodItem item → IsLedger (item ∷ [])
@@ -193,7 +193,7 @@ module _ (place : List ℕ) (day : ℕ) (file : List (List ℕ)) (is_file : IsFi
         (λ entry among. subst (λ horizon. HasNotToLapse horizon entry.1.op) (sym of.horizon) (no_lapse entry.1.op));
   }
 
-  -- ---- the state has the same docker as the summary of the file
+  -- ---- the state made from the kept changes has the same docker as the summary of the file
 
   module _ (whole : State) (summary : IsSummary (file ∷ []) 0 whole) where
     whole_good : HasGoodBodies (live_table whole)

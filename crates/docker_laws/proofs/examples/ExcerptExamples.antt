@@ -87,12 +87,12 @@ only_stops other others h =
     ap (λ (pair : Keyed). schedule_in pair.0)
     (Contains-single {A = Keyed} (put_in (schedule_key stops_key) (schedule_body stops)) (schedule_key other, found.0) found.1)
 
--- on the day of the overlay the train doesn't run by the permanent schedule
+-- on the day of the overlay the train doesn't run according to the permanent schedule
 runs_by_overlay : ¬ TrainRuns (live_table overlaid) (codes "C40001") 23538 stops_key stops
 unfolding days_from_civil day_count days_of_years days_of_months
 runs_by_overlay runs = runs.chosen.first short_key short (record { uid_is = refl; is_live = refl; runs_then = refl }) refl
 
--- without the overlay, the train would run by the permanent schedule on that day
+-- without the overlay, the train would run according to the permanent schedule on that day
 would_stop : TrainRuns (live_table alone) (codes "C40001") 23538 stops_key stops
 unfolding days_from_civil day_count days_of_years days_of_months
 would_stop = record {

@@ -224,7 +224,7 @@ overlay_is_kept : thin_changes place 23538 overlaid ≡ put_schedule 2 stops_key
 unfolding days_from_civil day_count days_of_years days_of_months
 overlay_is_kept = refl
 
--- on 11 June the train runs by the overlay
+-- on 11 June the train runs according to the overlay
 overlay_runs : IsRunning (table_of overlaid) (codes "C40001") 23538 short_key way_round
 unfolding days_from_civil day_count days_of_years days_of_months
 overlay_runs = record { uid_is = refl; is_live = refl; runs_then = refl }
@@ -235,7 +235,7 @@ not_there lines same calls =
     let bad : false ≡ true = test in
     cc
 
--- on 11 June the train doesn't run by the schedule that calls at COLWELL
+-- on 11 June the train doesn't run according to the schedule that calls at COLWELL
 not_by_stops : (uid : List ℕ) (start : ℕ) (key : ScheduleKey) (lines : List (List ℕ)) → stops_key ≡ key → start ≡ 23538
     → ¬ TrainRuns (table_of overlaid) uid start key lines
 not_by_stops uid start key lines same day runs =

@@ -70,8 +70,8 @@ pub record IsChosen (live : Table) (uid : List ℕ) (day : ℕ) (key : ScheduleK
   pub running : IsRunning live uid day key lines
   pub first : (other : ScheduleKey) (others : List (List ℕ)) → IsRunning live uid day other others → IsAtMost schedule_choice_cmp key other
 
--- a train of the UID starts on the day and runs by this schedule: the schedule is the chosen
--- schedule, and isn't a cancellation
+-- a train of the UID starts on the day and runs according to this schedule: the schedule is the
+-- chosen schedule, and isn't a cancellation
 pub record TrainRuns (live : Table) (uid : List ℕ) (day : ℕ) (key : ScheduleKey) (lines : List (List ℕ)) : Type 0 where
   pub chosen : IsChosen live uid day key lines
   pub no_cancellation : ¬ IsCancellation key.indicator

@@ -66,8 +66,8 @@ public_by_kind _ _ line = spaces 4
 abbrev pub tiploc_of_first : List ℕ → List (List ℕ) → List ℕ
 tiploc_of_first identity lines = columns 3 9 (unwrap_or (find (λ line. has_identity identity line) lines) [])
 
--- converts an event of a train to its docker line. The train runs by the schedule with this key and
--- these records, and starts on this day
+-- converts an event of a train to its docker line. The train runs according to the schedule with
+-- this key and these records, and starts on this day
 abbrev pub line_of_event : ScheduleKey → ℕ → List (List ℕ) → Event → DockerLine
 line_of_event key start lines event =
     let at = event_line lines event in

@@ -45,7 +45,7 @@ stamp_stays ledger joined floor to stamp kept among =
     subst (Contains (map (λ (item : LedgerItem). item.stamp) joined)) found.2
     (map-Contains (λ (item : LedgerItem). item.stamp) joined found.0 (to found.0 found.1 (subst (IsKept floor) (sym found.2) kept)))
 
--- lapsing leaves a well-formed op well formed
+-- after lapsing, a well-formed op is still well formed
 op_lapses : (horizon : ℕ) (key : Key) (op : Op) → IsOpOf key op → IsOpOf key (lapse horizon op)
 op_lapses horizon key deleted good = tt
 op_lapses horizon key lapsed good = tt
@@ -55,7 +55,7 @@ op_lapses horizon key (put_with body) good = by (below_or horizon body)
     by (inl below) = subst (IsOpOf key) (sym (put_lapses horizon body below)) tt
     by (inr above) = subst (IsOpOf key) (sym (put_stays horizon body above)) good
 
--- lapsing leaves a good entry good
+-- after lapsing, a good entry is still good
 pub good_lapses : (horizon : ℕ) (ledger : List LedgerItem) (key : Key) (entry : Entry) → IsGoodEntry ledger (key, entry)
     → IsGoodEntry ledger (key, lapse_entry horizon entry)
 good_lapses horizon ledger key entry good = record { key = good.key; stamp = good.stamp; op = op_lapses horizon key entry.op good.op }
@@ -113,7 +113,7 @@ join_is_valid first second joined one two is = record {
         moved second.ledger (λ item among keeps. (is.ledger item).1 (Contains-append_right first.ledger second.ledger item among, keeps)) entry kept
         (All-contains (IsGoodEntry second.ledger) second.entries entry two.entries.0 here)
 
--- lapsing leaves a valid state valid, if the horizon is a day number
+-- after lapsing, a valid state is still valid, if the horizon is a day number
 pub lapsed_is_valid : (horizon : ℕ) (state : State) → IsDay horizon → IsValid state → IsValid (lapse_state horizon state)
 lapsed_is_valid horizon state day valid = record {
   horizon = day;

@@ -77,7 +77,7 @@ pub lapse_ascends : (horizon : ℕ) (entries : List Keyed) → AreAscending entr
 lapse_ascends horizon [] up = tt
 lapse_ascends horizon (entry ∷ entries) up = (above_lapsed horizon entry entries up.0, lapse_ascends horizon entries up.1)
 
--- lapsing leaves entries that don't have to lapse unchanged
+-- entries that don't have to lapse are unchanged by lapsing
 pub entries_stay : (horizon : ℕ) (entries : List Keyed) → AllByRecursion (λ (entry : Keyed). HasNotToLapse horizon entry.1.op) entries
     → lapse_entries horizon entries ≡ entries
 entries_stay horizon [] all = refl

@@ -32,7 +32,7 @@ put_lapses horizon body below = λ i. cond (lt-ltb (body_end body) horizon below
 pub put_stays : (horizon : ℕ) (body : Body) → horizon ≤ body_end body → lapse horizon (put_with body) ≡ put_with body
 put_stays horizon body above = λ i. cond (le-ltb (body_end body) horizon above i) lapsed (put_with body)
 
--- lapsing leaves an op that doesn't have to lapse unchanged
+-- an op that doesn't have to lapse is unchanged by lapsing
 pub op_stays : (horizon : ℕ) (op : Op) → HasNotToLapse horizon op → lapse horizon op ≡ op
 op_stays horizon deleted has_not = refl
 op_stays horizon lapsed has_not = refl
@@ -152,6 +152,6 @@ lapse_entry_keeps_order horizon a b most = by (stamp_cmp a.stamp b.stamp) most
 pub entry_twice : (second first : ℕ) (entry : Entry) → lapse_entry second (lapse_entry first entry) ≡ lapse_entry (max second first) entry
 entry_twice second first entry = λ i. record { stamp = entry.stamp; op = lapse_twice second first entry.op i }
 
--- lapsing leaves an entry that doesn't have to lapse unchanged
+-- an entry that doesn't have to lapse is unchanged by lapsing
 pub entry_stays : (horizon : ℕ) (entry : Entry) → HasNotToLapse horizon entry.op → lapse_entry horizon entry ≡ entry
 entry_stays horizon entry has_not = λ i. record { stamp = entry.stamp; op = op_stays horizon entry.op has_not i }

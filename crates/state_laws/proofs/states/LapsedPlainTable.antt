@@ -30,7 +30,7 @@ module _ (files : List (List (List ℕ))) (horizon : ℕ) (state : State) (table
   at_least entry other (inr below) greater =
       let less : entry_cmp other entry ≡ Less = (λ i. ordering_then (below i) (op_cmp other.op entry.op)) in cc
 
-  -- at each key the live table of the summary is the lapsed plain table
+  -- at each key, the live table of the summary equals the lapsed plain table
   pub live_is_plain : live_table state key ≡ lapse_table horizon table key
   unfolding entries
   live_is_plain =

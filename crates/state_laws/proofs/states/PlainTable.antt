@@ -26,7 +26,7 @@ use Rattle.cif_laws.proofs.lists.AllOf.{all_append, all_map, all_weaker}
 use Rattle.cif_laws.proofs.files.ChangeOrder.{Apart, changes_apart}
 use Rattle.cif_laws.proofs.orders.AtMost.{less_not_greater, at_most_trans}
 
--- ---- after a list of entries, the table has the body of each key's last entry
+-- ---- after the entries of a list are applied, the table has the body of each key's last entry
 
 -- a key with its entry
 abbrev pub Keyed : Type 0
