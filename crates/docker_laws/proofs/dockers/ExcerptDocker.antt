@@ -69,7 +69,7 @@ association_over one other group day key line same is = record {
       (associated_over other one group day another others (λ link of. sym (same link of)) runs);
 }
 
--- ---- a table that agrees with another table where the docker depends on it has all its docker lines
+-- ---- if a table agrees with another table where the docker depends on it, the docker lines agree
 
 -- the table `other` agrees with the table `one` wherever the docker of the place depends on `one`.
 -- The two tables have the same schedules of each UID that the docker needs, and the same

@@ -89,7 +89,8 @@ near_state_text place day state text valid =
 pub excerpt_on_valid : (place : List ℕ) (day : ℕ) (state : State) → IsValid state → IsValid (excerpt_on place day state)
 excerpt_on_valid place day state valid = walk_valid place (near_state day state) (near_valid day state valid)
 
--- a valid state and its excerpt for a place and a day have the same docker list for them
+-- a valid state and its excerpt for a place and a day have the same docker list for this place and
+-- day
 pub excerpt_on_list : (place : List ℕ) (day : ℕ) (state : State) (lines : List DockerLine) → IsValid state
     → IsDockerList (live_table state) place day lines ↔ IsDockerList (live_table (excerpt_on place day state)) place day lines
 excerpt_on_list place day state lines valid =
@@ -97,7 +98,8 @@ excerpt_on_list place day state lines valid =
     let walk = walk_list_iff place (near_state day state) day lines (near_valid day state valid) in
     (λ is. walk.0 (near.0 is), λ is. near.1 (walk.1 is))
 
--- a valid state and its excerpt for a place and a day have the same docker text for them
+-- a valid state and its excerpt for a place and a day have the same docker text for this place and
+-- day
 pub excerpt_on_text : (place : List ℕ) (day : ℕ) (state : State) (text : List ℕ) → IsValid state
     → IsDockerText (live_table state) place day text ↔ IsDockerText (live_table (excerpt_on place day state)) place day text
 excerpt_on_text place day state text valid =

@@ -95,7 +95,7 @@ last_there (entry ∷ entries) table key up = by (last_there entries (step table
     by (inl none) = first_alone entry entries table key (is_eq (key_cmp entry.0 key)) refl none
     by (inr last) = inr (not_first entry entries table key up.0 last)
 
--- ---- applying the changes of files to a table equals applying the entries that these changes leave
+-- ---- applying changes of files to a table equals applying the entries that the changes leave
 
 -- the entry that a change of a file leaves, with its key
 abbrev pub entry_of_change : List (List ℕ) → Change → Keyed
