@@ -51,7 +51,7 @@ one_schedule_cause earlier line first second is_first is_second = by (cases_orde
     by (inr (inl below)) = absurd (is_second.first first below is_first.holds)
     by (inr (inr above)) = absurd (is_first.first second above is_second.holds)
 
--- ---- a record that can't be the first record has the cause `first_line_cause`
+-- ---- a record that can't be the first record of a schedule has the cause `first_line_cause`
 
 -- no cause of a lower rank applies, if the condition of each such cause is false
 none_below : (earlier : Lines) (line : List ℕ) (rank : ℕ) → rank ≤ 7 → (4 < rank → ¬ (kind_of line ≡ None)) → (5 < rank → ¬ IsOutOfSchedule earlier line)

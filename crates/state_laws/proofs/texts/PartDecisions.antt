@@ -143,7 +143,7 @@ lines_decided key count lines =
     (both_decided (same_key_decided (schedule_named (first_record lines)) (schedule_key key))
     (implied_decided (nat_decided (length lines) count) (schedule_decided lines)))))
 
--- it is decidable whether lines begin a schedule with this key that doesn't have to lapse
+-- it is decidable whether lines begin a schedule that has this key and doesn't have to lapse
 pub lines_here_decided : (state : State) (key : ScheduleKey) (count : ℕ) (lines : List (List ℕ))
     → Decided (AreLinesUpTo key count lines × HaveNotToLapse state lines)
 lines_here_decided state key count lines = both_decided (lines_decided key count lines) (le_decided state.horizon (body_end (schedule_body lines)))
