@@ -55,7 +55,7 @@ file_good format text limit low file =
       none_good format,
     )
 
--- if a format allows a horizon, the knowledge of no file and this horizon is good
+-- if a format allows a horizon, knowledge that has only this horizon, and no file, is good
 pub horizon_good : (format : Format) (day : ℕ) → IsHorizonOf format day → IsGoodKnown format (record { files = []; horizon = day })
 horizon_good format day is = (no_files_good, is)
 

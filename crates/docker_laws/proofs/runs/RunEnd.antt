@@ -41,8 +41,8 @@ run_holds format offices events exchange each run =
 
 -- ---- two summaries of the same files have the same dockers
 
--- if the program doesn't refuse dockers of a day because of one or another horizon, it doesn't
--- refuse them because of the greater horizon
+-- if the program refuses a docker with neither of two horizons, it doesn't refuse the docker with
+-- the greater horizon
 pub greater_prints : (a b day : ℕ) → ¬ IsDayRefused a day → ¬ IsDayRefused b day → ¬ IsDayRefused (max a b) day
 greater_prints a b day first second = by (nat_lt a b) refl
   where
