@@ -85,10 +85,10 @@ pub new_kind : (line : List ℕ) → kind_of (as_new line) ≡ kind_of line
 new_kind line =
     ap (λ field. option_map (λ (pair : List ℕ × Kind). pair.1) (find (λ (pair : List ℕ × Kind). bytes_eq pair.0 field) identities)) (take-set line 2 78)
 
--- a record whose transaction is set to N is a record
+-- after its transaction is set to N, a record is still a record
 pub new_record : (line : List ℕ) → IsRecord line → IsRecord (as_new line)
 new_record line is = (length-set line 2 78 ∙ is.0, All-set (λ b. is_printable b ≡ true) line 2 78 refl is.1)
 
--- a record whose transaction is set to N has the transaction N
+-- after its transaction is set to N, a record has the transaction N
 pub is_new : (line : List ℕ) → IsRecord line → HasNewTransaction (as_new line)
 is_new line is = let size = is.0 in get_or-set_same line 2 78 0 (omega arith)
