@@ -401,16 +401,19 @@ fn lines_of(shape: &str, rows: usize) -> usize {
         // A pass and an association for each suffix, and the associated train.
         "associations of two suffixes in turn" => 5,
         // Each base with its association, and the partner.
-        "bases of one partner" | "bases of one partner, which has as many schedules" => 2 * rows + 1,
-        "partners of one base, whose call comes after as many lines" | "partners of one base, which has as many schedules" => {
-            rows + 1
+        "base trains of one associated train" | "base trains of one associated train, which has a schedule for each of them" => {
+            2 * rows + 1
         }
-        "partners of one base, whose call comes after as many with another suffix" => 2 * rows + 1,
+        "associated trains of one base train, whose call comes after a line for each of them"
+        | "associated trains of one base train, which has a schedule for each of them" => rows + 1,
+        "associated trains of one base train, whose call comes after another call for each of them" => 2 * rows + 1,
         "calls of one schedule at one place" => rows + 1,
-        "calls of one schedule at as many places" => 1,
+        "calls of one schedule, each at a place of its own" => 1,
         // The origin and each 64th call.
         "calls at places that meet in one slot of the memo" => 1 + rows.div_ceil(64),
-        "trains at one place and time" | "trains in falling order" | "trains from both ends in turn" => rows,
+        "trains at one place and time"
+        | "trains in falling order of UID"
+        | "trains with the lowest and the highest UIDs in turn" => rows,
         _ => 0,
     }
 }
