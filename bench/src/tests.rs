@@ -401,12 +401,11 @@ fn lines_of(shape: &str, rows: usize) -> usize {
         // A pass and an association for each suffix, and the associated train.
         "associations of two suffixes in turn" => 5,
         // Each base with its association, and the partner.
-        "base trains of one associated train" | "base trains of one associated train, which has a schedule for each of them" => {
-            2 * rows + 1
-        }
-        "associated trains of one base train, whose call comes after a line for each of them"
-        | "associated trains of one base train, which has a schedule for each of them" => rows + 1,
-        "associated trains of one base train, whose call comes after another call for each of them" => 2 * rows + 1,
+        "base trains of one associated train"
+        | "base trains of one associated train, with a schedule of the associated train for each of them" => 2 * rows + 1,
+        "associated trains of one base train, with a line for each of them before the call of the base train"
+        | "associated trains of one base train, with a schedule of the base train for each of them" => rows + 1,
+        "associated trains of one base train, with an earlier call of the base train for each of them" => 2 * rows + 1,
         "calls of one schedule at one place" => rows + 1,
         "calls of one schedule, each at a place of its own" => 1,
         // The origin and each 64th call.
