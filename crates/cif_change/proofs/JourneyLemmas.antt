@@ -2,7 +2,7 @@
 use Rattle.std.proofs.Common.{◌≡◌, ℕ, ◌+◌, ◌≤◌, ◌<◌, Bool, true, false, cond, List, [], ◌∷◌, ◌++◌, map}
 use Rattle.std.proofs.Common.{subst, refl, ap, sym, ◌∙◌, Some, None, arith, append-nil, append_assoc}
 use Rattle.std.specs.Prelude.{Option, IsTrue, ◌↔◌, ◌||◌, ◌&&◌, nat_le, is_some, is_none, IsOk, OnOk, IfErr, Result, Ok, Err}
-use Rattle.std.proofs.lemmas.Bool.{false≢true, le-leb, leb-true}
+use Rattle.std.proofs.lemmas.Bool.{false≢true, le-leb, le-ltb, leb-true}
 use Rattle.docker_model.specs.records.Record.{Kind, kind_of, IsRecord, HasKind, basic_schedule, origin_location}
 use Rattle.docker_model.specs.records.Record.{intermediate_location, terminating_location, columns}
 use Rattle.docker_model.specs.records.Clock.{half_minutes, scheduled_time}
@@ -266,6 +266,21 @@ last_in_turn last (Some a) None (Some c) = refl
 last_in_turn last None (Some b) (Some c) = refl
 last_in_turn last (Some a) (Some b) (Some c) = refl
 
+-- counting from 0, or from the last time if there is one, counts the same midnights, since no time is below 0
+falls_from_zero : (last : Option ℕ) (times : List ℕ) → falls_after (later_or last (Some 0)) times ≡ falls_after last times
+falls_from_zero (Some last) times = refl
+falls_from_zero None [] = refl
+falls_from_zero None (time ∷ times) =
+    (λ i. cond (le-ltb time 0 (omega arith) i) 1 0 + fall_count (time ∷ times)) ∙ by (fall_count (time ∷ times))
+  where
+    by : (count : ℕ) → 0 + count ≡ count
+    by count = omega arith
+
+-- the last of three lists of times can be found in either order
+later_in_turn : (third second first : Option ℕ) → later_or third (later_or second first) ≡ later_or (later_or third second) first
+later_in_turn None second first = refl
+later_in_turn (Some third) second first = refl
+
 one_line : (line : List ℕ) → times_along (line ∷ []) ≡ map (λ (time : Occasion × ℕ). time.1) (times_of line)
 one_line line = ap (map (λ (time : Occasion × ℕ). time.1)) (append-nil (times_of line))
 
@@ -304,20 +319,28 @@ deletion_goes_on journey lines line stage next has is at deletion after =
     deletion_sound : is_deletion (first_record lines) ≡ true → is_sound_next lines line ≡ true
     deletion_sound told = λ i. told i || (has_good_fields line && nat_le (midnights (lines ++ line ∷ [])) 2)
 
+-- the midnights that the next line adds can be counted from the time that the reader remembers
+falls_so_far : (journey : JourneyState) (lines : Lines) (line : List ℕ) → HasLines journey lines → journey.deletion ≡ false
+    → falls_after (last_of (times_along lines)) (times_along (line ∷ [])) ≡ falls_after (Some journey.last) (times_along (line ∷ []))
+falls_so_far journey lines line has kept =
+    sym (falls_from_zero (last_of (times_along lines)) (times_along (line ∷ [])))
+    ∙ (λ i. falls_after (sym (has.last_is kept) i) (times_along (line ∷ [])))
+
 -- a line is sound if and only if its fields are good and, with its times, the schedule passes midnight at most twice
 sound_by_falls : (journey : JourneyState) (lines : Lines) (line : List ℕ) (more : ℕ) → HasLines journey lines → journey.deletion ≡ false
-    → more ≡ journey.falls + falls_after journey.last (times_along (line ∷ [])) → is_sound_next lines line ≡ (has_good_fields line && nat_le more 2)
+    → more ≡ journey.falls + falls_after (Some journey.last) (times_along (line ∷ [])) → is_sound_next lines line ≡ (has_good_fields line && nat_le more 2)
 sound_by_falls journey lines line more has kept falls =
     sound_next_by_count lines line
     ∙ (λ i. (sym has.deletion_is ∙ kept) i || (has_good_fields line && nat_le
-    (sym (has.falls_are kept) i + falls_after (sym (has.last_is kept) i) (times_along (line ∷ []))) 2))
+    (sym (has.falls_are kept) i + falls_so_far journey lines line has kept i) 2))
     ∙ (λ i. has_good_fields line && nat_le (sym falls i) 2)
 
 -- unless the schedule is a deletion, there is a next stage after a sound line, with the new count of midnights and the new last time
-pub sound_goes_on : (journey : JourneyState) (lines : Lines) (line : List ℕ) (stage next : Stage) (more : ℕ) (later : Option ℕ) → HasLines journey lines
+pub sound_goes_on : (journey : JourneyState) (lines : Lines) (line : List ℕ) (stage next : Stage) (more later : ℕ) → HasLines journey lines
     → IsRecord line → journey.stage ≡ Some stage
     → journey.deletion ≡ false → stage_after stage (kind_of line) ≡ Some next → HasGoodFields line
-    → more ≡ journey.falls + falls_after journey.last (times_along (line ∷ [])) → more ≤ 2 → later ≡ later_or (last_of (times_along (line ∷ []))) journey.last
+    → more ≡ journey.falls + falls_after (Some journey.last) (times_along (line ∷ [])) → more ≤ 2
+    → Some later ≡ later_or (last_of (times_along (line ∷ []))) (Some journey.last)
     → HasLines (record journey { stage = Some next; falls = more; last = later }) (lines ++ line ∷ [])
 sound_goes_on journey lines line stage next more later has is at kept after fields falls few last =
     let stage_is : stage_of lines ≡ Some stage = sym has.stage_is ∙ at in
@@ -329,8 +352,13 @@ sound_goes_on journey lines line stage next more later has is at kept after fiel
       fresh = λ none. absurd cc;
       deletion_is = has.deletion_is ∙ ap is_deletion (sym first);
       lacking_is = has.lacking_is ∙ ap may_lack (sym first);
-      falls_are = λ _. falls ∙ (λ i. has.falls_are kept i + falls_after (has.last_is kept i) (times_along (line ∷ []))) ∙ sym (midnights_step lines line);
-      last_is = λ _. last ∙ (λ i. later_or (last_of (times_along (line ∷ []))) (has.last_is kept i)) ∙ sym (last_time_step lines line);
+      falls_are = λ _.
+          falls ∙ (λ i. has.falls_are kept i + sym (falls_so_far journey lines line has kept) i) ∙ sym (midnights_step lines line);
+      last_is = λ _.
+          last
+          ∙ (λ i. later_or (last_of (times_along (line ∷ []))) (has.last_is kept i))
+          ∙ later_in_turn (last_of (times_along (line ∷ []))) (last_of (times_along lines)) (Some 0)
+          ∙ (λ i. later_or (sym (last_time_step lines line) i) (Some 0));
     }
 
 -- the number of midnights passed by three optional times is the sum of the counts for each time in turn
@@ -389,7 +417,7 @@ first_line_is line is kind fields = (first_line_iff_test line).0 (record { is = 
 -- after a basic schedule, the reader remembers the stage, the flags of the record, no midnight and no last time
 pub basic_read : (line : List ℕ) (journey : JourneyState) → is_first_line line ≡ true → journey.stage ≡ Some after_basic
     → journey.deletion ≡ is_deletion line → journey.lacking ≡ may_lack line
-    → journey.falls ≡ 0 → journey.last ≡ None → HasLines journey (line ∷ [])
+    → journey.falls ≡ 0 → journey.last ≡ 0 → HasLines journey (line ∷ [])
 basic_read line journey first at deletion lacking falls last =
     let none = no_times basic_schedule line ((first_line_iff_test line).1 first).kind refl in
     let times = no_times_before line [] none in
@@ -399,7 +427,7 @@ basic_read line journey first at deletion lacking falls last =
       deletion_is = deletion;
       lacking_is = lacking;
       falls_are = λ _. falls ∙ ap fall_count (sym times);
-      last_is = λ _. last ∙ ap last_of (sym times);
+      last_is = λ _. ap Some last ∙ (λ i. later_or (last_of (sym times i)) (Some 0));
     }
 
 -- ---- the next line, if a record of its kind may come next
@@ -412,18 +440,19 @@ deletion_read journey lines line next has is led deletion =
     let on = leads_on journey.stage (kind_of line) next led in deletion_goes_on journey lines line on.here next has is on.at deletion on.after
 
 -- Says that a line has these times and that, after the line, `more` is the number of midnights that the schedule has passed and `later` is its last time.
-pub record IsTimed (journey : JourneyState) (line : List ℕ) (first second third : Option ℕ) (more : ℕ) (later : Option ℕ) : Type 0 where
+pub record IsTimed (journey : JourneyState) (line : List ℕ) (first second third : Option ℕ) (more later : ℕ) : Type 0 where
   pub times : map (λ (time : Occasion × ℕ). time.1) (times_of line) ≡ time_list first ++ time_list second ++ time_list third
-  pub falls : more ≡ journey.falls + falls_after journey.last (time_list first ++ time_list second ++ time_list third)
-  pub last : later ≡ later_or third (later_or second (later_or first journey.last))
+  pub falls : more ≡ journey.falls + falls_after (Some journey.last) (time_list first ++ time_list second ++ time_list third)
+  pub last : Some later ≡ later_or third (later_or second (later_or first (Some journey.last)))
 
-timed_falls : (journey : JourneyState) (line : List ℕ) (first second third : Option ℕ) (more : ℕ) (later : Option ℕ)
+timed_falls : (journey : JourneyState) (line : List ℕ) (first second third : Option ℕ) (more later : ℕ)
     → IsTimed journey line first second third more later
-    → more ≡ journey.falls + falls_after journey.last (times_along (line ∷ []))
-timed_falls journey line first second third more later told = told.falls ∙ (λ i. journey.falls + falls_after journey.last (sym (one_line line ∙ told.times) i))
+    → more ≡ journey.falls + falls_after (Some journey.last) (times_along (line ∷ []))
+timed_falls journey line first second third more later told =
+    told.falls ∙ (λ i. journey.falls + falls_after (Some journey.last) (sym (one_line line ∙ told.times) i))
 
 -- a line with good fields is sound if and only if the schedule, with the line's times, passes midnight at most twice
-pub sound_test : (journey : JourneyState) (lines : Lines) (line : List ℕ) (first second third : Option ℕ) (more : ℕ) (later : Option ℕ)
+pub sound_test : (journey : JourneyState) (lines : Lines) (line : List ℕ) (first second third : Option ℕ) (more later : ℕ)
     → HasLines journey lines → journey.deletion ≡ false
     → HasGoodFields line → IsTimed journey line first second third more later → is_sound_next lines line ≡ nat_le more 2
 sound_test journey lines line first second third more later has kept fields told =
@@ -431,21 +460,21 @@ sound_test journey lines line first second third more later has kept fields told
     ∙ (λ i. test_by_none (leftmost_bad_field line) fields i && nat_le more 2)
 
 -- a line with good fields is sound if the schedule, with the line's times, passes midnight at most twice
-pub sound_by_few : (journey : JourneyState) (lines : Lines) (line : List ℕ) (first second third : Option ℕ) (more : ℕ) (later : Option ℕ)
+pub sound_by_few : (journey : JourneyState) (lines : Lines) (line : List ℕ) (first second third : Option ℕ) (more later : ℕ)
     → HasLines journey lines → journey.deletion ≡ false
     → HasGoodFields line → IsTimed journey line first second third more later → more ≤ 2 → is_sound_next lines line ≡ true
 sound_by_few journey lines line first second third more later has kept fields told few =
     sound_test journey lines line first second third more later has kept fields told ∙ le-leb more 2 few
 
 -- a line isn't sound if the schedule, with the line's times, passes midnight more than twice
-pub unsound_by_many : (journey : JourneyState) (lines : Lines) (line : List ℕ) (first second third : Option ℕ) (more : ℕ) (later : Option ℕ)
+pub unsound_by_many : (journey : JourneyState) (lines : Lines) (line : List ℕ) (first second third : Option ℕ) (more later : ℕ)
     → HasLines journey lines → journey.deletion ≡ false
     → HasGoodFields line → IsTimed journey line first second third more later → 2 < more → ¬ (is_sound_next lines line ≡ true)
 unsound_by_many journey lines line first second third more later has kept fields told many sound =
     let few = leb-true more 2 (sym (sound_test journey lines line first second third more later has kept fields told) ∙ sound) in omega arith
 
 -- after a sound line the reader remembers the next stage, the new count of midnights and the new last time
-pub sound_read : (journey : JourneyState) (lines : Lines) (line : List ℕ) (next : Stage) (first second third : Option ℕ) (more : ℕ) (later : Option ℕ)
+pub sound_read : (journey : JourneyState) (lines : Lines) (line : List ℕ) (next : Stage) (first second third : Option ℕ) (more later : ℕ)
     → HasLines journey lines → IsRecord line
     → stage_then journey.stage (kind_of line) ≡ Some next → journey.deletion ≡ false → HasGoodFields line
     → IsTimed journey line first second third more later → more ≤ 2
@@ -453,7 +482,7 @@ pub sound_read : (journey : JourneyState) (lines : Lines) (line : List ℕ) (nex
 sound_read journey lines line next first second third more later has is led kept fields told few =
     let on = leads_on journey.stage (kind_of line) next led in
     sound_goes_on journey lines line on.here next more later has is on.at kept on.after fields (timed_falls journey line first second third more later told) few
-    (told.last ∙ last_in_turn journey.last first second third ∙ (λ i. later_or (last_of (sym (one_line line ∙ told.times) i)) journey.last))
+    (told.last ∙ last_in_turn (Some journey.last) first second third ∙ (λ i. later_or (last_of (sym (one_line line ∙ told.times) i)) (Some journey.last)))
 
 -- ---- the result of taking a line
 

@@ -6,9 +6,10 @@ use Rattle.docker_model.specs.file.Journey.{times_of, times_along, midnights}
 use Rattle.docker_model.specs.records.Record.{Kind}
 use Rattle.docker_model.specs.file.FileFault as fault
 use Rattle.cif_laws.specs.ScheduleFault.{IsScheduleFault}
-use Rattle.cif_laws.specs.TimesSoFar.{last_of}
+use Rattle.cif_laws.specs.TimesSoFar.{last_of, later_or}
 use Rattle.cif_laws.specs.ScheduleStage.{after_basic, after_details, in_journey, after_journey, stage_of, stage_after, may_lack}
 use Rattle.cif_laws.specs.ScheduleStage as place
+use Rattle.cif_line.specs.CallRead.{number_meant}
 use Rattle.cif_change.specs.declared.cause.FileCause.{FileCause}
 use Rattle.cif_change.specs.declared.journey_times.LineTimes.{LineTimes}
 use Rattle.cif_change.specs.declared.progress.Progress.{Progress}
@@ -24,14 +25,14 @@ stage_meant InJourney = in_journey
 stage_meant AfterJourney = after_journey
 
 -- What the reader remembers: the stage, how often the schedule has passed midnight, and the last
--- time. The reader also remembers whether the schedule is a deletion, and whether the schedule may
--- end without a journey.
+-- time, or 0 before the first time. The reader also remembers whether the schedule is a deletion,
+-- and whether the schedule may end without a journey.
 pub record JourneyState : Type 0 where
   pub stage : Option place.Stage
   pub deletion : Bool
   pub lacking : Bool
   pub falls : ℕ
-  pub last : Option ℕ
+  pub last : ℕ
 
 -- Says that the reader has taken exactly these lines, and that the stage, the flags, the count of
 -- midnights and the last time that it remembers are right. In a deletion the count and the time
@@ -42,7 +43,7 @@ pub record HasLines (journey : JourneyState) (lines : List (List ℕ)) : Type 0 
   pub deletion_is : journey.deletion ≡ is_deletion (first_record lines)
   pub lacking_is : journey.lacking ≡ may_lack (first_record lines)
   pub falls_are : journey.deletion ≡ false → journey.falls ≡ midnights lines
-  pub last_is : journey.deletion ≡ false → journey.last ≡ last_of (times_along lines)
+  pub last_is : journey.deletion ≡ false → Some journey.last ≡ later_or (last_of (times_along lines)) (Some 0)
 
 -- Says that no schedule begins with the earlier lines followed by this line, and that this is the
 -- cause. `None` means that memory ran out, which is never the cause.
@@ -57,7 +58,8 @@ time_list (Some time) = time ∷ []
 
 -- converts the times of a line, as the code keeps them, to a list of at most three times
 abbrev pub times_list : LineTimes → List ℕ
-times_list times = time_list times.first ++ time_list times.second ++ time_list times.third
+times_list times =
+    time_list (number_meant times.first) ++ time_list (number_meant times.second) ++ time_list (number_meant times.third)
 
 -- Says that these are the scheduled times of this line, in order.
 abbrev pub AreTimesOf : List ℕ → LineTimes → Type 0

@@ -1,77 +1,101 @@
 //! The scheduled times of a journey's lines, and how often the journey passes midnight.
-ghost use Rattle.std.specs.Prelude.{◌≡◌, ◌+◌, ◌≤◌, ◌<◌, ◌↔◌, IsOk, IfOk, IfErr, Some, None, true, if◌then◌else◌};
+ghost use Rattle.std.specs.Prelude.{◌≡◌, ◌+◌, ◌≤◌, ◌<◌, ◌↔◌, [], ◌∷◌, IsOk, IfOk, IfErr, Some, true};
 ghost use Rattle.docker_model.specs.records.Record.{HasKind, origin_location, intermediate_location, terminating_location};
 ghost use Rattle.docker_model.specs.records.Field.{HasGoodFields, leftmost_bad_field};
 ghost use Rattle.docker_model.specs.file.File.{follows_basic};
 ghost use Rattle.cif_laws.specs.TimesSoFar.{falls_after, later_or};
+ghost use Rattle.cif_line.specs.CallRead.{number_meant};
 ghost use Rattle.cif_line.specs.Kind.{meaning};
 ghost use Rattle.cif_change.specs.JourneyRead.{time_list, times_list, AreTimesOf};
 
 use cif_line::{FieldFault, Kind, Line, Time, call, origin, terminus};
 
+/// How many half minutes a day has. A time is below this number. A number that is this or more
+/// stands for no time.
+const HALF_MINUTES: u16 = 2880;
+
 /// What a reader remembers of the times read so far: how often the journey has passed midnight
-/// (`falls`), and the last time.
+/// (`falls`), and the last time in half minutes. Before the first time, `last` is 0: no time is
+/// below 0, so the first time never counts as past midnight.
 #[derive(Clone, Copy, PartialEq, Eq, Debug)]
 pub(crate) struct Clock {
     pub falls: u8,
-    pub last: Option<Time>,
+    pub last: u16,
 }
 
-/// The scheduled times of one line, in the order of the journey. A line has at most three.
+/// The scheduled times of one line in half minutes, in the order of the journey. A line has at most
+/// three. A number that is [`HALF_MINUTES`] or more stands for no time.
 #[derive(Clone, Copy, PartialEq, Eq, Debug)]
 pub(crate) struct LineTimes {
-    first: Option<Time>,
-    second: Option<Time>,
-    third: Option<Time>,
+    first: u16,
+    second: u16,
+    third: u16,
 }
 
 impl Clock {
-    /// The clock before the first time: midnight hasn't been passed, and there is no last time.
+    /// The clock before the first time: midnight hasn't been passed.
     pub(crate) fn new() -> Clock
-        ensures { result ≡ record { falls = 0; last = None } }
+        ensures { result ≡ record { falls = 0; last = 0 } }
     {
-        Clock {
-            falls: 0,
-            last: None,
-        }
+        Clock { falls: 0, last: 0 }
     }
 
-    /// The clock after one more time, or the unchanged clock for `None`. A time below the last time
-    /// means that midnight has been passed. There is no branch on whether there is a time: calls
-    /// and passes follow each other so irregularly that the processor couldn't predict such a
-    /// branch.
-    fn then(self, time: Option<Time>) -> Clock
-        requires { self.falls < 255 }
-        ensures falls { result.falls ≡ self.falls + falls_after self.last (time_list time) }
-        ensures last { result.last ≡ later_or time self.last }
+    /// The clock after one more time. If the number stands for no time, the clock is unchanged. A
+    /// time below the last time means that midnight has been passed. There is no branch on whether
+    /// there is a time: calls and passes follow each other so irregularly that the processor
+    /// couldn't predict such a branch.
+    fn then(self, time: u16) -> Clock
+        requires few { self.falls < 255 }
+        requires in_day { self.last < HALF_MINUTES }
+        ensures falls { result.falls ≡
+            self.falls + falls_after (Some self.last) (time_list (number_meant time)) }
+        ensures last { Some result.last ≡ later_or (number_meant time) (Some self.last) }
         ensures few { result.falls ≤ self.falls + 1 }
+        ensures in_day { result.last < HALF_MINUTES }
     {
         let Clock { falls, last } = self;
         Clock {
-            falls: falls + u8::from(is_fall(&last, &time)),
-            last: time.or(last),
+            falls: falls + u8::from(time < last),
+            last: if time < HALF_MINUTES { time } else { last },
         }
     }
 
     /// The clock after the times of one more line.
     pub(crate) fn past(self, times: LineTimes) -> Clock
-        requires { self.falls < 250 }
-        ensures falls { result.falls ≡ self.falls + falls_after self.last (times_list times) }
-        ensures last { result.last ≡
-            later_or times.third (later_or times.second (later_or times.first self.last)) }
+        requires few { self.falls < 250 }
+        requires in_day { self.last < HALF_MINUTES }
+        ensures falls { result.falls ≡
+            self.falls + falls_after (Some self.last) (times_list times) }
+        ensures last { Some result.last ≡ later_or (number_meant times.third)
+            (later_or (number_meant times.second)
+            (later_or (number_meant times.first) (Some self.last))) }
+        ensures in_day { result.last < HALF_MINUTES }
     {
         self.then(times.first).then(times.second).then(times.third)
     }
 }
 
-/// Whether both times are given and the next time is below the last time, which means that midnight
-/// has been passed.
-fn is_fall(last: &Option<Time>, next: &Option<Time>) -> bool
-    ensures { falls_after last.now (time_list next.now) ≡ (if result then 1 else 0) }
-{
-    match (last, next) {
-        (Some(last), Some(next)) => next < last,
-        _ => false,
+impl LineTimes {
+    /// The times of a line without a time.
+    fn none() -> LineTimes
+        ensures { times_list result ≡ [] }
+    {
+        LineTimes {
+            first: HALF_MINUTES,
+            second: HALF_MINUTES,
+            third: HALF_MINUTES,
+        }
+    }
+
+    /// The times of a line with one time.
+    fn one(time: Time) -> LineTimes
+        ensures { times_list result ≡ time ∷ [] }
+    {
+        LineTimes {
+            first: time.half_minutes(),
+            second: HALF_MINUTES,
+            third: HALF_MINUTES,
+        }
     }
 }
 
@@ -88,11 +112,7 @@ pub(crate) fn times_at(kind: Kind, line: &Line) -> Result<LineTimes, FieldFault>
         Kind::OriginLocation => origin_times(line),
         Kind::IntermediateLocation => call_times(line),
         Kind::TerminatingLocation => terminus_times(line),
-        _ => Ok(LineTimes {
-            first: None,
-            second: None,
-            third: None,
-        }),
+        _ => Ok(LineTimes::none()),
     }
 }
 
@@ -104,15 +124,11 @@ fn origin_times(line: &Line) -> Result<LineTimes, FieldFault>
     ensures err { IfErr result (λ fault. leftmost_bad_field line.now ≡ Some fault.0) }
 {
     let view = origin(line)?;
-    Ok(LineTimes {
-        first: Some(view.departure()),
-        second: None,
-        third: None,
-    })
+    Ok(LineTimes::one(view.departure()))
 }
 
-/// The times of an intermediate location: its arrival, pass and departure. A time that isn't given
-/// is left out. The error has the column of the leftmost bad field.
+/// The times of an intermediate location: its arrival, pass and departure. The number of a blank
+/// field stands for no time. The error has the column of the leftmost bad field.
 fn call_times(line: &Line) -> Result<LineTimes, FieldFault>
     requires kind { HasKind intermediate_location line.now }
     ensures ok { IsOk result ↔ HasGoodFields line.now }
@@ -121,9 +137,9 @@ fn call_times(line: &Line) -> Result<LineTimes, FieldFault>
 {
     let view = call(line)?;
     Ok(LineTimes {
-        first: view.arrival(),
-        second: view.pass(),
-        third: view.departure(),
+        first: view.arrival_number(),
+        second: view.pass_number(),
+        third: view.departure_number(),
     })
 }
 
@@ -135,9 +151,5 @@ fn terminus_times(line: &Line) -> Result<LineTimes, FieldFault>
     ensures err { IfErr result (λ fault. leftmost_bad_field line.now ≡ Some fault.0) }
 {
     let view = terminus(line)?;
-    Ok(LineTimes {
-        first: Some(view.arrival()),
-        second: None,
-        third: None,
-    })
+    Ok(LineTimes::one(view.arrival()))
 }

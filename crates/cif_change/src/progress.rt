@@ -1,5 +1,5 @@
 //! Defines `Progress`: what the reader of a schedule's lines remembers from one line to the next.
-ghost use Rattle.std.specs.Prelude.{◌≡◌, ◌≤◌, true, None};
+ghost use Rattle.std.specs.Prelude.{◌≡◌, ◌≤◌, ◌<◌, true};
 
 use crate::journey_times::Clock;
 use crate::stage::ScheduleStage;
@@ -14,5 +14,6 @@ pub struct Progress {
     pub(crate) lacking: bool,
     pub(crate) clock: Clock,
     ghost few: { clock.falls ≤ 2 },
-    ghost idle: { deletion ≡ true → clock ≡ record { falls = 0; last = None } },
+    ghost in_day: { clock.last < 2880 },
+    ghost idle: { deletion ≡ true → clock ≡ record { falls = 0; last = 0 } },
 }

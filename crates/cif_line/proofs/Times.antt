@@ -12,7 +12,7 @@ use Rattle.cif_laws.proofs.lists.BoolsAndOptions.{both}
 use Rattle.cif_laws.proofs.records.ScheduledTimes.{present_not_blank}
 use Rattle.cif_line.specs.declared.time_field.TimeField.{TimeField}
 use Rattle.cif_line.specs.TimeRead.{ReadsTime}
-use Rattle.cif_line.specs.CallRead.{half_minutes_or_none}
+use Rattle.cif_line.specs.CallRead.{half_minutes_or_none, number_meant}
 
 -- a field of four bytes is blank if and only if it is four spaces
 pub four_spaces : (field : List ℕ) → length field ≡ 4 → bytes_eq field (codes "    ") ≡ is_blank field
@@ -73,12 +73,12 @@ half_minutes_bound field is = by (slice_index field 4 == 72) (hour_bound field c
     by false hour minute = omega arith
 
 -- the reader of a good field stores the time's half minutes, or 65535 if the field is blank. The
--- time made from the stored number is the field's scheduled time
-pub told_read : (field : List ℕ) (told : ℕ) (time : Option ℕ) → is_scheduled_time field ≡ true → told ≡ half_minutes_or_none field
-    → time ≡ cond (nat_lt told 2880) (Some told) None → time ≡ scheduled_time field
-told_read field told time good is read = read ∙ by (is_present_time field) refl
+-- stored number stands for the field's scheduled time
+pub told_read : (field : List ℕ) (told : ℕ) → is_scheduled_time field ≡ true → told ≡ half_minutes_or_none field
+    → number_meant told ≡ scheduled_time field
+told_read field told good is = by (is_present_time field) refl
   where
-    by : (present : Bool) → is_present_time field ≡ present → cond (nat_lt told 2880) (Some told) None ≡ scheduled_time field
+    by : (present : Bool) → is_present_time field ≡ present → number_meant told ≡ scheduled_time field
     by true there =
         let same : told ≡ half_minutes field = is ∙ (λ i. cond (there i) (half_minutes field) 65535) in
         let low : nat_lt told 2880 ≡ true = ap (λ n. nat_lt n 2880) same ∙ lt-ltb (half_minutes field) 2880 (half_minutes_bound field there) in

@@ -4,6 +4,7 @@ ghost use Rattle.docker_model.specs.records.Record.{intermediate_location, colum
 ghost use Rattle.docker_model.specs.records.Clock.{scheduled_time};
 ghost use Rattle.docker_model.specs.records.PrintedTime.{shown_public};
 ghost use Rattle.cif_line.specs.FieldRead.{public_half_minutes, public_text};
+ghost use Rattle.cif_line.specs.CallRead.{number_meant};
 ghost use Rattle.cif_line.specs.View.{IsGood};
 
 use crate::line::Line;
@@ -11,12 +12,13 @@ use crate::time::Time;
 use crate::tiploc_code::Tiploc;
 use std::marker::Model;
 
-/// The three scheduled times of an intermediate location. A time is `None` if its field is blank.
+/// The three scheduled times of an intermediate location, in half minutes since midnight. If a
+/// field is blank, its number is 2880 or more.
 #[derive(Clone, Copy, PartialEq, Eq, Debug)]
 pub(crate) struct CallTimes {
-    pub arrival: Option<Time>,
-    pub departure: Option<Time>,
-    pub pass: Option<Time>,
+    pub arrival: u16,
+    pub departure: u16,
+    pub pass: u16,
 }
 
 /// A view of an intermediate location (LI) whose checked fields are good. It keeps the scheduled
@@ -73,19 +75,43 @@ impl<'a> Call<'a> {
     pub fn arrival(&self) -> Option<Time>
         ensures { result ≡ scheduled_time (columns 11 15 self.now) }
     {
-        self.times.arrival
+        Time::from_half_minutes(self.times.arrival)
     }
 
     /// The scheduled departure in half minutes: columns 16 to 20. Returns `None` if it is blank.
     pub fn departure(&self) -> Option<Time>
         ensures { result ≡ scheduled_time (columns 16 20 self.now) }
     {
-        self.times.departure
+        Time::from_half_minutes(self.times.departure)
     }
 
     /// The scheduled pass in half minutes: columns 21 to 25. Returns `None` if it is blank.
     pub fn pass(&self) -> Option<Time>
         ensures { result ≡ scheduled_time (columns 21 25 self.now) }
+    {
+        Time::from_half_minutes(self.times.pass)
+    }
+
+    /// The scheduled arrival as a number of half minutes. The number is 2880 or more if columns 11
+    /// to 15 are blank. Without an `Option`, a reader of many lines needs no branch for a blank.
+    pub fn arrival_number(&self) -> u16
+        ensures { number_meant result ≡ scheduled_time (columns 11 15 self.now) }
+    {
+        self.times.arrival
+    }
+
+    /// The scheduled departure as a number of half minutes. The number is 2880 or more if columns
+    /// 16 to 20 are blank.
+    pub fn departure_number(&self) -> u16
+        ensures { number_meant result ≡ scheduled_time (columns 16 20 self.now) }
+    {
+        self.times.departure
+    }
+
+    /// The scheduled pass as a number of half minutes. The number is 2880 or more if columns 21 to
+    /// 25 are blank.
+    pub fn pass_number(&self) -> u16
+        ensures { number_meant result ≡ scheduled_time (columns 21 25 self.now) }
     {
         self.times.pass
     }

@@ -264,9 +264,9 @@ fn good_call_times(line: &Line) -> Option<CallTimes>
         return None;
     }
     Some(CallTimes {
-        arrival: Time::from_half_minutes(fields.arrival),
-        departure: Time::from_half_minutes(fields.departure),
-        pass: Time::from_half_minutes(fields.pass),
+        arrival: fields.arrival,
+        departure: fields.departure,
+        pass: fields.pass,
     })
 }
 

@@ -9,3 +9,4 @@ pub returns-clause-value : goal.returns-clause-value
 returns-clause-value c =
     origin_time c.args.line.now c.requires.kind (c.in_ok-view.ensures.ok.0 refl)
     ∙ (λ i. sym (c.departure.ensures ∙ ap (λ view. half_minutes (columns 11 15 view)) c.in_ok-view.ensures.value) i ∷ [])
+    ∙ sym c.one.ensures

@@ -23,8 +23,8 @@ returns-clause-times c =
     times_good c.args.line.now c.is_tiploc.result c.read-fields.result.are_good c.if-not-are_good.false times in
     record {
       arrival =
-          told_read (columns 11 15 c.args.line.now) c.read-fields.result.arrival _ good.0 (search rules) c.from_half_minutes.ensures;
+          told_read (columns 11 15 c.args.line.now) c.read-fields.result.arrival good.0 (search rules);
       departure =
-          told_read (columns 16 20 c.args.line.now) c.read-fields.result.departure _ good.1 (search rules) c.from_half_minutes-2.ensures;
-      pass = told_read (columns 21 25 c.args.line.now) c.read-fields.result.pass _ good.2 (search rules) c.from_half_minutes-3.ensures;
+          told_read (columns 16 20 c.args.line.now) c.read-fields.result.departure good.1 (search rules);
+      pass = told_read (columns 21 25 c.args.line.now) c.read-fields.result.pass good.2 (search rules);
     }

@@ -2,6 +2,7 @@
 -- its times. In a deletion it depends on neither.
 use Rattle.std.proofs.Common.{ap, ◌∙◌, refl}
 use Rattle.std.proofs.lemmas.Bool.{false≢true}
+use Rattle.cif_line.specs.CallRead.{number_meant}
 use Rattle.cif_change.specs.JourneyRead.{progress_meant, stage_then, stage_meant}
 use Rattle.cif_change.proofs.JourneyLemmas.{deletion_read, sound_by_few, unsound_by_many, sound_read}
 use Rattle.cif_change.proofs.progress.Progress.advance_to.Goals as goal
@@ -16,7 +17,8 @@ returns-then-clock-gt-MOST_MIDNIGHTS-clause-ok c = λ lines has. (
   λ bad. absurd (false≢true bad),
   λ sound.
       absurd
-      (unsound_by_many (progress_meant c.args.self.now) lines c.args.line.now c.in_ok-times.times.first c.in_ok-times.times.second c.in_ok-times.times.third
+      (unsound_by_many (progress_meant c.args.self.now) lines c.args.line.now
+      (number_meant c.in_ok-times.times.first) (number_meant c.in_ok-times.times.second) (number_meant c.in_ok-times.times.third)
       c.past-clock.result.falls c.past-clock.result.last has c.if-self.false
       (c.in_ok-times.ensures.ok.0 refl) (record { times = c.in_ok-times.ensures.value; falls = c.past-clock.ensures.falls; last = c.past-clock.ensures.last })
       c.if-clock-gt-MOST_MIDNIGHTS.true sound),
@@ -25,7 +27,8 @@ returns-then-clock-gt-MOST_MIDNIGHTS-clause-ok c = λ lines has. (
 pub returns-clause-ok : goal.returns-clause-ok
 returns-clause-ok c = λ lines has. (
   λ _.
-      sound_by_few (progress_meant c.args.self.now) lines c.args.line.now c.in_ok-times.times.first c.in_ok-times.times.second c.in_ok-times.times.third
+      sound_by_few (progress_meant c.args.self.now) lines c.args.line.now
+      (number_meant c.in_ok-times.times.first) (number_meant c.in_ok-times.times.second) (number_meant c.in_ok-times.times.third)
       c.past-clock.result.falls
       c.past-clock.result.last has c.if-self.false
       (c.in_ok-times.ensures.ok.0 refl) (record { times = c.in_ok-times.ensures.value; falls = c.past-clock.ensures.falls; last = c.past-clock.ensures.last })
@@ -36,7 +39,9 @@ returns-clause-ok c = λ lines has. (
 pub returns-clause-read : goal.returns-clause-read
 returns-clause-read c = λ lines has.
     sound_read (progress_meant c.args.self.now) lines c.args.line.now
-    (stage_meant c.args.next) c.in_ok-times.times.first c.in_ok-times.times.second c.in_ok-times.times.third c.past-clock.result.falls
+    (stage_meant c.args.next)
+    (number_meant c.in_ok-times.times.first) (number_meant c.in_ok-times.times.second) (number_meant c.in_ok-times.times.third)
+    c.past-clock.result.falls
     c.past-clock.result.last has
     c.requires.«record» (ap (stage_then (progress_meant c.args.self.now).stage) c.requires.kind ∙ c.requires.stage) c.if-self.false
     (c.in_ok-times.ensures.ok.0 refl)
