@@ -4,11 +4,11 @@ use Rattle.std.proofs.Common.{◌≡◌, ℕ, ◌+◌, ◌≤◌, List, [], ◌+
 use Rattle.std.proofs.lemmas.List.{nil_from_length}
 use Rattle.docker_model.specs.state.State.{IsValid}
 use Rattle.docker_model.specs.state.StateText.{entries_text}
-use Rattle.docker_model.specs.state.StatePart.{before_tag, in_entry, items_before, text_before, width, AreGood}
+use Rattle.docker_model.specs.state.StatePart.{EntryPart, before_tag, in_entry, items_before, text_before, width, AreGood}
 use Rattle.state_text.specs.declared.stage.Stage.{Stage}
 use Rattle.state_text.specs.declared.stage.Stage.TheVariants as stage
 use Rattle.state_text.specs.Stage.{stage_meant, IsFresh}
-use Rattle.state_text.specs.Head.{IsHead}
+use Rattle.state_text.specs.Head.{AreParts}
 use Rattle.docker_bytes.specs.declared.reading.StateReading.{StateReading}
 use Rattle.docker_bytes.specs.StateReading.{format_of, before_of, IsReading, ReadsOn}
 
@@ -27,12 +27,13 @@ module _ {K : Type 0} (old : StateReading K) (count : ℕ) (is : IsReading old) 
   valid_so_far = good.0.valid
 
   -- if the parts of a head are good, a reading that takes the head at once has read the text up to the head's end
-  pub head_read : (new : StateReading K) (bytes : List ℕ) → IsHead count old.parts bytes new.stage → old.reached + length bytes ≤ old.limit
+  pub head_read : (new : StateReading K) (bytes : List ℕ) (part : EntryPart) → AreParts old.parts bytes part
+      → stage_meant new.stage old.parts [] ≡ in_entry count old.parts part → IsFresh new.stage old.parts → old.reached + length bytes ≤ old.limit
       → new.parts ≡ old.parts → new.lines ≡ [] → new.partial.items ≡ old.partial.items → new.reached ≡ old.reached + length bytes
       → new.item_at ≡ old.item_at → new.limit ≡ old.limit → format_of new ≡ format_of old → ReadsOn old new bytes
-  head_read new bytes head fits parts lines partial reached item limit format = record {
+  head_read new bytes part head stage_is fresh fits parts lines partial reached item limit format = record {
     reading = record {
-      ready = record { good = good_now; fresh = subst (IsFresh new.stage) (sym parts) head.fresh };
+      ready = record { good = good_now; fresh = subst (IsFresh new.stage) (sym parts) fresh };
       short = (let size = ap length empty in omega arith);
       reached_is = reached_now;
       item_is = item ∙ is.item_is ∙ ap length (sym items);
@@ -48,8 +49,8 @@ module _ {K : Type 0} (old : StateReading K) (count : ℕ) (is : IsReading old) 
       empty : new.partial.items ≡ []
       empty = partial ∙ none
 
-      after : before_of new ≡ in_entry count old.parts head.part
-      after = (λ i. stage_meant new.stage (parts i) (lines i)) ∙ head.is
+      after : before_of new ≡ in_entry count old.parts part
+      after = (λ i. stage_meant new.stage (parts i) (lines i)) ∙ stage_is
 
       good_now : AreGood (format_of new) (before_of new)
       good_now =

@@ -7,7 +7,7 @@ use Rattle.std.proofs.Math.Seq.{take-append_seam}
 use Rattle.docker_model.specs.file.Change.{schedule_key}
 use Rattle.docker_model.specs.state.State.{State}
 use Rattle.docker_model.specs.state.StateText.{key_in, stamp_in, stamp_bytes}
-use Rattle.docker_model.specs.state.StatePart.{before_body, before_line, key_text, key_width, IsTag, IsLineCount, IsStampHere}
+use Rattle.docker_model.specs.state.StatePart.{before_body, before_line, key_text, key_width, IsTag, IsLineCount}
 use Rattle.state_laws.proofs.texts.StateBytes.{AreBytes, four_bytes, stamp_written, key_written, tag_of_key, single}
 use Rattle.cif_change.specs.declared.key.Key.{Key}
 use Rattle.cif_change.specs.declared.key.ScheduleKey.{ScheduleKey}
@@ -18,7 +18,7 @@ use Rattle.state_text.specs.Stage.{tag_meant, schedule_meant}
 use Rattle.state_text.specs.declared.stage.Tag.{Tag}
 use Rattle.state_text.specs.declared.stage.Tag.TheVariants as tag
 use Rattle.state_text.specs.declared.stage.Stage.TheVariants as stage
-use Rattle.state_text.specs.Head.{BeginsWithHead}
+use Rattle.state_text.specs.Head.{AreParts, IsBeforeBody, IsPutHead, BeginsWith}
 
 bytes_are : (bytes : List ℕ) → ((i : ℕ) → get_or bytes i 0 < 256) → AreBytes bytes
 bytes_are [] small = tt
@@ -63,42 +63,44 @@ put_text number bytes key rest stamp op is front back key_size stamp_size op_siz
 
 -- after a put's key, stamp and op, the next part is the body
 pub body_after : (count : ℕ) (state : State) (key : Key) (stamp : Stamp) (number n : ℕ) (bytes put body : List ℕ) → bytes ≡ put ++ body → length put ≡ n
-    → IsStampHere state (key_meant key) (stamp_meant stamp)
-    → key_text (key_meant key) ++ stamp_bytes (stamp_meant stamp) ++ 1 ∷ [] ≡ number ∷ put
-    → BeginsWithHead count state (number ∷ bytes) (stage.Body count key stamp, 1 + n)
-body_after count state key stamp number n bytes put body split size here text =
+    → AreParts state (number ∷ put) (before_body (key_meant key) (stamp_meant stamp))
+    → BeginsWith IsBeforeBody count state (number ∷ bytes) (stage.Body count key stamp, 1 + n)
+body_after count state key stamp number n bytes put body split size parts =
     let whole : number ∷ bytes ≡ (number ∷ put) ++ body = ap (λ xs. number ∷ xs) split in
-    let sizes = ap length split ∙ length-append put body in (
-      omega arith,
-      record {
-        part = before_body (key_meant key) (stamp_meant stamp);
-        is = refl;
-        here = here;
-        text = text ∙ sym (taken (1 + n) (number ∷ bytes) (number ∷ put) body whole (omega arith));
-        fresh = tt;
-      },
-    )
+    let sizes = ap length split ∙ length-append put body in
+    record {
+      part = before_body (key_meant key) (stamp_meant stamp);
+      ends = tt;
+      within = omega arith;
+      parts = record {
+        here = parts.here;
+        text = parts.text ∙ sym (taken (1 + n) (number ∷ bytes) (number ∷ put) body whole (omega arith));
+      };
+      is = refl;
+      fresh = tt;
+    }
 
 -- after a schedule's key, stamp, op and number of lines, the next part is the first line
 pub lines_after : (count : ℕ) (state : State) (key : ScheduleKey) (stamp : Stamp) (n : ℕ) (bytes put rest number lines : List ℕ) → bytes ≡ put ++ rest
     → rest ≡ number ++ lines → length put ≡ 25 → length number ≡ 4 → ((i : ℕ) → get_or bytes i 0 < 256)
-    → IsStampHere state (schedule_key (schedule_meant key)) (stamp_meant stamp)
-    → key_text (schedule_key (schedule_meant key)) ++ stamp_bytes (stamp_meant stamp) ++ 1 ∷ [] ≡ 3 ∷ put
+    → AreParts state (3 ∷ put) (before_body (schedule_key (schedule_meant key)) (stamp_meant stamp))
     → n ≡ from_be_bytes w32 number → IsLineCount (from_be_bytes w32 number)
-    → BeginsWithHead count state (3 ∷ bytes) (stage.Line count key stamp n, 30)
-lines_after count state key stamp n bytes put rest number lines split parted put_size number_size small here text is good =
+    → BeginsWith IsPutHead count state (3 ∷ bytes) (stage.Line count key stamp n, 30)
+lines_after count state key stamp n bytes put rest number lines split parted put_size number_size small parts is good =
     let sizes = ap length whole ∙ length-append ((3 ∷ put) ++ number) lines in
-    let both = length-append (3 ∷ put) number in (
-      omega arith,
-      record {
-        part = before_line (schedule_meant key) (stamp_meant stamp) n [];
-        is = refl;
-        here = (here, few, few.0, inl refl);
+    let both = length-append (3 ∷ put) number in
+    record {
+      part = before_line (schedule_meant key) (stamp_meant stamp) n [];
+      ends = refl;
+      within = omega arith;
+      parts = record {
+        here = (parts.here, few, few.0, inl refl);
         text = append-nil (head ++ 1 ∷ to_be_bytes w32 n) ∙ sym (append_assoc head (1 ∷ []) (to_be_bytes w32 n))
-            ∙ (λ i. text i ++ written i) ∙ sym (taken 30 (3 ∷ bytes) ((3 ∷ put) ++ number) lines whole (omega arith));
-        fresh = tt;
-      },
-    )
+            ∙ (λ i. parts.text i ++ written i) ∙ sym (taken 30 (3 ∷ bytes) ((3 ∷ put) ++ number) lines whole (omega arith));
+      };
+      is = refl;
+      fresh = tt;
+    }
   where
     head : List ℕ
     head = key_text (schedule_key (schedule_meant key)) ++ stamp_bytes (stamp_meant stamp)

@@ -11,3 +11,4 @@ pub mod PartsSoFarLemmas
 pub mod ReceivingLemmas
 pub mod StepLemmas
 pub mod HeadLemmas
+pub mod NoHeadLemmas

@@ -1,20 +1,40 @@
--- The first parts of an entry, read in one step.
-use Rattle.std.specs.Prelude.{◌≡◌, ℕ, ◌≤◌, List, [], length, take}
+-- The head of a put, which is read in one step: the first parts of the put's entry.
+use Rattle.std.specs.Prelude.{◌≡◌, ℕ, ◌≤◌, List, [], length, take, ⊤}
+use Rattle.docker_model.specs.file.Change.{tiploc_key, association_key}
 use Rattle.docker_model.specs.state.State.{State}
-use Rattle.docker_model.specs.state.StatePart.{EntryPart, in_entry, part_text, IsPartHere}
+use Rattle.docker_model.specs.state.StatePart.{EntryPart, before_body, before_line, in_entry, part_text, IsPartHere}
 use Rattle.state_text.specs.declared.stage.Stage.{Stage}
 use Rattle.state_text.specs.Stage.{stage_meant, IsFresh}
 
--- says that these bytes are the first parts of an entry, that these parts are good, and that this
--- is the stage after them. The stage is inside the entry
-pub record IsHead (count : ℕ) (state : State) (bytes : List ℕ) (stage : Stage) : Type 0 where
-  pub part : EntryPart
-  pub is : stage_meant stage state [] ≡ in_entry count state part
+-- says that these bytes are the parts of an entry before this point, and that these parts are good
+pub record AreParts (state : State) (bytes : List ℕ) (part : EntryPart) : Type 0 where
   pub here : IsPartHere state part
   pub text : part_text part ≡ bytes
-  pub fresh : IsFresh stage state
 
--- says that the bytes begin with the first parts of an entry. The pair gives the stage after these
--- parts and their length in bytes
-abbrev pub BeginsWithHead : ℕ → State → List ℕ → Stage × ℕ → Type 0
-BeginsWithHead count state bytes head = (head.1 ≤ length bytes) × IsHead count state (take head.1 bytes) head.0
+-- says that the parts of an entry before this point are the tag, key, stamp and op of a put
+abbrev pub IsBeforeBody : EntryPart → Type 0
+IsBeforeBody (before_body key stamp) = ⊤
+IsBeforeBody _ = ⊥
+
+-- says that the parts of an entry before this point are the head of a put. For a TIPLOC or an
+-- association, the head ends before the body. For a schedule, the head ends before the first line
+abbrev pub IsPutHead : EntryPart → Type 0
+IsPutHead (before_body (tiploc_key code) stamp) = ⊤
+IsPutHead (before_body (association_key key) stamp) = ⊤
+IsPutHead (before_line key stamp count lines) = lines ≡ []
+IsPutHead _ = ⊥
+
+-- says that the bytes begin with good parts of an entry, up to a point for which `Ends` holds. The
+-- pair gives the stage at this point, and the length of these parts in bytes
+pub record BeginsWith (Ends : EntryPart → Type 0) (count : ℕ) (state : State) (bytes : List ℕ) (head : Stage × ℕ) : Type 0 where
+  pub part : EntryPart
+  pub ends : Ends part
+  pub within : head.1 ≤ length bytes
+  pub parts : AreParts state (take head.1 bytes) part
+  pub is : stage_meant head.0 state [] ≡ in_entry count state part
+  pub fresh : IsFresh head.0 state
+
+-- says that the bytes don't begin with good parts of an entry up to any point for which `Ends`
+-- holds: such parts are missing, incomplete or bad
+abbrev pub BeginsWithNo : (EntryPart → Type 0) → State → List ℕ → Type 0
+BeginsWithNo Ends state bytes = (part : EntryPart) (len : ℕ) → Ends part → ¬ AreParts state (take len bytes) part

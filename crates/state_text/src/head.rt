@@ -1,13 +1,14 @@
 //! Reads the head of a put in one step: the parts before its body or, for a schedule, the parts
 //! before its lines.
-ghost use Rattle.std.specs.Prelude.{◌≡◌, ◌+◌, [], ◌∷◌, ◌++◌, length, IfSome};
+ghost use Rattle.std.specs.Prelude.{◌≡◌, ◌+◌, ◌∷◌, length, MatchOption};
+ghost use Rattle.docker_model.specs.file.Change as changes;
+ghost use Rattle.docker_model.specs.state.Stamp as stamps;
 ghost use Rattle.docker_model.specs.state.State.{IsValid};
-ghost use Rattle.docker_model.specs.state.StateText.{stamp_bytes};
-ghost use Rattle.docker_model.specs.state.StatePart.{key_text, key_width, IsStampHere};
+ghost use Rattle.docker_model.specs.state.StatePart.{before_body, key_width};
 ghost use Rattle.cif_change.specs.Meaning.{key_meant};
 ghost use Rattle.docker_join.specs.Meaning.{stamp_meant};
 ghost use Rattle.state_text.specs.Stage.{tag_meant};
-ghost use Rattle.state_text.specs.Head.{BeginsWithHead};
+ghost use Rattle.state_text.specs.Head.{AreParts, IsBeforeBody, IsPutHead, BeginsWith, BeginsWithNo};
 
 use crate::format::{
     ASSOC_TAG, LINE_COUNT, OP, PUT, SCHEDULE_KEY, SCHEDULE_TAG, STAMP, TAG, TIPLOC_TAG,
@@ -31,11 +32,11 @@ const SCHEDULE_PUT: usize = SCHEDULE_KEY + STAMP + OP;
 fn put_of<K: Keeper>(tag: Tag, parts: &PartsSoFar<K>, bytes: &[u8]) -> Option<(Key, Stamp)>
     requires valid { IsValid parts.now }
     requires wide { length bytes.now ≡ key_width (tag_meant tag) + (STAMP + OP) }
-    ensures here { IfSome result (λ put.
-        IsStampHere parts.now (key_meant put.0) (stamp_meant put.1)) }
-    ensures text { IfSome result (λ put.
-        key_text (key_meant put.0) ++ stamp_bytes (stamp_meant put.1) ++ 1 ∷ []
-        ≡ tag_meant tag ∷ bytes.now) }
+    ensures { MatchOption result
+        ((key : changes.Key) (stamp : stamps.Stamp) →
+        ¬ AreParts parts.now (tag_meant tag ∷ bytes.now) (before_body key stamp))
+        (λ put. AreParts parts.now (tag_meant tag ∷ bytes.now)
+        (before_body (key_meant put.0) (stamp_meant put.1))) }
 {
     let (key, rest) = bytes.split_at(tag.width());
     let (stamp, op) = rest.split_at(STAMP);
@@ -61,7 +62,9 @@ fn body_head<K: Keeper>(
     bytes: &[u8],
 ) -> Option<(Stage, usize)>
     requires { IsValid parts.now }
-    ensures { IfSome result (BeginsWithHead count parts.now (tag_meant tag ∷ bytes.now)) }
+    ensures { MatchOption result
+        (BeginsWithNo IsBeforeBody parts.now (tag_meant tag ∷ bytes.now))
+        (BeginsWith IsBeforeBody count parts.now (tag_meant tag ∷ bytes.now)) }
 {
     let len = tag.width() + (STAMP + OP);
     if bytes.len() < len {
@@ -83,7 +86,8 @@ fn schedule_head<K: Keeper>(
     bytes: &[u8],
 ) -> Option<(Stage, usize)>
     requires { IsValid parts.now }
-    ensures { IfSome result (BeginsWithHead count parts.now (3 ∷ bytes.now)) }
+    ensures { MatchOption result (BeginsWithNo IsPutHead parts.now (3 ∷ bytes.now))
+        (BeginsWith IsPutHead count parts.now (3 ∷ bytes.now)) }
 {
     if bytes.len() < SCHEDULE_PUT + LINE_COUNT {
         return None;
@@ -105,15 +109,16 @@ fn schedule_head<K: Keeper>(
 
 /// Reads the head of a put at the start of the bytes: its tag, key, stamp and op, and for a
 /// schedule also the number of its lines. Returns the stage after the head and the head's length in
-/// bytes. `count` is the number of all entries in the text. Returns `None` if the bytes end before
-/// the head does, if a part of the head is bad, or if the op isn't a put.
+/// bytes. `count` is the number of all entries in the text. Returns `None` if and only if the bytes
+/// end before the head does, a part of the head is bad, or the op isn't a put.
 pub fn put_head<K: Keeper>(
     count: u64,
     parts: &PartsSoFar<K>,
     bytes: &[u8],
 ) -> Option<(Stage, usize)>
     requires { IsValid parts.now }
-    ensures { IfSome result (BeginsWithHead count parts.now bytes.now) }
+    ensures { MatchOption result (BeginsWithNo IsPutHead parts.now bytes.now)
+        (BeginsWith IsPutHead count parts.now bytes.now) }
 {
     let (tag, rest) = bytes.split_first()?;
     match *tag {

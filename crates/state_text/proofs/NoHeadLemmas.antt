@@ -1,0 +1,235 @@
+-- If a part of a put's head is missing or bad, the bytes don't begin with the head of a put.
+use Rattle.std.proofs.Common.{◌≡◌, ℕ, ◌+◌, ◌<◌, ◌≤◌, List, [], ◌∷◌, ◌++◌, length, take, drop, get_or, ap, sym, ◌∙◌, subst}
+use Rattle.std.proofs.Common.{arith, append_assoc, append-nil, length-append, take-append-drop}
+use Rattle.std.specs.Prelude.{slice_index, Option, Some, None, MatchOption}
+use Rattle.std.specs.Int.{w32, to_be_bytes, from_be_bytes}
+use Rattle.std.proofs.Math.Seq.{take-append_seam, drop-append_seam}
+use Rattle.docker_model.specs.file.Change.{Key, ScheduleKey, tiploc_key, association_key, schedule_key}
+use Rattle.docker_model.specs.state.Stamp.{Stamp}
+use Rattle.docker_model.specs.state.Op.{key_tag}
+use Rattle.docker_model.specs.state.State.{State, IsLedger, IsStampIn}
+use Rattle.docker_model.specs.state.StateText.{key_bytes, stamp_bytes, key_in, stamp_in}
+use Rattle.docker_model.specs.state.StatePart.{EntryPart, before_body, before_line, key_text, key_width, part_text, IsLineCount, IsStampHere}
+use Rattle.docker_model.specs.state.StateFault.{StateCause, IsBadKey}
+use Rattle.state_laws.proofs.texts.StateReadBack.{key_read, key_width_is, stamp_read, stamp_width}
+use Rattle.state_laws.proofs.texts.TextsBefore.{read_32}
+use Rattle.state_laws.proofs.texts.GoodPartLeads.{no_bad_key}
+use Rattle.state_text.specs.Judged.{IsKeyCause}
+use Rattle.state_text.specs.declared.stage.Stage.{Stage}
+use Rattle.state_text.specs.Head.{AreParts, IsBeforeBody, IsPutHead, BeginsWith, BeginsWithNo}
+
+front_same : (a b c d : List ℕ) → a ++ b ≡ c ++ d → length a ≡ length c → a ≡ c
+front_same a b c d whole size =
+    sym (take-append_seam a b) ∙ ap (take (length a)) whole ∙ ap (λ n. take n (c ++ d)) size ∙ take-append_seam c d
+
+back_same : (a b c d : List ℕ) → a ++ b ≡ c ++ d → length a ≡ length c → b ≡ d
+back_same a b c d whole size =
+    sym (drop-append_seam a b) ∙ ap (drop (length a)) whole ∙ ap (λ n. drop n (c ++ d)) size ∙ drop-append_seam c d
+
+whole_of : (len : ℕ) (text bytes : List ℕ) → text ≡ take len bytes → text ++ drop len bytes ≡ bytes
+whole_of len text bytes is = ap (λ xs. xs ++ drop len bytes) is ∙ take-append-drop len bytes
+
+front_of : (len : ℕ) (text bytes front back : List ℕ) → text ≡ take len bytes → bytes ≡ front ++ back → length text ≡ length front → text ≡ front
+front_of len text bytes front back is split size = front_same text (drop len bytes) front back (whole_of len text bytes is ∙ split) size
+
+fits : (len : ℕ) (text bytes : List ℕ) → text ≡ take len bytes → length text ≤ length bytes
+fits len text bytes is = let sizes = ap length (whole_of len text bytes is) in let both = length-append text (drop len bytes) in omega arith
+
+first_of : (len first number : ℕ) (text bytes : List ℕ) → first ∷ text ≡ take len (number ∷ bytes) → first ≡ number
+first_of len first number text bytes is = ap (λ xs. get_or xs 0 0) (whole_of len (first ∷ text) (number ∷ bytes) is)
+
+put_size : (state : State) (key : Key) (stamp : Stamp) → IsLedger state.ledger → IsStampHere state key stamp
+    → length (key_text key ++ stamp_bytes stamp ++ 1 ∷ []) ≡ 17 + key_width (key_tag key)
+put_size state key stamp ledger here =
+    let key_size = key_width_is key here.0.0 in
+    let stamp_size = stamp_width state.ledger stamp ledger here.1 in
+    let front = length-append (key_text key) (stamp_bytes stamp) in
+    let all = length-append (key_text key ++ stamp_bytes stamp) (1 ∷ []) in
+    omega arith
+
+tag_at : (len number : ℕ) (bytes : List ℕ) (state : State) (key : Key) (stamp : Stamp) → AreParts state (take len (number ∷ bytes)) (before_body key stamp)
+    → key_tag key ≡ number
+tag_at len number bytes state key stamp parts = first_of len (key_tag key) number (key_bytes key ++ stamp_bytes stamp ++ 1 ∷ []) bytes parts.text
+
+-- if the bytes are a good put's tag, key, stamp and op, each of these is read back
+module _ (state : State) (number : ℕ) (bytes key rest stamp op : List ℕ) (ledger : IsLedger state.ledger) (front : bytes ≡ key ++ rest)
+    (back : rest ≡ stamp ++ op) (key_size : length key ≡ key_width number) (stamp_size : length stamp ≡ 15) where
+  put_read : (k : Key) (s : Stamp) → AreParts state (number ∷ bytes) (before_body k s)
+      → (key_in number key ≡ k) × (stamp_in stamp ≡ s) × (slice_index op 0 ≡ 1)
+  put_read k s parts = (
+    ap (λ t. key_in t key) (sym tag) ∙ ap (key_in (key_tag k)) (sym same_key) ∙ key_read k parts.here.0.0,
+    ap stamp_in (sym same_stamp) ∙ stamp_read state.ledger s ledger parts.here.1,
+    sym (ap (λ xs. slice_index xs 0) same_op),
+  )
+    where
+      tag : key_tag k ≡ number
+      tag = ap (λ xs. get_or xs 0 0) parts.text
+
+      text : key_bytes k ++ (stamp_bytes s ++ 1 ∷ []) ≡ key ++ (stamp ++ op)
+      text = sym (append_assoc (key_bytes k) (stamp_bytes s) (1 ∷ [])) ∙ ap (drop 1) parts.text ∙ front ∙ ap (λ xs. key ++ xs) back
+
+      size : length (key_bytes k) ≡ length key
+      size = key_width_is k parts.here.0.0 ∙ ap key_width tag ∙ sym key_size
+
+      same_key : key_bytes k ≡ key
+      same_key = front_same (key_bytes k) (stamp_bytes s ++ 1 ∷ []) key (stamp ++ op) text size
+
+      behind : stamp_bytes s ++ 1 ∷ [] ≡ stamp ++ op
+      behind = back_same (key_bytes k) (stamp_bytes s ++ 1 ∷ []) key (stamp ++ op) text size
+
+      width : length (stamp_bytes s) ≡ length stamp
+      width = stamp_width state.ledger s ledger parts.here.1 ∙ sym stamp_size
+
+      same_stamp : stamp_bytes s ≡ stamp
+      same_stamp = front_same (stamp_bytes s) (1 ∷ []) stamp op behind width
+
+      same_op : 1 ∷ [] ≡ op
+      same_op = back_same (stamp_bytes s) (1 ∷ []) stamp op behind width
+
+  -- if the op isn't 1, the bytes aren't a put's tag, key, stamp and op
+  pub other_op : ¬ (slice_index op 0 ≡ 1) → (k : Key) (s : Stamp) → ¬ AreParts state (number ∷ bytes) (before_body k s)
+  other_op other k s parts = other (put_read k s parts).2
+
+  -- if the key is bad, the bytes aren't a put's tag, key, stamp and op
+  pub bad_key : (cause : Option StateCause) → IsKeyCause state (key_in number key) cause → (k : Key) (s : Stamp)
+      → ¬ AreParts state (number ∷ bytes) (before_body k s)
+  bad_key None bad k s parts = bad
+  bad_key (Some cause) bad k s parts =
+      no_bad_key state k cause parts.here.0.0 parts.here.0.1 (subst (λ it. IsBadKey state it cause) (put_read k s parts).0 bad)
+
+  -- if the stamp is bad, the bytes aren't a put's tag, key, stamp and op
+  pub bad_stamp : ¬ IsStampIn state.ledger (stamp_in stamp) → (k : Key) (s : Stamp) → ¬ AreParts state (number ∷ bytes) (before_body k s)
+  bad_stamp bad k s parts = bad (subst (IsStampIn state.ledger) (sym (put_read k s parts).1) parts.here.1)
+
+-- bytes that are too short don't begin with a put's tag, key, stamp and op
+pub too_short : (state : State) (number n : ℕ) (bytes : List ℕ) → IsLedger state.ledger → n ≡ key_width number + 16 → length bytes < n
+    → BeginsWithNo IsBeforeBody state (number ∷ bytes)
+too_short state number n bytes ledger size short (before_body key stamp) len ends parts =
+    let all = put_size state key stamp ledger parts.here in
+    let width = ap key_width (tag_at len number bytes state key stamp parts) in
+    let fit = fits len (part_text (before_body key stamp)) (number ∷ bytes) parts.text in
+    omega arith
+too_short state number n bytes ledger size short _ len ends parts = ends
+
+-- if the bytes up to the body aren't a put's tag, key, stamp and op, then nor are any other bytes
+-- at the front
+pub no_put : (state : State) (number n : ℕ) (bytes put body : List ℕ) → IsLedger state.ledger → bytes ≡ put ++ body → length put ≡ n
+    → n ≡ key_width number + 16 → ((key : Key) (stamp : Stamp) → ¬ AreParts state (number ∷ put) (before_body key stamp))
+    → BeginsWithNo IsBeforeBody state (number ∷ bytes)
+no_put state number n bytes put body ledger split size wide none (before_body key stamp) len ends parts =
+    let all = put_size state key stamp ledger parts.here in
+    let width = ap key_width (tag_at len number bytes state key stamp parts) in
+    let front = front_of len (part_text (before_body key stamp)) (number ∷ bytes) (number ∷ put) body parts.text (ap (λ xs. number ∷ xs) split) (omega arith) in
+    none key stamp (record { here = parts.here; text = front })
+no_put state number n bytes put body ledger split size wide none _ len ends parts = ends
+
+-- the head of a TIPLOC's or an association's put is its tag, key, stamp and op
+pub head_of_body : (count : ℕ) (state : State) (number : ℕ) (bytes : List ℕ) (result : Option (Stage × ℕ)) → ¬ (number ≡ 3)
+    → MatchOption result (BeginsWithNo IsBeforeBody state (number ∷ bytes)) (BeginsWith IsBeforeBody count state (number ∷ bytes))
+    → MatchOption result (BeginsWithNo IsPutHead state (number ∷ bytes)) (BeginsWith IsPutHead count state (number ∷ bytes))
+head_of_body count state number bytes None other none = never
+  where
+    never : BeginsWithNo IsPutHead state (number ∷ bytes)
+    never (before_body key stamp) len ends parts = none (before_body key stamp) len tt parts
+    never (before_line key stamp n lines) len ends parts =
+        other (sym (first_of len 3 number (drop 1 (part_text (before_line key stamp n lines))) bytes parts.text))
+    never _ len ends parts = ends
+head_of_body count state number bytes (Some head) other begins = record {
+  part = begins.part;
+  ends = whole begins.part begins.ends begins.parts;
+  within = begins.within;
+  parts = begins.parts;
+  is = begins.is;
+  fresh = begins.fresh;
+}
+  where
+    whole : (part : EntryPart) → IsBeforeBody part → AreParts state (take head.1 (number ∷ bytes)) part → IsPutHead part
+    whole (before_body (tiploc_key code) stamp) ends parts = tt
+    whole (before_body (association_key key) stamp) ends parts = tt
+    whole (before_body (schedule_key key) stamp) ends parts = other (sym (tag_at head.1 number bytes state (schedule_key key) stamp parts))
+    whole (before_line key stamp n lines) ends parts = absurd ends
+    whole _ ends parts = ends
+
+-- bytes that don't begin with a tag don't begin with the head of a put
+pub other_tag : (state : State) (number : ℕ) (bytes : List ℕ) → ¬ (number ≡ 1) → ¬ (number ≡ 2) → ¬ (number ≡ 3)
+    → BeginsWithNo IsPutHead state (number ∷ bytes)
+other_tag state number bytes one two three (before_body (tiploc_key code) stamp) len ends parts =
+    one (sym (tag_at len number bytes state (tiploc_key code) stamp parts))
+other_tag state number bytes one two three (before_body (association_key key) stamp) len ends parts =
+    two (sym (tag_at len number bytes state (association_key key) stamp parts))
+other_tag state number bytes one two three (before_line key stamp n lines) len ends parts =
+    three (sym (first_of len 3 number (drop 1 (part_text (before_line key stamp n lines))) bytes parts.text))
+other_tag state number bytes one two three _ len ends parts = ends
+
+-- bytes with the tag of a schedule begin only with the head of a schedule's put
+of_schedules : (state : State) (bytes : List ℕ)
+    → ((key : ScheduleKey) (stamp : Stamp) (n len : ℕ) → ¬ AreParts state (take len (3 ∷ bytes)) (before_line key stamp n []))
+    → BeginsWithNo IsPutHead state (3 ∷ bytes)
+of_schedules state bytes none (before_body (tiploc_key code) stamp) len ends parts =
+    let tag : ◌≡◌ {A = ℕ} 1 3 = tag_at len 3 bytes state (tiploc_key code) stamp parts in omega arith
+of_schedules state bytes none (before_body (association_key key) stamp) len ends parts =
+    let tag : ◌≡◌ {A = ℕ} 2 3 = tag_at len 3 bytes state (association_key key) stamp parts in omega arith
+of_schedules state bytes none (before_line key stamp n lines) len ends parts =
+    none key stamp n len (subst (λ first. AreParts state (take len (3 ∷ bytes)) (before_line key stamp n first)) ends parts)
+of_schedules state bytes none _ len ends parts = ends
+
+head_split : (key : ScheduleKey) (stamp : Stamp) (n : ℕ)
+    → part_text (before_line key stamp n []) ≡ part_text (before_body (schedule_key key) stamp) ++ to_be_bytes w32 n
+head_split key stamp n =
+    let front = key_text (schedule_key key) ++ stamp_bytes stamp in
+    append-nil (front ++ 1 ∷ to_be_bytes w32 n) ∙ sym (append_assoc front (1 ∷ []) (to_be_bytes w32 n))
+
+-- bytes that are too short don't begin with the head of a schedule's put
+pub no_lines : (state : State) (bytes : List ℕ) → IsLedger state.ledger → length bytes < 29 → BeginsWithNo IsPutHead state (3 ∷ bytes)
+no_lines state bytes ledger short = of_schedules state bytes none
+  where
+    none : (key : ScheduleKey) (stamp : Stamp) (n len : ℕ) → ¬ AreParts state (take len (3 ∷ bytes)) (before_line key stamp n [])
+    none key stamp n len parts =
+        let all = put_size state (schedule_key key) stamp ledger parts.here.0 in
+        let size = ap length (head_split key stamp n) in
+        let both = length-append (part_text (before_body (schedule_key key) stamp)) (to_be_bytes w32 n) in
+        let fit = fits len (part_text (before_line key stamp n [])) (3 ∷ bytes) parts.text in
+        omega arith
+
+-- if the bytes begin with the head of a schedule's put, its parts are read back
+module _ (state : State) (bytes put rest number lines : List ℕ) (ledger : IsLedger state.ledger) (split : bytes ≡ put ++ rest)
+    (parted : rest ≡ number ++ lines) (put_size_is : length put ≡ 25) (number_size : length number ≡ 4) where
+  lines_read : (key : ScheduleKey) (stamp : Stamp) (n len : ℕ) → AreParts state (take len (3 ∷ bytes)) (before_line key stamp n [])
+      → AreParts state (3 ∷ put) (before_body (schedule_key key) stamp) × (from_be_bytes w32 number ≡ n)
+  lines_read key stamp n len parts = (
+    record { here = parts.here.0; text = front_same front behind (3 ∷ put) (number ++ lines) whole size },
+    ap (from_be_bytes w32) (sym (front_same (to_be_bytes w32 n) (drop len (3 ∷ bytes)) number lines after (sym number_size)))
+        ∙ read_32 n (let few = parts.here.1.1 in omega arith),
+  )
+    where
+      front : List ℕ
+      front = part_text (before_body (schedule_key key) stamp)
+
+      behind : List ℕ
+      behind = to_be_bytes w32 n ++ drop len (3 ∷ bytes)
+
+      whole : front ++ behind ≡ (3 ∷ put) ++ (number ++ lines)
+      whole = sym (append_assoc front (to_be_bytes w32 n) (drop len (3 ∷ bytes)))
+          ∙ whole_of len (front ++ to_be_bytes w32 n) (3 ∷ bytes) (sym (head_split key stamp n) ∙ parts.text)
+          ∙ ap (λ xs. 3 ∷ xs) (split ∙ ap (λ xs. put ++ xs) parted)
+
+      size : length front ≡ length (3 ∷ put)
+      size = let all = put_size state (schedule_key key) stamp ledger parts.here.0 in omega arith
+
+      after : behind ≡ number ++ lines
+      after = back_same front behind (3 ∷ put) (number ++ lines) whole size
+
+  -- if no schedule can have this number of lines, the bytes don't begin with the head of a put
+  pub bad_count : ¬ IsLineCount (from_be_bytes w32 number) → BeginsWithNo IsPutHead state (3 ∷ bytes)
+  bad_count bad = of_schedules state bytes none
+    where
+      none : (key : ScheduleKey) (stamp : Stamp) (n len : ℕ) → ¬ AreParts state (take len (3 ∷ bytes)) (before_line key stamp n [])
+      none key stamp n len parts = bad (subst IsLineCount (sym (lines_read key stamp n len parts).1) parts.here.1)
+
+  -- if the bytes up to the number of lines aren't a put's tag, key, stamp and op, the bytes don't
+  -- begin with the head of a put
+  pub no_schedule : ((key : Key) (stamp : Stamp) → ¬ AreParts state (3 ∷ put) (before_body key stamp)) → BeginsWithNo IsPutHead state (3 ∷ bytes)
+  no_schedule bad = of_schedules state bytes none
+    where
+      none : (key : ScheduleKey) (stamp : Stamp) (n len : ℕ) → ¬ AreParts state (take len (3 ∷ bytes)) (before_line key stamp n [])
+      none key stamp n len parts = bad (schedule_key key) stamp (lines_read key stamp n len parts).0
