@@ -18,7 +18,7 @@ use Rattle.state_text.specs.Stage.{tag_meant, schedule_meant}
 use Rattle.state_text.specs.declared.stage.Tag.{Tag}
 use Rattle.state_text.specs.declared.stage.Tag.TheVariants as tag
 use Rattle.state_text.specs.declared.stage.Stage.TheVariants as stage
-use Rattle.state_text.specs.Head.{AreParts, IsBeforeBody, IsPutHead, BeginsWith}
+use Rattle.state_text.specs.Head.{AreParts, IsBeforeBody, IsPutHead, BeginsWithParts}
 
 bytes_are : (bytes : List ℕ) → ((i : ℕ) → get_or bytes i 0 < 256) → AreBytes bytes
 bytes_are [] small = tt
@@ -64,7 +64,7 @@ put_text number bytes key rest stamp op is front back key_size stamp_size op_siz
 -- after a put's key, stamp and op, the next part is the body
 pub body_after : (count : ℕ) (state : State) (key : Key) (stamp : Stamp) (number n : ℕ) (bytes put body : List ℕ) → bytes ≡ put ++ body → length put ≡ n
     → AreParts state (number ∷ put) (before_body (key_meant key) (stamp_meant stamp))
-    → BeginsWith IsBeforeBody count state (number ∷ bytes) (stage.Body count key stamp, 1 + n)
+    → BeginsWithParts IsBeforeBody count state (number ∷ bytes) (stage.Body count key stamp, 1 + n)
 body_after count state key stamp number n bytes put body split size parts =
     let whole : number ∷ bytes ≡ (number ∷ put) ++ body = ap (λ xs. number ∷ xs) split in
     let sizes = ap length split ∙ length-append put body in
@@ -85,7 +85,7 @@ pub lines_after : (count : ℕ) (state : State) (key : ScheduleKey) (stamp : Sta
     → rest ≡ number ++ lines → length put ≡ 25 → length number ≡ 4 → ((i : ℕ) → get_or bytes i 0 < 256)
     → AreParts state (3 ∷ put) (before_body (schedule_key (schedule_meant key)) (stamp_meant stamp))
     → n ≡ from_be_bytes w32 number → IsLineCount (from_be_bytes w32 number)
-    → BeginsWith IsPutHead count state (3 ∷ bytes) (stage.Line count key stamp n, 30)
+    → BeginsWithParts IsPutHead count state (3 ∷ bytes) (stage.Line count key stamp n, 30)
 lines_after count state key stamp n bytes put rest number lines split parted put_size number_size small parts is good =
     let sizes = ap length whole ∙ length-append ((3 ∷ put) ++ number) lines in
     let both = length-append (3 ∷ put) number in

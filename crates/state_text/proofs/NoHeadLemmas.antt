@@ -16,7 +16,7 @@ use Rattle.state_laws.proofs.texts.TextsBefore.{read_32}
 use Rattle.state_laws.proofs.texts.GoodPartLeads.{no_bad_key}
 use Rattle.state_text.specs.Judged.{IsKeyCause}
 use Rattle.state_text.specs.declared.stage.Stage.{Stage}
-use Rattle.state_text.specs.Head.{AreParts, IsBeforeBody, IsPutHead, BeginsWith, BeginsWithNo}
+use Rattle.state_text.specs.Head.{AreParts, IsBeforeBody, IsPutHead, BeginsWithParts, BeginsWithNoParts}
 
 front_same : (a b c d : List ℕ) → a ++ b ≡ c ++ d → length a ≡ length c → a ≡ c
 front_same a b c d whole size =
@@ -103,7 +103,7 @@ module _ (state : State) (number : ℕ) (bytes key rest stamp op : List ℕ) (le
 
 -- bytes that are too short don't begin with a put's tag, key, stamp and op
 pub too_short : (state : State) (number n : ℕ) (bytes : List ℕ) → IsLedger state.ledger → n ≡ key_width number + 16 → length bytes < n
-    → BeginsWithNo IsBeforeBody state (number ∷ bytes)
+    → BeginsWithNoParts IsBeforeBody state (number ∷ bytes)
 too_short state number n bytes ledger size short (before_body key stamp) len ends parts =
     let all = put_size state key stamp ledger parts.here in
     let width = ap key_width (tag_at len number bytes state key stamp parts) in
@@ -115,7 +115,7 @@ too_short state number n bytes ledger size short _ len ends parts = ends
 -- at the front
 pub no_put : (state : State) (number n : ℕ) (bytes put body : List ℕ) → IsLedger state.ledger → bytes ≡ put ++ body → length put ≡ n
     → n ≡ key_width number + 16 → ((key : Key) (stamp : Stamp) → ¬ AreParts state (number ∷ put) (before_body key stamp))
-    → BeginsWithNo IsBeforeBody state (number ∷ bytes)
+    → BeginsWithNoParts IsBeforeBody state (number ∷ bytes)
 no_put state number n bytes put body ledger split size wide none (before_body key stamp) len ends parts =
     let all = put_size state key stamp ledger parts.here in
     let width = ap key_width (tag_at len number bytes state key stamp parts) in
@@ -125,11 +125,11 @@ no_put state number n bytes put body ledger split size wide none _ len ends part
 
 -- the head of a TIPLOC's or an association's put is its tag, key, stamp and op
 pub head_of_body : (count : ℕ) (state : State) (number : ℕ) (bytes : List ℕ) (result : Option (Stage × ℕ)) → ¬ (number ≡ 3)
-    → MatchOption result (BeginsWithNo IsBeforeBody state (number ∷ bytes)) (BeginsWith IsBeforeBody count state (number ∷ bytes))
-    → MatchOption result (BeginsWithNo IsPutHead state (number ∷ bytes)) (BeginsWith IsPutHead count state (number ∷ bytes))
+    → MatchOption result (BeginsWithNoParts IsBeforeBody state (number ∷ bytes)) (BeginsWithParts IsBeforeBody count state (number ∷ bytes))
+    → MatchOption result (BeginsWithNoParts IsPutHead state (number ∷ bytes)) (BeginsWithParts IsPutHead count state (number ∷ bytes))
 head_of_body count state number bytes None other none = never
   where
-    never : BeginsWithNo IsPutHead state (number ∷ bytes)
+    never : BeginsWithNoParts IsPutHead state (number ∷ bytes)
     never (before_body key stamp) len ends parts = none (before_body key stamp) len tt parts
     never (before_line key stamp n lines) len ends parts =
         other (sym (first_of len 3 number (drop 1 (part_text (before_line key stamp n lines))) bytes parts.text))
@@ -152,7 +152,7 @@ head_of_body count state number bytes (Some head) other begins = record {
 
 -- bytes that don't begin with a tag don't begin with the head of a put
 pub other_tag : (state : State) (number : ℕ) (bytes : List ℕ) → ¬ (number ≡ 1) → ¬ (number ≡ 2) → ¬ (number ≡ 3)
-    → BeginsWithNo IsPutHead state (number ∷ bytes)
+    → BeginsWithNoParts IsPutHead state (number ∷ bytes)
 other_tag state number bytes one two three (before_body (tiploc_key code) stamp) len ends parts =
     one (sym (tag_at len number bytes state (tiploc_key code) stamp parts))
 other_tag state number bytes one two three (before_body (association_key key) stamp) len ends parts =
@@ -164,7 +164,7 @@ other_tag state number bytes one two three _ len ends parts = ends
 -- bytes with the tag of a schedule begin only with the head of a schedule's put
 of_schedules : (state : State) (bytes : List ℕ)
     → ((key : ScheduleKey) (stamp : Stamp) (n len : ℕ) → ¬ AreParts state (take len (3 ∷ bytes)) (before_line key stamp n []))
-    → BeginsWithNo IsPutHead state (3 ∷ bytes)
+    → BeginsWithNoParts IsPutHead state (3 ∷ bytes)
 of_schedules state bytes none (before_body (tiploc_key code) stamp) len ends parts =
     let tag : ◌≡◌ {A = ℕ} 1 3 = tag_at len 3 bytes state (tiploc_key code) stamp parts in omega arith
 of_schedules state bytes none (before_body (association_key key) stamp) len ends parts =
@@ -180,7 +180,7 @@ head_split key stamp n =
     append-nil (front ++ 1 ∷ to_be_bytes w32 n) ∙ sym (append_assoc front (1 ∷ []) (to_be_bytes w32 n))
 
 -- bytes that are too short don't begin with the head of a schedule's put
-pub no_lines : (state : State) (bytes : List ℕ) → IsLedger state.ledger → length bytes < 29 → BeginsWithNo IsPutHead state (3 ∷ bytes)
+pub no_lines : (state : State) (bytes : List ℕ) → IsLedger state.ledger → length bytes < 29 → BeginsWithNoParts IsPutHead state (3 ∷ bytes)
 no_lines state bytes ledger short = of_schedules state bytes none
   where
     none : (key : ScheduleKey) (stamp : Stamp) (n len : ℕ) → ¬ AreParts state (take len (3 ∷ bytes)) (before_line key stamp n [])
@@ -220,7 +220,7 @@ module _ (state : State) (bytes put rest number lines : List ℕ) (ledger : IsLe
       after = back_same front behind (3 ∷ put) (number ++ lines) whole size
 
   -- if no schedule can have this number of lines, the bytes don't begin with the head of a put
-  pub bad_count : ¬ IsLineCount (from_be_bytes w32 number) → BeginsWithNo IsPutHead state (3 ∷ bytes)
+  pub bad_count : ¬ IsLineCount (from_be_bytes w32 number) → BeginsWithNoParts IsPutHead state (3 ∷ bytes)
   bad_count bad = of_schedules state bytes none
     where
       none : (key : ScheduleKey) (stamp : Stamp) (n len : ℕ) → ¬ AreParts state (take len (3 ∷ bytes)) (before_line key stamp n [])
@@ -228,7 +228,7 @@ module _ (state : State) (bytes put rest number lines : List ℕ) (ledger : IsLe
 
   -- if the bytes up to the number of lines aren't a put's tag, key, stamp and op, the bytes don't
   -- begin with the head of a put
-  pub no_schedule : ((key : Key) (stamp : Stamp) → ¬ AreParts state (3 ∷ put) (before_body key stamp)) → BeginsWithNo IsPutHead state (3 ∷ bytes)
+  pub no_schedule : ((key : Key) (stamp : Stamp) → ¬ AreParts state (3 ∷ put) (before_body key stamp)) → BeginsWithNoParts IsPutHead state (3 ∷ bytes)
   no_schedule bad = of_schedules state bytes none
     where
       none : (key : ScheduleKey) (stamp : Stamp) (n len : ℕ) → ¬ AreParts state (take len (3 ∷ bytes)) (before_line key stamp n [])

@@ -26,7 +26,7 @@ IsPutHead _ = ⊥
 
 -- says that the bytes begin with good parts of an entry, up to a point for which `Ends` holds. The
 -- pair gives the stage at this point, and the length of these parts in bytes
-pub record BeginsWith (Ends : EntryPart → Type 0) (count : ℕ) (state : State) (bytes : List ℕ) (head : Stage × ℕ) : Type 0 where
+pub record BeginsWithParts (Ends : EntryPart → Type 0) (count : ℕ) (state : State) (bytes : List ℕ) (head : Stage × ℕ) : Type 0 where
   pub part : EntryPart
   pub ends : Ends part
   pub within : head.1 ≤ length bytes
@@ -36,5 +36,5 @@ pub record BeginsWith (Ends : EntryPart → Type 0) (count : ℕ) (state : State
 
 -- says that the bytes don't begin with good parts of an entry up to any point for which `Ends`
 -- holds: such parts are missing, incomplete or bad
-abbrev pub BeginsWithNo : (EntryPart → Type 0) → State → List ℕ → Type 0
-BeginsWithNo Ends state bytes = (part : EntryPart) (len : ℕ) → Ends part → ¬ AreParts state (take len bytes) part
+abbrev pub BeginsWithNoParts : (EntryPart → Type 0) → State → List ℕ → Type 0
+BeginsWithNoParts Ends state bytes = (part : EntryPart) (len : ℕ) → Ends part → ¬ AreParts state (take len bytes) part

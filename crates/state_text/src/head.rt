@@ -8,7 +8,7 @@ ghost use Rattle.docker_model.specs.state.StatePart.{before_body, key_width};
 ghost use Rattle.cif_change.specs.Meaning.{key_meant};
 ghost use Rattle.docker_join.specs.Meaning.{stamp_meant};
 ghost use Rattle.state_text.specs.Stage.{tag_meant};
-ghost use Rattle.state_text.specs.Head.{AreParts, IsBeforeBody, IsPutHead, BeginsWith, BeginsWithNo};
+ghost use Rattle.state_text.specs.Head.{AreParts, IsBeforeBody, IsPutHead, BeginsWithParts, BeginsWithNoParts};
 
 use crate::format::{
     ASSOC_TAG, LINE_COUNT, OP, PUT, SCHEDULE_KEY, SCHEDULE_TAG, STAMP, TAG, TIPLOC_TAG,
@@ -63,8 +63,8 @@ fn body_head<K: Keeper>(
 ) -> Option<(Stage, usize)>
     requires { IsValid parts.now }
     ensures { MatchOption result
-        (BeginsWithNo IsBeforeBody parts.now (tag_meant tag ∷ bytes.now))
-        (BeginsWith IsBeforeBody count parts.now (tag_meant tag ∷ bytes.now)) }
+        (BeginsWithNoParts IsBeforeBody parts.now (tag_meant tag ∷ bytes.now))
+        (BeginsWithParts IsBeforeBody count parts.now (tag_meant tag ∷ bytes.now)) }
 {
     let len = tag.width() + (STAMP + OP);
     if bytes.len() < len {
@@ -86,8 +86,8 @@ fn schedule_head<K: Keeper>(
     bytes: &[u8],
 ) -> Option<(Stage, usize)>
     requires { IsValid parts.now }
-    ensures { MatchOption result (BeginsWithNo IsPutHead parts.now (3 ∷ bytes.now))
-        (BeginsWith IsPutHead count parts.now (3 ∷ bytes.now)) }
+    ensures { MatchOption result (BeginsWithNoParts IsPutHead parts.now (3 ∷ bytes.now))
+        (BeginsWithParts IsPutHead count parts.now (3 ∷ bytes.now)) }
 {
     if bytes.len() < SCHEDULE_PUT + LINE_COUNT {
         return None;
@@ -117,8 +117,8 @@ pub fn put_head<K: Keeper>(
     bytes: &[u8],
 ) -> Option<(Stage, usize)>
     requires { IsValid parts.now }
-    ensures { MatchOption result (BeginsWithNo IsPutHead parts.now bytes.now)
-        (BeginsWith IsPutHead count parts.now bytes.now) }
+    ensures { MatchOption result (BeginsWithNoParts IsPutHead parts.now bytes.now)
+        (BeginsWithParts IsPutHead count parts.now bytes.now) }
 {
     let (tag, rest) = bytes.split_first()?;
     match *tag {

@@ -1,6 +1,6 @@
 use Rattle.std.proofs.Common.{rules, ◌≡◌, ℕ, List, ◌∷◌, ◌∙◌, ap, sym, subst, arith}
 use Rattle.std.specs.Prelude.{MatchOption}
-use Rattle.state_text.specs.Head.{IsPutHead, BeginsWith, BeginsWithNo}
+use Rattle.state_text.specs.Head.{IsPutHead, BeginsWithParts, BeginsWithNoParts}
 use Rattle.state_text.proofs.NoHeadLemmas.{head_of_body, other_tag}
 use Rattle.state_text.proofs.head.put_head.Goals as goal
 
@@ -9,8 +9,8 @@ returns-in-2 g c =
     let rest = c.in_ok-tag.rest.now in
     let whole = c.in_ok-tag.ensures.cases.0 ∙ ap (λ tag. tag ∷ rest) c.in-2.is in
     subst
-    (λ (bytes : List ℕ). MatchOption c.body_head.result (BeginsWithNo IsPutHead c.args.parts.now bytes)
-    (BeginsWith IsPutHead c.args.count c.args.parts.now bytes))
+    (λ (bytes : List ℕ). MatchOption c.body_head.result (BeginsWithNoParts IsPutHead c.args.parts.now bytes)
+    (BeginsWithParts IsPutHead c.args.count c.args.parts.now bytes))
     (sym whole) (head_of_body c.args.count c.args.parts.now 2 rest c.body_head.result (λ same. omega arith) c.body_head.ensures)
 
 pub returns-in-1 : goal.returns-in-1
@@ -18,8 +18,8 @@ returns-in-1 g c =
     let rest = c.in_ok-tag.rest.now in
     let whole = c.in_ok-tag.ensures.cases.0 ∙ ap (λ tag. tag ∷ rest) c.in-1.is in
     subst
-    (λ (bytes : List ℕ). MatchOption c.body_head-in-1.result (BeginsWithNo IsPutHead c.args.parts.now bytes)
-    (BeginsWith IsPutHead c.args.count c.args.parts.now bytes))
+    (λ (bytes : List ℕ). MatchOption c.body_head-in-1.result (BeginsWithNoParts IsPutHead c.args.parts.now bytes)
+    (BeginsWithParts IsPutHead c.args.count c.args.parts.now bytes))
     (sym whole) (head_of_body c.args.count c.args.parts.now 1 rest c.body_head-in-1.result (λ same. omega arith) c.body_head-in-1.ensures)
 
 pub returns-in_default : goal.returns-in_default
@@ -27,5 +27,5 @@ returns-in_default g c =
     let one : ¬ (c.in_ok-tag.tag.now ≡ 1) = search rules in
     let two : ¬ (c.in_ok-tag.tag.now ≡ 2) = search rules in
     let three : ¬ (c.in_ok-tag.tag.now ≡ 3) = search rules in
-    subst (BeginsWithNo IsPutHead c.args.parts.now) (sym c.in_ok-tag.ensures.cases.0)
+    subst (BeginsWithNoParts IsPutHead c.args.parts.now) (sym c.in_ok-tag.ensures.cases.0)
     (other_tag c.args.parts.now c.in_ok-tag.tag.now c.in_ok-tag.rest.now one two three)
