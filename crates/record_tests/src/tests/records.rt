@@ -297,6 +297,20 @@ fn calls_of_which_parts_are_blank(rt: HostRuntime) {
 }
 
 #[test]
+fn times_of_calls_as_numbers(rt: HostRuntime) {
+    let line = line(&rt, LI_0000);
+    let at = call_of(&rt, &line);
+    same(&rt, at.arrival_number(), 1);
+    same(&rt, at.departure_number(), 1);
+    same(&rt, at.pass_number() < 2880, false);
+    let line = record(&rt, b"LICOLWELL1          2359H", b' ');
+    let passed = call_of(&rt, &line);
+    same(&rt, passed.arrival_number() < 2880, false);
+    same(&rt, passed.departure_number() < 2880, false);
+    same(&rt, passed.pass_number(), 2879);
+}
+
+#[test]
 fn a_change_en_route(rt: HostRuntime) {
     let line = line(&rt, CR_5E51);
     same(&rt, change_of(&rt, &line).identity(), b"5E51");
