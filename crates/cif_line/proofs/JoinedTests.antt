@@ -60,22 +60,23 @@ passes_if_none : (line : List ℕ) (fields : List CheckedField) (test : Bool) �
     → test ≡ true ↔ (first_bad_of line fields ≡ None)
 passes_if_none line fields test is = (λ pass. (none_if_joined line true fields (sym is ∙ pass)).1, λ none. is ∙ joined_if_none line true fields none refl)
 
--- whether the scheduled times and the public arrival of an intermediate location are good, joined by AND from the left
+-- whether all five times of an intermediate location are good, joined by AND from the left
 abbrev pub times_joined : List ℕ → Bool
 times_joined line =
-    ((is_scheduled_time (columns 11 15 line) && is_scheduled_time (columns 16 20 line)) && is_scheduled_time (columns 21 25 line))
-    && is_public_time (columns 26 29 line)
+    (((is_scheduled_time (columns 11 15 line) && is_scheduled_time (columns 16 20 line)) && is_scheduled_time (columns 21 25 line))
+    && is_public_time (columns 26 29 line))
+    && is_public_time (columns 30 33 line)
 
 -- the joined test of an intermediate location passes if and only if no field is bad
-pub call_tests : (line : List ℕ) (tiploc times public test : Bool) → ((tiploc && times) && public) ≡ test → tiploc ≡ is_tiploc (columns 3 9 line)
-    → times ≡ times_joined line → public ≡ is_public_time (columns 30 33 line) → test ≡ true ↔ (bad_field_of intermediate_location line ≡ None)
-call_tests line t s p test joins tiploc times public =
+pub call_tests : (line : List ℕ) (tiploc times test : Bool) → (tiploc && times) ≡ test → tiploc ≡ is_tiploc (columns 3 9 line)
+    → times ≡ times_joined line → test ≡ true ↔ (bad_field_of intermediate_location line ≡ None)
+call_tests line t s test joins tiploc times =
     passes_if_none line (checked_fields intermediate_location line) test
-    (sym joins ∙ (λ i. (tiploc i && times i) && public i)
+    (sym joins ∙ (λ i. tiploc i && times i)
     ∙ regrouped (is_tiploc (columns 3 9 line)) (is_scheduled_time (columns 11 15 line)) (is_scheduled_time (columns 16 20 line))
     (is_scheduled_time (columns 21 25 line)) (is_public_time (columns 26 29 line)) (is_public_time (columns 30 33 line)))
   where
-    regrouped : (t a d p m n : Bool) → ((t && (((a && d) && p) && m)) && n) ≡ (((((t && a) && d) && p) && m) && n)
+    regrouped : (t a d p m n : Bool) → (t && ((((a && d) && p) && m) && n)) ≡ (((((t && a) && d) && p) && m) && n)
     regrouped true a d p m n = refl
     regrouped false a d p m n = refl
 
@@ -105,15 +106,15 @@ call_last_bad line bad tiploc arrival departure pass public_arrival = by (is_pub
         (tiploc, (arrival, (departure, (pass, (public_arrival, tt))))) last
 
 -- if the joined test of an intermediate location passes, its three scheduled times are good
-pub times_good : (line : List ℕ) (tiploc times public : Bool) → ((tiploc && times) && public) ≡ true → times ≡ times_joined line
+pub times_good : (line : List ℕ) (tiploc times : Bool) → (tiploc && times) ≡ true → times ≡ times_joined line
     → (is_scheduled_time (columns 11 15 line) ≡ true) × (is_scheduled_time (columns 16 20 line) ≡ true)
     × (is_scheduled_time (columns 21 25 line) ≡ true)
-times_good line tiploc times public pass is =
+times_good line tiploc times pass is =
     each (is_scheduled_time (columns 11 15 line)) (is_scheduled_time (columns 16 20 line)) (is_scheduled_time (columns 21 25 line))
-    (is_public_time (columns 26 29 line)) (sym is ∙ (both tiploc times (both (tiploc && times) public pass).0).1)
+    (is_public_time (columns 26 29 line)) (is_public_time (columns 30 33 line)) (sym is ∙ (both tiploc times pass).1)
   where
-    each : (a d p m : Bool) → (((a && d) && p) && m) ≡ true → (a ≡ true) × (d ≡ true) × (p ≡ true)
-    each true true true m joins = (refl, refl, refl)
-    each true true false m joins = cc
-    each true false p m joins = cc
-    each false d p m joins = cc
+    each : (a d p m n : Bool) → ((((a && d) && p) && m) && n) ≡ true → (a ≡ true) × (d ≡ true) × (p ≡ true)
+    each true true true m n joins = (refl, refl, refl)
+    each true true false m n joins = cc
+    each true false p m n joins = cc
+    each false d p m n joins = cc

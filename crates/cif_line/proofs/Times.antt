@@ -4,7 +4,7 @@ use Rattle.std.proofs.Common.{None, Option, ap, refl, sym, ◌∙◌, subst, tak
 use Rattle.std.specs.Prelude.{codes, ◌==◌, ◌||◌, nat_lt, slice_index, IfSome}
 use Rattle.std.specs.List.{list_all}
 use Rattle.std.specs.Str.{bytes_eq}
-use Rattle.std.proofs.lemmas.Bool.{ltb-true}
+use Rattle.std.proofs.lemmas.Bool.{ltb-true, lt-ltb}
 use Rattle.std.specs.Char.{is_ascii_digit}
 use Rattle.docker_model.specs.records.Date.{two_digits}
 use Rattle.docker_model.specs.records.Clock.{is_blank, is_clock, is_present_time, half_minutes, is_scheduled_time, scheduled_time}
@@ -12,7 +12,7 @@ use Rattle.cif_laws.proofs.lists.BoolsAndOptions.{both}
 use Rattle.cif_laws.proofs.records.ScheduledTimes.{present_not_blank}
 use Rattle.cif_line.specs.declared.time_field.TimeField.{TimeField}
 use Rattle.cif_line.specs.TimeRead.{ReadsTime}
-use Rattle.cif_line.specs.CallRead.{time_in}
+use Rattle.cif_line.specs.CallRead.{half_minutes_or_none, number_meant}
 
 -- a field of four bytes is blank if and only if it is four spaces
 pub four_spaces : (field : List ℕ) → length field ≡ 4 → bytes_eq field (codes "    ") ≡ is_blank field
@@ -72,16 +72,21 @@ half_minutes_bound field is = by (slice_index field 4 == 72) (hour_bound field c
     by true hour minute = omega arith
     by false hour minute = omega arith
 
--- the time in a good field is the field's scheduled time
-pub time_in_good : (field : List ℕ) → is_scheduled_time field ≡ true → time_in field ≡ scheduled_time field
-time_in_good field good = by (is_present_time field) refl
+-- the reader of a good field stores the time's half minutes, or 65535 if the field is blank. The
+-- stored number stands for the field's scheduled time
+pub told_read : (field : List ℕ) (told : ℕ) → is_scheduled_time field ≡ true → told ≡ half_minutes_or_none field
+    → number_meant told ≡ scheduled_time field
+told_read field told good is = by (is_present_time field) refl
   where
-    by : (present : Bool) → is_present_time field ≡ present → time_in field ≡ scheduled_time field
+    by : (present : Bool) → is_present_time field ≡ present → number_meant told ≡ scheduled_time field
     by true there =
-        (λ i. cond (there i) (Some (half_minutes field)) None) ∙ (λ i. cond (sym (present_not_blank field there) i) None (Some (half_minutes field)))
+        let same : told ≡ half_minutes field = is ∙ (λ i. cond (there i) (half_minutes field) 65535) in
+        let low : nat_lt told 2880 ≡ true = ap (λ n. nat_lt n 2880) same ∙ lt-ltb (half_minutes field) 2880 (half_minutes_bound field there) in
+        (λ i. cond (low i) (Some (same i)) None) ∙ (λ i. cond (sym (present_not_blank field there) i) None (Some (half_minutes field)))
     by false absent =
+        let same : told ≡ 65535 = is ∙ (λ i. cond (absent i) (half_minutes field) 65535) in
         let blank : is_blank field ≡ true = blank_if (is_blank field) (is_present_time field) good absent in
-        (λ i. cond (absent i) (Some (half_minutes field)) None) ∙ (λ i. cond (sym blank i) None (Some (half_minutes field)))
+        (λ i. cond (nat_lt (same i) 2880) (Some told) None) ∙ (λ i. cond (sym blank i) None (Some (half_minutes field)))
 
 -- a time that is read from a field has the half minutes that the definition computes from the field
 pub present_read : (field shown : List ℕ) (read : TimeField) (time : Option ℕ) → ReadsTime field read → field ≡ shown

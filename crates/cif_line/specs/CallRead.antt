@@ -15,7 +15,6 @@ pub record AreTimesOf (line : List ℕ) (times : CallTimes) : Type 0 where
   pub departure : number_meant times.departure ≡ scheduled_time (columns 16 20 line)
   pub pass : number_meant times.pass ≡ scheduled_time (columns 21 25 line)
 
--- the time in a field of a scheduled time, in half minutes since midnight, or none if the field has
--- no time
-abbrev pub time_in : List ℕ → Option ℕ
-time_in field = if is_present_time field then Some (half_minutes field) else None
+-- the half minutes since midnight in a field of a scheduled time, or 65535 if the field has no time
+abbrev pub half_minutes_or_none : List ℕ → ℕ
+half_minutes_or_none field = if is_present_time field then half_minutes field else 65535

@@ -259,7 +259,7 @@ fn good_call_times(line: &Line) -> Option<CallTimes>
     ensures times { IfSome result (AreTimesOf line.now) }
 {
     let fields = CallFields::read(line.bytes());
-    let are_good = is_tiploc(line.field(3)) & fields.are_good & is_public_time(line.field(30));
+    let are_good = is_tiploc(line.field(3)) & fields.are_good;
     if !are_good {
         return None;
     }

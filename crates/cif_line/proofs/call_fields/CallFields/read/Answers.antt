@@ -1,9 +1,8 @@
--- The lanes' sums tell whether the fields are good, and the scheduled times.
-use Rattle.cif_line.proofs.CallLanes.{arrival_told, departure_told, pass_told, all_good}
+use Rattle.cif_line.proofs.CallLanes.{arrival_told, departure_told, pass_told, all_set}
 use Rattle.cif_line.proofs.call_fields.CallFields.read.Goals as goal
 
 pub returns-clause-good : goal.returns-clause-good
-returns-clause-good c = all_good c.args.line.now c.requires c.type_inv.line
+returns-clause-good c = all_set c.args.line.now c.requires c.type_inv.line
 
 pub returns-clause-arrival : goal.returns-clause-arrival
 returns-clause-arrival c = arrival_told c.args.line.now c.requires c.type_inv.line
