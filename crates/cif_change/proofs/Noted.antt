@@ -1,4 +1,5 @@
--- Notes of earlier rows stay correct when more rows are noted, and each row's piece has the numbers of the row's places.
+-- Notes of the places that rows name. The notes of earlier rows stay correct when more rows are noted. The `Piece` of each row gives the numbers of the row's
+-- places.
 use Rattle.std.proofs.Common.{◌≡◌, ℕ, zero, suc, ◌+◌, ◌-◌, ◌≤◌, ◌<◌, List, [], ◌∷◌, ◌++◌, map, take, drop, length, get_or, refl}
 use Rattle.std.proofs.Common.{ap, sym, ◌∙◌, subst, Bool, true, false, cond, Some, None, inl, inr, ◌⊎◌, arith, append-nil}
 use Rattle.std.specs.Prelude.{slice_get, min}
@@ -72,7 +73,8 @@ ranks_kept old new keeps (place ∷ places) (n ∷ ns) are =
     λ i. first i ∷ rest i
 
 module _ (names more : List (List ℕ)) (numbers others : List ℕ) (keeps : Keeps names more) (kept : Keeps numbers others) where
-  -- a row that is noted in a piece stays noted there when places and numbers are added
+  -- if a row is noted in a `Piece`, it is still noted there after places and numbers are added to
+  -- the lists
   pub noted_kept : (item : Item) (piece : Piece) → IsNoted names numbers item piece → IsNoted more others item piece
   noted_kept item piece is = record {
     calls = subst (λ (ns : List ℕ). AreRanks more (call_places item.0 item.1) ns) (sym (same false))
@@ -85,7 +87,8 @@ module _ (names more : List (List ℕ)) (numbers others : List ℕ) (keeps : Kee
       same : (links : Bool) → numbers_of links others piece ≡ numbers_of links numbers piece
       same links = ap (if_asked piece.is_link links) (part_kept piece.from piece.count numbers others kept is.within)
 
-  -- rows that are noted in pieces stay noted there when places and numbers are added
+  -- if rows are noted, each in its `Piece`, they are still noted there after places and numbers are
+  -- added to the lists
   pub all_kept : (items : List Item) (pieces : List Piece) → AreNoted names numbers items pieces → AreNoted more others items pieces
   all_kept [] [] are = tt
   all_kept [] (piece ∷ pieces) are = are
@@ -105,7 +108,8 @@ in_all : (pieces : List Piece) (piece : Piece) → numbers_in (pieces ++ piece �
 in_all [] piece = omega arith
 in_all (other ∷ pieces) piece = let rest = in_all pieces piece in omega arith
 
--- let the new notes be the old notes with one more piece, in which the next row is noted. Then the new notes are of the old rows followed by this row
+-- suppose that the next row is noted in one more `Piece`, which is appended to the notes. If the old notes cover some rows, the new notes cover these rows and
+-- then the next row
 pub row_noted : (old new : Notes) (item : Item) (piece : Piece) → Keeps old.names.list.items new.names.list.items → Keeps old.numbers.items new.numbers.items
     → IsNext new.names.list.items old.numbers.items new.numbers.items item piece → new.pieces.items ≡ old.pieces.items ++ piece ∷ []
     → (items : List Item) → HasNoted items old → HasNoted (items ++ item ∷ []) new
@@ -122,7 +126,7 @@ row_noted old new item piece keeps kept next pushed items has = record {
       );
 }
 
--- if no piece is added, the notes stay correct for the same rows, although places and numbers may have been added
+-- if no `Piece` is added, the notes cover the same rows as before, even if places and numbers were added
 pub none_noted : (old new : Notes) → Keeps old.names.list.items new.names.list.items → Keeps old.numbers.items new.numbers.items
     → new.pieces.items ≡ old.pieces.items → (items : List Item) → HasNoted items old → HasNoted items new
 none_noted old new keeps kept same items has = record {
@@ -160,13 +164,13 @@ no_calls (schedule_key key) lapsed never = (refl, refl)
 no_calls (association_key key) lapsed never = (refl, refl)
 no_calls (tiploc_key code) lapsed never = (refl, refl)
 
--- if a row's op isn't a put, the row's piece has no numbers, and no number has to be added for the row
+-- if a row's op isn't a put, the row's `Piece` has no numbers, and no number is added for the row
 none_next : (names : List (List ℕ)) (numbers : List ℕ) (key : Key) (op : Op) → body_of op ≡ None → IsNext names numbers numbers (key, op) no_piece
 none_next names numbers key op none =
     let nowhere = no_calls key op (λ body put. none_some body (sym none ∙ ap body_of put)) in
     nothing_next names numbers (key, op) nowhere.0 nowhere.1
 
--- after a piece without numbers is appended, a row whose op isn't a put is noted
+-- a row whose op isn't a put is noted by appending a `Piece` without numbers
 pub none_row : (old new : Notes) (piece : Piece) → old.names.list.items ≡ new.names.list.items → old.numbers.items ≡ new.numbers.items → piece ≡ no_piece
     → new.pieces.items ≡ old.pieces.items ++ piece ∷ [] → (items : List Item) (key : Key) (op : Op) → body_of op ≡ None → HasNoted items old
     → HasNoted (items ++ (key, op) ∷ []) new
@@ -179,7 +183,7 @@ none_row old new piece same_names same_numbers none pushed items key op not_put 
     (none_next new.names.list.items new.numbers.items key op not_put)))
     pushed items has
 
--- if a piece has as many numbers as were added, taking that many of the new numbers takes all of them
+-- if `count` is how many numbers were added, the first `count` added numbers are all the added numbers
 came_all : (old new : List ℕ) (count : ℕ) → count ≡ length new - length old → take count (drop (length old) new) ≡ drop (length old) new
 came_all old new count is = by (drop (length old) new) (let len = length-drop (length old) new in omega arith)
   where
@@ -194,7 +198,7 @@ module _ (names : List (List ℕ)) (old new : List ℕ) (kept : Keeps old new) (
   came : take count (drop (length old) new) ≡ drop (length old) new
   came = came_all old new count count_is
 
-  -- if the added numbers are the numbers of the places where a schedule calls, they are the schedule's piece
+  -- if the added numbers are the numbers of the places where a schedule calls, they belong to the `Piece` of the schedule's row
   pub calls_next : (key : ScheduleKey) (lines : List (List ℕ)) → AreRanks names (map (columns 3 9) (location_lines lines)) (drop (length old) new)
       → IsNext names old new (schedule_key key, put_with (schedule_body lines)) (record { is_link = false; from = length old; count = count })
   calls_next key lines are = record {
@@ -206,8 +210,8 @@ module _ (names : List (List ℕ)) (old new : List ℕ) (kept : Keeps old new) (
     apart = (let len = keeps_len old new kept in omega arith);
   }
 
--- if the added numbers are the numbers of the places where a schedule calls, they are the piece of
--- a row that puts this schedule
+-- if the added numbers are the numbers of the places where a schedule calls, they belong to the
+-- `Piece` of a row that puts this schedule
 pub calls_put : (names : List (List ℕ)) (old new : List ℕ) → Keeps old new → (from count : ℕ) → from ≡ length old → count ≡ length new - length old
     → (key : Key) (body : Body) (schedule : ScheduleKey) (lines : List (List ℕ)) → key ≡ schedule_key schedule → body ≡ schedule_body lines
     → AreRanks names (map (columns 3 9) (location_lines lines)) (drop (length old) new)
@@ -284,7 +288,7 @@ location_first rest behind line whole is =
     ap (λ (lines : List (List ℕ)). map (columns 3 9) (location_lines lines)) whole
     ∙ (λ i. map (columns 3 9) (cond (is i) (line ∷ location_lines behind) (location_lines behind)))
 
--- if the first remaining line isn't a location record, the remaining places are found in the lines after it
+-- if the first remaining line isn't a location record, the remaining places are the places of the lines after it
 pub location_other : (rest behind : List (List ℕ)) (line : List ℕ) → rest ≡ line ∷ behind → is_location (kind_of line) ≡ false
     → map (columns 3 9) (location_lines rest) ≡ map (columns 3 9) (location_lines behind)
 location_other rest behind line whole is =
@@ -307,12 +311,12 @@ front_is front rest all whole =
     let same : length (front ++ rest) - length rest ≡ length front = omega arith in
     sym (ap (λ (xs : List Item). front_of xs rest) whole) ∙ ap (λ n. take n (front ++ rest)) same ∙ take-append_seam front rest
 
--- Says that the notes are of exactly the rows before the remaining rows.
+-- Says that the notes cover exactly the rows before the remaining rows.
 pub record AreNotedBefore (all rest : List Item) (notes : Notes) : Type 0 where
   pub noted : HasNoted (front_of all rest) notes
   pub whole : front_of all rest ++ rest ≡ all
 
--- at first all rows remain, and the notes are of no row
+-- before the first row is noted, all rows remain, and the notes cover no row
 pub none_before : (all : List Item) (notes : Notes) → HasNoted [] notes → AreNotedBefore all all notes
 none_before all notes none =
     let front : front_of all all ≡ [] = front_is [] all all refl in
@@ -321,7 +325,7 @@ none_before all notes none =
       whole = ap (λ (items : List Item). items ++ all) front;
     }
 
--- after noting the first of the remaining rows, the notes are of all rows before the rows that still remain
+-- after the first of the remaining rows is noted, the notes cover all rows before the rows that still remain
 pub one_noted : (all rest behind : List Item) (item : Item) (old new : Notes) → rest ≡ item ∷ behind
     → ((items : List Item) → HasNoted items old → HasNoted (items ++ item ∷ []) new) → AreNotedBefore all rest old → AreNotedBefore all behind new
 one_noted all rest behind item old new rest_is noted before =
@@ -333,7 +337,7 @@ one_noted all rest behind item old new rest_is noted before =
       whole = ap (λ (items : List Item). items ++ behind) front ∙ all_is;
     }
 
--- when no row remains, the notes are of all rows
+-- when no row remains, the notes cover all rows
 pub all_noted : (all rest : List Item) (notes : Notes) → length rest ≡ 0 → AreNotedBefore all rest notes → HasNoted all notes
 all_noted all [] notes none before = subst (λ (items : List Item). HasNoted items notes) (sym (append-nil (front_of all [])) ∙ before.whole) before.noted
 all_noted all (item ∷ rest) notes none before = absurd (omega arith)
@@ -358,7 +362,8 @@ piece_at names numbers (first ∷ items) (piece ∷ pieces) are zero item is =
     subst (λ (i : Item). IsNoted names numbers i piece) (some_is first item is) are.0
 piece_at names numbers (first ∷ items) (piece ∷ pieces) are (suc n) item is = piece_at names numbers items pieces are.1 n item is
 
--- the pieces at given indexes are the notes of the rows at these indexes
+-- if each row is noted in the `Piece` at its index, the rows at the given indexes are noted in the
+-- pieces at these indexes
 pub picked_noted : (names : List (List ℕ)) (numbers : List ℕ) (items : List Item) (pieces : List Piece) → AreNoted names numbers items pieces → (order : List ℕ)
     (picked : List Item) → ArePicked items order picked → AreNoted names numbers picked (map (λ n. get_or pieces n no_piece) order)
 picked_noted names numbers items pieces are [] [] is = tt

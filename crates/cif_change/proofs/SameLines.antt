@@ -24,7 +24,7 @@ one_set m = grind (arith, nat_tests)
 twice : (m : ℕ) → nat_eq (0 + 2 * m) 0 ≡ nat_eq m 0
 twice m = grind (arith, nat_tests)
 
--- two lists of the same length are equal if the mask of the differences is 0. This mask has a bit set for each pair of bytes that differ
+-- two lists of the same length are equal if their mask of differences is 0. This mask has a bit set for each pair of bytes that differ
 none_differs : (xs ys : List ℕ) → length xs ≡ length ys → nat_eq (mask_l (zip2 differ xs ys)) 0 ≡ true → xs ≡ ys
 none_differs [] [] even none = refl
 none_differs [] (y ∷ ys) even none = absurd (omega arith)
@@ -36,7 +36,7 @@ none_differs (x ∷ xs) (y ∷ ys) even none = by (nat_eq x y) refl none (none_d
     by true one told rest = let same = eqb-true x y one in let others = rest (sym (twice (mask_l (zip2 differ xs ys))) ∙ told) in λ i. same i ∷ others i
     by false two told rest = absurd (let bad : false ≡ true = sym (one_set (mask_l (zip2 differ xs ys))) ∙ told in cc)
 
--- if two lists are equal, the mask of the differences is 0. This mask has a bit set for each pair of bytes that differ
+-- if two lists are equal, their mask of differences is 0. This mask has a bit set for each pair of bytes that differ
 none_of_same : (xs : List ℕ) → nat_eq (mask_l (zip2 differ xs xs)) 0 ≡ true
 none_of_same [] = refl
 none_of_same (x ∷ xs) = by (nat_eq x x) (grind (arith, nat_tests)) (none_of_same xs)
@@ -45,7 +45,7 @@ none_of_same (x ∷ xs) = by (nat_eq x x) (grind (arith, nat_tests)) (none_of_sa
     by true one rest = twice (mask_l (zip2 differ xs xs)) ∙ rest
     by false two rest = absurd (let bad : false ≡ true = two in cc)
 
--- the top bits of the lanes form the mask of the differences, which has a bit set for each pair of bytes that differ
+-- the top bits of the lanes form the mask of differences, which has a bit set for each pair of bytes that differ
 mask_of_lanes : (xs ys : List ℕ) → length xs ≡ length ys → length xs ≤ 64
     → mask_l (map (top 7) (zip2 lane xs ys)) % 2 ^ 64 ≡ mask_l (zip2 differ xs ys)
 mask_of_lanes xs ys even few =

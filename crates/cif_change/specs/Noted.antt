@@ -1,5 +1,5 @@
 -- Notes of the places that rows name. A place is noted as a number, its index in a list of places.
--- Each row has a piece of the list of all numbers.
+-- The `Piece` of a row says which of all noted numbers belong to the row.
 use Rattle.std.specs.Prelude.{⊤, ℕ, ◌≡◌, ◌+◌, ◌≤◌, Bool, true, false, List, [], ◌∷◌, map, take, drop, length, slice_get, Some}
 use Rattle.docker_model.specs.file.Change as model
 use Rattle.docker_model.specs.file.Change.{Key}
@@ -24,49 +24,50 @@ items_put changes = map (λ (change : model.Change). (change.key, op_of change.a
 abbrev pub Keeps : {A : Type 0} → List A → List A → Type 0
 Keeps {A} old new = (i : ℕ) (x : A) → slice_get old i ≡ Some x → slice_get new i ≡ Some x
 
--- the given numbers if the two flags agree, and otherwise no numbers. The flags say whether links
--- are wanted, and whether the numbers are links.
+-- the numbers if they are of the wanted kind, and otherwise no numbers. The first argument says
+-- whether links are wanted, and the second says whether the numbers are links.
 abbrev pub if_asked : Bool → Bool → List ℕ → List ℕ
 if_asked true true numbers = numbers
 if_asked true false numbers = []
 if_asked false true numbers = []
 if_asked false false numbers = numbers
 
--- the numbers in a piece, if they are of the wanted kind: links for `true`, calls for `false`
+-- the numbers that a `Piece` gives if they are of the wanted kind, and otherwise no numbers. The
+-- kind is links for `true` and calls for `false`
 abbrev pub numbers_of : Bool → List ℕ → Piece → List ℕ
 numbers_of links numbers piece = if_asked piece.is_link links (take piece.count (drop piece.from numbers))
 
--- Says that the numbers in a piece are the numbers of the places where the row's schedule calls, or
--- of the place where its association links two trains.
+-- Says that the `Piece` gives the numbers of the places where the row's schedule calls, or of the
+-- place where its association links two trains.
 pub record IsNoted (names : List (List ℕ)) (numbers : List ℕ) (item : Item) (piece : Piece) : Type 0 where
   pub calls : AreRanks names (call_places item.0 item.1) (numbers_of false numbers piece)
   pub links : AreRanks names (link_places item.0 item.1) (numbers_of true numbers piece)
   pub within : piece.from + piece.count ≤ length numbers
 
--- Says that each row is noted in the piece at the same index, and that there are no other pieces.
+-- Says that each row is noted in the `Piece` at the same index, and that there are no other pieces.
 abbrev pub AreNoted : List (List ℕ) → List ℕ → List Item → List Piece → Type 0
 AreNoted names numbers [] [] = ⊤
 AreNoted names numbers [] (piece ∷ pieces) = ⊥
 AreNoted names numbers (item ∷ items) [] = ⊥
 AreNoted names numbers (item ∷ items) (piece ∷ pieces) = IsNoted names numbers item piece × AreNoted names numbers items pieces
 
--- how many numbers a list of pieces has in total
+-- how many numbers belong to a list of pieces in total
 abbrev pub numbers_in : List Piece → ℕ
 numbers_in [] = 0
 numbers_in (piece ∷ pieces) = piece.count + numbers_in pieces
 
--- Says that these notes are of exactly these rows, in this order.
+-- Says that these notes cover exactly these rows, in this order.
 pub record HasNoted (items : List Item) (notes : Notes) : Type 0 where
   pub are : AreNoted notes.names.list.items notes.numbers.items items notes.pieces.items
   pub apart : numbers_in notes.pieces.items ≤ length notes.numbers.items
 
--- Says that the next row is noted in this piece, and that the list of numbers has grown by at least
--- as many numbers as the piece has.
+-- Says that the next row is noted in this `Piece`, and that the list of numbers has grown by at
+-- least as many numbers as the `Piece` gives.
 pub record IsNext (names : List (List ℕ)) (old new : List ℕ) (item : Item) (piece : Piece) : Type 0 where
   pub noted : IsNoted names new item piece
   pub apart : length old + piece.count ≤ length new
 
--- the piece of a row that names no place
+-- the `Piece` of a row that names no place
 abbrev pub no_piece : Piece
 no_piece = record { is_link = false; from = 0; count = 0 }
 

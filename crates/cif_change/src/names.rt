@@ -17,7 +17,7 @@ pub struct PlaceNames {
 }
 
 impl PlaceNames {
-    /// Returns a list without places. Nothing is allocated.
+    /// Returns a list without places. Allocates nothing.
     pub(crate) fn new(alloc: Global) -> PlaceNames
         ensures { result.list.items ≡ [] }
     {

@@ -15,7 +15,7 @@ use cif_line::Memory;
 use std::alloc::Global;
 
 /// Notes of the places that each row names. A place is noted by its number in `names`. Each row has
-/// a piece of the list `numbers`, given by the piece's first index and length.
+/// a `Piece`, which says which of the numbers in `numbers` belong to the row.
 #[derive(Debug, Drop)]
 pub struct Notes {
     /// The list of places. The number of a place is its index in this list.
@@ -23,12 +23,12 @@ pub struct Notes {
     /// The numbers of all places that the rows name: those that the first row names, then those
     /// that the second row names, and so on.
     pub numbers: Vec<u32>,
-    /// The piece of `numbers` that belongs to each row.
+    /// For each row, which of the numbers in `numbers` belong to it.
     pub pieces: Vec<Piece>,
 }
 
 impl Notes {
-    /// Returns the notes of no row. Nothing is allocated.
+    /// Returns notes of no rows. Allocates nothing.
     pub fn new(alloc: Global) -> Notes
         ensures { HasNoted [] result }
     {
@@ -110,7 +110,7 @@ impl Notes {
     }
 }
 
-/// The pieces at these indexes, written to `pieces`, which must be empty and have room for them.
+/// Copies the pieces at these indexes to `pieces`, which must be empty and have room for them.
 fn picked_pieces(all: &[Piece], order: &[u32], mut pieces: Vec<Piece>) -> Vec<Piece>
     requires none { pieces.items ≡ [] }
     requires empty { vec_len pieces ≡ 0 }
@@ -125,7 +125,7 @@ fn picked_pieces(all: &[Piece], order: &[u32], mut pieces: Vec<Piece>) -> Vec<Pi
     pieces
 }
 
-/// The piece at an index, or a piece without numbers if the index is past the end.
+/// The `Piece` at an index. Returns a `Piece` without numbers if the index is past the end.
 fn piece_at(all: &[Piece], number: u32) -> Piece
     ensures { result ≡ get_or all.now number no_piece }
 {

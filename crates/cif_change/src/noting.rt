@@ -13,9 +13,9 @@ use crate::piece::Piece;
 use crate::places::{is_location, tiploc_in};
 use cif_line::{Line, Memory};
 
-/// Notes the places that a row with this key and this body names. Returns the piece of `numbers`
-/// that belongs to the row. Returns `Memory` if the allocator refuses memory, or if a list gets too
-/// long for an index of 32 bits.
+/// Notes the places that a row with this key and this body names. Returns the row's `Piece`.
+/// Returns `Memory` if the allocator refuses memory, or if a list gets too long for an index of 32
+/// bits.
 pub(crate) fn piece_of(
     names: &mut PlaceNames,
     numbers: &mut Vec<u32>,

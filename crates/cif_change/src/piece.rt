@@ -1,14 +1,14 @@
-//! A row's piece of the list that holds the numbers of all places that rows name.
+//! Which of all noted place numbers belong to one row.
 ghost use Rattle.std.specs.Prelude.{◌≡◌, false, drop, take};
 ghost use Rattle.cif_change.specs.Noted.{numbers_of};
 
-/// A row's piece of the list of all place numbers. The number of a place is its index in the list
-/// of places. The piece has the numbers of the places where a schedule calls, or the number of the
-/// one place where an association links two trains.
+/// Which of all noted place numbers belong to one row. The number of a place is its index in the
+/// list of places. A schedule's row has the numbers of the places where the schedule calls. An
+/// association's row has the number of the one place where the association links two trains.
 #[derive(Clone, Copy, Debug, PartialEq, Eq, PartialOrd, Ord)]
 pub struct Piece {
-    /// Whether the row is an association. The number in the piece of an association is called a
-    /// link, and the numbers in the piece of a schedule are called calls.
+    /// Whether the row is an association. The number of an association's row is called a link, and
+    /// the numbers of a schedule's row are called calls.
     pub is_link: bool,
     /// The index of the row's first number.
     pub from: u32,
@@ -17,7 +17,7 @@ pub struct Piece {
 }
 
 impl Piece {
-    /// The piece of a row that names no place.
+    /// The `Piece` of a row that names no place.
     pub(crate) fn none() -> Piece
         ensures { result ≡ record { is_link = false; from = 0; count = 0 } }
     {

@@ -8,15 +8,15 @@ use Rattle.std.proofs.lemmas.List.Folds.{concat-append}
 use Rattle.std.proofs.Math.Seq.{take-add}
 use Rattle.cif_device.specs.Device.{CountsFailure, Takes, Round, Goes}
 
--- writing one piece and then another writes their concatenation
+-- if a sink takes one piece and then another piece, it takes their concatenation
 pub Takes-append : (old middle new : Option (List ℕ)) (front back : List ℕ) →
     Takes old front middle → Takes middle back new → Takes old (front ++ back) new
 Takes-append None middle new front back first second = rw first at second
 Takes-append (Some taken) middle new front back first second =
     (rw first at second) ∙ ap Some (append_assoc taken front back)
 
--- writing the first `done` bytes of a piece and then the next `n` bytes writes the first `done + n`
--- bytes
+-- if a sink takes the first `done` bytes of a piece and then the next `n` bytes, it takes the first
+-- `done + n` bytes
 pub Takes-take : (old middle new : Option (List ℕ)) (piece : List ℕ) (done n : ℕ) →
     Takes old (take done piece) middle → Takes middle (take n (drop done piece)) new →
     Takes old (take (done + n) piece) new

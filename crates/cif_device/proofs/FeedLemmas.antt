@@ -76,7 +76,7 @@ pub nothing_read : {T Terms : Type 0} (takes : Taking T Terms) (terms : Terms) (
     → LosesOnePieceMore takes 65536 terms text left left
 nothing_read takes terms text left taker taken = no_more takes 0 terms text left left left taker (at_start takes terms text left taker taken) refl
 
--- if the taker refuses the next piece, it has taken the text from before the feeding and the fed bytes, and then refused this piece
+-- if the taker refuses the next piece, it has taken the earlier text followed by the fed bytes, and then refused this piece
 pub refused_behind : {T Terms Fault : Type 0} (takes : Taking T Terms) (refuses : Refusing T Terms Fault) (fed : ℕ) (terms : Terms) (text : List ℕ)
     (initial now next : Option (List ℕ)) (before after : T) (piece : List ℕ) (fault : Fault) → (at : HasFed takes fed terms text initial now before)
     → Reads now piece next → length piece ≤ 65536 → refuses after terms (text ++ at.bytes) piece fault
@@ -85,7 +85,7 @@ unfolding one_more
 refused_behind takes refuses fed terms text initial now next before after piece fault at more few refused =
     record { more = one_more takes fed terms text initial now next before piece at more few; refused = refused }
 
--- if the text with the fed bytes and the next piece has fewer than 2^64 bytes, the number of fed bytes, including this piece, fits in 64 bits
+-- if the text, the fed bytes and the next piece have fewer than 2^64 bytes in total, the number of fed bytes and of the bytes of this piece fits in 64 bits
 pub fits_still : (fed n : ℕ) (text bytes piece : List ℕ) → length bytes ≡ fed → length piece ≡ n → length ((text ++ bytes) ++ piece) < 2 ^ 64
     → Fits w64 (fed + n)
 fits_still fed n text bytes piece size long below =
@@ -113,12 +113,12 @@ pub going_on : (n room : ℕ) (ended now_ended passed now_passed : Bool) → End
     → now_ended ≡ false
 going_on n room ended now_ended passed now_passed (_, going, _, _) some was = going (omega (arith, some)) ∙ was
 
--- a read before the end was reported leaves the flag `passed` unchanged
+-- a read before the end was reported leaves `passed` unchanged
 pub not_passed_by : (n room : ℕ) (ended now_ended passed now_passed : Bool) → Ends n room ended now_ended passed now_passed → ended ≡ false
     → now_passed ≡ passed
 not_passed_by n room ended now_ended passed now_passed (_, _, _, stays) was = stays was
 
--- a failed read leaves the flag `ended` unchanged
+-- a failed read leaves `ended` unchanged
 pub still_going : (ended now_ended passed now_passed : Bool) → (now_ended ≡ ended) × (now_passed ≡ passed) → now_ended ≡ ended
 still_going ended now_ended passed now_passed (same, _) = same
 

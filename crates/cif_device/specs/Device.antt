@@ -13,9 +13,9 @@ abbrev pub IsEnd : Option (List ℕ) → Type 0
 IsEnd None = ⊤
 IsEnd (Some left) = left ≡ []
 
--- a successful read of `n` bytes into a buffer of `room` bytes changed the two flags of a source correctly. The flag `ended` says that the source has reported
--- its end. A read of no bytes into a buffer with room sets `ended`, and a read of at least one byte leaves it unchanged. The flag `passed` says that the source
--- was read after it had reported its end. A read after the end was reported sets `passed`, and any other read leaves it unchanged
+-- a successful read of `n` bytes into a buffer of `room` bytes changed `ended` and `passed` correctly. `ended` says whether the source has reported its end. A
+-- read of no bytes into a buffer with room sets `ended`, and a read of at least one byte leaves it unchanged. `passed` says whether the source was read after
+-- it had reported its end. A read after the end was reported sets `passed`, and any other read leaves it unchanged
 abbrev pub Ends : ℕ → ℕ → Bool → Bool → Bool → Bool → Type 0
 Ends n room ended now_ended passed now_passed = (n ≡ 0 → 0 < room → now_ended ≡ true)
     × (0 < n → now_ended ≡ ended)
@@ -36,8 +36,8 @@ TakesPart old piece new = (n : ℕ) × (n < length piece) × Takes old (take n p
 abbrev pub CountsFailure : Type 0 → ℕ → ℕ → Type 0
 CountsFailure failed before after = (failed ↔ (after ≡ before + 1)) × (¬ failed → after ≡ before)
 
--- a source over a slice: the bytes left in it, the most bytes that one read returns, whether it has
--- reported its end, and whether it was read after that
+-- a source over a slice: the bytes left in it, the greatest number of bytes that one read returns,
+-- whether the source has reported its end, and whether it was read after that
 pub record Feed : Type 0 where
   pub left : List ℕ
   pub step : ℕ
@@ -67,7 +67,7 @@ pub record Fused (D : Type 0) : Type 0 where
   pub failures : ℕ
 
 -- a source that never ends: the bytes left of its current text, the text that it then repeats
--- without end, and the most bytes that one read returns
+-- without end, and the greatest number of bytes that one read returns
 pub record Round : Type 0 where
   pub left : List ℕ
   pub again : List ℕ

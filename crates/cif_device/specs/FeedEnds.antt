@@ -5,7 +5,7 @@ use Rattle.cif_device.specs.Taken.{AfterEach, HasFed, HasRefused, Refusing, Taki
 use Rattle.cif_device.specs.declared.feed.FeedFault.{FeedFault}
 use Rattle.cif_device.specs.declared.feed.FeedFault.TheVariants as feed
 
--- the most bytes that are read from a source at once
+-- the greatest number of bytes that are read from a source at once
 abbrev pub most_at_once : ℕ
 most_at_once = 65536
 

@@ -7,7 +7,7 @@ ghost use Rattle.cif_device.specs.Taken.{AfterEach, IsTaking, LosesOnePieceMore}
 use crate::device::Source;
 use std::alloc::Global;
 
-/// The most bytes that are read from a source at once.
+/// The greatest number of bytes that are read from a source at once.
 pub const PIECE: usize = 65_536;
 
 /// The reason why a taker wasn't fed all bytes of a source.

@@ -158,7 +158,7 @@ anew_by_unit line begins = by (follows_basic (kind_of line)) refl
     by false h = h
     by true h = let bad : false ≡ true = (λ i. is_some (sym (no_unit_by_kind (kind_of line) line h) i)) ∙ begins in cc
 
--- after whole units, if a record begins a unit and has good fields, the record's kind determines how far the reader has come after it
+-- suppose that all units read are whole. If the next record begins a unit and has good fields, its kind determines the reader's next `Place`
 pub place_over : {K : Type 0} (keeps : Keeps K) (front : Front K) (records : Lines) (line : List ℕ) (next : Place) → (over : IsOver keeps front records)
     → IsRecord line → HasGoodFields line
     → unit_by_kind (kind_of line) line ≡ Some next
@@ -466,7 +466,8 @@ end_by_test : (place : Place) → is_after_end place ≡ true → place ≡ afte
 end_by_test after_end h = refl
 end_by_test _ h = absurd cc
 
--- a flag that says whether the reader is after the trailer also says whether the records are a file
+-- if `ended` says whether the reader is after the trailer, it also says whether the records are a
+-- file
 pub ended_iff : {K : Type 0} (keeps : Keeps K) (front : Front K) (records : Lines) (ended : Bool) → HasRecords keeps front records
     → ((place : Place) → IsKept keeps front.stage front.keeper place records → is_after_end place ≡ ended)
     → IsTrue ended ↔ IsFile records

@@ -150,7 +150,7 @@ front_cause wants limit records line cause under told = by (cause_meant cause) t
     by None goes_on = (goes_on.0, under, goes_on.1)
     by (Some c) told_no = record { place = told_no.place; at = told_no.at; here = inr told_no.nowhere; is = told_no.is limit under }
 
--- ---- a piece with a line feed, where a line ends
+-- ---- a piece with a line feed, which ends a line
 
 -- if the line that ends at a line feed was taken, the parser has read the text up to and including this line feed
 pub ended_read : {K : Type 0} (keeps : Keeps K) (old new : FileReading K) (limit : ℕ) (text front : List ℕ) → IsReading keeps old limit text → HasNoFeed front
@@ -270,7 +270,7 @@ end_fault keeps wants reading limit text fault is some next = by (cause_meant fa
         subst (λ f. IsFileFault limit text f) (λ i. record { number = sym next.number i; cause = told.is i })
         (fault_at_end limit text told.place told.at is.counted.within some told.here)
 
--- if all lines of a text were taken and the reader returns a file, it is the text's file
+-- if all lines of a text were taken and the reader returns a file, this is the file of the text
 pub file_at_end : {K : Type 0} (keeps : Keeps K) (records : Records K) (limit : ℕ) (text : List ℕ) (ended : Ended K)
     → HasCounted keeps records limit (lines_of text) → EndsCounted keeps records ended → IsEndedText keeps limit text ended
 file_at_end keeps records limit text ended counted told =

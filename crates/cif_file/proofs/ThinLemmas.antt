@@ -188,15 +188,15 @@ module _ (place : List ℕ) (day : ℕ) (old new : Thinned) (first : Option code
       (λ all has. subst (HasThinned place day new) (append_assoc all (change_meant change ∷ []) (last ∷ []))
       (thins (all ++ change_meant change ∷ []) (takes all has)))
 
--- ---- flags
+-- ---- the test `a || not b`
 
--- if the flag `a || not b` is true, `a` is true or `b` is false
+-- if `a || not b` is true, `a` is true or `b` is false
 pub either : (a b : Bool) → (a || not b) ≡ true → (a ≡ true) ⊎ (b ≡ false)
 either true b h = inl refl
 either false false h = inr refl
 either false true h = absurd cc
 
--- if the flag `a || not b` is false, `a` is false and `b` is true
+-- if `a || not b` is false, `a` is false and `b` is true
 pub neither : (a b : Bool) → (a || not b) ≡ false → (a ≡ false) × (b ≡ true)
 neither true b h = absurd cc
 neither false false h = absurd cc

@@ -46,8 +46,8 @@ ThinsAll place day old more new = (all : List Change) → HasThinned place day o
 abbrev pub Thins : List ℕ → ℕ → Thinned → Change → Thinned → Type 0
 Thins place day old change new = ThinsAll place day old (change ∷ []) new
 
--- Says that a flag is true if and only if the schedule with these lines runs near the day. For a
--- deletion the flag may have either value.
+-- Says that `near` is true if and only if the schedule with these lines runs near the day. For a
+-- deletion `near` may have either value.
 abbrev pub IsNearBy : ℕ → Lines → Bool → Type 0
 IsNearBy day [] near = ⊤
 IsNearBy day (basic ∷ others) near = is_deletion basic ≡ false → near ≡ runs_near day basic

@@ -34,7 +34,7 @@ open_line text = last_of (pieces_of text)
 abbrev pub complete_lines : List ℕ → Lines
 complete_lines text = map strip_carriage_return (but_last (pieces_of text))
 
--- the line that the last piece of a text makes, as a list: the piece without a carriage return at
--- its end, or no line if the piece is empty
+-- a list with the line in the last piece of a text: the piece without a carriage return at its end.
+-- If the piece is empty, the list is empty
 abbrev pub line_left : List ℕ → Lines
 line_left piece = map strip_carriage_return (last_piece piece)

@@ -1,7 +1,6 @@
--- How far a reader has come in a file, such as between two units. The type `Place` says this. The
--- records of a file, read one by one, lead the reader from one `Place` to the next. The `Place`
--- determines which records may follow, and whether the records are a file. A `Place` isn't a timing
--- point.
+-- The type `Place` says how far a reader has come in a file, such as between two units. The records
+-- of a file, read one by one, lead the reader from one `Place` to the next. The `Place` determines
+-- which records may follow, and whether the records are a file. A `Place` isn't a timing point.
 use Rattle.std.specs.Prelude.{ℕ, List, [], ◌∷◌, Some, None, Bool, true, false, ◌++◌, ◌≡◌, Option, is_some, ◌&&◌, option_and_then}
 use Rattle.std.proofs.Common.{cond}
 use Rattle.docker_model.specs.records.Record.{Lines, Kind, tiploc_insert, tiploc_amend, tiploc_delete, association, basic_schedule, trailer, header, kind_of}

@@ -1,5 +1,5 @@
--- The changes of a file, unit by unit. A unit is a single record, or the records of a schedule,
--- between header and trailer.
+-- The changes of a file, unit by unit. A file has units between its header and its trailer. A unit
+-- is a single record, or all records of a schedule.
 use Rattle.std.specs.Prelude.{ℕ, ◌+◌, if◌then◌else◌, List, [], ◌∷◌, ◌++◌, length}
 use Rattle.docker_model.specs.records.Field.{is_deletion, as_new}
 use Rattle.docker_model.specs.file.Change.{schedule_body, delete, put, Change, schedule_named, changes_of_record}

@@ -14,7 +14,7 @@ use Rattle.docker_model.specs.records.Date.{day_number, last_day}
 use Rattle.docker_model.specs.records.PrintedTime.{day_text, date_text}
 use Rattle.cif_laws.proofs.records.Dates.{day_number-day_count, day_text-day_number}
 
--- a day of the years 1960 to 2059, and its day number
+-- a date in the years 1960 to 2059, with the number of days from 1 January 1960 to this date
 pub record IsDayOf (number year month day : ℕ) : Type 0 where
   pub low : 1960 ≤ year
   pub high : year ≤ 2059
@@ -30,13 +30,13 @@ end_of_2059 : day_count (pos 2059) 12 31 ≡ 4_404_824
 unfolding day_count days_of_years days_of_months
 end_of_2059 = refl
 
--- if the calendar's day count shows that a number belongs to a date, the number is the date's day number
+-- the number of days from 1 January 1960 to a date is the date's day number
 pub number_is : (number year month day : ℕ) → IsDayOf number year month day → day_number year month day ≡ number
 number_is number year month day h =
     let there = day_number-day_count year month day h.low (omega (arith, h.high)) h.is_civil.1.0 h.is_civil.2.0 in
     omega (arith, h.count)
 
--- the text of a day's number is the day's date
+-- the text of a date's day number is the text of the date
 pub text_is : (number year month day : ℕ) → IsDayOf number year month day → day_text number ≡ date_text year month day
 text_is number year month day h =
     subst (λ n. day_text n ≡ date_text year month day) (number_is number year month day h) (day_text-day_number year month day h.low h.high h.is_civil)

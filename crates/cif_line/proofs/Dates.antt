@@ -62,7 +62,8 @@ seven_flags (a ∷ b ∷ c ∷ d ∷ e ∷ f ∷ g ∷ []) size = regrouped (is_
     regrouped false q r s t u v = refl
 seven_flags (a ∷ b ∷ c ∷ d ∷ e ∷ f ∷ g ∷ h ∷ field) size = absurd (omega arith)
 
--- the number of days of the year before each month from 1 to 12, in a year that isn't a leap year
+-- how many days of a year come before this month, if the year isn't a leap year. Months are from 1
+-- to 12
 abbrev pub days_before : ℕ → ℕ
 days_before month = slice_index_or {A = ℕ} (0 ∷ 0 ∷ 31 ∷ 59 ∷ 90 ∷ 120 ∷ 151 ∷ 181 ∷ 212 ∷ 243 ∷ 273 ∷ 304 ∷ 334 ∷ []) month 0
 
@@ -70,7 +71,7 @@ days_before month = slice_index_or {A = ℕ} (0 ∷ 0 ∷ 31 ∷ 59 ∷ 90 ∷ 1
 abbrev pub leap_before : Bool → ℕ → ℕ
 leap_before leap month = cond (nat_lt 2 month && leap) 1 0
 
--- the number of days of a year before a month is the number in `days_before`. In a leap year it is one more for each month from March on
+-- `days_before` says how many days of a year come before a month. In a leap year there is one more day before each month from March on
 before_month : (y n : ℕ) → n < 12 → days_of_months (pos y) n ≡ days_before (suc n) + leap_before (is_leap_year (pos y)) (suc n)
 before_month y zero low = days_of_months_table (pos y) 0 low
 before_month y (suc zero) low = days_of_months_table (pos y) 1 low

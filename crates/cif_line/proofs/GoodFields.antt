@@ -60,7 +60,7 @@ basic_transaction line good = subst (λ b. is_transaction (b ∷ []) ≡ true) (
 pub basic_runs_from : (line : List ℕ) → IsGood basic_schedule line → is_date (columns 10 15 line) ≡ true
 basic_runs_from line good = (each_good basic_schedule line good).1.0
 
--- the checked fields of a basic schedule to the right of its runs-from date; the flag says whether the record is a deletion
+-- the checked fields of a basic schedule to the right of its runs-from date. The argument says whether the record is a deletion
 later_fields : Bool → List CheckedField
 later_fields deletion = cond deletion [] (checked 16 21 is_end_date ∷ checked 22 28 is_days ∷ []) ++ checked 80 80 is_stp_indicator ∷ []
 
@@ -75,7 +75,7 @@ pub basic_runs_to : (line : List ℕ) → IsGood basic_schedule line → is_dele
 unfolding later_fields
 basic_runs_to line good kept = (later_good line good false kept).0
 
--- columns 22 to 28 of a good basic schedule, the days run, are digits 0 or 1 unless the record is a deletion
+-- in columns 22 to 28 of a good basic schedule, the field of days run, each byte is 0 or 1 unless the record is a deletion
 pub basic_days : (line : List ℕ) → IsGood basic_schedule line → is_deletion line ≡ false → is_days (columns 22 28 line) ≡ true
 unfolding later_fields
 basic_days line good kept = (later_good line good false kept).1.0
@@ -100,7 +100,7 @@ assoc_transaction line good = subst (λ b. is_transaction (b ∷ []) ≡ true) (
 pub assoc_start : (line : List ℕ) → IsGood association line → is_date (columns 16 21 line) ≡ true
 assoc_start line good = (each_good association line good).1.0
 
--- the checked fields of an association to the right of its first date; the flag says whether the record is a deletion
+-- the checked fields of an association to the right of its first date. The argument says whether the record is a deletion
 assoc_fields_behind : Bool → List CheckedField
 assoc_fields_behind deletion =
     cond deletion [] (checked 22 27 is_end_date ∷ checked 28 34 is_days ∷ []) ++ checked 38 44 is_tiploc ∷ checked 80 80 is_stp_indicator ∷ []
@@ -116,7 +116,7 @@ pub assoc_end : (line : List ℕ) → IsGood association line → is_deletion li
 unfolding assoc_fields_behind
 assoc_end line good kept = (assoc_behind_good line good false kept).0
 
--- columns 28 to 34 of a good association, the days run, are digits 0 or 1 unless the record is a deletion
+-- in columns 28 to 34 of a good association, the field of days run, each byte is 0 or 1 unless the record is a deletion
 pub assoc_days : (line : List ℕ) → IsGood association line → is_deletion line ≡ false → is_days (columns 28 34 line) ≡ true
 unfolding assoc_fields_behind
 assoc_days line good kept = (assoc_behind_good line good false kept).1.0

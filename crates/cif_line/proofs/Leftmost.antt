@@ -11,8 +11,8 @@ use Rattle.docker_model.specs.records.Field.{is_new_tiploc, is_update_indicator,
 use Rattle.cif_laws.proofs.records.Columns.{IsGoodIn, fields_good}
 use Rattle.cif_line.specs.View.{IsTiplocRecord}
 
--- the first column of the first field in a list that isn't good in the line, or `None` if all are
--- good
+-- the first column of the first bad field in a list of checked fields, or `None` if all these
+-- fields are good in the line
 unfoldable pub first_bad : List ℕ → List CheckedField → Option ℕ
 first_bad line fields = option_map (λ (field : CheckedField). field.first) (find (λ field. not (field.is_good (columns field.first field.last line))) fields)
 
@@ -52,7 +52,7 @@ header_bad_indicator line is day minute bad = by_kind header line is
 -- the lemmas on the leftmost bad field of a header
 pub ruleset header_faults = (header_bad_day, header_bad_minute, header_bad_indicator)
 
--- the checked fields of a basic schedule; the flag says whether the record is a deletion
+-- the checked fields of a basic schedule. The argument says whether the record is a deletion
 basic_checked : Bool → List CheckedField
 basic_checked deletion =
     checked 3 3 is_transaction ∷ checked 10 15 is_date
@@ -65,8 +65,8 @@ of_basic : (line : List ℕ) (deletion : Bool) → HasKind basic_schedule line �
 unfolding basic_checked
 of_basic line deletion is deletes = by_kind basic_schedule line is ∙ ap (λ b. first_bad line (basic_checked b)) deletes
 
--- if the runs-to date of a basic schedule that isn't a deletion is bad, and the fields to its left
--- are good, the leftmost bad field is at column 16
+-- suppose that a basic schedule isn't a deletion. If its runs-to date is bad, and the fields to the
+-- left are good, the leftmost bad field is at column 16
 pub basic_bad_end : (line : List ℕ) → HasKind basic_schedule line → is_transaction (columns 3 3 line) ≡ true → is_date (columns 10 15 line) ≡ true
     → is_deletion line ≡ false → is_end_date (columns 16 21 line) ≡ false → leftmost_bad_field line ≡ Some 16
 unfolding basic_checked
@@ -74,8 +74,8 @@ basic_bad_end line is transaction day kept bad = of_basic line false is kept
     ∙ behind_good line (checked 3 3 is_transaction ∷ checked 10 15 is_date ∷ []) (checked 16 21 is_end_date)
     (checked 22 28 is_days ∷ checked 80 80 is_stp_indicator ∷ []) (transaction, (day, tt)) bad
 
--- if the days run of a basic schedule that isn't a deletion are bad, and the fields to their left
--- are good, the leftmost bad field is at column 22
+-- suppose that a basic schedule isn't a deletion. If its field of days run is bad, and the fields
+-- to the left are good, the leftmost bad field is at column 22
 pub basic_bad_days : (line : List ℕ) → HasKind basic_schedule line → is_transaction (columns 3 3 line) ≡ true → is_date (columns 10 15 line) ≡ true
     → is_deletion line ≡ false → is_end_date (columns 16 21 line) ≡ true → is_days (columns 22 28 line) ≡ false → leftmost_bad_field line ≡ Some 22
 unfolding basic_checked
@@ -83,8 +83,8 @@ basic_bad_days line is transaction day kept end bad = of_basic line false is kep
     ∙ behind_good line (checked 3 3 is_transaction ∷ checked 10 15 is_date ∷ checked 16 21 is_end_date ∷ []) (checked 22 28 is_days)
     (checked 80 80 is_stp_indicator ∷ []) (transaction, (day, (end, tt))) bad
 
--- if the STP indicator of a basic schedule that isn't a deletion is bad, and the fields to its left
--- are good, the leftmost bad field is at column 80
+-- suppose that a basic schedule isn't a deletion. If its STP indicator is bad, and the fields to
+-- the left are good, the leftmost bad field is at column 80
 pub basic_bad_stp_kept : (line : List ℕ) → HasKind basic_schedule line → is_transaction (columns 3 3 line) ≡ true → is_date (columns 10 15 line) ≡ true
     → is_deletion line ≡ false → is_end_date (columns 16 21 line) ≡ true → is_days (columns 22 28 line) ≡ true
     → is_stp_indicator (columns 80 80 line) ≡ false → leftmost_bad_field line ≡ Some 80
@@ -93,8 +93,8 @@ basic_bad_stp_kept line is transaction day kept end days bad = of_basic line fal
     ∙ behind_good line (checked 3 3 is_transaction ∷ checked 10 15 is_date ∷ checked 16 21 is_end_date ∷ checked 22 28 is_days ∷ [])
     (checked 80 80 is_stp_indicator) [] (transaction, (day, (end, (days, tt)))) bad
 
--- if the STP indicator of a deletion of a schedule is bad, and the transaction and the runs-from
--- date are good, the leftmost bad field is at column 80
+-- suppose that a basic schedule is a deletion. If its STP indicator is bad, and its transaction and
+-- its runs-from date are good, the leftmost bad field is at column 80
 pub basic_bad_stp_deleted : (line : List ℕ) → HasKind basic_schedule line → is_transaction (columns 3 3 line) ≡ true → is_date (columns 10 15 line) ≡ true
     → is_deletion line ≡ true → is_stp_indicator (columns 80 80 line) ≡ false → leftmost_bad_field line ≡ Some 80
 unfolding basic_checked
@@ -104,7 +104,7 @@ basic_bad_stp_deleted line is transaction day deleted bad = of_basic line true i
 -- the lemmas on the leftmost bad field of a basic schedule
 pub ruleset basic_faults = (basic_bad_end, basic_bad_days, basic_bad_stp_kept, basic_bad_stp_deleted)
 
--- the checked fields of an association; the flag says whether the record is a deletion
+-- the checked fields of an association. The argument says whether the record is a deletion
 assoc_checked : Bool → List CheckedField
 assoc_checked deletion =
     checked 3 3 is_transaction ∷ checked 16 21 is_date
@@ -117,8 +117,8 @@ of_assoc : (line : List ℕ) (deletion : Bool) → HasKind association line → 
 unfolding assoc_checked
 of_assoc line deletion is deletes = by_kind association line is ∙ ap (λ b. first_bad line (assoc_checked b)) deletes
 
--- if the end date of an association that isn't a deletion is bad, and the fields to its left are
--- good, the leftmost bad field is at column 22
+-- suppose that an association isn't a deletion. If its end date is bad, and the fields to the left
+-- are good, the leftmost bad field is at column 22
 pub assoc_bad_end : (line : List ℕ) → HasKind association line → is_transaction (columns 3 3 line) ≡ true → is_date (columns 16 21 line) ≡ true
     → is_deletion line ≡ false → is_end_date (columns 22 27 line) ≡ false → leftmost_bad_field line ≡ Some 22
 unfolding assoc_checked
@@ -126,8 +126,8 @@ assoc_bad_end line is transaction day kept bad = of_assoc line false is kept
     ∙ behind_good line (checked 3 3 is_transaction ∷ checked 16 21 is_date ∷ []) (checked 22 27 is_end_date)
     (checked 28 34 is_days ∷ checked 38 44 is_tiploc ∷ checked 80 80 is_stp_indicator ∷ []) (transaction, (day, tt)) bad
 
--- if the days run of an association that isn't a deletion are bad, and the fields to their left are
--- good, the leftmost bad field is at column 28
+-- suppose that an association isn't a deletion. If its field of days run is bad, and the fields to
+-- the left are good, the leftmost bad field is at column 28
 pub assoc_bad_days : (line : List ℕ) → HasKind association line → is_transaction (columns 3 3 line) ≡ true → is_date (columns 16 21 line) ≡ true
     → is_deletion line ≡ false → is_end_date (columns 22 27 line) ≡ true → is_days (columns 28 34 line) ≡ false → leftmost_bad_field line ≡ Some 28
 unfolding assoc_checked
@@ -135,8 +135,8 @@ assoc_bad_days line is transaction day kept end bad = of_assoc line false is kep
     ∙ behind_good line (checked 3 3 is_transaction ∷ checked 16 21 is_date ∷ checked 22 27 is_end_date ∷ []) (checked 28 34 is_days)
     (checked 38 44 is_tiploc ∷ checked 80 80 is_stp_indicator ∷ []) (transaction, (day, (end, tt))) bad
 
--- if the TIPLOC of an association that isn't a deletion is bad, and the fields to its left are
--- good, the leftmost bad field is at column 38
+-- suppose that an association isn't a deletion. If its TIPLOC is bad, and the fields to the left
+-- are good, the leftmost bad field is at column 38
 pub assoc_bad_place_kept : (line : List ℕ) → HasKind association line → is_transaction (columns 3 3 line) ≡ true → is_date (columns 16 21 line) ≡ true
     → is_deletion line ≡ false → is_end_date (columns 22 27 line) ≡ true → is_days (columns 28 34 line) ≡ true → is_tiploc (columns 38 44 line) ≡ false
     → leftmost_bad_field line ≡ Some 38
@@ -145,8 +145,8 @@ assoc_bad_place_kept line is transaction day kept end days bad = of_assoc line f
     ∙ behind_good line (checked 3 3 is_transaction ∷ checked 16 21 is_date ∷ checked 22 27 is_end_date ∷ checked 28 34 is_days ∷ [])
     (checked 38 44 is_tiploc) (checked 80 80 is_stp_indicator ∷ []) (transaction, (day, (end, (days, tt)))) bad
 
--- if the TIPLOC of a deletion of an association is bad, and the transaction and the first date are
--- good, the leftmost bad field is at column 38
+-- suppose that an association is a deletion. If its TIPLOC is bad, and its transaction and its
+-- first date are good, the leftmost bad field is at column 38
 pub assoc_bad_place_deleted : (line : List ℕ) → HasKind association line → is_transaction (columns 3 3 line) ≡ true → is_date (columns 16 21 line) ≡ true
     → is_deletion line ≡ true → is_tiploc (columns 38 44 line) ≡ false → leftmost_bad_field line ≡ Some 38
 unfolding assoc_checked
@@ -154,8 +154,8 @@ assoc_bad_place_deleted line is transaction day deleted bad = of_assoc line true
     ∙ behind_good line (checked 3 3 is_transaction ∷ checked 16 21 is_date ∷ []) (checked 38 44 is_tiploc) (checked 80 80 is_stp_indicator ∷ [])
     (transaction, (day, tt)) bad
 
--- if the STP indicator of an association that isn't a deletion is bad, and the fields to its left
--- are good, the leftmost bad field is at column 80
+-- suppose that an association isn't a deletion. If its STP indicator is bad, and the fields to the
+-- left are good, the leftmost bad field is at column 80
 pub assoc_bad_stp_kept : (line : List ℕ) → HasKind association line → is_transaction (columns 3 3 line) ≡ true → is_date (columns 16 21 line) ≡ true
     → is_deletion line ≡ false → is_end_date (columns 22 27 line) ≡ true → is_days (columns 28 34 line) ≡ true → is_tiploc (columns 38 44 line) ≡ true
     → is_stp_indicator (columns 80 80 line) ≡ false → leftmost_bad_field line ≡ Some 80
@@ -165,8 +165,8 @@ assoc_bad_stp_kept line is transaction day kept end days place bad = of_assoc li
     (checked 3 3 is_transaction ∷ checked 16 21 is_date ∷ checked 22 27 is_end_date ∷ checked 28 34 is_days ∷ checked 38 44 is_tiploc ∷ [])
     (checked 80 80 is_stp_indicator) [] (transaction, (day, (end, (days, (place, tt))))) bad
 
--- if the STP indicator of a deletion of an association is bad, and the checked fields to its left
--- are good, the leftmost bad field is at column 80
+-- suppose that an association is a deletion. If its STP indicator is bad, and the checked fields to
+-- the left are good, the leftmost bad field is at column 80
 pub assoc_bad_stp_deleted : (line : List ℕ) → HasKind association line → is_transaction (columns 3 3 line) ≡ true → is_date (columns 16 21 line) ≡ true
     → is_deletion line ≡ true → is_tiploc (columns 38 44 line) ≡ true → is_stp_indicator (columns 80 80 line) ≡ false → leftmost_bad_field line ≡ Some 80
 unfolding assoc_checked

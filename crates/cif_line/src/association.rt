@@ -15,8 +15,8 @@ use crate::uid::Uid;
 use crate::until::Until;
 use std::marker::Model;
 
-/// A view of an association (AA) whose checked fields are good. In a deletion the end date and the
-/// days run aren't checked.
+/// A view of an association (AA) whose checked fields are good. In a deletion neither the end date
+/// nor the field of days run is checked.
 #[derive(Debug, Drop)]
 pub struct Assoc<'a> {
     line: &'a Line,

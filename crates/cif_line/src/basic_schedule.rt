@@ -14,8 +14,8 @@ use crate::uid::Uid;
 use crate::until::Until;
 use std::marker::Model;
 
-/// A view of a basic schedule (BS) whose checked fields are good. In a deletion the runs-to date
-/// and the days run aren't checked.
+/// A view of a basic schedule (BS) whose checked fields are good. In a deletion neither the runs-to
+/// date nor the field of days run is checked.
 #[derive(Debug, Drop)]
 pub struct Basic<'a> {
     line: &'a Line,
@@ -80,8 +80,7 @@ impl<'a> Basic<'a> {
         self.line.end_unless_deleted(16)
     }
 
-    /// The days run, the weekdays on which the schedule runs: columns 22 to 28. Returns `None` for
-    /// a deletion.
+    /// The weekdays on which the schedule runs: columns 22 to 28. Returns `None` for a deletion.
     pub fn days(&self) -> Option<Days>
         ensures { result ≡ unless_deleted self.now (columns 22 28 self.now) }
     {

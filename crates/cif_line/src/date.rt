@@ -1,6 +1,6 @@
-//! Tests and reads the fields of dates. All six bytes are tested at once, without a branch for each
-//! digit, or for the year, the month or the day. A field that is known to be a date is read without
-//! a test.
+//! Tests and reads date fields. All six bytes are tested at once, without a branch for each digit,
+//! or for the year, the month or the day. A field that is known to be a date is read without a
+//! test.
 ghost use Rattle.std.specs.Prelude.{◌≡◌, ◌<◌, ◌≤◌, ◌+◌, true};
 ghost use Rattle.std.specs.List.{list_all};
 ghost use Rattle.std.specs.Char.{is_ascii_digit};

@@ -1,4 +1,4 @@
-//! The days run of a basic schedule (BS) or of an association (AA).
+//! The weekdays on which a basic schedule (BS) or an association (AA) runs.
 ghost use Rattle.std.specs.Prelude.{◌≡◌, ℕ, ◌<◌, ◌≤◌, ◌==◌, ◌||◌, ◌↔◌, length, take, true, IsTrue, IsSome, IfSome};
 ghost use Rattle.docker_model.specs.records.Date.{is_days, runs_on_weekday};
 

@@ -102,7 +102,7 @@ impl Line {
         Some(Until::of_end_date(self.field(first)))
     }
 
-    /// The days run in the seven columns that begin at `first`. Returns `None` if the transaction
+    /// The weekdays in the seven columns that begin at `first`. Returns `None` if the transaction
     /// is a deletion.
     pub fn days_unless_deleted(&self, first: usize) -> Option<Days>
         requires from { 0 < first }

@@ -87,7 +87,7 @@ fn tiploc_fault(line: &Line) -> Option<u8>
 
 /// Reads an association (AA). The fault is the first column of the leftmost bad field: 3 for the
 /// transaction, 16 for the first date, 38 for the TIPLOC, 80 for the STP indicator. Unless the
-/// record is a deletion, the fault may also be 22 for the end date or 28 for the days run.
+/// record is a deletion, the fault may also be 22 for the end date or 28 for the weekdays.
 pub fn assoc(line: &Line) -> Result<Assoc<'_>, FieldFault>
     requires kind { HasKind association line.now }
     ensures { ReadsAs line.now result }
@@ -99,7 +99,7 @@ pub fn assoc(line: &Line) -> Result<Assoc<'_>, FieldFault>
 }
 
 /// The first column of the leftmost bad field in an association. Returns `None` if all are good. In
-/// a deletion the end date and the days run aren't checked.
+/// a deletion neither the end date nor the field of days run is checked.
 fn assoc_fault(line: &Line) -> Option<u8>
     requires kind { HasKind association line.now }
     ensures { result ≡ leftmost_bad_field line.now }
@@ -129,7 +129,7 @@ fn assoc_fault(line: &Line) -> Option<u8>
 
 /// Reads a basic schedule (BS). The fault is the first column of the leftmost bad field: 3 for the
 /// transaction, 10 for the runs-from date, 80 for the STP indicator. Unless the record is a
-/// deletion, the fault may also be 16 for the runs-to date or 22 for the days run.
+/// deletion, the fault may also be 16 for the runs-to date or 22 for the weekdays.
 pub fn basic(line: &Line) -> Result<Basic<'_>, FieldFault>
     requires kind { HasKind basic_schedule line.now }
     ensures { ReadsAs line.now result }
@@ -141,7 +141,7 @@ pub fn basic(line: &Line) -> Result<Basic<'_>, FieldFault>
 }
 
 /// The first column of the leftmost bad field in a basic schedule. Returns `None` if all are good.
-/// In a deletion the runs-to date and the days run aren't checked.
+/// In a deletion neither the runs-to date nor the field of days run is checked.
 fn basic_fault(line: &Line) -> Option<u8>
     requires kind { HasKind basic_schedule line.now }
     ensures { result ≡ leftmost_bad_field line.now }

@@ -217,7 +217,8 @@ fn changes_are(rt: &impl Abort, alloc: Global, records: &[&[u8]], wanted: &[Chan
     same(rt, changes.as_slice(), wanted);
 }
 
-/// Asserts which records make the changes of the file: the records with these numbers.
+/// Asserts that the changes of the file with these records have these record numbers, in this
+/// order.
 fn changes_stand_at(rt: &impl Abort, alloc: Global, records: &[&[u8]], numbers: &[u32]) {
     let changes = changes(rt, alloc, records);
     same(rt, changes.len(), numbers.len());
@@ -435,9 +436,9 @@ fn a_journey(rt: HostRuntime) {
     same(&rt, journey.complete(), true);
 }
 
-/// The fault that each further call of a parser must return. It is `wanting`, the out-of-memory
-/// fault of an earlier call, if there is one. Otherwise, if `fed` is a fault, it is out of memory
-/// at the record with this number.
+/// The fault that each further call of a parser must return. If an earlier call returned the fault
+/// `wanting`, because memory ran out, the result is `wanting`. Otherwise, if `fed` is a fault, the
+/// result says that memory ran out at the record with this number.
 fn memory_fault_from(
     fed: Option<FileFault>,
     wanting: Option<FileFault>,
@@ -449,8 +450,9 @@ fn memory_fault_from(
     }
 }
 
-/// Ends the input. Returns the file, or `None` if memory ran out. Asserts that the fault is
-/// `wanting` if memory ran out earlier, and otherwise out of memory at the record with this number.
+/// Ends the input. Returns the file, or `None` if memory ran out. In that case asserts that the
+/// fault is `wanting`, or, if `wanting` is `None`, that memory ran out at the record with this
+/// number.
 fn file_at_end(
     rt: &impl Abort,
     parser: FileParser,
@@ -471,9 +473,8 @@ fn file_at_end(
 }
 
 /// Feeds a parser these records one by one, with line feeds between them. Returns the file, or
-/// `None` if memory runs out. Asserts that running out of memory is reported at the line feed of
-/// the record that needed the memory, or at the end for the last record. Each later call must
-/// report it again.
+/// `None` if memory runs out. Asserts that the parser reports this at the line feed of the record
+/// that needed the memory, or at the end for the last record. Each later call must report it again.
 fn file_or_out_of_memory(
     rt: &impl Abort,
     alloc: Global,

@@ -12,7 +12,7 @@ pub const BS_REVISED: &[u8] =
 pub const BS_DELETED: &[u8] =
     b"BSDC10001240610              POO                                               P";
 
-/// The deletion of C10001's permanent schedule, without a train status or category.
+/// The deletion of C10001's permanent schedule, without a train status or train category.
 pub const BS_DELETED_PLAIN: &[u8] =
     b"BSDC10001240610                                                                P";
 
@@ -60,7 +60,7 @@ pub const BS_NEW: &[u8] =
 pub const BS_CANCELLED: &[u8] =
     b"BSNC100012406142406140000100 POO1A10                                           C";
 
-/// The deletion of C10001's cancellation on 14 June, without a train status or category.
+/// The deletion of C10001's cancellation on 14 June, without a train status or train category.
 pub const BS_CANCELLED_DELETED: &[u8] =
     b"BSDC10001240614                                                                C";
 
@@ -84,7 +84,7 @@ pub const BS_C10002_WEEK: &[u8] =
 pub const BS_C10003: &[u8] =
     b"BSDC10003240610              POO                                               P";
 
-/// The deletion of a schedule of C10003, without a train status or category.
+/// The deletion of a schedule of C10003, without a train status or train category.
 pub const BS_C10003_PLAIN: &[u8] =
     b"BSDC10003240610                                                                P";
 

@@ -22,7 +22,7 @@ no_header = refl
 whole_schedule : stage_of f2_schedule ≡ Some after_journey
 whole_schedule = refl
 
--- if several causes apply to a record, the cause with the lowest rank is reported
+-- several causes apply to each of these records, and the cause with the lowest rank is reported
 over_limit : cause_of 5 5 after_end zz ≡ too_many
 over_limit = refl
 
@@ -47,7 +47,8 @@ trailer_early = refl
 bad_time : cause_of 6 2 (in_schedule after_basic (f2_basic ∷ [])) (lo (codes "ASHFELD") no_text (codes "2400") no_text no_text no_text) ≡ bad_field 11
 bad_time = refl
 
--- in a deletion the fields of the journey aren't checked, and the journey may be missing
+-- a basic schedule that is a deletion. The two examples after it show that the fields of its
+-- journey aren't checked, and that its journey may be missing
 abbrev deleted_basic : List ℕ
 deleted_basic = bs (codes "D") (codes "C10001") (codes "240610") no_text no_text no_text (codes "P")
 

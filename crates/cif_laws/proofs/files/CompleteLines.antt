@@ -66,7 +66,8 @@ go_on_empty [] some = absurd (omega arith)
 go_on_empty (piece ∷ pieces) some = refl
 
 -- suppose that a text and the bytes `more` are each split into pieces. When `more` is appended to
--- the text, its first piece extends the last piece of the text, and its other pieces follow
+-- the text, the first piece of `more` extends the last piece of the text. The other pieces of
+-- `more` follow
 pub split_append : (p : ℕ → Bool) (text more : List ℕ) → slice_split p (text ++ more) ≡ but_last (slice_split p text) ++ going_on (last_of (slice_split p text))
     (slice_split p more)
 split_append p [] more = go_on_empty (slice_split p more) (some_pieces p more)
@@ -143,8 +144,8 @@ last_rest : (piece : List ℕ) (pieces : Lines) → 0 < length pieces → last_o
 last_rest piece [] some = absurd (omega arith)
 last_rest piece (next ∷ pieces) some = refl
 
--- the first line feed in appended bytes completes the incomplete line. The complete lines of the
--- bytes after this line feed follow
+-- if the appended bytes contain a line feed, the bytes before the first line feed complete the
+-- incomplete line. Then come the complete lines of the bytes after this line feed
 pub complete_lines_cut : (text front rest : List ℕ) → HasNoFeed front
     → complete_lines (text ++ (front ++ 10 ∷ rest)) ≡ complete_lines text ++ strip_carriage_return (open_line text ++ front) ∷ complete_lines rest
 complete_lines_cut text front rest plain =
@@ -204,7 +205,8 @@ goes_on text more = by (slice_split (λ b. b == 10) more) refl
         whole : pieces_of (text ++ more) ≡ but_last (pieces_of text) ++ (open_line text ++ first) ∷ pieces
         whole = split_append (λ b. b == 10) text more ∙ (λ i. but_last (pieces_of text) ++ going_on (open_line text) (h i))
 
--- the complete lines of a text are a prefix of the complete lines after bytes are appended
+-- the complete lines of a text are a prefix of the complete lines of the same text with more bytes
+-- appended
 pub complete_lines_stay : (text more : List ℕ) → (others : Lines) × (complete_lines (text ++ more) ≡ complete_lines text ++ others)
 complete_lines_stay text more = let on = goes_on text more in (map strip_carriage_return (but_last ((open_line text ++ on.first) ∷ on.pieces)), on.told)
 

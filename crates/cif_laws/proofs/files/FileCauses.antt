@@ -29,7 +29,7 @@ use Rattle.cif_laws.proofs.schedules.ScheduleStages.{HasShape, details_of, IsSou
 use Rattle.cif_laws.proofs.files.FileStages.{next_by_test, stage_stops, IsWithin, IsAt, next_at, at_of_place, witness_next, at_begins}
 use Rattle.cif_laws.proofs.files.FileStages.{begins_iff_place, file_iff_place, place_of_more, begins_next_iff, one_place}
 
--- ---- records that include a trailer lead the reader to the place `after_end`
+-- ---- records that include a trailer lead the reader to `after_end`
 
 end_by_test : (place : Place) → is_after_end place ≡ true → place ≡ after_end
 end_by_test after_end h = refl
@@ -54,7 +54,7 @@ trailer_place (in_schedule stage lines) next line found = by (may_end stage line
     by false h = let none : None ≡ Some next = (λ i. cond (sym h i) (Some after_end) None) ∙ reached in cc
 trailer_place after_end next line found = cc
 
--- records that include a trailer can lead the reader only to the place `after_end`
+-- records that include a trailer can't lead the reader to any `Place` other than `after_end`
 trailer_leads : (records : Lines) (place final : Place) (line : List ℕ) → place_from place records ≡ Some final → Contains records line → HasKind trailer line
     → final ≡ after_end
 trailer_leads [] place final line found among kind = absurd (nil-Contains line among)
@@ -125,7 +125,7 @@ details_follow : (extra : Lines) → AreExtraDetails extra → AllByRecursion Fo
 details_follow extra (inl none) = subst (AllByRecursion Follows) (sym none) tt
 details_follow extra (inr one) = subst (AllByRecursion Follows) (sym one.1) (follows_by extra_details one.0 one.2 refl, tt)
 
--- the records of an incomplete schedule are the last schedule among all records
+-- if records end with an incomplete schedule, its lines are the last schedule among these records
 pub ends_in_schedule : (stage : Stage) (lines records : Lines) → IsWithin stage lines records → EndsInSchedule records lines
 ends_in_schedule stage lines records within = record {
   before = within.before;
@@ -240,8 +240,9 @@ module _ (limit : ℕ) (earlier : Lines) (place : Place) (line : List ℕ) (foun
           staged None t = let bad : true ≡ false = sym good ∙ t in cc
       by _ here test = let bad : true ≡ false = sym good ∙ test in cc
 
-  -- a cause that applies to the record is the record's cause if no cause of a lower rank applies.
-  -- The lemmas below prove this for each cause, from the last to the first
+  -- suppose that neither the limit, the trailer, the record's bytes nor its kind is the reason why
+  -- a record can't follow. Then its cause is `field_cause`. The lemmas below treat the other
+  -- causes, from the last to the first
   field_is : ¬ (limit ≤ length earlier) → ¬ Any (HasKind trailer) earlier → length line ≡ 80 → leftmost_bad_byte line ≡ None → ¬ (kind_of line ≡ None)
       → (next : Place) → place_by_kind place (kind_of line) line ≡ Some next → next_place place line ≡ None → IsCause limit earlier line (field_cause line)
   field_is r0 r1 r2 r3 r4 next told nowhere = by (leftmost_bad_field line) refl

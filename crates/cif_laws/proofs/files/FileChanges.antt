@@ -1,5 +1,5 @@
 -- The changes of a file within the limit: each change is well formed, and a body that a change puts
--- belongs to the change's key.
+-- belongs to the key of the change.
 use Rattle.std.proofs.Common.{◌≡◌, ℕ, ◌+◌, ◌-◌, ◌^◌, ◌<◌, ◌≤◌, List, [], ◌∷◌, ◌++◌, map, length, Contains, subst, ap, refl, arith, length-append}
 use Rattle.std.specs.List.{AllByRecursion, flat_map}
 use Rattle.std.proofs.lemmas.List.Elements.{recursion_from_All}

@@ -404,7 +404,7 @@ units_pass (unit ∷ units) last each is end =
     ∙ unit_passes unit (flat_map (λ u. u) units ++ last ∷ []) each.0 (units_stop units last each.1 end) (omega arith)
     ∙ units_pass units last each.1 is end
 
--- the records of a whole file lead the reader to the place `after_end`
+-- the records of a whole file lead the reader to `after_end`
 pub place_of_file : (file : Lines) → IsFile file → IsPlaceOf file after_end
 place_of_file file is =
     ap place_at is.whole
@@ -432,7 +432,7 @@ begins_iff_place records = (
   λ at. at_begins at.0 records (at_of_place records at.0 at.1),
 )
 
--- records are a file if and only if they lead the reader to the place `after_end`
+-- records are a file if and only if they lead the reader to `after_end`
 pub file_iff_place : (records : Lines) → IsFile records ↔ IsPlaceOf records after_end
 file_iff_place records = (place_of_file records, at_of_place records after_end)
 

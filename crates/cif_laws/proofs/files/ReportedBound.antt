@@ -58,7 +58,8 @@ bytes_but_last [] some = absurd (omega arith)
 bytes_but_last (piece ∷ []) some = omega arith
 bytes_but_last (piece ∷ next ∷ pieces) some = let rest = bytes_but_last (next ∷ pieces) (omega arith) in omega arith
 
--- if each piece has 80 bytes without its carriage return, `bytes_in` is at most 82 for each piece
+-- if each piece has 80 bytes without its carriage return, `bytes_in` is at most 82 times the number
+-- of pieces
 few_bytes : (pieces : Lines) → AllByRecursion Has80 (map strip_carriage_return pieces) → bytes_in pieces ≤ 82 * length pieces
 unfolding bytes_in
 few_bytes [] all = omega arith

@@ -13,7 +13,8 @@ use Rattle.std.proofs.Math.Seq.{take-append_seam, get_or-append_seam}
 use Rattle.docker_model.specs.records.Record.{is_printable, IsRecord}
 use Rattle.docker_model.specs.file.Text.{IsLineEnd, IsLastLineEnd, IsTextOf, without_empty_last, lines_of}
 
--- if the last byte is 13, the list is the bytes before its last byte, followed by 13
+-- if the last byte of a list is 13, the list consists of the bytes before its last byte, followed
+-- by 13
 last_is : (bytes : List ℕ) → slice_index bytes (length bytes - 1) ≡ 13 → bytes ≡ take (length bytes - 1) bytes ++ 13 ∷ []
 last_is [] h = absurd (omega arith)
 last_is (x ∷ []) h = λ i. h i ∷ []

@@ -327,9 +327,8 @@ small_along (line ∷ lines) good =
     times_of-times : List ℕ → List ℕ
     times_of-times l = times_in (times_of l)
 
--- a prefix of a list of times has at most as many falls as the whole list, and appending the time
--- 23:59½ leaves the number of falls unchanged. A fall is a time that is earlier than the time
--- before it
+-- a prefix of a list of times has at most as many falls as the whole list. A fall is a time that is
+-- earlier than the time before it
 falls_front : (times more : List ℕ) → fall_count times ≤ fall_count (times ++ more)
 falls_front [] more = omega arith
 falls_front (time ∷ []) more = omega arith
@@ -413,7 +412,8 @@ front_of_schedule (basic ∷ lines) rest here = ((all_front IsRecord (basic ∷ 
     by [] (inr part) = inl tt
     by (extra ∷ others) (inr part) = inr (part.0, front_of_part basic others rest part.1)
 
--- the records `rest` complete the records `lines` to a whole schedule
+-- the rest of a schedule: with the records `rest` appended, `lines` are all records of the schedule
+-- after its extra details
 record Ending (basic : List ℕ) (lines : Lines) : Type 0 where
   rest : Lines
   records : AreRecords rest

@@ -42,7 +42,8 @@ HasShape after_journey extra journey = AreExtraDetails extra × IsJourney journe
 abbrev pub IsSound : List ℕ → Lines → Type 0
 IsSound basic journey = (is_deletion basic ≡ true) ⊎ IsSoundJourney journey
 
--- the records are a schedule, complete or incomplete, that a reader has read to this stage
+-- the records are a schedule, complete or incomplete, and a reader of these records is at this
+-- stage
 pub record IsFront (stage : Stage) (lines : Lines) : Type 0 where
   pub basic : List ℕ
   pub extra : Lines
@@ -335,9 +336,9 @@ schedule_of_front stage lines front test = record {
     by in_journey shape h = cc
     by after_journey shape h = inl shape.1
 
--- ---- a record of each kind that may follow
+-- ---- for each kind of record, one good record
 
--- a record of each kind, with good fields
+-- an example record of each kind, with good fields
 pub witness : Kind → List ℕ
 witness header = hd (codes "090624") (codes "2100") (codes "DFROC1A") (codes "DFROC1Z") (codes "U")
 witness tiploc_insert = ti (codes "ASHFELD") (codes "ASHFIELD")

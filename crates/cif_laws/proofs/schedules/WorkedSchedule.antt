@@ -8,7 +8,7 @@ use Rattle.docker_model.specs.records.Field.{HasGoodFields}
 use Rattle.docker_model.specs.file.File.{IsSchedule, IsJourney, IsWithinJourney}
 use Rattle.cif_laws.proofs.records.Builders.{f2_basic, f2_origin, f2_terminus, f2_schedule}
 
--- 80 bytes that are all printable are a record
+-- 80 bytes are a record if all of them are printable
 pub record_by_test : (bytes : List ℕ) → length bytes ≡ 80 → list_all is_printable bytes ≡ true → IsRecord bytes
 record_by_test bytes size printable = (size, AllPass-from_list_all is_printable bytes printable)
 

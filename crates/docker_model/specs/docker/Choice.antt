@@ -10,24 +10,24 @@ use Rattle.docker_model.specs.file.Change.{association_key, schedule_key, Associ
 use Rattle.docker_model.specs.state.Order.{IsAtMost}
 use Rattle.docker_model.specs.state.Table.{Table}
 
--- whether a day is from the first date to the last date, both included, and is on a weekday of the
--- days run. The first date and the last date are fields of six bytes, and the days run are a field
--- of seven bytes, all of one schedule or one association
+-- whether the day is from the first date to the last date, both included, and its weekday is among
+-- the days run. Each date is a field of six bytes, and the field of days run has seven bytes
 abbrev pub runs_within : List ℕ → List ℕ → List ℕ → ℕ → Bool
 runs_within first last days day =
     nat_le (date_number first) day && nat_le day (end_number last) && runs_on_weekday days (weekday_of day)
 
--- whether a basic schedule runs on the day, according to its dates and its days run. The argument
--- is a whole record
+-- whether this basic schedule runs on the day, according to its dates and its weekdays. The first
+-- argument is the whole record
 abbrev pub schedule_runs : List ℕ → ℕ → Bool
 schedule_runs line day = runs_within (columns 10 15 line) (columns 16 21 line) (columns 22 28 line) day
 
--- whether an association runs on the day, according to its dates and its days run. The argument is
--- a whole record
+-- whether this association runs on the day, according to its dates and its weekdays. The first
+-- argument is the whole record
 abbrev pub association_runs : List ℕ → ℕ → Bool
 association_runs line day = runs_within (columns 16 21 line) (columns 22 27 line) (columns 28 34 line) day
 
--- whether a record of this kind runs on the day. Only a basic schedule or an association can run
+-- whether this record, which has this kind, runs on the day. Only a basic schedule or an
+-- association can run
 abbrev pub runs_by_kind : Option Kind → List ℕ → ℕ → Bool
 runs_by_kind (Some association) line day = association_runs line day
 runs_by_kind (Some basic_schedule) line day = schedule_runs line day

@@ -7,8 +7,8 @@ use Rattle.docker_model.specs.records.Clock.{is_blank}
 use Rattle.docker_model.specs.records.Field.{is_deletion, as_new}
 use Rattle.docker_model.specs.file.File.{follows_basic}
 
--- the key of an association. Its fields are the UIDs of base and associated train, the first date
--- as a day number, the timing point, the base train's suffix and the STP indicator
+-- the key of an association. Its fields are the base train's UID, the associated train's UID, the
+-- first date as a day number, the timing point, the base train's suffix and the STP indicator
 pub record AssociationKey : Type 0 where
   pub base : List ℕ
   pub associated : List ℕ
@@ -89,9 +89,9 @@ keeps_code line = is_blank (columns 73 79 line) || bytes_eq (columns 73 79 line)
 abbrev pub schedule_rest : List (List ℕ) → List (List ℕ)
 schedule_rest following = take_while (λ line. follows_basic (kind_of line)) following
 
--- the acts of a record of this kind: a list of keys, each with its act. The last argument is the
--- records that follow this record in the file. A TIPLOC amendment with a new code has two acts: a
--- deletion of the old code, and a put of the new code. A basic schedule puts the whole schedule,
+-- the acts of a record of this kind: a list of keys, each with its act. The last argument contains
+-- the records that follow this record in the file. A TIPLOC amendment with a new code has two acts:
+-- a deletion of the old code, and a put of the new code. A basic schedule puts the whole schedule,
 -- and the records after it in the schedule have no acts. A schedule or an association is put with
 -- its transaction set to N, so a new record and a revision put the same body
 abbrev pub acts_by_kind : Option Kind → List ℕ → List (List ℕ) → List (Key × Act)
@@ -106,13 +106,13 @@ acts_by_kind (Some basic_schedule) line following =
     (schedule_named line, if is_deletion line then delete else put (schedule_body (as_new line ∷ schedule_rest following))) ∷ []
 acts_by_kind _ line following = []
 
--- the changes of one record, each with this record number. The last argument is the records that
--- follow this record in the file
+-- the changes of one record, each with this record number. The last argument contains the records
+-- that follow this record in the file
 abbrev pub changes_of_record : ℕ → List ℕ → List (List ℕ) → List Change
 changes_of_record number line following =
     map (λ act. record { number = number; key = act.0; act = act.1 }) (acts_by_kind (kind_of line) line following)
 
--- the changes of these records. The first record has this number
+-- the changes of these records. The first of these records has the record number `number`
 abbrev pub changes_from : ℕ → List (List ℕ) → List Change
 changes_from number [] = []
 changes_from number (line ∷ following) = changes_of_record number line following ++ changes_from (number + 1) following

@@ -10,16 +10,16 @@ last_of [] = []
 last_of (piece ∷ []) = piece
 last_of (piece ∷ next ∷ pieces) = last_of (next ∷ pieces)
 
--- the number of certain lines at the beginning of a text that is still being read. A line is
--- certain once its line feed has been read. A line of more than 81 bytes is certain even without a
--- line feed: it is too long for a record, even if its last byte is a carriage return. For example,
--- the text `HD` has no certain line, and `HD` with a line feed has one
+-- how many lines are already certain, in a text that is still being read. A line is certain once
+-- its line feed has been read. A line of more than 81 bytes is certain even without a line feed: it
+-- is too long for a record, even if its last byte is a carriage return. For example, the text `HD`
+-- has no certain line, and `HD` with a line feed has one
 abbrev pub sure_lines : List ℕ → ℕ
 sure_lines text =
     count_by (λ b. b == 10) text + (if nat_le 82 (length (last_of (slice_split (λ b. b == 10) text))) then 1 else 0)
 
--- these bytes determine this fault: the record at fault is one of the certain lines. Every text
--- that begins with these bytes has the same fault
+-- these bytes determine this fault: the line at fault is already certain, as counted by
+-- `sure_lines`. Every text that begins with these bytes has the same fault
 pub record IsFaultSoFar (limit : ℕ) (text : List ℕ) (fault : FileFault) : Type 0 where
   pub is : IsRecordFault limit (lines_of text) fault
   pub told : fault.number ≤ sure_lines text

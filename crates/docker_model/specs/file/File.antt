@@ -1,4 +1,4 @@
--- A CIF file is a list of records in a certain order.
+-- CIF files: a header, then units in any order, then a trailer.
 use Rattle.std.specs.Prelude.{ℕ, List, [], ◌∷◌, Bool, true, false, Option, Some, ◌⊎◌, ◌≡◌, ◌++◌, All, IsTrue, ◌≤◌}
 use Rattle.std.specs.List.{flat_map}
 use Rattle.docker_model.specs.records.Record.{Kind, extra_details, origin_location, intermediate_location, terminating_location, change_en_route, HasKind}

@@ -73,12 +73,12 @@ is_end_date field = is_no_end field || is_date field
 abbrev pub end_number : List ℕ → ℕ
 end_number field = if is_no_end field then no_end_number else date_number field
 
--- whether seven bytes are days run: each is `0` or `1`, for Monday to Sunday
+-- whether seven bytes are a field of days run: each byte is `0` or `1`, for Monday to Sunday
 abbrev pub is_days : List ℕ → Bool
 is_days field = list_all (λ b. (b == 48) || (b == 49)) field
 
--- whether the days run, a field of seven bytes, include this weekday, where Monday is 0 and Sunday
--- is 6. For example, `1111100` includes weekday 4, Friday, but not weekday 5
+-- whether this weekday is among the days run, a field of seven bytes. Monday is 0 and Sunday is 6.
+-- For example, weekday 4, Friday, is among the days run `1111100`, and weekday 5 isn't
 abbrev pub runs_on_weekday : List ℕ → ℕ → Bool
 runs_on_weekday field weekday = slice_index field weekday == 49
 

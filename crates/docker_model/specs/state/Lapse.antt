@@ -5,9 +5,9 @@ use Rattle.docker_model.specs.file.Change.{Key, Body}
 use Rattle.docker_model.specs.state.Op.{body_end, Op, deleted, lapsed, put_with, Entry}
 use Rattle.docker_model.specs.state.Table.{Table}
 
--- given a horizon, lapses an op: a put whose body ended before the horizon becomes `lapsed`, and
--- any other op is unchanged. For example, with the horizon 100 a body that ends on day 99 lapses,
--- and a body that ends on day 100 doesn't
+-- an op after lapsing with this horizon: a put whose body ended before the horizon becomes
+-- `lapsed`, and any other op is unchanged. For example, with the horizon 100 a body that ends on
+-- day 99 lapses, and a body that ends on day 100 doesn't
 abbrev pub lapse : ℕ → Op → Op
 lapse horizon deleted = deleted
 lapse horizon lapsed = lapsed
@@ -20,15 +20,16 @@ HasNotToLapse horizon deleted = ⊤
 HasNotToLapse horizon lapsed = ⊤
 HasNotToLapse horizon (put_with body) = horizon ≤ body_end body
 
--- given a horizon, lapses an entry: its op may lapse, and its stamp is unchanged
+-- an entry after lapsing with this horizon: its op may have become `lapsed`, and its stamp is
+-- unchanged
 abbrev pub lapse_entry : ℕ → Entry → Entry
 lapse_entry horizon entry = record { stamp = entry.stamp; op = lapse horizon entry.op }
 
--- given a horizon, lapses the entry of a key, and leaves the key unchanged
+-- a key with its entry, after lapsing with this horizon. The key is unchanged
 abbrev pub lapse_keyed : ℕ → Key × Entry → Key × Entry
 lapse_keyed horizon entry = (entry.0, lapse_entry horizon entry.1)
 
--- given a horizon, lapses each entry of a list
+-- the entries of a list, each with its key, after lapsing with this horizon
 abbrev pub lapse_entries : ℕ → List (Key × Entry) → List (Key × Entry)
 lapse_entries horizon entries = map (lapse_keyed horizon) entries
 

@@ -69,7 +69,7 @@ IsBadEntryPart format state (before_body key stamp) bytes cause = (cause ≡ bad
 IsBadEntryPart format state (before_line key stamp count lines) bytes cause =
     (cause ≡ bad_body) × ¬ (AreLinesUpTo key count (lines ++ bytes ∷ []) × HaveNotToLapse state (lines ++ bytes ∷ []))
 
--- the part that follows these good parts is bad for this cause. A count is never bad by itself
+-- the part that follows these good parts is bad for this cause. A count by itself is never bad
 abbrev pub IsBadPart : Format → Before → List ℕ → StateCause → Type 0
 IsBadPart format before_mark bytes cause = (cause ≡ bad_mark) × (bytes ≢ mark format)
 IsBadPart format before_horizon bytes cause = (cause ≡ bad_horizon) × ¬ IsDay (from_be_bytes w16 bytes)

@@ -50,7 +50,7 @@ items_before format (at_end state) = state_text format state
 abbrev pub key_text : Key → List ℕ
 key_text key = key_tag key ∷ key_bytes key
 
--- the bytes of an entry before its next part
+-- the bytes of an entry that come before its next part
 abbrev pub part_text : EntryPart → List ℕ
 part_text before_tag = []
 part_text (before_key tag) = tag ∷ []

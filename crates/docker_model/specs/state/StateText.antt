@@ -36,8 +36,8 @@ file_stamp_bytes stamp = to_be_bytes w16 stamp.moment.day ++ to_be_bytes w16 sta
 abbrev pub item_bytes : LedgerItem → List ℕ
 item_bytes item = file_stamp_bytes item.stamp ++ item.indicator ∷ item.last_reference
 
--- converts a key to its bytes, without the tag: 7 for a TIPLOC, 23 for an association, 9 for a
--- schedule
+-- converts a key to its bytes, without the tag: 7 bytes for a TIPLOC, 23 for an association, 9 for
+-- a schedule
 abbrev pub key_bytes : Key → List ℕ
 key_bytes (tiploc_key code) = code
 key_bytes (association_key key) =

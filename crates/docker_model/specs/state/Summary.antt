@@ -53,7 +53,7 @@ pub record IsSummary (files : List (List (List ℕ))) (horizon : ℕ) (state : S
   pub entries : (key : Key) (entry : Entry) → Contains state.entries (key, entry)
       ↔ ((greatest : Entry) × IsGreatestEntryOf files floor key greatest × (lapse_entry horizon greatest ≡ entry))
 
--- no two different files of the set have the same date and time
+-- no two different files of the set have the same date and time in their headers
 abbrev pub HaveDistinctMoments : List (List (List ℕ)) → Type 0
 HaveDistinctMoments files =
     (first second : List (List ℕ)) → Contains files first → Contains files second → moment_of first ≡ moment_of second → first ≡ second

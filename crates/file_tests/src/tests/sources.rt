@@ -104,8 +104,8 @@ fn sources_that_fail(rt: HostRuntime) {
     read_fails(&rt, rt.alloc(), TI, "an open line");
 }
 
-/// Asserts that an endless source, read in pieces of `step` bytes, has this fault, both with
-/// `read_file` and with `judge_file`.
+/// Asserts that `read_file` and `judge_file` both return this fault for an endless source, read in
+/// pieces of `step` bytes.
 fn endless_fails(
     rt: &impl Abort,
     alloc: Global,

@@ -1,4 +1,4 @@
--- The taker has taken all bytes that were read. Each turn of the loop reads at least one byte.
+-- The taker has taken all bytes that were read. Each iteration of the loop reads at least one byte.
 use Rattle.std.proofs.Common.{◌≡◌, ◌-◌, ◌^◌, false, vec_len}
 use Rattle.cif_device.specs.Taken.{AfterEach, HasFed}
 use Rattle.cif_device.proofs.feed.feed_all.Given as goal

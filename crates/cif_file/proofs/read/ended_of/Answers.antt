@@ -1,4 +1,4 @@
--- The result is what the parser returns at the end, except that a fault with the cause `Memory` becomes the fault `Memory` of the source.
+-- The result is what the parser returns at the end, except that a fault with the cause `Memory` becomes the read fault `Memory`.
 use Rattle.cif_file.proofs.ReadLemmas.{fault_at_end, memory_at_end}
 use Rattle.cif_file.proofs.read.ended_of.Goals as goal
 

@@ -1,4 +1,5 @@
--- The place and the day that the type gives are the place and the day that were passed in.
+-- The place and the day that the type gives are the place and the day that were passed to the
+-- function.
 use Rattle.cif_file.proofs.read.read_thin.Given as goal
 
 abbrev pub ghosts-thin_at : goal.ghosts-thin_at

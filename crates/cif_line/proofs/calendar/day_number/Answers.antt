@@ -3,7 +3,7 @@ use Rattle.docker_model.specs.records.Date.{day_number, full_year, last_day}
 use Rattle.cif_line.proofs.Dates.{numbered, number_bound, days_before, leap_before}
 use Rattle.cif_line.proofs.calendar.day_number.Goals as goal
 
--- the number of leap days before the month, which is 1 or 0
+-- the code computes how many leap days the year has before the month, which is 1 or 0
 extra_is : (c : goal.After-result-2-1) → c.from.result ≡ leap_before c.is_leap_year.result c.args.month
 extra_is c = search rules
 

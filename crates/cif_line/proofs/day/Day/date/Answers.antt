@@ -4,7 +4,7 @@ use Rattle.docker_model.specs.records.PrintedTime.{day_text, date_text}
 use Rattle.cif_line.proofs.CivilDays.{IsDayOf, text_is, day_of_date}
 use Rattle.cif_line.proofs.day.Day.date.Goals as goal
 
--- the date that the calendar library computes has the day's number
+-- the date that the calendar library computes from a day number has this day number
 its_day : (c : goal.After-from_days_since_min)
     → IsBetween (pos 1960) (pos 2059) c.from_days_since_min.result.year
     × IsDayOf c.self.inside.number (unsigned_abs c.from_days_since_min.result.year) c.from_days_since_min.result.month c.from_days_since_min.result.day
