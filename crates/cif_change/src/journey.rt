@@ -51,7 +51,7 @@ impl Journey {
         self.progress.take(line)
     }
 
-    /// Whether the lines taken until now are a whole schedule.
+    /// Whether the lines that were taken until now are a whole schedule.
     pub fn complete(&self) -> bool
         ensures { JudgesWhole self.now (IsTrue result) }
     {

@@ -31,7 +31,7 @@ impl Progress {
         }
     }
 
-    /// Whether the lines taken until now are a whole schedule.
+    /// Whether the lines that were taken until now are a whole schedule.
     pub fn complete(self) -> bool
         ensures { JudgesWhole (progress_meant self) (IsTrue result) }
     {
@@ -41,7 +41,8 @@ impl Progress {
         }
     }
 
-    /// Whether the schedule that begins with the lines taken is a deletion.
+    /// Whether the schedule is a deletion, according to its first line. Before the first line the
+    /// result is false.
     pub fn is_deletion(self) -> bool
         ensures { result ≡ (progress_meant self).deletion }
     {

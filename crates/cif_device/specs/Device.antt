@@ -1,14 +1,15 @@
--- How a read changes the bytes left in a source, and how a write changes the bytes that a sink has
--- taken. Bytes are `None` if contracts don't know them.
+-- How a read changes the bytes that are left in a source, and how a write changes the bytes that a
+-- sink has taken. Bytes are `None` if contracts can't refer to them.
 use Rattle.std.specs.Prelude.{◌≡◌, ℕ, ◌+◌, ◌-◌, ◌<◌, ◌↔◌, min, Bool, true, false, List, [], ◌++◌, length, take, replicate, ⊤, Option, None, Some, option_map}
 use Rattle.std.specs.List.{concat}
 
--- a read returned these bytes: the bytes left before the read are these bytes, followed by the
--- bytes left after it. If contracts don't know the bytes of the source, `old` and `new` are `None`
+-- a read returned these bytes: the bytes that were left before the read are these bytes, followed
+-- by the bytes that are left after it. If contracts can't refer to the bytes of the source, `old`
+-- and `new` are `None`
 abbrev pub Reads : Option (List ℕ) → List ℕ → Option (List ℕ) → Type 0
 Reads old bytes new = old ≡ option_map (λ rest. bytes ++ rest) new
 
--- no bytes are left in the source, or contracts don't know its bytes
+-- no bytes are left in the source, or contracts can't refer to its bytes
 abbrev pub IsEnd : Option (List ℕ) → Type 0
 IsEnd None = ⊤
 IsEnd (Some left) = left ≡ []
@@ -66,16 +67,16 @@ pub record Fused (D : Type 0) : Type 0 where
   pub calls : ℕ
   pub failures : ℕ
 
--- a source that never ends: the bytes left of its current text, the text that it then repeats
--- without end, and the greatest number of bytes that one read returns
+-- a source that never ends: the bytes that are left of its current text, the text that it then
+-- repeats without end, and the greatest number of bytes that one read returns
 pub record Round : Type 0 where
   pub left : List ℕ
   pub again : List ℕ
   pub step : ℕ
 
--- an endless source returned these bytes. These bytes, followed by the bytes left now, are the text
--- that was left before, followed by repetitions of the repeated text. For example, if `a` was left
--- and `bc` is repeated, a read of `abcb` leaves `c`
+-- an endless source returned these bytes. If the bytes that are left now are appended to them, the
+-- result is the text that was left before, followed by repetitions of the repeated text. For
+-- example, if `a` was left and `bc` is repeated, a read of `abcb` leaves `c`
 abbrev pub Goes : Round → List ℕ → Round → Type 0
 Goes old bytes new = (new.again ≡ old.again) × (new.step ≡ old.step)
     × (times : ℕ) × (old.left ++ concat (replicate times old.again) ≡ bytes ++ new.left)

@@ -29,8 +29,8 @@ impl<T: Drop> From<AllocFailed<T>> for Memory {
 
 /// A device from which bytes are read.
 pub trait Source {
-    // The bytes that are left; `None` if contracts don't know them. For example, contracts never
-    // know the bytes of a real file.
+    // The bytes that are left; `None` if contracts can't refer to them. For example, contracts
+    // can't refer to the bytes of a real file.
     ghost left: { Self → Option (List ℕ) };
 
     // The number of failures of the device.
@@ -67,8 +67,8 @@ pub trait Source {
 
 /// A device to which bytes are written.
 pub trait Sink {
-    // The bytes that the sink has taken; `None` if contracts don't know them. For example,
-    // contracts never know the bytes of a real file.
+    // The bytes that the sink has taken; `None` if contracts can't refer to them. For example,
+    // contracts can't refer to the bytes of a real file.
     ghost taken: { Self → Option (List ℕ) };
 
     // The number of failures of the device.

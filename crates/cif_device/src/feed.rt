@@ -50,10 +50,10 @@ pub trait Taker {
         → length text < 2 ^ 64 };
 }
 
-/// Feeds a taker all bytes left in a source, in pieces of at most 65,536 bytes, and returns the
-/// number of bytes. Reads nothing more after the source reports its end or the taker refuses a
-/// piece. Terminates for every source: a taker can only take a bounded text, so it refuses a piece
-/// of an endless source.
+/// Feeds a taker all bytes that are left in a source, in pieces of at most 65,536 bytes, and
+/// returns the number of bytes. Reads nothing more after the source reports its end or the taker
+/// refuses a piece. Terminates for every source: a taker can only take a bounded text, so it
+/// refuses a piece of an endless source.
 pub fn feed_all<S: Source, T: Taker>(
     alloc: Global,
     source: &mut S,

@@ -158,7 +158,7 @@ anew_by_unit line begins = by (follows_basic (kind_of line)) refl
     by false h = h
     by true h = let bad : false ≡ true = (λ i. is_some (sym (no_unit_by_kind (kind_of line) line h) i)) ∙ begins in cc
 
--- suppose that all units read are whole. If the next record begins a unit and has good fields, its kind determines the reader's next `Place`
+-- suppose that all units read so far are whole. If the next record begins a unit and has good fields, its kind determines the reader's next `Place`
 pub place_over : {K : Type 0} (keeps : Keeps K) (front : Front K) (records : Lines) (line : List ℕ) (next : Place) → (over : IsOver keeps front records)
     → IsRecord line → HasGoodFields line
     → unit_by_kind (kind_of line) line ≡ Some next
@@ -170,7 +170,7 @@ place_over keeps front records line next over is fields begins =
 
 -- ---- taking a record that begins a unit
 
--- after whole units, the reader can take a trailer
+-- if all units read so far are whole, the reader can take a trailer
 pub trailer_added : {K : Type 0} (keeps : Keeps K) (old new : Front K) (records : Lines) (line : List ℕ) → IsOver keeps old records → IsRecord line
     → HasKind trailer line → HasGoodFields line
     → new.header ≡ old.header → new.stage ≡ AfterEnd → new.keeper ≡ old.keeper → HasRecords keeps new (records ++ line ∷ [])
@@ -187,7 +187,7 @@ trailer_added keeps old new records line over is kind fields same_header place m
   );
 }
 
--- after whole units, the reader can take a record that is a unit by itself, and makes the record's changes
+-- if all units read so far are whole, the reader can take a record that is a unit by itself. It then makes the record's changes
 pub single_added : {K : Type 0} (keeps : Keeps K) (old new : Front K) (records : Lines) (line : List ℕ) (number : ℕ) → IsOver keeps old records
     → IsRecord line → HasGoodFields line
     → unit_by_kind (kind_of line) line ≡ Some between_units
@@ -205,7 +205,8 @@ single_added keeps old new records line number over is fields begins counted sam
   );
 }
 
--- after whole units, the reader can take a basic schedule, and is then in this schedule
+-- if all units read so far are whole, the reader can take a basic schedule. It is then inside this
+-- schedule
 pub basic_added : {K : Type 0} (keeps : Keeps K) (old new : Front K) (opened : Opened) (records : Lines) (line : List ℕ) → IsOver keeps old records
     → IsRecord line → HasKind basic_schedule line
     → HasGoodFields line
@@ -428,7 +429,7 @@ next_of_unit line begins = by (unit_by_kind (kind_of line) line) refl
     by None h = absurd (let bad : false ≡ true = (λ i. is_some (sym h i)) ∙ begins in cc)
     by (Some next) h = (next, h)
 
--- after whole units, a record with good fields that begins a unit may come next
+-- if all units read so far are whole, a record with good fields that begins a unit may come next
 pub unit_goes_on : {K : Type 0} (keeps : Keeps K) (front : Front K) (records : Lines) (line : List ℕ) → HasRecords keeps front records
     → front.stage ≡ BetweenUnits → IsRecord line
     → HasGoodFields line

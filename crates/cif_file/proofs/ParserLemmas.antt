@@ -600,7 +600,7 @@ later_long keeps wants reading fault told = λ limit text is.
 later_front : (text more : List ℕ) (fault : FileFault) → sure_lines (text ++ more) < fault.number → sure_lines text < fault.number
 later_front text more fault later = let grown = sure_lines_grow text more in omega arith
 
--- if a fault comes after all complete lines read up to the end of a piece, it also comes after all complete lines read before this piece
+-- if a fault comes after all complete lines that were read up to the end of a piece, it also comes after all complete lines that were read before this piece
 pub later_piece : {K : Type 0} (keeps : Keeps K) (wants : Type 0) (old new : FileReading K) (front : List ℕ) (fault : FileFault)
     → GoesOn (IsReading keeps old) front (IsReading keeps new) → IsLater keeps wants new fault
     → IsLater keeps wants old fault

@@ -43,7 +43,7 @@ takes_more keeps before after piece (Ok done) read = λ limit text has.
     record { read = more; few = has.few; sound = reading_tells_none keeps after limit (text ++ piece) more }
 takes_more keeps before after piece (Err fault) read = tt
 
--- the fault that the parser returns for a piece is a fault of the text taken before, followed by the piece
+-- the fault that the parser returns for a piece is a fault of the text that was taken before, followed by the piece
 pub refuses_more : {K : Type 0} (keeps : Keeps K) (wants : Type 0) (before : FileReading K) (piece : List ℕ) {A : Type 0} (result : Result A FileFault)
     → IfErr result (TellsFault (IsReading keeps before) piece) → IfErr result (IsLater keeps wants before)
     → IfErr result (λ fault. AfterEach (TakesFile keeps) before (λ limit text. RefusesPiece wants limit text piece fault))

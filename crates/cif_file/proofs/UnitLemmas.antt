@@ -18,7 +18,8 @@ single_leads line (TiplocAmend view) kind = ap (λ k. unit_by_kind k line) kind
 single_leads line (TiplocDelete view) kind = ap (λ k. unit_by_kind k line) kind
 single_leads line (Association view) kind = ap (λ k. unit_by_kind k line) kind
 
--- after whole units, a file may continue with a record that begins a unit, or with the trailer
+-- if a record is read as the beginning of a unit or as the trailer, a record of its kind is allowed
+-- after a whole unit
 pub unit_begins : (line : List ℕ) (it : Unit) → IsUnitOf line it → is_some (unit_by_kind (kind_of line) line) ≡ true
 unit_begins line (unit.Single single) is = ap (λ place. is_some place) (single_leads line single is.by_kind.1)
 unit_begins line (unit.Schedule view) is = ap (λ k. is_some (unit_by_kind k line)) is.by_kind.1

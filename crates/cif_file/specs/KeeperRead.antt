@@ -14,8 +14,8 @@ use Rattle.cif_change.specs.Meaning.{key_meant}
 abbrev Lines : Type 0
 Lines = List (List ℕ)
 
--- a relation between a keeper, the lines of the schedule that is being read, and the changes
--- received. It says which of these lines and changes the keeper holds.
+-- a relation between a keeper, the lines of the schedule that is being read, and the changes that
+-- the keeper has received. The relation says which of these lines and changes the keeper holds.
 abbrev pub Keeps : Type 0 → Type 1
 Keeps K = K → Lines → List Change → Type 0
 

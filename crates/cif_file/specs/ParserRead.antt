@@ -92,11 +92,11 @@ CountsNext keeps old line new = (limit : ℕ) (records : Lines) → HasCounted k
 abbrev pub FaultsNext : {K : Type 0} → Keeps K → Type 0 → Records K → List ℕ → FileFault → Type 0
 FaultsNext keeps wants state line fault = (limit : ℕ) (records : Lines) → HasCounted keeps state limit records → IsFaultNext wants limit records line fault
 
--- Says that the records taken by the reader are a file, and that the result is this file.
+-- Says that the records that the reader has taken are a file, and that the result is this file.
 abbrev pub EndsCounted : {K : Type 0} → Keeps K → Records K → Ended K → Type 0
 EndsCounted keeps state ended = (limit : ℕ) (records : Lines) → HasCounted keeps state limit records → IsFile records × IsEnded keeps records ended
 
--- Says that the records taken by the reader aren't a file, and that the fault is their missing trailer.
+-- Says that the records that the reader has taken aren't a file, and that the fault is their missing trailer.
 abbrev pub EndsUnended : {K : Type 0} → Keeps K → Records K → FileFault → Type 0
 EndsUnended keeps state fault = (limit : ℕ) (records : Lines) → HasCounted keeps state limit records → IsNoEndOf records fault
 

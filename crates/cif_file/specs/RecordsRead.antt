@@ -56,8 +56,8 @@ pub record HasRecords {K : Type 0} (keeps : Keeps K) (front : Front K) (records 
   pub header_is : front.header ≡ header_of records
   pub kept_are : IsKept keeps front.stage front.keeper place records
 
--- Says that all units among the records are whole and their changes made, so that another unit may
--- follow.
+-- Says that all units among the records are whole, and that their changes were made. So another
+-- unit may follow.
 pub record IsOver {K : Type 0} (keeps : Keeps K) (front : Front K) (records : Lines) : Type 0 where
   pub place : law.Place
   pub at : IsPlaceOf records place

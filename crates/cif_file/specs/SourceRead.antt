@@ -14,8 +14,8 @@ use Rattle.cif_file.specs.KeeperRead.{Keeps}
 use Rattle.cif_file.specs.ThinRead.{ThinRead}
 use Rattle.cif_file.specs.ParserRead.{IsOfFileText, IsCountOfFileText, IsEndedText, WantsMemoryAt}
 
--- Says that a source held this text. If contracts don't know the bytes of the source, for example
--- because it is endless, the source may have held any text.
+-- Says that a source held this text. If contracts can't refer to the bytes of the source, for
+-- example because it is endless, the source may have held any text.
 abbrev pub Held : Option (List ℕ) → List ℕ → Type 0
 Held None text = ⊤
 Held (Some left) text = left ≡ text

@@ -8,7 +8,8 @@ use Rattle.cif_file.specs.declared.parts.FileParts.{FileParts}
 use Rattle.cif_file.specs.FileRead.{FileRead, IsRead}
 use Rattle.cif_file.specs.MadeChanges.{AreNotesOf}
 
--- a file that was read, the place and the day of the docker, and the changes kept for it
+-- a file that was read, the place and the day of a docker, and the changes that were kept for this
+-- docker
 pub record ThinRead : Type 0 where
   pub place : List ℕ
   pub day : ℕ

@@ -1,5 +1,6 @@
-//! All changes that the records read until now have made, whether they are kept or dropped. These
-//! values exist only for proofs: they take no memory, and their methods do nothing at run time.
+//! All changes of the records that were read until now, whether the changes are kept or dropped.
+//! These values exist only for proofs: they take no memory, and their methods do nothing at run
+//! time.
 ghost use Rattle.std.specs.Prelude.{◌≡◌, List};
 ghost use Rattle.std.specs.Borrow.{ftrue};
 ghost use Rattle.docker_model.specs.file.Change as model;
@@ -10,7 +11,7 @@ use cif_line::Line;
 use std::fmt;
 use std::marker::Model;
 
-/// All changes that the records read until now have made.
+/// All changes of the records that were read until now.
 #[derive(Drop)]
 pub(crate) struct ChangesSoFar {
     pub ghost changes: { List model.Change },

@@ -114,7 +114,8 @@ impl<K: Keeper> Front<K> {
         }
     }
 
-    /// The whole file, if the trailer was read. `count` must be the number of records taken.
+    /// The whole file, if the trailer was read. `count` must be the number of records that were
+    /// taken.
     pub(crate) fn into_ended(self, count: u32) -> Option<Ended<K>>
         ensures { (records : List (List ℕ)) → HasRecords K.keeps self records →
             count ≡ length records → MatchOption result (¬ IsFile records)

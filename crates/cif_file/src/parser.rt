@@ -143,7 +143,7 @@ impl<K: Keeper> FileReading<K> {
 }
 
 /// A parser of one file, which arrives in pieces of any length. It keeps the changes of the records
-/// read until now, and the bytes of a line that hasn't ended yet.
+/// that were read until now, and the bytes of a line that hasn't ended yet.
 #[derive(Debug, Drop)]
 pub struct FileParser {
     reading: FileReading<FileSoFar>,

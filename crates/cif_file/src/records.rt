@@ -12,7 +12,8 @@ use cif_line::Line;
 /// The greatest number of records that a file may have. A caller's limit can't be higher.
 pub const MOST_RECORDS: u32 = 4_294_967_294;
 
-/// The records read until now, with the number of the next record and the limit on records.
+/// The records that were read until now, with the number of the next record and the limit on
+/// records.
 #[derive(Debug, Drop)]
 pub(crate) struct Records<K> {
     limit: u32,

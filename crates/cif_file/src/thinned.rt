@@ -16,7 +16,7 @@ use cif_line::{Day, Line, Tiploc};
 use std::alloc::{AllocError, Global};
 use std::collections::BTreeSet;
 
-/// The changes kept for the docker of one place on one day, and the set of their keys.
+/// The changes that are kept for the docker of one place on one day, and the set of their keys.
 #[derive(Debug, Drop)]
 pub(crate) struct Thinned {
     alloc: Global,

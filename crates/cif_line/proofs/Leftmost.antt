@@ -74,8 +74,8 @@ basic_bad_end line is transaction day kept bad = of_basic line false is kept
     ∙ behind_good line (checked 3 3 is_transaction ∷ checked 10 15 is_date ∷ []) (checked 16 21 is_end_date)
     (checked 22 28 is_days ∷ checked 80 80 is_stp_indicator ∷ []) (transaction, (day, tt)) bad
 
--- suppose that a basic schedule isn't a deletion. If its field of days run is bad, and the fields
--- to the left are good, the leftmost bad field is at column 22
+-- suppose that a basic schedule isn't a deletion. If its days-run field is bad, and the fields to
+-- the left are good, the leftmost bad field is at column 22
 pub basic_bad_days : (line : List ℕ) → HasKind basic_schedule line → is_transaction (columns 3 3 line) ≡ true → is_date (columns 10 15 line) ≡ true
     → is_deletion line ≡ false → is_end_date (columns 16 21 line) ≡ true → is_days (columns 22 28 line) ≡ false → leftmost_bad_field line ≡ Some 22
 unfolding basic_checked
@@ -126,8 +126,8 @@ assoc_bad_end line is transaction day kept bad = of_assoc line false is kept
     ∙ behind_good line (checked 3 3 is_transaction ∷ checked 16 21 is_date ∷ []) (checked 22 27 is_end_date)
     (checked 28 34 is_days ∷ checked 38 44 is_tiploc ∷ checked 80 80 is_stp_indicator ∷ []) (transaction, (day, tt)) bad
 
--- suppose that an association isn't a deletion. If its field of days run is bad, and the fields to
--- the left are good, the leftmost bad field is at column 28
+-- suppose that an association isn't a deletion. If its days-run field is bad, and the fields to the
+-- left are good, the leftmost bad field is at column 28
 pub assoc_bad_days : (line : List ℕ) → HasKind association line → is_transaction (columns 3 3 line) ≡ true → is_date (columns 16 21 line) ≡ true
     → is_deletion line ≡ false → is_end_date (columns 22 27 line) ≡ true → is_days (columns 28 34 line) ≡ false → leftmost_bad_field line ≡ Some 28
 unfolding assoc_checked

@@ -16,7 +16,7 @@ use crate::until::Until;
 use std::marker::Model;
 
 /// A view of an association (AA) whose checked fields are good. In a deletion neither the end date
-/// nor the field of days run is checked.
+/// nor the days-run field is checked.
 #[derive(Debug, Drop)]
 pub struct Assoc<'a> {
     line: &'a Line,

@@ -15,7 +15,7 @@ use crate::until::Until;
 use std::marker::Model;
 
 /// A view of a basic schedule (BS) whose checked fields are good. In a deletion neither the runs-to
-/// date nor the field of days run is checked.
+/// date nor the days-run field is checked.
 #[derive(Debug, Drop)]
 pub struct Basic<'a> {
     line: &'a Line,

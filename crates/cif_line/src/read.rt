@@ -99,7 +99,7 @@ pub fn assoc(line: &Line) -> Result<Assoc<'_>, FieldFault>
 }
 
 /// The first column of the leftmost bad field in an association. Returns `None` if all are good. In
-/// a deletion neither the end date nor the field of days run is checked.
+/// a deletion neither the end date nor the days-run field is checked.
 fn assoc_fault(line: &Line) -> Option<u8>
     requires kind { HasKind association line.now }
     ensures { result ≡ leftmost_bad_field line.now }
@@ -141,7 +141,7 @@ pub fn basic(line: &Line) -> Result<Basic<'_>, FieldFault>
 }
 
 /// The first column of the leftmost bad field in a basic schedule. Returns `None` if all are good.
-/// In a deletion neither the runs-to date nor the field of days run is checked.
+/// In a deletion neither the runs-to date nor the days-run field is checked.
 fn basic_fault(line: &Line) -> Option<u8>
     requires kind { HasKind basic_schedule line.now }
     ensures { result ≡ leftmost_bad_field line.now }

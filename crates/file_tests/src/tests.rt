@@ -473,8 +473,9 @@ fn file_at_end(
 }
 
 /// Feeds a parser these records one by one, with line feeds between them. Returns the file, or
-/// `None` if memory runs out. Asserts that the parser reports this at the line feed of the record
-/// that needed the memory, or at the end for the last record. Each later call must report it again.
+/// `None` if memory runs out. Asserts that the fault is returned at the line feed of the record
+/// that needed the memory, or at the end if the last record needed it. Each later call must return
+/// the same fault.
 fn file_or_out_of_memory(
     rt: &impl Abort,
     alloc: Global,

@@ -40,7 +40,7 @@ pub const LO_1000_PLAIN: &[u8] =
 pub const LO_1100: &[u8] =
     b"LOASHFELD 1100 11001  SL                                                        ";
 
-/// An origin: Ashfeld, 12:00, with no further field.
+/// An origin: Ashfeld, 12:00. All other fields are blank.
 pub const LO_1200: &[u8] =
     b"LOASHFELD 1200                                                                  ";
 
@@ -104,7 +104,7 @@ pub const LT: &[u8] =
 pub const LT_0935: &[u8] =
     b"LTBRAYTON 0935 09372  FL                                                        ";
 
-/// A terminus: Brayton, 00:06, with no further field.
+/// A terminus: Brayton, 00:06. All other fields are blank.
 pub const LT_0006_PLAIN: &[u8] =
     b"LTBRAYTON 0006                                                                  ";
 
@@ -124,7 +124,7 @@ pub const LT_1100_PLAIN: &[u8] =
 pub const LT_1130: &[u8] =
     b"LTBRAYTON 1130 11322  FL                                                        ";
 
-/// A terminus: Brayton, 12:30, with no further field.
+/// A terminus: Brayton, 12:30. All other fields are blank.
 pub const LT_1230: &[u8] =
     b"LTBRAYTON 1230                                                                  ";
 

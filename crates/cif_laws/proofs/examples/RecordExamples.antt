@@ -56,7 +56,7 @@ bad_departure = refl
 bad_runs_from : leftmost_bad_field (bs (codes "N") (codes "C10001") (codes "230229") (codes "240614") (codes "1111100") (codes "1A10") (codes "P")) ≡ Some 10
 bad_runs_from = refl
 
--- in a deletion the end date and the field of days run may be blank, since neither is checked
+-- in a deletion the end date and the days-run field may be blank, since neither is checked
 good_deletion : leftmost_bad_field (bs (codes "D") (codes "C10001") (codes "240610") no_text no_text no_text (codes "P")) ≡ None
 good_deletion = refl
 

@@ -1,5 +1,6 @@
--- The `Place` of a reader in a file determines which records may follow, and whether the records
--- read are a file. Each record leads the reader from one `Place` to the next.
+-- The `Place` of a reader in a file determines which records may follow. It also determines whether
+-- the records up to the `Place` are a file. Each record leads the reader from one `Place` to the
+-- next.
 use Rattle.std.proofs.Common.{◌≡◌, ℕ, List, ◌∷◌, ◌++◌, [], true, Some, refl, Bool, false, cond, None, ◌∙◌, ap, sym}
 use Rattle.std.proofs.Common.{append-nil, inl, inr, subst, append_assoc, ◌<◌, length, arith, length-append, ◌⊎◌}
 use Rattle.std.specs.Prelude.{◌&&◌, Option, is_some, option_and_then, ◌↔◌, ⊤}

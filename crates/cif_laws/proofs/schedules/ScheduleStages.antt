@@ -1,5 +1,5 @@
--- The stage of a reader in a schedule determines which records may follow, and whether the records
--- read are a schedule.
+-- The stage of a reader in a schedule determines which records may follow. It also determines
+-- whether the records up to the stage are a schedule.
 use Rattle.std.proofs.Common.{◌≡◌, ℕ, List, ◌∷◌, [], ◌⊎◌, true, ◌+◌, ◌++◌, inl, refl, Some, ap, inr, arith, ◌∙◌, ◌≤◌}
 use Rattle.std.proofs.Common.{Bool, false, subst, append_assoc, cond, None, sym, eqb-true, append-nil, All, ◌<◌}
 use Rattle.std.specs.Prelude.{Option, ◌&&◌, ◌↔◌, nat_le, ◌||◌, ◌==◌, codes, option_and_then, is_none}

@@ -11,7 +11,7 @@ use Rattle.docker_model.specs.state.Order.{IsAtMost}
 use Rattle.docker_model.specs.state.Table.{Table}
 
 -- whether the day is from the first date to the last date, both included, and its weekday is among
--- the days run. Each date is a field of six bytes, and the field of days run has seven bytes
+-- the days run. Each date is a field of six bytes, and the days-run field has seven bytes
 abbrev pub runs_within : List ℕ → List ℕ → List ℕ → ℕ → Bool
 runs_within first last days day =
     nat_le (date_number first) day && nat_le day (end_number last) && runs_on_weekday days (weekday_of day)

@@ -63,7 +63,7 @@ abbrev pub as_new : List ℕ → List ℕ
 as_new line = slice_set line 2 78
 
 -- the fields that are checked in a record of this kind. In a deletion neither the end date nor the
--- field of days run is checked
+-- days-run field is checked
 abbrev pub checked_fields : Kind → List ℕ → List CheckedField
 checked_fields header line =
     checked 23 28 is_date_day_first ∷ checked 29 32 is_clock ∷ checked 47 47 is_update_indicator ∷ []

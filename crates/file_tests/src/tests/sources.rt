@@ -9,8 +9,8 @@ use std::alloc::Global;
 use std::process::Abort;
 use test_records::{HD, TI, text};
 
-/// A source that fails at the end of its bytes and at every later read. Contracts don't know its
-/// bytes.
+/// A source that fails at the end of its bytes and at every later read. Contracts can't refer to
+/// its bytes.
 #[derive(Drop)]
 struct Broken<'a> {
     bytes: &'a [u8],

@@ -1,4 +1,4 @@
--- A line that is taken is appended to the lines taken before.
+-- A line that is taken is appended to the lines that were taken before.
 use Rattle.std.proofs.Common.{subst, sym}
 use Rattle.cif_change.specs.JourneyRead.{HasLines}
 use Rattle.cif_change.proofs.JourneyLemmas.{of_ok}

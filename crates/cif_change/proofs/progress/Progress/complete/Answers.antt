@@ -1,4 +1,5 @@
--- The lines taken are a whole schedule if and only if a schedule may end at the stage after them.
+-- The lines that were taken are a whole schedule if and only if a schedule may end at the stage
+-- after them.
 use Rattle.std.proofs.Common.{ap, sym, ◌∙◌}
 use Rattle.std.specs.Prelude.{option_map}
 use Rattle.cif_change.specs.JourneyRead.{stage_meant, may_end_by, progress_meant}

@@ -1,4 +1,4 @@
--- A read never fails, and contracts don't know the bytes left in the source.
+-- A read never fails, and contracts can't refer to the bytes that are left in the source.
 use Rattle.std.proofs.Common.{refl}
 use Rattle.cif_device.proofs.endless.EndlessSource.TheImpl.Goals as goal
 

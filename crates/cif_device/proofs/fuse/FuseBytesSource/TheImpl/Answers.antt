@@ -1,4 +1,4 @@
--- The bytes left in a source that fails at one call are the bytes left in its inner device.
+-- A source that fails at one call has the same bytes left as its inner device.
 use Rattle.std.proofs.Common.{Some, ap}
 use Rattle.std.proofs.lemmas.Result.{IfOk-weaker, on_err_weaker}
 use Rattle.cif_device.proofs.fuse.FuseBytesSource.TheImpl.Goals as goal
