@@ -40,7 +40,7 @@ pushed_at {A} xs x ys pushed = ap (λ (zs : List A). slice_get zs (length xs)) p
     there [] = refl
     there (y ∷ ys) = there ys
 
--- a list that keeps the elements of another list is at least as long
+-- a list that keeps the elements of another list is at least as long as that list
 pub keeps_len : {A : Type 0} (xs ys : List A) → Keeps xs ys → length xs ≤ length ys
 keeps_len [] ys keeps = omega arith
 keeps_len (x ∷ xs) [] keeps = absurd (none_some x (keeps 0 x refl))

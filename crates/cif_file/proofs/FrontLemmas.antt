@@ -253,7 +253,7 @@ over_of_between keeps front records has place =
       anew = λ line _. ap (λ p. next_place p line) told.0;
     }
 
--- at the stage `InSchedule`, the reader is in the schedule of this stage, and the keeper has the schedule's lines
+-- at the stage `InSchedule`, the reader is inside the schedule that the stage holds, and the keeper has the schedule's lines
 pub opened_of : {K : Type 0} (keeps : Keeps K) (front : Front K) (opened : Opened) (records : Lines) (has : HasRecords keeps front records)
     → front.stage ≡ InSchedule opened
     → IsOpen keeps opened front.keeper has.place records
@@ -502,13 +502,13 @@ pub tells_ended : {K : Type 0} (keeps : Keeps K) (front : Front K) (records : Li
 tells_ended keeps front records place at told =
     ap is_after_end (subst (λ p. IsKept keeps p front.keeper place records) at told).0
 
--- ---- why a record may not come next
+-- ---- why a record can't come next
 
 none_of : (b : Bool) (o : Option Place) → o ≡ None → cond b o None ≡ None
 none_of true o h = h
 none_of false o h = refl
 
--- unless the trailer was read, the cause for a record within the limit is the result of `kind_cause`
+-- if a record is within the limit and isn't after the trailer, its cause is the result of `kind_cause`
 told_cause : (records : Lines) (line : List ℕ) (place : Place) (cause : fault.FileCause) → IsRecord line → is_after_end place ≡ false
     → kind_cause place line ≡ cause
     → (limit : ℕ) → length records < limit → cause_of limit (length records) place line ≡ cause
@@ -522,7 +522,7 @@ no_place (in_schedule stage lines) line =
     ∙ none_of (may_end stage lines) None refl
 no_place after_end line = refl
 
--- a line that doesn't begin with the identity of a kind of record may not come next
+-- a line that doesn't begin with the identity of a kind of record can't come next
 pub no_kind : {K : Type 0} (keeps : Keeps K) (front : Front K) (records : Lines) (line : List ℕ) → HasRecords keeps front records → ¬ IsFile records
     → IsRecord line → kind_of line ≡ None
     → IsNoNext records line bad_kind
@@ -539,7 +539,7 @@ no_kind keeps front records line has unended is none = record {
     by false h = h
     by true h = absurd (unended ((file_iff_place records).1 (has.at ∙ ap Some (end_by_test has.place h))))
 
--- before the header, a record that isn't a header may not come next
+-- before the header, a record that isn't a header can't come next
 pub no_header : {K : Type 0} (keeps : Keeps K) (front : Front K) (records : Lines) (line : List ℕ) (kind : Kind) → HasRecords keeps front records
     → front.stage ≡ BeforeHeader → IsRecord line
     → HasKind kind line → is_header_kind (Some kind) ≡ false
@@ -564,7 +564,7 @@ both_false : (b c : Bool) → c ≡ false → (b && c) ≡ false
 both_false true c h = h
 both_false false c h = refl
 
--- before the header, a header with a bad field may not come next
+-- before the header, a header with a bad field can't come next
 pub bad_header : {K : Type 0} (keeps : Keeps K) (front : Front K) (records : Lines) (line : List ℕ) (column : ℕ) → HasRecords keeps front records
     → front.stage ≡ BeforeHeader → IsRecord line
     → HasKind header line → leftmost_bad_field line ≡ Some column
@@ -622,7 +622,7 @@ no_unit line bad = by (next_place between_units line) refl
 cause_between : (line : List ℕ) (kind : Kind) → HasKind kind line → kind_cause between_units line ≡ place_cause between_units line
 cause_between line kind known = λ i. cond (is_none (known i)) bad_kind (place_cause between_units line)
 
--- between units, a record that begins no unit or has a bad field may not come next
+-- between units, a record that begins no unit or has a bad field can't come next
 pub bad_between : {K : Type 0} (keeps : Keeps K) (front : Front K) (records : Lines) (line : List ℕ) (kind : Kind) → HasRecords keeps front records
     → front.stage ≡ BetweenUnits → IsRecord line
     → HasKind kind line
@@ -636,7 +636,7 @@ bad_between keeps front records line kind has at is known bad =
       is = told_cause records line between_units (place_cause between_units line) is refl (cause_between line kind known);
     }
 
--- after a complete schedule, a record that begins no unit or has a bad field may not come next
+-- after a complete schedule, a record that begins no unit or has a bad field can't come next
 pub bad_behind : {K : Type 0} (keeps : Keeps K) (front : Front K) (opened : Opened) (records : Lines) (line : List ℕ) (kind : Kind)
     → HasRecords keeps front records
     → front.stage ≡ InSchedule opened → IsWholeBy opened → IsRecord line → HasKind kind line
@@ -661,7 +661,7 @@ not_may stage lines bad = by (may_end stage lines) refl
     by false h = h
     by true h = absurd (bad h)
 
--- after lines that aren't a whole schedule, a record that begins a unit may not come next
+-- after lines that aren't a whole schedule, a record that begins a unit can't come next
 pub not_whole : {K : Type 0} (keeps : Keeps K) (front : Front K) (opened : Opened) (records : Lines) (line : List ℕ) (kind : Kind)
     → HasRecords keeps front records → front.stage ≡ InSchedule opened
     → ((lines : Lines) → HasLines (progress_meant opened.progress) lines → ¬ IsSchedule lines) → IsRecord line → HasKind kind line
@@ -686,7 +686,7 @@ not_whole keeps front opened records line kind has at open_end is known stops =
     none_stage true o h = h
     none_stage false o h = refl
 
--- a record of a kind that comes within a schedule may not come next if the schedule that is being read can't continue with it
+-- if a record is of a kind that comes within a schedule, and the schedule that is being read can't continue with it, the record can't come next
 pub bad_line : {K : Type 0} (keeps : Keeps K) (wants : Type 0) (front : Front K) (opened : Opened) (records : Lines) (line : List ℕ)
     (cause : Option fault.FileCause) → HasRecords keeps front records
     → front.stage ≡ InSchedule opened → IsRecord line

@@ -140,7 +140,7 @@ refused_long limit records fault next = record {
   cause = next.is ∙ some_cause (nat_le limit (length records)) (is_after_end next.place) too_many after_trailer bad_length;
 }
 
--- if a record within the limit may not come next, the cause for which it may not come next is a correct cause for refusing its line
+-- if a record within the limit can't come next, the reason why it can't is a correct cause for refusing its line
 pub front_cause : (wants : Type 0) (limit : ℕ) (records : Lines) (line : List ℕ) (cause : FileCause) → length records < limit
     → IsNoNextCause wants records line (cause_meant cause)
     → IsCauseAfter wants limit records line (cause_meant cause)
@@ -461,7 +461,7 @@ cut_more piece rest front behind whole cut =
     let same : before_rest piece behind ≡ done = (λ i. take (count i) (sym all i)) ∙ take-append_seam done behind in
     (same, ap (λ l. l ++ behind) same ∙ all)
 
--- before any byte of a piece is taken, the list of bytes taken is empty, and the rest is the whole piece
+-- before any byte of a piece is taken, the list of bytes that were taken is empty, and the rest is the whole piece
 cut_first : (piece : List ℕ) → (before_rest piece piece ≡ []) × (before_rest piece piece ++ piece ≡ piece)
 cut_first piece =
     let none : length piece - length piece ≡ 0 = omega arith in
@@ -490,7 +490,7 @@ takes_none before text =
       read = λ limit told is. subst (λ l. before limit (told ++ l)) (sym first.0) (subst (before limit) (sym (append-nil told)) is);
     }
 
--- taking the first part of the rest leaves the second part to be taken
+-- if the first bytes of the rest are taken, only the other bytes of the rest are still to be taken
 pub takes_further : (before middle after : Told) (text rest front behind : List ℕ) → TakesUpTo before text rest middle → rest ≡ front ++ behind
     → GoesOn middle front after → TakesUpTo before text behind after
 takes_further before middle after text rest front behind up_to cut on =
@@ -502,13 +502,13 @@ takes_further before middle after text rest front behind up_to cut on =
           (on limit (told ++ before_rest text rest) (up_to.read limit told is));
     }
 
--- taking the first line of the rest leaves the bytes after it to be taken
+-- if the first line of the rest is taken, only the bytes after this line are still to be taken
 pub takes_line : (before middle next : Told) (text rest front behind : List ℕ) → TakesUpTo before text rest middle → IsCut rest front behind
     → GoesOn middle (front ++ 10 ∷ []) next → TakesUpTo before text behind next
 takes_line before middle next text rest front behind up_to cut on =
     takes_further before middle next text rest (front ++ 10 ∷ []) behind up_to (cut_whole rest front behind cut) on
 
--- if the rest is taken in two steps, the bytes left after both steps are still to be taken
+-- if the rest is taken in two steps, the bytes that are left after both steps are still to be taken
 pub takes_more : (before middle after : Told) (text rest left : List ℕ) → TakesUpTo before text rest middle → TakesUpTo middle rest left after
     → TakesUpTo before text left after
 takes_more before middle after text rest left up_to more =
@@ -527,7 +527,7 @@ fault_of_rest before middle text rest fault up_to tells = λ limit told is.
     subst (λ t. IsFaultReported limit t fault) (append_assoc told (before_rest text rest) rest ∙ ap (λ l. told ++ l) up_to.whole)
     (tells limit (told ++ before_rest text rest) (up_to.read limit told is))
 
--- a fault of the first part of a text is a fault of the text
+-- a fault of a prefix of a text is a fault of the text
 pub fault_of_front : (before : Told) (text front behind : List ℕ) (fault : FileFault) → text ≡ front ++ behind → TellsFault before front fault
     → TellsFault before text fault
 fault_of_front before text front behind fault cut tells = λ limit told is.

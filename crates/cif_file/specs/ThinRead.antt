@@ -21,7 +21,7 @@ pub record IsThinRead (thin : ThinRead) : Type 0 where
   pub read : IsRead thin.file
   pub thinning : IsThinning thin.place thin.day thin.file.changes_made thin.kept
 
--- converts the parts of a thin file to the thin file. `all` are all changes of the file, kept or
+-- converts the parts of a thin file to the thin file. `all` has all changes of the file, kept or
 -- not
 abbrev pub thin_of_parts : List ℕ → ℕ → List Change → FileParts → ThinRead
 thin_of_parts place day all parts = record {

@@ -62,8 +62,8 @@ impl Thinned {
         }
     }
 
-    /// Keeps a TIPLOC's or an association's change, without altering it, if its key may matter at
-    /// the place. Drops the change otherwise.
+    /// Keeps the change of a TIPLOC or an association, without altering it, if its key may matter
+    /// at the place. Drops the change otherwise.
     fn add(&mut self, change: Change) -> Result<(), AllocError>
         ensures { OnOk result (IsNeverThin (change_meant change)
             → (place : List ℕ) (day : ℕ) → Thins place day self.old (change_meant change) self.new) }

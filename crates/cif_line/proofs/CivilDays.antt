@@ -21,7 +21,8 @@ pub record IsDayOf (number year month day : ℕ) : Type 0 where
   pub is_civil : IsCivilDate (pos year) month day
   pub count : day_count (pos year) month day ≡ number + 4_368_300
 
--- the calendar's day counts of 1 January 1960 and 31 December 2059
+-- in the calendar, 1 January 1960 has the day count 4,368,300, and 31 December 2059 has the day
+-- count 4,404,824
 start_of_1960 : day_count (pos 1960) 1 1 ≡ 4_368_300
 unfolding day_count days_of_years days_of_months
 start_of_1960 = refl

@@ -87,7 +87,7 @@ before_month y (suc (suc (suc (suc (suc (suc (suc (suc (suc (suc zero)))))))))) 
 before_month y (suc (suc (suc (suc (suc (suc (suc (suc (suc (suc (suc zero))))))))))) low = days_of_months_table (pos y) 11 low
 before_month y (suc (suc (suc (suc (suc (suc (suc (suc (suc (suc (suc (suc n)))))))))))) low = absurd (omega arith)
 
--- the calendar library's day count of 1 January 2060
+-- in the calendar library, 1 January 2060 has the day count 4,404,825
 start_of_2060 : day_count (pos 2060) 1 1 ≡ 4_404_825
 unfolding day_count days_of_years days_of_months
 start_of_2060 = refl

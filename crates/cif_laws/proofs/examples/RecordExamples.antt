@@ -125,8 +125,8 @@ changes_of_same_code : changes (f2_header ∷ ta (codes "ASHFELD") (codes "ASHFI
     } ∷ []
 changes_of_same_code = refl
 
--- a TIPLOC amendment, a schedule of three records and another amendment: the changes of each unit
--- have the number of the unit's first record
+-- for a TIPLOC amendment, a schedule of three records and another amendment, the changes of each
+-- unit have the number of the unit's first record
 numbers_of_units : map (λ (change : Change). change.number) (changes_of_units 2 ((rename_amend ∷ []) ∷ f2_schedule ∷ (rename_amend ∷ []) ∷ []))
     ≡ 2 ∷ 2 ∷ 3 ∷ 6 ∷ 6 ∷ []
 numbers_of_units = refl
@@ -139,8 +139,8 @@ change_of_deletion : changes_of_unit 2 (bs (codes "D") (codes "C10001") (codes "
     ≡ record { number = 2; key = schedule_named f2_basic; act = delete } ∷ []
 change_of_deletion = refl
 
--- a journey passes midnight a third time if its last arrival is at 00:01, but not if its last
--- arrival is at 00:06
+-- a schedule with this last arrival. It passes midnight a third time if the last arrival is at
+-- 00:01, but not if the last arrival is at 00:06
 abbrev late_schedule : List ℕ → List (List ℕ)
 late_schedule arrives =
     bs (codes "N") (codes "C20001") (codes "240610") (codes "240610") (codes "1000000") (codes "2B20") (codes "P")

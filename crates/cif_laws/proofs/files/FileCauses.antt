@@ -176,7 +176,7 @@ module _ (limit : ℕ) (earlier : Lines) (place : Place) (line : List ℕ) (foun
   at : IsAt place earlier
   at = at_of_place earlier place found
 
-  -- no cause of a lower rank applies, if the condition of each such cause is false
+  -- if the condition of each cause of a lower rank is false, no cause of a lower rank applies
   none_below : (rank : ℕ) → rank ≤ 7 → (0 < rank → ¬ (limit ≤ length earlier)) → (1 < rank → ¬ Any (HasKind trailer) earlier) → (2 < rank → length line ≡ 80)
       → (3 < rank → leftmost_bad_byte line ≡ None) → (4 < rank → ¬ (kind_of line ≡ None)) → (5 < rank → ¬ IsOutOfPlace earlier line)
       → (6 < rank → leftmost_bad_field line ≡ None)

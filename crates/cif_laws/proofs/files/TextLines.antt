@@ -77,8 +77,8 @@ pieces_text (piece ∷ next ∷ pieces) =
 pub text_of_lines : (text : List ℕ) → IsTextOf (lines_of text) text
 text_of_lines text = subst (IsTextOf (lines_of text)) (join_with_byte-slice_split 10 text) (pieces_text (slice_split (λ b. b == 10) text))
 
--- a plain line isn't empty, has no line feed, and doesn't end with a carriage return, so splitting
--- a text into lines leaves it unchanged
+-- a plain line isn't empty, has no line feed, and doesn't end with a carriage return. So the line
+-- is unchanged when a text is split into lines
 pub record IsPlain (line : List ℕ) : Type 0 where
   pub some : 0 < length line
   pub no_feed : All (λ b. (b == 10) ≡ false) line

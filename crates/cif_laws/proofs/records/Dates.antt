@@ -65,7 +65,7 @@ count_prefix p a (suc n) (suc k) within passes fails =
     one_more : 1 + k ≡ suc k
     one_more = omega arith
 
--- the number of days that `jiff` counts up to 1 January 1960
+-- 1 January 1960 has the day count 4,368,300 in the calendar of `jiff`
 start_of_1960 : day_count (pos 1960) 1 1 ≡ 4_368_300
 unfolding day_count days_of_years days_of_months
 start_of_1960 = refl

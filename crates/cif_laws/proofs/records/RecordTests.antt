@@ -80,14 +80,14 @@ fall_count-append [] later = omega arith
 fall_count-append (time ∷ []) later = omega arith
 fall_count-append (time ∷ next ∷ times) later = let rest = fall_count-append (next ∷ times) later in omega arith
 
--- appending times to a list with at least one time never lowers the number of falls, which are
--- times earlier than the time before them
+-- appending times to a list with at least one time never lowers the number of falls. A fall is a
+-- time that is earlier than the time before it
 pub fall_count_behind : (time : ℕ) (times later : List ℕ) → fall_count (time ∷ times) ≤ fall_count ((time ∷ times) ++ later)
 fall_count_behind time [] later = omega arith
 fall_count_behind time (next ∷ times) later = let rest = fall_count_behind next times later in omega arith
 
--- appending times never lowers the number of falls, which are times earlier than the time before
--- them
+-- appending times never lowers the number of falls. A fall is a time that is earlier than the time
+-- before it
 pub fewer_falls : (times later : List ℕ) → fall_count times ≤ fall_count (times ++ later)
 fewer_falls [] later = omega arith
 fewer_falls (time ∷ times) later = fall_count_behind time times later

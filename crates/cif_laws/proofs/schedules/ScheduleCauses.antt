@@ -53,7 +53,7 @@ one_schedule_cause earlier line first second is_first is_second = by (cases_orde
 
 -- ---- a record that can't be the first record of a schedule has the cause `first_line_cause`
 
--- no cause of a lower rank applies, if the condition of each such cause is false
+-- if the condition of each cause of a lower rank is false, no cause of a lower rank applies
 none_below : (earlier : Lines) (line : List ℕ) (rank : ℕ) → rank ≤ 7 → (4 < rank → ¬ (kind_of line ≡ None)) → (5 < rank → ¬ IsOutOfSchedule earlier line)
     → (6 < rank → leftmost_bad_field line ≡ None)
     → (other : FileCause) → cause_rank other < rank → ¬ HoldsInSchedule earlier line other
@@ -251,7 +251,7 @@ no_unit_by_kind (Some terminating_location) line h = refl
 no_unit_by_kind (Some change_en_route) line h = refl
 no_unit_by_kind _ line h = cc
 
--- at this stage the record can only belong to the schedule: the schedule may not end before the
+-- at this stage the record can only belong to the schedule: the schedule can't end before the
 -- record, or the record begins no unit
 abbrev pub IsOfSchedule : Stage → Lines → List ℕ → Type 0
 IsOfSchedule stage lines line = (may_end stage lines ≡ false) ⊎ (unit_by_kind (kind_of line) line ≡ None)
@@ -291,7 +291,7 @@ next_place_of_stage stage lines line of =
     by None = none (is_record line && has_good_fields line) (is_record line && is_sound_next lines line)
     by (Some next) = tested (is_record line && is_sound_next lines line) next
 
--- for a record within the limit and before the trailer, the cause is `kind_cause`
+-- if a record is within the limit and isn't after the trailer, its cause is `kind_cause`
 pub cause_of_record : (limit count : ℕ) (place : Place) (line : List ℕ) → count < limit → is_after_end place ≡ false → IsRecord line
     → cause_of limit count place line ≡ kind_cause place line
 cause_of_record limit count place line under open_end is =
@@ -313,8 +313,8 @@ cause_in_schedule limit count stage lines line under is of =
     by None = refl
     by (Some next) = refl
 
--- after a schedule that may end, a record that can't follow a basic schedule has the same cause as
--- a record between units
+-- if a schedule may end, a record that can't follow a basic schedule has the same cause after this
+-- schedule as between units
 pub cause_behind_schedule : (limit count : ℕ) (stage : Stage) (lines : Lines) (line : List ℕ) → count < limit → IsRecord line → may_end stage lines ≡ true
     → follows_basic (kind_of line) ≡ false
     → cause_of limit count (in_schedule stage lines) line ≡ cause_of limit count between_units line

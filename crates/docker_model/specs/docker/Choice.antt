@@ -106,8 +106,8 @@ pub record Train : Type 0 where
   pub key : ScheduleKey
   pub lines : List (List ℕ)
 
--- the option is the UID's chosen schedule on the day, or it is `None` and no schedule of the UID
--- runs on the day. The chosen schedule may be a cancellation
+-- if the option is a schedule, it is the UID's chosen schedule on the day, which may be a
+-- cancellation. If the option is `None`, no schedule of the UID runs on the day
 abbrev pub IsChosenOn : Table → List ℕ → ℕ → Option Train → Type 0
 IsChosenOn live uid day None = (key : ScheduleKey) (lines : List (List ℕ)) → ¬ IsRunning live uid day key lines
 IsChosenOn live uid day (Some train) = IsChosen live uid day train.key train.lines

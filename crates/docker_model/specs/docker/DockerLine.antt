@@ -32,28 +32,28 @@ pub record DockerLine : Type 0 where
   pub number : ℕ
   pub detail : Detail
 
--- the platform, from a location record of this kind: columns 34 to 36 of an intermediate location,
--- and 20 to 22 of an origin or a terminus
+-- the platform, taken from a location record of this kind: columns 34 to 36 of an intermediate
+-- location, and 20 to 22 of an origin or a terminus
 abbrev pub platform_by_kind : Option Kind → List ℕ → List ℕ
 platform_by_kind (Some intermediate_location) line = columns 34 36 line
 platform_by_kind _ line = columns 20 22 line
 
--- the railway line on which a train leaves, from a location record of this kind. For a terminus the
--- result is three spaces
+-- the railway line on which a train leaves, taken from a location record of this kind. For a
+-- terminus the result is three spaces
 abbrev pub track_by_kind : Option Kind → List ℕ → List ℕ
 track_by_kind (Some origin_location) line = columns 23 25 line
 track_by_kind (Some intermediate_location) line = columns 37 39 line
 track_by_kind _ line = spaces 3
 
--- the path by which a train arrives, from a location record of this kind. For an origin the result
--- is three spaces
+-- the path by which a train arrives, taken from a location record of this kind. For an origin the
+-- result is three spaces
 abbrev pub path_by_kind : Option Kind → List ℕ → List ℕ
 path_by_kind (Some intermediate_location) line = columns 40 42 line
 path_by_kind (Some terminating_location) line = columns 23 25 line
 path_by_kind _ line = spaces 3
 
--- the public time that is printed for an event, from a location record of this kind. For a pass the
--- result is four spaces
+-- the public time that is printed for an event, taken from a location record of this kind. For a
+-- pass the result is four spaces
 abbrev pub public_by_kind : Option Kind → Occasion → List ℕ → List ℕ
 public_by_kind (Some origin_location) departure line = shown_public (columns 16 19 line)
 public_by_kind (Some intermediate_location) arrival line = shown_public (columns 26 29 line)

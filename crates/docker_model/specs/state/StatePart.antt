@@ -74,8 +74,8 @@ text_before format before = items_before format before ++ parts_before before
 abbrev pub key_width : ℕ → ℕ
 key_width tag = if tag == 1 then 7 else (if tag == 2 then 23 else 9)
 
--- the number of bytes of a body with this key. For a schedule the result is 4, the width of the
--- number of lines
+-- the number of bytes of a body with this key. For a schedule the result is 4, since the number of
+-- its lines has four bytes
 abbrev pub body_width : Key → ℕ
 body_width (tiploc_key code) = 63
 body_width (association_key key) = 80
@@ -145,7 +145,7 @@ IsStampHere state key stamp = IsKeyHere state key × IsStampIn state.ledger stam
 abbrev pub HaveNotToLapse : State → List (List ℕ) → Type 0
 HaveNotToLapse state lines = state.horizon ≤ body_end (schedule_body lines)
 
--- the parts of an entry before its next part are good
+-- the parts of an entry that come before its next part are good
 abbrev pub IsPartHere : State → EntryPart → Type 0
 IsPartHere state before_tag = ⊤
 IsPartHere state (before_key tag) = IsTag tag

@@ -64,13 +64,14 @@ op_bytes (put_with body) = 1 ∷ put_bytes body
 abbrev pub entry_bytes : Key × Entry → List ℕ
 entry_bytes entry = key_tag entry.0 ∷ key_bytes entry.0 ++ stamp_bytes entry.1.stamp ++ op_bytes entry.1.op
 
--- the beginning of a state's text, up to these ledger items: the head, the number `count` of all
--- items, and these items
+-- the beginning of a state's text, up to and including these ledger items: the head, the number
+-- `count` of all items, and these items
 abbrev pub ledger_text : Format → ℕ → ℕ → List LedgerItem → List ℕ
 ledger_text format horizon count ledger = head_text format horizon ++ to_be_bytes w64 count ++ flat_map item_bytes ledger
 
--- the beginning of a state's text, up to the entries of this state. This text has the head, the
--- whole ledger with its number of items, the number `count` of all entries, and these entries
+-- the beginning of a state's text, up to and including the entries of this state. This text has the
+-- head, the whole ledger with its number of items, the number `count` of all entries, and these
+-- entries
 abbrev pub entries_text : Format → ℕ → State → List ℕ
 entries_text format count state =
     ledger_text format state.horizon (length state.ledger) state.ledger ++ to_be_bytes w64 count ++ flat_map entry_bytes state.entries
