@@ -23,7 +23,7 @@ pub struct Notes {
     /// The numbers of all places that the rows name: those that the first row names, then those
     /// that the second row names, and so on.
     pub numbers: Vec<u32>,
-    /// For each row, which of the numbers in `numbers` belong to it.
+    /// Says for each row which of the numbers in `numbers` belong to it.
     pub pieces: Vec<Piece>,
 }
 

@@ -1,9 +1,9 @@
-//! Which of all noted place numbers belong to one row.
+//! The type `Piece`, which says which of all noted place numbers belong to one row.
 ghost use Rattle.std.specs.Prelude.{◌≡◌, false, drop, take};
 ghost use Rattle.cif_change.specs.Noted.{numbers_of};
 
-/// Which of all noted place numbers belong to one row. The number of a place is its index in the
-/// list of places. A schedule's row has the numbers of the places where the schedule calls. An
+/// Says which of all noted place numbers belong to one row. The number of a place is its index in
+/// the list of places. A schedule's row has the numbers of the places where the schedule calls. An
 /// association's row has the number of the one place where the association links two trains.
 #[derive(Clone, Copy, Debug, PartialEq, Eq, PartialOrd, Ord)]
 pub struct Piece {

@@ -194,7 +194,7 @@ module _ (y m d : ℕ) (year : 1960 ≤ y) (last : y ≤ 2059) (civil : IsCivilD
           → day_count (pos y) m 1 + d ≡ day_count (pos y) m d + 1 → day_number y m d + 1 - day_number y m 1 ≡ d
       counted there here step = omega arith
 
-  -- the number of a date is printed as the date
+  -- the day number of a date is printed as this date
   pub day_text-day_number : day_text (day_number y m d) ≡ date_text y m d
   day_text-day_number = λ i. date_text (year_of-day_number i) (month_of-day_number i) (day_of_month-day_number i)
 
