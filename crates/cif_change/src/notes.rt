@@ -64,8 +64,8 @@ impl Notes {
         }
     }
 
-    /// Notes the next row, which puts this body under this key. Returns `Memory` if the allocator
-    /// refuses memory; the row isn't noted then.
+    /// Notes the next row, which puts this body under this key. If the allocator refuses memory,
+    /// returns `Memory`, and the row isn't noted.
     pub fn note_put(&mut self, key: &Key, body: &Body) -> Result<(), Memory>
         ensures ok { IsOk result → (items : List Item) → HasNoted items self.old
             → HasNoted (items ++ (key_meant key.now, put_with (body_meant body.now)) ∷ [])
@@ -79,8 +79,8 @@ impl Notes {
         Ok(())
     }
 
-    /// Notes the next row, which names no place because its key is deleted or lapsed. Returns
-    /// `Memory` if the allocator refuses memory; the row isn't noted then.
+    /// Notes the next row, which names no place because its key is deleted or lapsed. If the
+    /// allocator refuses memory, returns `Memory`, and the row isn't noted.
     pub fn note_none(&mut self) -> Result<(), Memory>
         ensures ok { IsOk result → (items : List Item) (key : model.Key) (op : ops.Op)
             → body_of op ≡ None → HasNoted items self.old
@@ -93,8 +93,8 @@ impl Notes {
         Ok(())
     }
 
-    /// Notes the next change. Returns `Memory` if the allocator refuses memory; the change isn't
-    /// noted then.
+    /// Notes the next change. If the allocator refuses memory, returns `Memory`, and the change
+    /// isn't noted.
     pub fn note_change(&mut self, change: &Change) -> Result<(), Memory>
         ensures ok { IsOk result → (made : List model.Change)
             → HasNoted (items_put made) self.old

@@ -37,8 +37,9 @@ TakesPart old piece new = (n : ℕ) × (n < length piece) × Takes old (take n p
 abbrev pub CountsFailure : Type 0 → ℕ → ℕ → Type 0
 CountsFailure failed before after = (failed ↔ (after ≡ before + 1)) × (¬ failed → after ≡ before)
 
--- a source over a slice: the bytes left in it, the greatest number of bytes that one read returns,
--- whether the source has reported its end, and whether it was read after that
+-- a source over a slice. `left` has the bytes that are left, and `step` is the greatest number of
+-- bytes that one read returns. The two other fields say whether the source has reported its end,
+-- and whether it was read after that
 pub record Feed : Type 0 where
   pub left : List ℕ
   pub step : ℕ
@@ -67,8 +68,9 @@ pub record Fused (D : Type 0) : Type 0 where
   pub calls : ℕ
   pub failures : ℕ
 
--- a source that never ends: the bytes that are left of its current text, the text that it then
--- repeats without end, and the greatest number of bytes that one read returns
+-- a source that never ends. `left` has the bytes that are left of its current text, and `again` is
+-- the text that it then repeats without end. `step` is the greatest number of bytes that one read
+-- returns
 pub record Round : Type 0 where
   pub left : List ℕ
   pub again : List ℕ

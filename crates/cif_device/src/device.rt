@@ -29,8 +29,8 @@ impl<T: Drop> From<AllocFailed<T>> for Memory {
 
 /// A device from which bytes are read.
 pub trait Source {
-    // The bytes that are left; `None` if contracts can't refer to them. For example, contracts
-    // can't refer to the bytes of a real file.
+    // The bytes that are left. The value is `None` if contracts can't refer to them. For example,
+    // contracts can't refer to the bytes of a real file.
     ghost left: { Self → Option (List ℕ) };
 
     // The number of failures of the device.
@@ -44,8 +44,7 @@ pub trait Source {
 
     /// Reads the next bytes into the beginning of the buffer and returns their number. If the
     /// buffer isn't empty, 0 means the end of the source. The other bytes of the buffer may have
-    /// any value. Returns `Failed` if the device fails; the read then takes no bytes from the
-    /// source.
+    /// any value. If the device fails, returns `Failed`, and takes no bytes from the source.
     fn read(&mut self, into: &mut [u8]) -> Result<usize, Failed>
         requires { failures self.old < 2 ^ 64 - 1 }
         ensures within { IfOk result (λ n. n ≤ length into.new) }
@@ -67,16 +66,15 @@ pub trait Source {
 
 /// A device to which bytes are written.
 pub trait Sink {
-    // The bytes that the sink has taken; `None` if contracts can't refer to them. For example,
-    // contracts can't refer to the bytes of a real file.
+    // The bytes that the sink has taken. The value is `None` if contracts can't refer to them. For
+    // example, contracts can't refer to the bytes of a real file.
     ghost taken: { Self → Option (List ℕ) };
 
     // The number of failures of the device.
     ghost failures: { Self → ℕ };
 
     /// Writes some of the first bytes of the piece, at least one, and returns their number. The
-    /// piece must not be empty. Returns `Failed` if the device fails; the sink has then taken
-    /// nothing.
+    /// piece must not be empty. If the device fails, returns `Failed`, and the sink takes nothing.
     fn write(&mut self, piece: &[u8]) -> Result<usize, Failed>
         requires failures { failures self.old < 2 ^ 64 - 1 }
         requires piece { 0 < length piece.now }

@@ -62,7 +62,7 @@ is_read limit text ended few is =
     let within = is.is_text.within in
     record { records = is.records; of_records = file.of_records; is_file = is.is_text.is; few = omega arith }
 
--- the parts that the reader returns belong to the file; if there are notes, they are correct for the file's changes
+-- the parts that the reader returns belong to the file. If there are notes, they are correct for the file's changes
 are_parts : (limit : ℕ) (text : List ℕ) (ended : Ended FileSoFar) → limit ≤ most_records → IsEndedText KeepsAll limit text ended
     → ArePartsOfFile (parts_ended ended)
 are_parts limit text ended few is = record {

@@ -120,7 +120,8 @@ same_change : (n m : ℕ) (k l : Key) (b c : Bool) (body : Body) → n ≡ m →
     → ◌≡◌ {A = Change} (record { number = n; key = k; act = cond b delete (put body) }) (record { number = m; key = l; act = cond c delete (put body) })
 same_change n m k l b c body numbers keys tests = λ i. record { number = numbers i; key = keys i; act = cond (tests i) delete (put body) }
 
--- a complete schedule appends exactly one change to the changes of the records before it
+-- if records end with a complete schedule, their changes are the changes of the records before this
+-- schedule, followed by exactly one change
 pub changes_closed : (opened : Opened) (lines before : Lines) → HasLines (progress_meant opened.progress) lines → opened.number ≡ length before + 1
     → key_meant (key.Schedule opened.key) ≡ schedule_named (first_record lines) → IsSchedule lines
     → changes (before ++ lines) ≡ changes before ++ change_opened opened lines ∷ []

@@ -600,14 +600,15 @@ later_long keeps wants reading fault told = λ limit text is.
 later_front : (text more : List ℕ) (fault : FileFault) → sure_lines (text ++ more) < fault.number → sure_lines text < fault.number
 later_front text more fault later = let grown = sure_lines_grow text more in omega arith
 
--- if a fault comes after all complete lines that were read up to the end of a piece, it also comes after all complete lines that were read before this piece
+-- suppose that a fault comes after all complete lines that were read up to the end of a piece. Then it also comes after all complete lines that were read
+-- before this piece
 pub later_piece : {K : Type 0} (keeps : Keeps K) (wants : Type 0) (old new : FileReading K) (front : List ℕ) (fault : FileFault)
     → GoesOn (IsReading keeps old) front (IsReading keeps new) → IsLater keeps wants new fault
     → IsLater keeps wants old fault
 later_piece keeps wants old new front fault read later = λ limit text is.
     let behind = later limit (text ++ front) (read limit text is) in (later_front text front fault behind.0, behind.1)
 
--- a missing trailer comes after all complete lines of the text
+-- the fault of a missing trailer comes after all complete lines of the text
 pub later_end : {K : Type 0} (keeps : Keeps K) (wants : Type 0) (reading : FileReading K) (fault : FileFault)
     → ((limit : ℕ) (text : List ℕ) → IsReading keeps reading limit text → IsNoEndOf (lines_of text) fault)
     → IsLater keeps wants reading fault

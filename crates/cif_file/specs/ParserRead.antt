@@ -61,9 +61,9 @@ pub record IsLongNext (limit : ℕ) (records : Lines) (fault : FileFault) : Type
   pub at : IsPlaceOf records place
   pub cause : cause_meant fault.cause ≡ Some (cause_of_long limit (length records) place)
 
--- the cause for a line that isn't a record: `too_many` if the line is beyond the limit, otherwise
--- `after_trailer` if it comes after the trailer, and otherwise the cause for which it isn't a
--- record
+-- the cause for a line that isn't a record. If the line is beyond the limit, the cause is
+-- `too_many`. Otherwise, if the line comes after the trailer, the cause is `after_trailer`.
+-- Otherwise `cause` says why the line isn't a record
 abbrev pub refusal : ℕ → ℕ → law.Place → Option model.FileCause → Option model.FileCause
 refusal limit count place cause = cond (nat_le limit count) (Some too_many) (cond (is_after_end place) (Some after_trailer) cause)
 
@@ -100,7 +100,7 @@ EndsCounted keeps state ended = (limit : ℕ) (records : Lines) → HasCounted k
 abbrev pub EndsUnended : {K : Type 0} → Keeps K → Records K → FileFault → Type 0
 EndsUnended keeps state fault = (limit : ℕ) (records : Lines) → HasCounted keeps state limit records → IsNoEndOf records fault
 
--- Says that the parser has taken exactly this text and found no fault: all complete lines were
+-- Says that the parser has taken exactly this text and found no fault. All complete lines were
 -- taken as records, and the bytes after the last line feed are kept.
 pub record IsReading {K : Type 0} (keeps : Keeps K) (reading : FileReading K) (limit : ℕ) (text : List ℕ) : Type 0 where
   pub counted : HasCounted keeps reading.records limit (complete_lines text)

@@ -41,8 +41,8 @@ pub record IsOpen {K : Type 0} (keeps : Keeps K) (opened : Opened) (keeper : K) 
   pub progress_is : HasLines (progress_meant opened.progress) lines
   pub kept : keeps keeper lines (changes before)
 
--- Says that the code's stage and the definitions' `place` agree on how far the reader has come after the records, and that the changes of the records were
--- made. The change of a schedule that is being read is still to be made.
+-- Says that the code's stage and the definitions' `place` agree on how far the reader has come after the records. Also says that the changes of the records
+-- were made. The change of a schedule that is being read is still to be made.
 abbrev pub IsKept : {K : Type 0} → Keeps K → FileStage → K → law.Place → Lines → Type 0
 IsKept keeps BeforeHeader keeper place records = (place ≡ before_header) × keeps keeper [] (changes records)
 IsKept keeps BetweenUnits keeper place records = (place ≡ between_units) × keeps keeper [] (changes records)
@@ -124,8 +124,8 @@ abbrev pub TakesNext : {K : Type 0} → Keeps K → Front K → ℕ → List ℕ
 TakesNext keeps old number line new =
     (records : Lines) → HasRecords keeps old records → number ≡ length records + 1 → HasRecords keeps new (records ++ line ∷ [])
 
--- Says that the reader has taken a line that begins a unit, if it had taken whole units before and
--- `number` is one more than the number of their records.
+-- Says that the reader has taken a line that begins a unit. The reader must have taken whole units
+-- before, and `number` must be one more than the number of their records.
 abbrev pub BeginsAnew : {K : Type 0} → Keeps K → Front K → ℕ → List ℕ → Front K → Type 0
 BeginsAnew keeps old number line new =
     (records : Lines) → IsOver keeps old records → number ≡ length records + 1 → HasRecords keeps new (records ++ line ∷ [])

@@ -29,7 +29,7 @@ has_key keys key = set.contains (on key_meant key_cmp) keys key
 abbrev pub HasKeysOf : BTreeSet Key → List Change → Type 0
 HasKeysOf keys kept = (change : Change) → Contains kept change → (key : Key) → key_meant key ≡ change.key → has_key keys key ≡ true
 
--- Says that the kept changes are a thinning of these changes for the place and the day, and that the keys of all kept changes are in the set.
+-- Says that the kept changes are a thinning of these changes for the place and the day. Also says that the keys of all kept changes are in the set.
 pub record HasThinned (place : List ℕ) (day : ℕ) (thinned : Thinned) (all : List Change) : Type 0 where
   pub place_is : thinned.place ≡ place
   pub day_is : thinned.day ≡ day

@@ -1,4 +1,4 @@
-//! Makes the bytes of a line into the next record of a file.
+//! Converts the bytes of a line to the next record of a file.
 ghost use Rattle.std.specs.Prelude.{◌≡◌, ◌<◌, IsErr, IfOk, IfErr, OnOk, Some};
 ghost use Rattle.docker_model.specs.records.Record.{IsRecord};
 ghost use Rattle.cif_laws.specs.FileStage.{Place};

@@ -15,8 +15,8 @@ pub data Place : Type 0 where
   in_schedule : (stage : Stage) → (lines : Lines) → Place
   after_end : Place
 
--- the `Place` to which a record of this kind leads a reader who is between two units, or `None` if
--- the record can't begin a unit and isn't a trailer
+-- the `Place` to which a record of this kind leads a reader who is between two units. The result is
+-- `None` if the record can't begin a unit and isn't a trailer
 abbrev pub unit_by_kind : Option Kind → List ℕ → Option Place
 unit_by_kind (Some tiploc_insert) line = Some between_units
 unit_by_kind (Some tiploc_amend) line = Some between_units

@@ -15,8 +15,8 @@ abbrev pub falls_after : Option ℕ → List ℕ → ℕ
 falls_after None times = fall_count times
 falls_after (Some last) times = fall_count (last ∷ times)
 
--- the last time of a concatenation, from the last time of each list: the second list's last time,
--- or the first list's last time if the second list is empty
+-- the last time of two lists together, given the last time of each list. If the second list is
+-- empty, the result is the first list's last time
 abbrev pub later_or : Option ℕ → Option ℕ → Option ℕ
 later_or (Some later) earlier = Some later
 later_or None earlier = earlier

@@ -318,8 +318,8 @@ cause_of_length limit count place line apart =
     λ i. cond (nat_le limit count) too_many
     (cond (is_after_end place) after_trailer (cond (ne_eqb (length line) 80 apart i) (byte_cause place line) bad_length))
 
--- if the complete lines are within the limit and lead the reader to a `Place`, and the incomplete
--- line has at most 81 bytes, the bytes determine no fault
+-- suppose that the complete lines are within the limit and lead the reader to a `Place`. If the
+-- incomplete line has at most 81 bytes, the bytes determine no fault
 pub no_fault_told : (limit : ℕ) (text : List ℕ) (place : Place) → IsPlaceOf (complete_lines text) place → length (complete_lines text) ≤ limit
     → length (open_line text) ≤ 81
     → (fault : FileFault) → ¬ IsFaultSoFar limit text fault

@@ -105,8 +105,8 @@ from_1960 y m d year low month day =
 abs_is : (z : ℤ) (n : ℕ) → z ≡ pos n → unsigned_abs z ≡ n
 abs_is z n e = ap unsigned_abs e
 
--- the day number of a date is the number of days that `jiff` counts up to the date, minus the
--- number that `jiff` counts up to 1 January 1960
+-- the day number of a date is its day count in the calendar of `jiff`, minus the day count of 1
+-- January 1960
 pub day_number-day_count : (y m d : ℕ) → 1960 ≤ y → y ≤ 9999 → 1 ≤ m → 1 ≤ d → day_number y m d + 4_368_300 ≡ day_count (pos y) m d
 day_number-day_count y m d year low month day =
     let start = from_1960 y m d year low month day in

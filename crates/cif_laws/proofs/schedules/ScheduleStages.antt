@@ -150,8 +150,8 @@ test_by_sound_next lines line (inr good) = by (is_deletion (first_record lines))
     by true = refl
     by false = and_true (has_good_fields line) _ (test_by_none (leftmost_bad_field line) good.fields) (le-leb (midnights (lines ++ line ∷ [])) 2 good.falls)
 
--- the test `is_sound_next` can be computed from three values: whether the schedule is a deletion,
--- the number of times that the schedule has passed midnight, and the last time
+-- the test `is_sound_next` can be computed from three values. They are whether the schedule is a
+-- deletion, how often the schedule has passed midnight, and the last time
 pub sound_next_by_count : (lines : Lines) (line : List ℕ)
     → is_sound_next lines line
     ≡ (is_deletion (first_record lines) || (has_good_fields line && nat_le (midnights lines + falls_after (last_of (times_along lines))
@@ -260,8 +260,8 @@ no_stage_of_none after_details = refl
 no_stage_of_none in_journey = refl
 no_stage_of_none after_journey = refl
 
--- if records have the structure of a stage, and one more record leads to a next stage, the records
--- with this record have the structure of the next stage
+-- suppose that records have the structure of a stage. If one more record leads to a next stage, the
+-- records with this record have the structure of the next stage
 pub next_front : (stage : Stage) (lines : Lines) (line : List ℕ) (next : Stage) → IsFront stage lines → next_stage stage lines line ≡ Some next
     → IsFront next (lines ++ line ∷ [])
 next_front stage lines line next front test = by (kind_of line) refl (next_line_by_test stage lines line next test)
@@ -444,8 +444,8 @@ witness_sound stage lines kind front = test_by_sound_next lines (witness kind) (
             (along_within front.journey (recursion_from_All HasGoodFields front.journey good.fields)) in
             let falls = good.falls in omega arith
 
--- if records have the structure of a stage, and a kind leads to a next stage, appending the record
--- `witness kind` gives records with the structure of that next stage
+-- suppose that records have the structure of a stage, and that a kind leads to a next stage. With
+-- the record `witness kind` appended, the records have the structure of that next stage
 pub witness_front : (stage : Stage) (lines : Lines) (kind : Kind) (next : Stage) → IsFront stage lines → stage_after stage (Some kind) ≡ Some next
     → IsFront next (lines ++ witness kind ∷ [])
 witness_front stage lines kind next front after =
@@ -727,7 +727,7 @@ schedule_or_not lines = by (stage_of lines) refl
 
 -- ---- which kinds of record are allowed at a stage
 
--- if the kind of a record leads to no next stage, the record is out of place: no schedule has a
+-- if the kind of a record leads to no next stage, the record is out of place. No schedule has a
 -- record of this kind after the earlier records
 pub schedule_out_of_place : (basic : List ℕ) (rest : Lines) (stage : Stage) (line : List ℕ) → stage_of (basic ∷ rest) ≡ Some stage
     → stage_after stage (kind_of line) ≡ None

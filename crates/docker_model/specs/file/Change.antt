@@ -7,8 +7,9 @@ use Rattle.docker_model.specs.records.Clock.{is_blank}
 use Rattle.docker_model.specs.records.Field.{is_deletion, as_new}
 use Rattle.docker_model.specs.file.File.{follows_basic}
 
--- the key of an association. Its fields are the base train's UID, the associated train's UID, the
--- first date as a day number, the timing point, the base train's suffix and the STP indicator
+-- the key of an association. `base` and `associated` are the UIDs of the two trains, and `start` is
+-- the day number of the first date. `suffix` is the suffix of the base train's call at the timing
+-- point
 pub record AssociationKey : Type 0 where
   pub base : List ℕ
   pub associated : List ℕ
@@ -30,9 +31,9 @@ pub data Key : Type 0 where
   association_key : (key : AssociationKey) → Key
   schedule_key : (key : ScheduleKey) → Key
 
--- a body: the value that a put stores at its key. The body of a TIPLOC is columns 10 to 72 of its
--- record. The body of an association is its whole record, and the body of a schedule is all its
--- records
+-- a body: the value that a put stores at its key. The body of a TIPLOC consists of columns 10 to 72
+-- of its record. The body of an association is its whole record. The body of a schedule consists of
+-- all its records
 pub data Body : Type 0 where
   tiploc_body : (bytes : List ℕ) → Body
   association_body : (line : List ℕ) → Body

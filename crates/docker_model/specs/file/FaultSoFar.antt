@@ -11,9 +11,9 @@ last_of (piece ∷ []) = piece
 last_of (piece ∷ next ∷ pieces) = last_of (next ∷ pieces)
 
 -- how many lines are already certain, in a text that is still being read. A line is certain once
--- its line feed has been read. A line of more than 81 bytes is certain even without a line feed: it
--- is too long for a record, even if its last byte is a carriage return. For example, the text `HD`
--- has no certain line, and `HD` with a line feed has one
+-- its line feed has been read. A line of more than 81 bytes is certain even without a line feed.
+-- Such a line is too long for a record, even if its last byte is a carriage return. For example,
+-- the text `HD` has no certain line, and `HD` with a line feed has one
 abbrev pub sure_lines : List ℕ → ℕ
 sure_lines text =
     count_by (λ b. b == 10) text + (if nat_le 82 (length (last_of (slice_split (λ b. b == 10) text))) then 1 else 0)

@@ -1,5 +1,5 @@
--- The times of a journey, and how often the journey passes midnight. A journey is the records of a
--- schedule from its origin to its terminus.
+-- The times of a journey, and how often the journey passes midnight. A journey consists of the
+-- records of a schedule from its origin to its terminus.
 use Rattle.std.specs.Prelude.{ℕ, List, [], ◌∷◌, Option, Some, None, ◌+◌, ◌++◌, map, nat_lt, if◌then◌else◌, ◌≡◌, Contains, ◌⊎◌, Bool, ◌&&◌}
 use Rattle.std.specs.List.{flat_map, list_any}
 use Rattle.std.specs.Str.{bytes_eq}

@@ -13,8 +13,8 @@ use Rattle.docker_model.specs.state.Op.{Entry, Op, deleted, lapsed, put_with, ke
 use Rattle.docker_model.specs.state.Table.{Table}
 use Rattle.docker_model.specs.state.Lapse.{HasNotToLapse, lapse_entries, lapse_entry}
 
--- a state, which is all that an office knows: its horizon, where 0 means none; its ledger, which
--- lists the known files; and each key with its entry
+-- a state, which is all that an office knows. The horizon 0 means that there is no horizon. The
+-- ledger lists the known files, and `entries` has each key with its entry
 pub record State : Type 0 where
   pub horizon : ℕ
   pub ledger : List LedgerItem

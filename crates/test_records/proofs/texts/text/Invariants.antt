@@ -1,5 +1,5 @@
--- The loop invariant of `text`: the text so far is the records that the loop has passed, each with
--- its line end.
+-- The loop invariant of `text`: the text so far consists of the records that the loop has passed,
+-- each with its line end.
 use Rattle.std.proofs.Common.{◌≡◌, ◌++◌, take}
 use Rattle.std.specs.List.{flat_map}
 use Rattle.test_records.proofs.texts.text.Given as goal
