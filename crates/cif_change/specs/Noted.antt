@@ -61,8 +61,8 @@ pub record HasNoted (items : List Item) (notes : Notes) : Type 0 where
   pub are : AreNoted notes.names.list.items notes.numbers.items items notes.pieces.items
   pub apart : numbers_in notes.pieces.items ≤ length notes.numbers.items
 
--- Says that the next row is noted in this `Piece`, and that the list of numbers has grown by at
--- least as many numbers as the `Piece` gives.
+-- Says that the next row is noted in this `Piece`. Also says that the list of numbers has grown by
+-- at least as many numbers as the `Piece` gives.
 pub record IsNext (names : List (List ℕ)) (old new : List ℕ) (item : Item) (piece : Piece) : Type 0 where
   pub noted : IsNoted names new item piece
   pub apart : length old + piece.count ≤ length new

@@ -12,8 +12,8 @@ const SLOTS: usize = 65_536;
 const NEAR: usize = 8;
 
 /// Remembers the index at which each place was last found in a list. A memo is only a shortcut and
-/// may forget a place. A hash of a place's bytes determines the first slot of the place. Another
-/// place's index may be in that slot, so the place at a remembered index is always compared with
+/// may forget a place. A hash of a place's bytes determines the first slot of the place. That slot
+/// may have the index of another place. So the place at a remembered index is always compared with
 /// the place that is looked up.
 #[derive(Debug, Drop)]
 pub(crate) struct Memo {

@@ -20,8 +20,8 @@ use std::alloc::Global;
 pub struct Notes {
     /// The list of places. The number of a place is its index in this list.
     pub names: PlaceNames,
-    /// The numbers of all places that the rows name: those that the first row names, then those
-    /// that the second row names, and so on.
+    /// The numbers of all places that the rows name. First come the numbers that belong to the
+    /// first row, then the numbers that belong to the second row, and so on.
     pub numbers: Vec<u32>,
     /// Says for each row which of the numbers in `numbers` belong to it.
     pub pieces: Vec<Piece>,

@@ -55,16 +55,16 @@ pub fed_where_failed : {T Terms : Type 0} (takes : Taking T Terms) (fed : ℕ) (
 fed_where_failed takes fed terms text initial now next taker at same =
     (fed, subst (λ left. HasFed takes fed terms text initial left taker) (sym same) at)
 
--- if a source returns one more piece of at most 65,536 bytes, it has returned at most this piece
--- beyond the bytes that the taker has taken
+-- suppose that a source returns one more piece of at most 65,536 bytes. Then it has returned at
+-- most this piece beyond the bytes that the taker has taken
 pub one_more : {T Terms : Type 0} (takes : Taking T Terms) (fed : ℕ) (terms : Terms) (text : List ℕ) (initial now next : Option (List ℕ)) (taker : T)
     (piece : List ℕ) → HasFed takes fed terms text initial now taker → Reads now piece next → length piece ≤ 65536
     → LosesOnePieceMore takes 65536 terms text initial next
 one_more takes fed terms text initial now next taker piece at more few =
     record { bytes = at.bytes; piece = piece; lost = lost_more initial now next at.bytes piece at.lost more; few = few; taker = taker; taken = at.taken }
 
--- if the taker has taken all bytes that a source returned, the source has returned at most one
--- piece beyond the bytes that the taker has taken
+-- suppose that the taker has taken all bytes that a source returned. Then the source has returned
+-- at most one piece beyond the bytes that the taker has taken
 pub no_more : {T Terms : Type 0} (takes : Taking T Terms) (fed : ℕ) (terms : Terms) (text : List ℕ) (initial now next : Option (List ℕ)) (taker : T)
     → HasFed takes fed terms text initial now taker → next ≡ now → LosesOnePieceMore takes 65536 terms text initial next
 no_more takes fed terms text initial now next taker at same =

@@ -6,7 +6,7 @@ pub at_ok : {A E P : Type 0} (answer : Result A E) → OnOk answer P → IsOk an
 at_ok (Ok value) told ok = told
 at_ok (Err error) told ok = absurd cc
 
--- if one property of errors implies a second property, and the error of a result has the first property, the error also has the second
+-- suppose that one property of errors implies a second property. If the error of a result has the first property, the error also has the second
 pub if_err_by : {A E : Type 0} {P Q : E → Type 0} (answer : Result A E) → ((error : E) → P error → Q error) → IfErr answer P → IfErr answer Q
 if_err_by (Ok value) by told = told
 if_err_by (Err error) by told = by error told

@@ -733,7 +733,7 @@ file_at_end keeps front records has at =
 
 -- ---- the whole file
 
--- at the stage `AfterEnd`, the records are a file, and the reader returns the header, the number of records and the keeper of this file
+-- at the stage `AfterEnd`, the records are a file. The reader returns the header, the number of records and the keeper of this file
 pub file_ended : {K : Type 0} (keeps : Keeps K) (front : Front K) (records : Lines) (ended : Ended K) → HasRecords keeps front records
     → front.stage ≡ AfterEnd → front.header ≡ Some ended.header → ended.records ≡ length records → ended.keeper ≡ front.keeper
     → IsFile records × IsEnded keeps records ended

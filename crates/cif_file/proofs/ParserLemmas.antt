@@ -178,7 +178,7 @@ ended_fault keeps wants old limit text front fault reading plain next = by (caus
         subst (λ f. IsFaultSoFar limit (text ++ (front ++ 10 ∷ [])) f) (λ i. record { number = sym next.number i; cause = told.is i })
         (fault_at_feed limit text front [] told.place plain told.at reading.counted.within told.here)
 
--- if the line that ends at a line feed has more than 81 bytes, it is too long, which is a fault of the text
+-- if a line of more than 81 bytes ends at a line feed, the text has the fault of a line that is too long
 pub ended_long : {K : Type 0} (keeps : Keeps K) (old : FileReading K) (limit : ℕ) (text front : List ℕ) (fault : FileFault) → IsReading keeps old limit text
     → HasNoFeed front
     → 82 ≤ length (open_line text ++ front)
@@ -210,7 +210,7 @@ kept_read keeps old new limit text more reading plain few records kept = record 
       let same = ap (λ (l : List ℕ). length l) reading.partial_is in omega arith;
 }
 
--- if a line has more than 81 bytes even before its line feed, it is too long, which is a fault of the text
+-- if more than 81 bytes of a line have been read, the text has the fault of a line that is too long, even without a line feed
 pub kept_long : {K : Type 0} (keeps : Keeps K) (old : FileReading K) (limit : ℕ) (text more : List ℕ) (fault : FileFault) → IsReading keeps old limit text
     → HasNoFeed more
     → ¬ (length old.partial.items + length more ≤ 81)

@@ -18,8 +18,8 @@ pub record TakesFile {K : Type 0} (keeps : Keeps K) (reading : FileReading K) (l
   pub few : limit ≤ most_records
   pub sound : (fault : model.FileFault) → ¬ IsFaultSoFar limit text fault
 
--- a text without a fault has at most 82 bytes for each record that the limit allows, and 81 more,
--- so its length fits in 64 bits
+-- a text without a fault has at most 82 bytes for each record that the limit allows, and 81 more.
+-- So the length of the text fits in 64 bits
 pub taken_is_bounded : {K : Type 0} (keeps : Keeps K) (reading : FileReading K) (limit : ℕ) (text : List ℕ) → TakesFile keeps reading limit text
     → length text < 2 ^ 64
 taken_is_bounded keeps reading limit text has =

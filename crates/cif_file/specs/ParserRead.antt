@@ -43,8 +43,8 @@ pub record IsCauseNext (limit : ℕ) (records : Lines) (line : List ℕ) (cause 
   pub is : cause_of limit (length records) place line ≡ cause
 
 -- Says why the reader refused the line that follows these records. `None` means that memory ran
--- out. Then `wants` holds, which says that the keeper may run out of memory, and some file within
--- the limit begins with these records and the line.
+-- out. In that case `wants` holds, which says that the keeper may run out of memory. Some file
+-- within the limit then begins with these records and the line.
 abbrev pub IsCauseAfter : Type 0 → ℕ → Lines → List ℕ → Option model.FileCause → Type 0
 IsCauseAfter wants limit records line None = wants × (length records < limit) × GoesOnWith records line
 IsCauseAfter wants limit records line (Some cause) = IsCauseNext limit records line cause
@@ -79,7 +79,7 @@ pub record IsRefusedNext (limit : ℕ) (records : Lines) (cause : Option model.F
 abbrev pub IsNoEndOf : Lines → FileFault → Type 0
 IsNoEndOf records fault = (fault.number ≡ length records + 1) × (cause_meant fault.cause ≡ Some no_end) × (¬ IsFile records)
 
--- Says that this is a correct cause for refusing the line after any records that the reader may have taken, if the limit allows one more record.
+-- Says that this is a correct cause for refusing the line. The line may follow any records that the reader may have taken, if the limit allows one more record.
 abbrev pub RefusesWithin : {K : Type 0} → Keeps K → Type 0 → Front K → List ℕ → FileCause → Type 0
 RefusesWithin keeps wants front line cause =
     (limit : ℕ) (records : Lines) → HasRecords keeps front records → length records < limit → IsCauseAfter wants limit records line (cause_meant cause)
@@ -214,7 +214,7 @@ NamesLast parser fault =
 
 -- ---- for any text that may have been taken, under any limit on records
 
--- Says that these bytes were taken after any text that was taken before: if `before` holds of a text, `after` holds of the text with these bytes appended.
+-- Says that these bytes were taken after any text that was taken before. If `before` holds of a text, `after` holds of the text with these bytes appended.
 abbrev pub GoesOn : (ℕ → List ℕ → Type 0) → List ℕ → (ℕ → List ℕ → Type 0) → Type 0
 GoesOn before bytes after = (limit : ℕ) (text : List ℕ) → before limit text → after limit (text ++ bytes)
 

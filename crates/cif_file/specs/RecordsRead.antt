@@ -77,9 +77,9 @@ pub record IsNoNext (records : Lines) (line : List ℕ) (cause : fault.FileCause
 abbrev pub GoesOnWith : Lines → List ℕ → Type 0
 GoesOnWith records line = (next : law.Place) × IsPlaceOf (records ++ line ∷ []) next
 
--- Says why the line that follows these records was refused. `None` means that memory ran out. Then
--- `wants` holds, which says that the keeper may run out of memory, and some file begins with the
--- records and the line. A cause says why no file begins with them.
+-- Says why the line that follows these records was refused. `None` means that memory ran out. In
+-- that case `wants` holds, which says that the keeper may run out of memory. Some file then begins
+-- with the records and the line. A cause says why no file begins with them.
 abbrev pub IsNoNextCause : Type 0 → Lines → List ℕ → Option fault.FileCause → Type 0
 IsNoNextCause wants records line None = wants × GoesOnWith records line
 IsNoNextCause wants records line (Some cause) = IsNoNext records line cause
@@ -119,7 +119,7 @@ GoesOnTo old line AfterEnd = ⊥
 abbrev pub TakesLine : {K : Type 0} → Keeps K → Front K → List ℕ → Front K → Type 0
 TakesLine keeps old line new = (records : Lines) → HasRecords keeps old records → HasRecords keeps new (records ++ line ∷ [])
 
--- Says that the reader has taken the line, after any records that it may have taken before, if `number` is one more than the number of those records.
+-- Says that the reader has taken the line, after any records that it may have taken before. `number` must be one more than the number of those records.
 abbrev pub TakesNext : {K : Type 0} → Keeps K → Front K → ℕ → List ℕ → Front K → Type 0
 TakesNext keeps old number line new =
     (records : Lines) → HasRecords keeps old records → number ≡ length records + 1 → HasRecords keeps new (records ++ line ∷ [])

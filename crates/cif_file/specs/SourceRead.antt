@@ -59,7 +59,7 @@ pub record RefusesText (limit : ℕ) (left : Option (List ℕ)) (fault : FileFau
   pub held : Held left text
   pub is : IsFaultOf limit text fault
 
--- Says that no piece was read after a fault: the text before the last piece has no fault, and the
+-- Says that no piece was read after a fault. The text before the last piece has no fault, and the
 -- last piece has at most `most` bytes.
 pub record ReadsNoFurther (most limit : ℕ) (old new : Option (List ℕ)) : Type 0 where
   pub before : List ℕ
@@ -68,8 +68,8 @@ pub record ReadsNoFurther (most limit : ℕ) (old new : Option (List ℕ)) : Typ
   pub at_once : length piece ≤ most
   pub read : Reads old (before ++ piece) new
 
--- Says that memory ran out at a record that is complete only with the last piece, and that no
--- record up to that record is at fault. The last piece has at most `most` bytes.
+-- Says that memory ran out at a record that is complete only with the last piece. No record up to
+-- that record is at fault. The last piece has at most `most` bytes.
 pub record WantsRecord (most limit : ℕ) (old new : Option (List ℕ)) : Type 0 where
   pub before : List ℕ
   pub piece : List ℕ
@@ -79,8 +79,8 @@ pub record WantsRecord (most limit : ℕ) (old new : Option (List ℕ)) : Type 0
   pub first : sure_lines before < number
   pub wanting : WantsMemoryAt limit (complete_lines (before ++ piece)) number
 
--- Says that memory ran out at the last record of the text that the source held, and that no record
--- of the text is at fault.
+-- Says that memory ran out at the last record of the text that the source held. No record of the
+-- text is at fault.
 pub record WantsLast (limit : ℕ) (left : Option (List ℕ)) : Type 0 where
   pub text : List ℕ
   pub held : Held left text

@@ -59,8 +59,8 @@ ThinsOpened place day old opened near renewed new =
     (lines : Lines) → renewed ≡ with_new_first lines → HasLines (progress_meant opened.progress) lines → IsSchedule lines → IsNearBy day lines near
     → Thins place day old (change_opened opened lines) new
 
--- Says that the keeper has these lines, with the transaction of the first set to N, and a thinning of the changes for the place and the day. For proofs, the
--- keeper also has the list of all changes.
+-- Says that the keeper has these lines, with the transaction of the first set to N. It also has a thinning of the changes for the place and the day. For
+-- proofs, the keeper also has the list of all changes.
 pub record KeepsThin {P : Type 0} (place : List ℕ) (day : ℕ) (keeper : ThinSoFar P) (lines : Lines) (all : List Change) : Type 0 where
   pub lines_are : keeper.open.lines.items ≡ with_new_first lines
   pub near_is : IsNearBy day lines keeper.near

@@ -58,8 +58,8 @@ pub(crate) fn may_matter(place: &Tiploc, key: &Key) -> bool
 }
 
 /// Copies the lines of a schedule that the docker of a place needs. If the schedule calls at the
-/// place, the copy has all its lines, and otherwise only its basic schedule, its origin and its
-/// terminus.
+/// place, the copy has all its lines. Otherwise the copy has only the basic schedule, the origin
+/// and the terminus.
 pub(crate) fn lines_for(alloc: Global, place: &Tiploc, lines: &[Line]) -> Result<Lines, AllocError>
     ensures { IfOk result (λ body. body ≡ lines_for place.now lines.now) }
 {

@@ -42,8 +42,8 @@ abbrev pub is_header_kind : Option Kind → Bool
 is_header_kind (Some header) = true
 is_header_kind _ = false
 
--- the `Place` to which one more record leads the reader, judged only by the record's kind, or
--- `None` if no record of this kind may follow
+-- the `Place` to which one more record leads the reader, judged only by the record's kind. The
+-- result is `None` if no record of this kind may follow
 abbrev pub place_by_kind : Place → Option Kind → List ℕ → Option Place
 place_by_kind before_header kind line = cond (is_header_kind kind) (Some between_units) None
 place_by_kind between_units kind line = unit_by_kind kind line
@@ -51,26 +51,25 @@ place_by_kind (in_schedule stage lines) kind line =
     in_stage_or (lines ++ line ∷ []) (stage_after stage kind) (cond (may_end stage lines) (unit_by_kind kind line) None)
 place_by_kind after_end kind line = None
 
--- whether a record that follows at this `Place` is sound: the record's fields are good, and the
--- schedule doesn't pass midnight for the third time at this record. In a deletion neither is
--- checked
+-- whether a record that follows at this `Place` is sound. Its fields must be good, and the schedule
+-- must not pass midnight for the third time at this record. In a deletion neither is checked
 abbrev pub is_sound_at : Place → List ℕ → Bool
 is_sound_at (in_schedule stage lines) line = cond (is_some (stage_after stage (kind_of line))) (is_sound_next lines line) (has_good_fields line)
 is_sound_at _ line = has_good_fields line
 
--- the `Place` to which one more record leads the reader from this `Place`, or `None` if no file
--- continues with this record
+-- the `Place` to which one more record leads the reader from this `Place`. The result is `None` if
+-- no file continues with this record
 abbrev pub next_place : Place → List ℕ → Option Place
 next_place place line = cond (is_record line && is_sound_at place line) (place_by_kind place (kind_of line) line) None
 
--- the `Place` to which these records lead the reader from this `Place`, or `None` if no file
--- continues with these records
+-- the `Place` to which these records lead the reader from this `Place`. The result is `None` if no
+-- file continues with these records
 abbrev pub place_from : Place → Lines → Option Place
 place_from place [] = Some place
 place_from place (line ∷ rest) = option_and_then (λ next. place_from next rest) (next_place place line)
 
--- the `Place` to which these records lead the reader from the beginning of a file, or `None` if no
--- file begins with these records
+-- the `Place` to which these records lead the reader from the beginning of a file. The result is
+-- `None` if no file begins with these records
 abbrev pub place_at : Lines → Option Place
 place_at records = place_from before_header records
 

@@ -55,12 +55,12 @@ cause_of limit count place line = cond (nat_le limit count) too_many (end_cause 
 abbrev pub cause_of_long : ℕ → ℕ → Place → FileCause
 cause_of_long limit count place = cond (nat_le limit count) too_many (cond (is_after_end place) after_trailer bad_length)
 
--- the reason why a record can't continue a schedule at this stage: the first of `bad_kind`,
--- `bad_place`, `bad_field` and `third_midnight` that applies
+-- the reason why a record can't continue a schedule at this stage. The reason is the first of
+-- `bad_kind`, `bad_place`, `bad_field` and `third_midnight` that applies
 abbrev pub schedule_cause : Stage → List ℕ → FileCause
 schedule_cause stage line = cond (is_none (kind_of line)) bad_kind (cond (is_none (stage_after stage (kind_of line))) bad_place (field_cause line))
 
--- the reason why a record can't be the first record of a schedule, which must be a basic schedule:
--- the first of `bad_kind`, `bad_place` and `bad_field` that applies
+-- the reason why a record can't be the first record of a schedule, which must be a basic schedule.
+-- The reason is the first of `bad_kind`, `bad_place` and `bad_field` that applies
 abbrev pub first_line_cause : List ℕ → FileCause
 first_line_cause line = cond (is_none (kind_of line)) bad_kind (cond (is_basic_kind (kind_of line)) (field_cause line) bad_place)

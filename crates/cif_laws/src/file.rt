@@ -110,7 +110,7 @@ pub fn no_fault_in_complete_lines()
         → BeginsWithin limit text → ¬ IsFaultSoFar limit text fault }
 {}
 
-/// If bytes determine no fault, their number is at most `82 * limit + 81`, where `limit` is the
+/// If bytes determine no fault, their number is at most `82 * limit + 81`. Here `limit` is the
 /// greatest number of records that a file may have.
 pub fn text_without_fault_is_bounded()
     ensures { (limit : ℕ) (text : List ℕ) → ((fault : FileFault) → ¬ IsFaultSoFar limit text fault)

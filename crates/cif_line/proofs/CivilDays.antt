@@ -85,8 +85,7 @@ before_2059 number year low high count = by (cases_order year 2059)
     by (inr (inl lt)) = lt
     by (inr (inr gt)) = absurd (omega arith)
 
--- to prove a claim about two numbers, it is enough to prove it if the first is below the second,
--- and if it isn't
+-- a claim is proved if it is proved in two cases: `a` is below `b`, or `b` is at most `a`
 by_lt : {P : Type 0} (a b : ℕ) → (a < b → P) → (b ≤ a → P) → P
 by_lt {P = P} a b below above = by (cases_order a b)
   where

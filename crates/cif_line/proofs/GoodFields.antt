@@ -75,7 +75,7 @@ pub basic_runs_to : (line : List ℕ) → IsGood basic_schedule line → is_dele
 unfolding later_fields
 basic_runs_to line good kept = (later_good line good false kept).0
 
--- in columns 22 to 28 of a good basic schedule, the days-run field, each byte is `0` or `1` unless the record is a deletion
+-- columns 22 to 28 of a good basic schedule are the days-run field. Each of these bytes is `0` or `1`, unless the record is a deletion
 pub basic_days : (line : List ℕ) → IsGood basic_schedule line → is_deletion line ≡ false → is_days (columns 22 28 line) ≡ true
 unfolding later_fields
 basic_days line good kept = (later_good line good false kept).1.0
@@ -116,7 +116,7 @@ pub assoc_end : (line : List ℕ) → IsGood association line → is_deletion li
 unfolding assoc_fields_behind
 assoc_end line good kept = (assoc_behind_good line good false kept).0
 
--- in columns 28 to 34 of a good association, the days-run field, each byte is `0` or `1` unless the record is a deletion
+-- columns 28 to 34 of a good association are the days-run field. Each of these bytes is `0` or `1`, unless the record is a deletion
 pub assoc_days : (line : List ℕ) → IsGood association line → is_deletion line ≡ false → is_days (columns 28 34 line) ≡ true
 unfolding assoc_fields_behind
 assoc_days line good kept = (assoc_behind_good line good false kept).1.0

@@ -11,8 +11,8 @@ use Rattle.docker_model.specs.records.Field.{is_new_tiploc, is_update_indicator,
 use Rattle.cif_laws.proofs.records.Columns.{IsGoodIn, fields_good}
 use Rattle.cif_line.specs.View.{IsTiplocRecord}
 
--- the first column of the first bad field in a list of checked fields, or `None` if all these
--- fields are good in the line
+-- the first column of the first bad field in a list of checked fields. The result is `None` if all
+-- these fields are good in the line
 unfoldable pub first_bad : List ℕ → List CheckedField → Option ℕ
 first_bad line fields = option_map (λ (field : CheckedField). field.first) (find (λ field. not (field.is_good (columns field.first field.last line))) fields)
 

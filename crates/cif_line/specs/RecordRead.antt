@@ -3,8 +3,8 @@ use Rattle.std.specs.Prelude.{◌≡◌, ◌↔◌, ℕ, List, Result, Some, IsO
 use Rattle.docker_model.specs.records.Field.{HasGoodFields, leftmost_bad_field}
 use Rattle.cif_line.specs.declared.check.FieldFault.{FieldFault}
 
--- Says what a reader of records returns: a view of the line if its checked fields are good, and
--- otherwise the first column of the leftmost bad field.
+-- Says what a reader of records returns. The result is a view of the line if its checked fields are
+-- good. Otherwise it is the first column of the leftmost bad field.
 pub record ReadsAs (line : List ℕ) (result : Result (List ℕ) FieldFault) : Type 0 where
   pub ok : IsOk result ↔ HasGoodFields line
   pub value : IfOk result (λ view. view ≡ line)

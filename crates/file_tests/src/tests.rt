@@ -383,8 +383,8 @@ fn cut_texts(rt: HostRuntime) {
     check_cuts(&rt, rt.alloc(), b"\r\n", 82);
 }
 
-/// Asserts that a parser with a limit of a thousand records accepts a thousand records of an
-/// endless text and refuses the next record.
+/// Feeds an endless text to a parser with a limit of a thousand records. Asserts that the parser
+/// accepts a thousand records and refuses the next one.
 fn check_records_without_end(rt: &impl Abort, alloc: Global) {
     let mut parser = FileParser::new(alloc, 1000);
     let mut again = Ok(());
@@ -450,9 +450,9 @@ fn memory_fault_from(
     }
 }
 
-/// Ends the input. Returns the file, or `None` if memory ran out. In that case asserts that the
-/// fault is `wanting`, or, if `wanting` is `None`, that memory ran out at the record with this
-/// number.
+/// Ends the input. Returns the file, or `None` if memory ran out. If memory ran out, asserts that
+/// the fault is `wanting`. If there is no `wanting`, asserts that memory ran out at the record with
+/// this number.
 fn file_at_end(
     rt: &impl Abort,
     parser: FileParser,
@@ -474,8 +474,8 @@ fn file_at_end(
 
 /// Feeds a parser these records one by one, with line feeds between them. Returns the file, or
 /// `None` if memory runs out. Asserts that the fault is returned at the line feed of the record
-/// that needed the memory, or at the end if the last record needed it. Each later call must return
-/// the same fault.
+/// that needed the memory. If the last record needed it, the fault must be returned at the end.
+/// Each later call must return the same fault.
 fn file_or_out_of_memory(
     rt: &impl Abort,
     alloc: Global,

@@ -183,7 +183,7 @@ pub record GoesOn (text more : List ℕ) : Type 0 where
   pub told : complete_lines (text ++ more) ≡ complete_lines text ++ map strip_carriage_return (but_last ((open_line text ++ first) ∷ pieces))
   pub open_is : open_line (text ++ more) ≡ last_of ((open_line text ++ first) ∷ pieces)
 
--- `GoesOn` is true for any text and any appended bytes: the bytes before the first line feed extend
+-- `GoesOn` is true for any text and any appended bytes. The bytes before the first line feed extend
 -- the incomplete line, and each line feed completes a line
 pub goes_on : (text more : List ℕ) → GoesOn text more
 goes_on text more = by (slice_split (λ b. b == 10) more) refl

@@ -261,8 +261,8 @@ prefix_is [] (line ∷ rest) all stops = λ i. cond (stops i) (1 + prefix_len (�
 prefix_is (line ∷ lines) rest all stops =
     (λ i. cond (all.0 i) (1 + prefix_len (λ line. follows_basic (kind_of line)) (lines ++ rest)) 0) ∙ (let e = prefix_is lines rest all.1 stops in omega arith)
 
--- if all records of a list can follow a basic schedule, and the first record after the list can't,
--- the list is the rest of the schedule (`schedule_rest`)
+-- suppose that all records of a list can follow a basic schedule, and that the first record after
+-- the list can't. Then the list is the rest of the schedule (`schedule_rest`)
 pub rest_is : (lines rest : List (List ℕ)) → AllByRecursion Follows lines → StopsHere rest → schedule_rest (lines ++ rest) ≡ lines
 rest_is lines rest all stops = ap (λ n. take n (lines ++ rest)) (prefix_is lines rest all stops) ∙ take-append_seam lines rest
 

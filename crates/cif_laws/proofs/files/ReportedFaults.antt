@@ -288,8 +288,8 @@ fault_so_far_or_passes limit text = by (fault_so_far_or_none limit text)
     by (inl fault) = inl fault
     by (inr none) = inr (passes_so_far limit text none)
 
--- if the complete lines of bytes begin some file within the limit, and their incomplete line has at
--- most 81 bytes, the bytes determine no fault
+-- suppose that the complete lines of bytes begin some file within the limit. If the incomplete line
+-- has at most 81 bytes, the bytes determine no fault
 pub passes_no_fault : (limit : ℕ) (text : List ℕ) (fault : FileFault) → PassesSoFar limit text → ¬ IsFaultSoFar limit text fault
 passes_no_fault limit text fault passes told = by told.is.here
   where

@@ -25,8 +25,8 @@ one_before R (x ∷ xs) a b later in_a in_b = by (one_before R xs a b later.1) (
     by rest (inr here) (inl f) = inr (inr (subst (λ v. R v a) f (below_by_recursion (R x) xs a later.0 here)))
     by rest (inr here) (inr there) = rest here there
 
--- if `AllLater` holds for a relation, and the relation implies another one for members of the list,
--- `AllLater` holds for the other relation too
+-- suppose that `AllLater` holds for a relation. If this relation implies another one for members of
+-- the list, `AllLater` holds for the other relation too
 pub later_weaker : {A : Type 0} (R S : A → A → Type 0) (xs : List A) → ((a b : A) → Contains xs a → Contains xs b → R a b → S a b) → AllLater R xs
     → AllLater S xs
 later_weaker R S [] to later = tt
@@ -62,8 +62,8 @@ later_map {A} R f (x ∷ xs) later = (above xs later.0, later_map R f xs later.1
     above [] all = tt
     above (y ∷ ys) all = (all.0, above ys all.1)
 
--- if `AllLater` holds for two lists, and each member of the first is related to each member of the
--- second, `AllLater` holds for their concatenation
+-- suppose that `AllLater` holds for two lists. If each member of the first list is related to each
+-- member of the second, `AllLater` holds for their concatenation
 pub later_append : {A : Type 0} (R : A → A → Type 0) (xs ys : List A) → AllLater R xs → AllLater R ys → ((a b : A) → Contains xs a → Contains ys b → R a b)
     → AllLater R (xs ++ ys)
 later_append R [] ys first second across = second
@@ -76,8 +76,8 @@ later_append {A} R (x ∷ xs) ys first second across = (
     by z (inl here) = below_by_recursion (R x) xs z first.0 here
     by z (inr there) = across x z (cons-Contains-first x xs) there
 
--- if `AllLater` holds for several lists, and each member of a list is related to each member of
--- every later list, `AllLater` holds for their concatenation
+-- suppose that `AllLater` holds for several lists. If each member of a list is related to each
+-- member of every later list, `AllLater` holds for their concatenation
 pub later_flat_map : {A B : Type 0} (R : B → B → Type 0) (S : A → A → Type 0) (f : A → List B) (xs : List A) → AllLater S xs
     → ((x : A) → Contains xs x → AllLater R (f x))
     → ((x y : A) → Contains xs x → Contains xs y → S x y → (a b : B) → Contains (f x) a → Contains (f y) b → R a b) → AllLater R (flat_map f xs)

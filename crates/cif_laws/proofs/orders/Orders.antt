@@ -120,8 +120,8 @@ exact_schedule_key a b e =
       indicator = exact_unsigned a.indicator b.indicator q.1 i;
     }
 
--- the code in a TIPLOC key. For another key the result is empty. The functions below are the same
--- for the other fields of keys, with an empty list or 0 if a key doesn't have the field
+-- the code in a TIPLOC key. For another key the result is empty. The functions below are similar,
+-- for the other kinds of key
 abbrev code_in : Key → List ℕ
 code_in (tiploc_key code) = code
 code_in _ = []

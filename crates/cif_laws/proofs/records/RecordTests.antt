@@ -92,8 +92,8 @@ pub fewer_falls : (times later : List ℕ) → fall_count times ≤ fall_count (
 fewer_falls [] later = omega arith
 fewer_falls (time ∷ times) later = fall_count_behind time times later
 
--- the last time of the concatenation of two lists is the last time of the second list, or of the
--- first list if the second is empty
+-- the last time of the concatenation of two lists is the last time of the second list. If the
+-- second list is empty, it is the last time of the first list
 pub last_of-append : (times later : List ℕ) → last_of (times ++ later) ≡ later_or (last_of later) (last_of times)
 last_of-append [] later = by (last_of later)
   where
@@ -145,8 +145,8 @@ pub midnights_step : (lines : List (List ℕ)) (line : List ℕ) → midnights (
     (times_along (line ∷ []))
 midnights_step lines line = ap fall_count (times_append lines (line ∷ [])) ∙ fall_count-append (times_along lines) (times_along (line ∷ []))
 
--- after a record is appended, the last time is the record's last time, or the previous last time if
--- the record has no time
+-- after a record is appended, the last time is the record's last time. If the record has no time,
+-- the last time stays the same
 pub last_time_step : (lines : List (List ℕ)) (line : List ℕ) → last_of (times_along (lines ++ line ∷ [])) ≡ later_or (last_of (times_along (line ∷ [])))
     (last_of (times_along lines))
 last_time_step lines line = ap last_of (times_append lines (line ∷ [])) ∙ last_of-append (times_along lines) (times_along (line ∷ []))

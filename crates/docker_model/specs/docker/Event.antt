@@ -50,8 +50,8 @@ changed_identity (Some change) basic = columns 13 16 change
 abbrev pub has_identity : List ℕ → List ℕ → Bool
 has_identity identity line = bytes_eq (columns 1 2 line) identity
 
--- the train identity at an event: from the last change en route before the event's record, or from
--- the basic schedule if there is no such change
+-- the train identity at an event. It is taken from the last change en route before the event's
+-- record. If there is no such change, it is taken from the basic schedule
 abbrev pub event_identity : List (List ℕ) → Event → List ℕ
 event_identity lines event =
     changed_identity (last_or None (filter (λ line. has_identity (codes "CR") line) (take event.place lines))) (first_record lines)

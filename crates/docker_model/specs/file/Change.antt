@@ -94,7 +94,7 @@ schedule_rest following = take_while (λ line. follows_basic (kind_of line)) fol
 -- the records that follow this record in the file. A TIPLOC amendment with a new code has two acts:
 -- a deletion of the old code, and a put of the new code. A basic schedule puts the whole schedule,
 -- and the records after it in the schedule have no acts. A schedule or an association is put with
--- its transaction set to N, so a new record and a revision put the same body
+-- its transaction set to N. So a new record and a revision put the same body
 abbrev pub acts_by_kind : Option Kind → List ℕ → List (List ℕ) → List (Key × Act)
 acts_by_kind (Some tiploc_insert) line following = (tiploc_named line, put (tiploc_details line)) ∷ []
 acts_by_kind (Some tiploc_amend) line following =

@@ -47,8 +47,8 @@ pub record EndsInSchedule (records lines : List (List ℕ)) : Type 0 where
   pub kind : HasKind basic_schedule basic
   pub last : All (λ line. ¬ HasKind basic_schedule line) others
 
--- the schedule at the end of the earlier records passes midnight at most twice, but with this
--- record appended the schedule passes midnight a third time
+-- the last schedule of the earlier records passes midnight at most twice. With this record
+-- appended, the schedule passes midnight a third time
 abbrev pub HasThirdFall : List (List ℕ) → List ℕ → Type 0
 HasThirdFall earlier line =
     (lines : List (List ℕ)) × EndsInSchedule earlier lines × (midnights lines ≤ 2) × (2 < midnights (lines ++ line ∷ []))

@@ -133,7 +133,7 @@ abbrev pub TellsOp : Format → Op → Type 0
 TellsOp dks_1 lapsed = ⊥
 TellsOp _ _ = ⊤
 
--- the op of an entry in this format may begin with this byte: 0 for deleted, 1 for a put, and in
+-- the op of an entry in this format may begin with this byte. 0 is for deleted, 1 for a put, and in
 -- DKS2 also 2 for lapsed
 abbrev pub IsOpByte : Format → ℕ → Type 0
 IsOpByte dks_1 byte = (byte ≡ 0) ⊎ (byte ≡ 1)

@@ -18,8 +18,8 @@ pub record IsKeptFile (files : List (List (List ℕ))) (floor : Option FileStamp
   pub among : Contains files file
   pub kept : IsKept floor (file_stamp_of file)
 
--- converts a change in a file to the entry that the change leaves at the change's key: the file's
--- stamp, the number of the record, and the op
+-- converts a change in a file to the entry that the change leaves at its key. The entry has the
+-- file's stamp, the number of the record, and the op
 abbrev pub entry_of : List (List ℕ) → Change → Entry
 entry_of file change = record { stamp = record { file = file_stamp_of file; number = change.number }; op = op_of change.act }
 
@@ -33,15 +33,15 @@ pub record IsEntryOf (files : List (List (List ℕ))) (floor : Option FileStamp)
   pub key_is : change.key ≡ key
   pub entry_is : entry_of file change ≡ entry
 
--- `entry` is the greatest entry that a change to this key leaves, in any file that belongs to the
--- set and isn't older than the floor
+-- `entry` is the greatest entry that a change to this key leaves. The change may be in any file
+-- that belongs to the set and isn't older than the floor
 pub record IsGreatestEntryOf (files : List (List (List ℕ))) (floor : Option FileStamp) (key : Key) (entry : Entry) : Type 0 where
   pub is : IsEntryOf files floor key entry
   pub greatest : (other : Entry) → IsEntryOf files floor key other → IsAtMost entry_cmp other entry
 
 -- `state` is the summary of the files with a horizon, where 0 means none. Only files that aren't
 -- older than the floor count. The ledger has an item for each of these files. Each key has the
--- greatest entry that a change in these files leaves, and this entry has lapsed if its body ended
+-- greatest entry that a change in these files leaves. This entry has lapsed if its body ended
 -- before the horizon
 pub record IsSummary (files : List (List (List ℕ))) (horizon : ℕ) (state : State) : Type 0 where
   pub horizon_is : state.horizon ≡ horizon

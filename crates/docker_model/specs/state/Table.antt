@@ -45,8 +45,8 @@ pub record IsInMomentOrder (files ordered : List (List (List ℕ))) : Type 0 whe
   pub ascending : IsStrictlyAscending (on moment_of moment_cmp) ordered
 
 -- `table` is the plain table of a set of files with distinct moments. The changes of the newest
--- full extract, and then of each later file in the order of moments, are applied to the empty
--- table. If there is no full extract, the changes of all files are applied
+-- full extract are applied to the empty table. Then the changes of each later file are applied, in
+-- the order of moments. If there is no full extract, the changes of all files are applied
 pub record IsPlainTable (files : List (List (List ℕ))) (table : Table) : Type 0 where
   pub ordered : List (List (List ℕ))
   pub order : IsInMomentOrder files ordered

@@ -44,8 +44,8 @@ impl Source for Broken<'_> {
     }
 }
 
-/// Asserts that this text, read in pieces of `step` bytes, is read as `F2`, and that it is refused
-/// if the limit is four records.
+/// Asserts that this text, read in pieces of `step` bytes, is read as `F2`. Also asserts that the
+/// text is refused if the limit is four records.
 fn check_reads(rt: &impl Abort, alloc: Global, text: &[u8], step: usize)
     requires { 0 < step }
 {

@@ -10,8 +10,8 @@ use test_records::{
     text,
 };
 
-/// A file with a timing point, a night train on 10 June, a train on 15 and 16 June, and the
-/// deletion of a schedule.
+/// A file with a timing point, a night train on 10 June, and a train on 15 and 16 June. The file
+/// also deletes a schedule.
 const MIXED: [&[u8]; 12] = [
     HD, TI, BS_NIGHT, LO_2355, LI_0000, LI_0010, LT_0020, BS_WEEKEND, LO, LT, BS_DELETED, ZZ,
 ];
