@@ -119,13 +119,13 @@ GoesOnTo old line AfterEnd = ⊥
 abbrev pub TakesLine : {K : Type 0} → Keeps K → Front K → List ℕ → Front K → Type 0
 TakesLine keeps old line new = (records : Lines) → HasRecords keeps old records → HasRecords keeps new (records ++ line ∷ [])
 
--- Says that the reader has taken the line, after any records that it may have taken before. `number` must be one more than the number of those records.
+-- Says what taking the next line does. If the reader had taken some records, and `number` is one more than their number, the reader has now taken the line too.
 abbrev pub TakesNext : {K : Type 0} → Keeps K → Front K → ℕ → List ℕ → Front K → Type 0
 TakesNext keeps old number line new =
     (records : Lines) → HasRecords keeps old records → number ≡ length records + 1 → HasRecords keeps new (records ++ line ∷ [])
 
--- Says that the reader has taken a line that begins a unit. The reader must have taken whole units
--- before, and `number` must be one more than the number of their records.
+-- Says what taking a line that begins a unit does. If the reader had taken whole units, and
+-- `number` is one more than the number of their records, the reader has now taken the line too.
 abbrev pub BeginsAnew : {K : Type 0} → Keeps K → Front K → ℕ → List ℕ → Front K → Type 0
 BeginsAnew keeps old number line new =
     (records : Lines) → IsOver keeps old records → number ≡ length records + 1 → HasRecords keeps new (records ++ line ∷ [])

@@ -51,8 +51,9 @@ place_by_kind (in_schedule stage lines) kind line =
     in_stage_or (lines ++ line ∷ []) (stage_after stage kind) (cond (may_end stage lines) (unit_by_kind kind line) None)
 place_by_kind after_end kind line = None
 
--- whether a record that follows at this `Place` is sound. Its fields must be good, and the schedule
--- must not pass midnight for the third time at this record. In a deletion neither is checked
+-- whether a record that follows at this `Place` is sound. A sound record has good fields, and the
+-- schedule doesn't pass midnight for the third time at this record. In a deletion neither is
+-- checked
 abbrev pub is_sound_at : Place → List ℕ → Bool
 is_sound_at (in_schedule stage lines) line = cond (is_some (stage_after stage (kind_of line))) (is_sound_next lines line) (has_good_fields line)
 is_sound_at _ line = has_good_fields line
