@@ -142,8 +142,8 @@ module _ (places : Places) (none : (key : model.Key) (op : ops.Op) → is_put op
   abbrev Kept : List Row → List Keyed
   Kept rows = kept_lapsed floor horizon (map row_meant rows)
 
-  -- let the join take some rows. Their spots (each a TIPLOC and a row's index) are the spots of the first of these rows, with its index in the join, followed
-  -- by the spots of the other rows
+  -- suppose that the join takes these rows. Their spots (each a TIPLOC and a row's index) are the
+  -- spots of the first row, with its index in the join, followed by the spots of the other rows
   row_out : (at : ℕ) (row : Row) (rows : List Row)
       → spots_from places at (Kept (row ∷ rows)) ≡ at_move (goes floor horizon at row.1) (places (key_meant row.0) (op_meant row.1.op)) ++ spots_from places
       (after floor at row.1) (Kept rows)

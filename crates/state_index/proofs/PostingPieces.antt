@@ -18,7 +18,7 @@ use Rattle.state_index.specs.PostingOrder.{posting_cmp}
 use Rattle.state_index.specs.PlaceRows.{IsPieceOf}
 
 module _ {A : Type 0} (P : A → Type 0) where
-  -- a property of all elements at indexes below n is a property of each of the first n elements
+  -- if all elements at indexes below n have a property, each of the first n elements has it
   taken : (xs : List A) (n : ℕ) → n ≤ length xs → ((k : ℕ) (d : A) → 0 ≤ k → k < n → P (get_or xs k d)) → (z : A) → Contains (take n xs) z → P z
   taken xs zero bound all z among = absurd (nil-Contains z among)
   taken [] (suc n) bound all z among = absurd (let none : suc n ≤ 0 = bound in omega arith)
@@ -29,7 +29,8 @@ module _ {A : Type 0} (P : A → Type 0) where
       by rest (inl same) = subst P same (all 0 x (omega arith) (omega arith))
       by rest (inr inside) = rest inside
 
-  -- a property of all elements at indexes from n on is a property of each element after the first n
+  -- if all elements at indexes from n on have a property, each element after the first n elements
+  -- has it
   dropped : (xs : List A) (n : ℕ) → n ≤ length xs → ((k : ℕ) (d : A) → n ≤ k → k < length xs → P (get_or xs k d)) → (z : A) → Contains (drop n xs) z → P z
   dropped [] zero bound all z among = absurd (nil-Contains z among)
   dropped [] (suc n) bound all z among = absurd (let none : suc n ≤ 0 = bound in omega arith)

@@ -25,7 +25,8 @@ use Rattle.state_index.specs.Spots.{Places, call_places, link_places, spots_of}
 abbrev pub floor_meant : Option stamp.FileStamp → Option FileStamp
 floor_meant floor = option_map file_stamp_meant floor
 
--- Says that some entry of this key isn't below the floor, and that `lapse_entry horizon` turns it into this entry.
+-- Says that this entry results from `lapse_entry horizon` for some entry of the same key, and that
+-- this other entry isn't below the floor.
 abbrev pub LapsesTo : List (model.Key × ops.Entry) → Option FileStamp → ℕ → model.Key → ops.Entry → Type 0
 LapsesTo entries floor horizon key entry =
     (before : ops.Entry) × Contains entries (key, before) × IsKept floor before.stamp.file × (lapse_entry horizon before ≡ entry)

@@ -8,6 +8,6 @@ use Rattle.state_index.specs.declared.posting.Posting.{Posting}
 abbrev pub posting_cmp : Posting → Posting → Ordering
 posting_cmp a b = ordering_then (nat_cmp a.place b.place) (nat_cmp a.at b.at)
 
--- Says that the order of postings is total.
+-- the order of postings is total
 pub posting_total : IsTotalOrder posting_cmp
 posting_total = then_total (on_total (λ (m : Posting). m.place) nat_cmp_total) (on_total (λ (m : Posting). m.at) nat_cmp_total)

@@ -17,6 +17,6 @@ pub record Spot : Type 0 where
 abbrev pub spot_cmp : Spot → Spot → Ordering
 spot_cmp a b = ordering_then (bytes_cmp a.place b.place) (nat_cmp a.at b.at)
 
--- Says that the order of spots is total.
+-- the order of spots is total
 pub spot_total : IsTotalOrder spot_cmp
 spot_total = then_total (on_total (λ (s : Spot). s.place) nat_list_cmp_total) (on_total (λ (s : Spot). s.at) nat_cmp_total)

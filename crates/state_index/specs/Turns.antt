@@ -14,7 +14,8 @@ use Rattle.docker_join.specs.Rows.{row_cmp}
 use Rattle.state_index.specs.declared.turns.Turn.{Turn}
 use Rattle.state_index.specs.declared.turns.Turn.TheVariants as turn
 
--- one step of a walk over two tables: the rows of the tables that have the same key
+-- one step of a walk over two tables: a row of one table, or a row of each table if both rows have
+-- the same key
 pub data AtKey : Type 0 where
   in_first : (one : Key × Entry) → AtKey
   in_second : (other : Key × Entry) → AtKey
@@ -68,14 +69,15 @@ is_put deleted = false
 is_put lapsed = false
 is_put (put_with body) = true
 
--- the index in the join of an entry that is the greater one of its key, if `at` rows come before it. It is none if the entry is below the floor, or if it isn't
--- a put after `lapse horizon`
+-- the index that an entry has in the join, if it is the greater entry of its key and `at` rows come
+-- before it. The index is none if the entry is below the floor, or if it isn't a put after `lapse
+-- horizon`
 abbrev pub goes : Option FileStamp → ℕ → ℕ → Entry → Option ℕ
 goes floor horizon at entry =
     if is_kept floor (entry_meant entry).stamp.file && is_put (lapse horizon (entry_meant entry).op) then Some at else None
 
--- how many rows the join has up to and including an entry that is the greater one of its key, if `at` rows come before it. An entry below the floor has no row
--- in the join
+-- how many rows the join has up to and including an entry, if it is the greater entry of its key
+-- and `at` rows come before it. An entry below the floor has no row in the join
 abbrev pub after : Option FileStamp → ℕ → Entry → ℕ
 after floor at entry = if is_kept floor (entry_meant entry).stamp.file then 1 + at else at
 

@@ -13,9 +13,9 @@ use cif_change::{Key, Memory};
 use docker_join::{Entry, FileStamp, Op};
 use std::alloc::Global;
 
-/// The index in the join of each row of two tables. It is `None` if the join takes the other
-/// table's entry of the key, or if the row's entry is below the floor. It is also `None` if the
-/// entry isn't a put, or if its body ended before the horizon.
+/// The index that each row of two tables has in their join. It is `None` if the join takes the
+/// other table's entry of the key, or if the row's entry is below the floor. It is also `None` if
+/// the entry isn't a put, or if its body ended before the horizon.
 #[derive(Debug, Drop)]
 pub struct Moves {
     /// For each row of the first table, its index in the join.
@@ -82,8 +82,9 @@ impl Moves {
         moves
     }
 
-    /// Records the indexes that the rows of one key, one or two, have in the join. Before these
-    /// rows the join has `at` rows. Returns how many rows the join has up to this key.
+    /// Records the indexes that the rows of one key have in the join. There are one or two rows of
+    /// the key. Before these rows the join has `at` rows. Returns how many rows the join has up to
+    /// this key.
     fn take(&mut self, turn: Turn<'_>, floor: &Option<FileStamp>, horizon: u16, at: u32) -> u32
         requires few { at + 1 < 2 ^ 32 }
         requires first_room { vec_len self.old.first + length (firsts (turn_meant turn ∷ []))
@@ -142,9 +143,9 @@ fn wins(one: &Entry, other: &Entry) -> bool
     other < one
 }
 
-/// The index in the join of an entry that is the greater one of its key, if `at` rows come before
-/// it. Returns `None` if the entry is below the floor, if it isn't a put, or if its body ended
-/// before the horizon.
+/// The index that an entry has in the join, if it is the greater entry of its key and `at` rows
+/// come before it. Returns `None` if the entry is below the floor, if it isn't a put, or if its
+/// body ended before the horizon.
 fn index_of(entry: &Entry, floor: &Option<FileStamp>, horizon: u16, at: u32) -> Option<u32>
     ensures { result ≡ goes (floor_meant floor.now) horizon at entry.now }
 {
@@ -155,8 +156,8 @@ fn index_of(entry: &Entry, floor: &Option<FileStamp>, horizon: u16, at: u32) -> 
     }
 }
 
-/// How many rows the join has up to and including an entry that is the greater one of its key, if
-/// `at` rows come before it. An entry below the floor has no row in the join.
+/// How many rows the join has up to and including an entry, if it is the greater entry of its key
+/// and `at` rows come before it. An entry below the floor has no row in the join.
 fn index_after(entry: &Entry, floor: &Option<FileStamp>, at: u32) -> u32
     requires { at + 1 < 2 ^ 32 }
     ensures { result ≡ after (floor_meant floor.now) at entry.now }

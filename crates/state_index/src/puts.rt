@@ -42,7 +42,7 @@ pub(crate) fn keep_put(postings: &mut Vec<Posting>, rows: &[(Key, Entry)], puts:
     }
 }
 
-/// Whether the op of a posting's row is a put, according to the table.
+/// Whether the op of a posting's row is a put, according to the table `puts`.
 fn is_put_in(puts: &[bool], posting: &Posting) -> bool
     ensures { result ≡ put_among puts.now posting.now }
 {

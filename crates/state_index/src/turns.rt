@@ -7,7 +7,7 @@ use docker_join::Entry;
 use std::cmp::Ordering;
 use std::marker::Model;
 
-/// The rows of two tables that have the same key: one row, or one of each table.
+/// A row of one of two tables, or a row of each table if both rows have the same key.
 #[derive(Clone, Copy, Debug)]
 pub(crate) enum Turn<'a> {
     /// Only the first table has the key.

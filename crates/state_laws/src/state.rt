@@ -74,8 +74,8 @@ pub fn floor_of_ledger()
         → IsFloor state.ledger (first_full_stamp state.ledger) }
 {}
 
-/// The summary of files with a horizon is a valid state, if each file has at most 4,294,967,294
-/// records.
+/// If each file of a set has at most 4,294,967,294 records, the summary of the set, with any day
+/// number as its horizon, is a valid state.
 pub fn summary_is_valid()
     ensures { (files : List (List (List ℕ))) (horizon : ℕ) (state : State)
         → IsDay horizon → All IsFile files → All (λ file. length file ≤ most_records) files
@@ -103,7 +103,7 @@ pub fn laws_of_lapse()
         → IsGreatestAmong (lapse_entries horizon entries) key (lapse_entry horizon entry) }
 {}
 
-/// A valid state is still valid after a horizon is set, if the horizon is a day number. Setting a
+/// If a horizon is a day number, a valid state is still valid after this horizon is set. Setting a
 /// horizon that isn't greater than the state's horizon leaves a valid state unchanged, since all
 /// bodies that ended before the state's horizon have lapsed already.
 pub fn laws_of_setting()

@@ -85,7 +85,7 @@ end_of_lapsed = refl
 abbrev text : List ℕ
 text = state_text dks_2 f2_state
 
--- a text with the mark of the other format has the fault `bad_mark`
+-- a text in the format DKS2 that begins with the mark of the format DKS1 has the fault `bad_mark`
 other_mark : IsStateFault dks_2 1000 (codes "DKS1" ++ drop 4 text) (record { at = 0; cause = bad_mark })
 other_mark = inl (record {
   before = before_mark;
@@ -121,7 +121,7 @@ cut_in_horizon : IsStateFault dks_2 1000 (take 5 text) (record { at = 4; cause =
 cut_in_horizon =
     inr (inr (inl (record { before = before_horizon; good = tt; rest = 0 ∷ []; whole = refl; ends = lit< tt; within = lit≤ tt; cause = refl; item_at = refl })))
 
--- the format can hold the example state without its entry, with any day as the horizon
+-- the format DKS2 can hold the example state without its entry, whichever day is the horizon
 told_without : (horizon : ℕ) → IsDay horizon → IsToldState dks_2 (state_with horizon [])
 told_without horizon day = record {
   valid = record {
@@ -155,8 +155,8 @@ op_three = inl (record {
     no_op (inr (inl e)) = omega arith
     no_op (inr (inr e)) = omega arith
 
--- a lapsed op is good even if the horizon of the text is 0. The entry ends after the lapsed op, so
--- the text has the fault `has_tail` at the first byte of the old body
+-- a lapsed op is good even if the horizon of the text is 0. Its entry has no body. So the text has
+-- the fault `has_tail` at the first byte of the body that the put had
 op_two : IsStateFault dks_2 1000 (take 66 text ++ 2 ∷ drop 67 text) (record { at = 67; cause = has_tail })
 op_two = inr (inr (inr (record {
   state = state_with 0 (lapsed_entry ∷ []);
@@ -187,7 +187,7 @@ op_two = inr (inr (inr (record {
       ops = All-from_recursion (λ (entry : Key × Entry). TellsOp dks_2 entry.1.op) (lapsed_entry ∷ []) (tt, tt);
     }
 
--- the end number of a schedule depends only on the schedule's first record
+-- the end of a schedule's body depends only on the schedule's first record
 end_of_line : body_end (schedule_body (f2_basic ∷ [])) ≡ 23541
 unfolding days_from_civil day_count days_of_years days_of_months
 end_of_line = refl

@@ -1,5 +1,5 @@
--- Worked examples of key order and byte order. In three examples the two orders differ: without the
--- tag, with the low byte of a number first, and for keys that no record can have.
+-- Worked examples of key order and byte order. In three examples the two orders differ: if the tag
+-- is left out, if the low byte of a number comes first, and if no record can have the keys.
 use Rattle.std.proofs.Common.{◌≡◌, ℕ, List, ◌∷◌, refl}
 use Rattle.std.specs.Prelude.{codes}
 use Rattle.std.specs.Int.{w16, to_le_bytes}

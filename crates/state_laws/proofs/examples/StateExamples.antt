@@ -28,7 +28,7 @@ pub key_of_f2 : schedule_named f2_basic ≡ schedule_key (record { uid = codes "
 unfolding days_from_civil day_count days_of_years days_of_months
 key_of_f2 = refl
 
--- the end number of the schedule in the example file is 23541, for 14 June 2024
+-- the body of the schedule in the example file ends on day 23541, which is 14 June 2024
 pub end_of_f2 : body_end (schedule_body f2_schedule) ≡ 23541
 unfolding days_from_civil day_count days_of_years days_of_months
 end_of_f2 = refl
@@ -71,7 +71,7 @@ start_of_entry = refl
 lines_in_text : drop 69 (state_text dks_1 f2_state) ≡ concat f2_schedule
 lines_in_text = refl
 
--- the item, the key and the stamp can be decoded from these bytes
+-- the item, the key and the stamp can be decoded from their bytes in the text
 item_again : item_in (slice_range (state_text dks_1 f2_state) 12 31) ≡ f2_item
 item_again = refl
 

@@ -125,8 +125,8 @@ links_row_back (association_key key) (schedule_body lines) place link among = ab
 links_row_back (tiploc_key code) body place link among = absurd (nil-Contains (place, link) among)
 links_row_back (schedule_key key) body place link among = absurd (nil-Contains (place, link) among)
 
--- the index rows of calls for all rows of a table, sorted and without duplicates, are the table's
--- index of calls
+-- if a list is sorted, has no duplicates, and has exactly the index rows of calls for all rows of a
+-- table, it is the table's index of calls
 pub calling_from_rows : (live : Table) (rows : List Row) (index : List CallingRow) → AreRowsOf live rows → IsStrictlyAscending calling_cmp index
     → ((row : CallingRow) → Contains index row ↔ Contains (flat_map (λ (r : Row). calls_of r.0 r.1) rows) row) → IsCallingIndex live index
 calling_from_rows live rows index are up same = record {
@@ -143,8 +143,8 @@ calling_from_rows live rows index are up same = record {
   );
 }
 
--- the index rows of associations for all rows of a table, sorted and without duplicates, are the
--- table's index of associations
+-- if a list is sorted, has no duplicates, and has exactly the index rows of associations for all
+-- rows of a table, it is the table's index of associations
 pub linked_from_rows : (live : Table) (rows : List Row) (index : List LinkedRow) → AreRowsOf live rows → IsStrictlyAscending linked_cmp index
     → ((row : LinkedRow) → Contains index row ↔ Contains (flat_map (λ (r : Row). links_of r.0 r.1) rows) row) → IsLinkedIndex live index
 linked_from_rows live rows index are up same = record {

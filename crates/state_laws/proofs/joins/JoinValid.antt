@@ -34,8 +34,8 @@ kept_floor items ledger (Some stamp) greatest from to = record {
   greatest = λ item among. greatest.greatest item (from item among);
 }
 
--- suppose that the joined ledger has each item of a ledger that isn't below the floor. Then the
--- joined ledger also has the file stamp of each of these items
+-- suppose that the joined ledger has each item of `ledger`, unless the item is below the floor.
+-- Then each file stamp in `ledger` that isn't below the floor is also in the joined ledger
 pub stamp_stays : (ledger joined : List LedgerItem) (floor : Option FileStamp) → ((item : LedgerItem) → Contains ledger item → IsKept floor item.stamp
     → Contains joined item)
     → (stamp : FileStamp) → IsKept floor stamp → Contains (map (λ (item : LedgerItem). item.stamp) ledger) stamp
@@ -113,7 +113,7 @@ join_is_valid first second joined one two is = record {
         moved second.ledger (λ item among keeps. (is.ledger item).1 (Contains-append_right first.ledger second.ledger item among, keeps)) entry kept
         (All-contains (IsGoodEntry second.ledger) second.entries entry two.entries.0 here)
 
--- after lapsing, a valid state is still valid, if the horizon is a day number
+-- if the horizon is a day number, a valid state is still valid after lapsing with this horizon
 pub lapsed_is_valid : (horizon : ℕ) (state : State) → IsDay horizon → IsValid state → IsValid (lapse_state horizon state)
 lapsed_is_valid horizon state day valid = record {
   horizon = day;
@@ -130,7 +130,7 @@ lapsed_is_valid horizon state day valid = record {
       subst (HasNotToLapse horizon) (ap (λ (e : Entry). e.op) told.2) (has_lapsed horizon told.0.op));
 }
 
--- a valid state is valid after a horizon is set, if the horizon is a day number
+-- if the horizon is a day number, a valid state is still valid after this horizon is set
 pub raised_is_valid : (horizon : ℕ) (state : State) → IsDay horizon → IsValid state → IsValid (raise_horizon horizon state)
 raised_is_valid horizon state day valid = lapsed_is_valid (max state.horizon horizon) state (max_most state.horizon horizon last_day valid.horizon day) valid
 
@@ -140,7 +140,8 @@ raised_is_valid horizon state day valid = lapsed_is_valid (max state.horizon hor
 pub one_floor : (state : State) (first second : Option FileStamp) → IsFloor state.ledger first → IsFloor state.ledger second → first ≡ second
 one_floor state = floor_unique state.ledger state.ledger (λ item. (λ x. x, λ x. x))
 
--- the file stamp of the first full extract among items, or `None` if no item is for a full extract
+-- the file stamp of the first full extract among the items, or `None` if no item is for a full
+-- extract
 abbrev pub first_full : List LedgerItem → Option FileStamp
 first_full ledger = option_map (λ (item : LedgerItem). item.stamp) (find (λ (item : LedgerItem). item.indicator == 70) ledger)
 

@@ -29,7 +29,7 @@ lapsed_already horizon state all = λ i. record {
   entries = entries_stay horizon state.entries (recursion_from_All (λ (entry : Keyed). HasNotToLapse horizon entry.1.op) state.entries all) i;
 }
 
--- with a valid state's own horizon, lapsing leaves each entry of the state unchanged
+-- lapsing an entry of a valid state with the state's own horizon leaves the entry unchanged
 pub entry_of_valid_stays : (state : State) (key : Key) (entry : Entry) → IsValid state → Contains state.entries (key, entry)
     → lapse_entry state.horizon entry ≡ entry
 entry_of_valid_stays state key entry valid among =
@@ -88,7 +88,7 @@ none_to_lapse entries = All-from_recursion (λ (entry : Keyed). HasNotToLapse 0 
     each [] = tt
     each (x ∷ xs) = (none_has_to x.1.op, each xs)
 
--- `state` is the summary of the files without a horizon: each key has its greatest entry, and no
+-- without a horizon, `state` is the summary of the files: each key has its greatest entry, and no
 -- entry has lapsed
 pub record IsPlainSummary (files : List (List (List ℕ))) (state : State) : Type 0 where
   pub no_horizon : state.horizon ≡ 0

@@ -66,7 +66,7 @@ to_stage_by_get own up floor key entry = by (entry_at own key) refl
 
 -- ---- entries are staged one by one
 
--- before the first offer no entry is staged
+-- as long as no entry has been offered, no entry is staged
 pub nothing_staged : (own : State) (floor : Option FileStamp) → IsStaged own floor [] []
 nothing_staged own floor = record {
   ascending = tt;
@@ -120,8 +120,8 @@ module _ (own : State) (floor : Option FileStamp) (offered staged : List (Key ×
 
 -- ---- after all entries are offered, the commit makes the join
 
--- after all entries of a received state are offered and the staged entries are committed, the
--- result is the join of `own` with the received state without its horizon
+-- suppose that all entries of a received state are offered, and the staged entries are committed.
+-- The result is the join of `own` with the received state without its horizon
 pub staging_joins_before : (own received : State) (floor : Option FileStamp) (staged : List (Key × Entry)) (after : State) → IsValid own → IsValid received
     → IsFloor (own.ledger ++ received.ledger) floor → IsStaged own floor received.entries staged → IsCommit own received.ledger staged after
     → IsJoin own (without_horizon received) after
@@ -130,8 +130,8 @@ staging_joins_before own received floor staged after valid valid_too is_floor st
     (λ item. (λ x. x, λ x. x)) floor commit.floor is_floor commit.is_floor in
     commit_is_join own received valid valid_too staged after commit (subst (λ f. IsStaged own f received.entries staged) floors stages)
 
--- all entries of a received state are offered, the staged entries are committed, and then the
--- received horizon is set. The result is the join of `own` with the received state
+-- suppose that all entries of a received state are offered, the staged entries are committed, and
+-- then the received horizon is set. The result is the join of `own` with the received state
 pub staging_joins : (own received : State) (floor : Option FileStamp) (staged : List (Key × Entry)) (after : State) → IsValid own → IsValid received
     → IsFloor (own.ledger ++ received.ledger) floor → IsStaged own floor received.entries staged → IsCommit own received.ledger staged after
     → IsJoin own received (raise_horizon received.horizon after)

@@ -21,7 +21,7 @@ use Rattle.cif_laws.proofs.orders.AtMost.{at_most_trans, at_most_itself, at_most
 use Rattle.state_laws.proofs.states.OneJoin.{floor_unique}
 use Rattle.state_laws.proofs.states.ExactEntries.{exact_entry}
 
--- the file stamp of the greater of two entries isn't below the file stamp of the other
+-- if an entry is at most another entry, its file stamp is at most the other entry's file stamp
 stamp_up : (low high : Entry) → IsAtMost entry_cmp low high → IsAtMost file_stamp_cmp low.stamp.file high.stamp.file
 stamp_up low high up greater = up (λ i. ordering_then (ordering_then (greater i) (nat_cmp low.stamp.number high.stamp.number)) (op_cmp low.op high.op))
 

@@ -106,8 +106,7 @@ deleted_least horizon body = by (below_or horizon body)
 number_above : (m n : ℕ) → n < m → nat_cmp m n ≡ Greater
 number_above m n below = sym (nat_cmp_is m n Greater below)
 
--- if one body is at most another body in the order, the first body's end number is at most the
--- second body's end number
+-- if one body is at most another body in the order, it doesn't end later than the other body
 ends_in_order : (a b : Body) → IsAtMost body_cmp a b → body_end a ≤ body_end b
 ends_in_order a b most = by (nat_lt (body_end b) (body_end a)) refl
   where

@@ -84,8 +84,8 @@ not_first entry entries table key above last =
         inr (subst (λ (pair : Keyed). IsBelow stamp_cmp pair.1.stamp last.0.stamp) e below)
     by other (inr inside) = last.3 other inside
 
--- after all entries, at each key the table is unchanged, or has the body of the key's last entry,
--- which is also the entry with the greatest stamp
+-- after all entries are applied, the table at each key is unchanged, or it has the body of the
+-- key's last entry. This entry has the greatest stamp of the key's entries
 pub last_there : (entries : List Keyed) (table : Table) (key : Key) → AllLater Ascends entries → NoneThere entries table key ⊎ LastThere entries table key
 last_there [] table key up = inl (λ entry among. nil-Contains (key, entry) among, refl)
 last_there (entry ∷ entries) table key up = by (last_there entries (step table entry) key up.1)

@@ -20,8 +20,8 @@ use Rattle.state_laws.proofs.states.GreatestEntry.{NoEntry, GreatestEntry, great
 use Rattle.state_laws.proofs.states.Lapse.{lapse_entry_keeps_order, entry_twice, entry_stays}
 use Rattle.state_laws.proofs.states.KeptEntries.{kept_up, lapse_below, level_lapsed, lapses_or_not}
 
--- the entry is what a reduction keeps for the key. It is the key's greatest entry, lapsed with the
--- horizon. The greatest entry isn't below the floor
+-- a reduction keeps `entry` for the key: it is the key's greatest entry, lapsed with the horizon.
+-- The greatest entry isn't below the floor
 abbrev pub KeptOf : List Keyed → Option FileStamp → ℕ → Key → Entry → Type 0
 KeptOf entries floor horizon key entry =
     (greatest : Entry) × IsGreatestAmong entries key greatest × IsKept floor greatest.stamp.file × (lapse_entry horizon greatest ≡ entry)
@@ -136,8 +136,8 @@ module _ (items more : List LedgerItem) (entries others : List Keyed) (once twic
           λ i. lapse_entry once.horizon best,
         ))
 
-    -- let `best` be the greatest of all entries of a key, and `top` the greatest entry in the
-    -- second step of the reduction. Lapsing makes them equal
+    -- let `best` be the greatest of all entries of a key, and `top` the key's greatest entry among
+    -- the entries that the second step of the reduction receives. Lapsing makes them equal
     same_lapse : (best top : Entry) → IsGreatestAmong (entries ++ others) key best → IsGreatestAmong (once.entries ++ others) key top
         → IsKept second.floor best.stamp.file → IsKept second.floor top.stamp.file → lapse_entry twice.horizon best ≡ lapse_entry twice.horizon top
     same_lapse best top is_best is_top kept_best kept_top = by (stands best is_best kept_best)

@@ -41,8 +41,8 @@ below_kept (Some floor) low high kept = by (at_most_or file_stamp_total floor lo
         (op_cmp low.op high.op)))
 
 module _ (files : List File) (floor : Option FileStamp) (key : Key) where
-  -- each entry that is left by a file that isn't older than the floor is among the entries of all
-  -- files. The file stamp of this entry isn't below the floor
+  -- if a file that isn't older than the floor leaves an entry, the entry is among the entries of
+  -- all files. The file stamp of this entry isn't below the floor
   pub entry_in : (entry : Entry) → IsEntryOf files floor key entry → Contains (entries_along files) (key, entry) × IsKept floor entry.stamp.file
   entry_in entry made =
       let pair : entry_of_change made.file made.change ≡ (key, entry) = (λ i. (made.key_is i, made.entry_is i)) in (

@@ -1,4 +1,5 @@
--- The summary of files within the limit is a valid state.
+-- If each file of a set has at most `most_records` records, the summary of the set is a valid
+-- state.
 use Rattle.std.proofs.Common.{ℕ, ◌≤◌, List, map, length, All, Contains, subst, ap, sym, ◌∙◌, refl, arith}
 use Rattle.std.specs.Prelude.{◌==◌, ◌||◌}
 use Rattle.std.proofs.lemmas.List.Elements.{All-contains}
@@ -33,9 +34,10 @@ item_good file is =
       last_reference = text_in is.first 40 46 is.header_record (omega arith) (omega arith);
     })
 
--- ---- the summary of files within the limit is valid
+-- ---- the summary of files with at most `most_records` records each is valid
 
--- the summary of files within the limit is valid
+-- if each file has at most `most_records` records and the horizon is a day number, the summary of
+-- the files is a valid state
 pub summary_is_valid : (files : List (List (List ℕ))) (horizon : ℕ) (state : State) → IsDay horizon → All IsFile files
     → All (λ file. length file ≤ most_records) files
     → IsSummary files horizon state → IsValid state

@@ -99,7 +99,7 @@ bad_and_short format limit text first second one two =
     let ends = two.ends in
     omega arith
 
--- a text whose reader stops at the end of a state has no bad part
+-- if a reader of a text stops at the end of a state, the text has no bad part
 end_and_bad : (format : Format) → (limit : ℕ) (text : List ℕ) (state : State) (fault : StateFault) → IsStopped format limit text (at_end state)
     → HasBadPart format limit text fault → ⊥
 end_and_bad format limit text state fault stopped one =

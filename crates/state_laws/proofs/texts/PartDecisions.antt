@@ -134,7 +134,7 @@ implied_decided p (inl q) = inl (λ h. q)
 implied_decided (inl p) (inr none) = inr (λ f. none (f p))
 implied_decided (inr never) (inr none) = inl (λ p. absurd (never p))
 
--- it is decidable whether lines begin a schedule with this key
+-- it is decidable whether these lines are the beginning of a schedule with this key
 pub lines_decided : (key : ScheduleKey) (count : ℕ) (lines : List (List ℕ)) → Decided (AreLinesUpTo key count lines)
 lines_decided key count lines =
     decided_along (λ h. record { lines_of = record { begin = h.0; new = h.1.0; key_is = h.1.1.0 }; complete = h.1.1.1 })
@@ -143,7 +143,8 @@ lines_decided key count lines =
     (both_decided (same_key_decided (schedule_named (first_record lines)) (schedule_key key))
     (implied_decided (nat_decided (length lines) count) (schedule_decided lines)))))
 
--- it is decidable whether lines begin a schedule that has this key and doesn't have to lapse
+-- it is decidable whether these lines are the beginning of a schedule that has this key and doesn't
+-- have to lapse
 pub lines_here_decided : (state : State) (key : ScheduleKey) (count : ℕ) (lines : List (List ℕ))
     → Decided (AreLinesUpTo key count lines × HaveNotToLapse state lines)
 lines_here_decided state key count lines = both_decided (lines_decided key count lines) (le_decided state.horizon (body_end (schedule_body lines)))

@@ -76,7 +76,7 @@ items_lead format horizon count before (item ∷ later) is within =
     (item_floor before item later is))
     (then_leads format _ _ _ rest (no_step format _ _ (ap (after_items horizon count) grouped))))
 
--- each prefix of lines that begin a schedule begins a schedule
+-- if lines are the beginning of a schedule, so is each prefix of these lines
 pub begins_front : (front rest : List (List ℕ)) → BeginsSchedule (front ++ rest) → BeginsSchedule front
 begins_front front rest begins = (rest ++ begins.0, subst IsSchedule (append_assoc front rest begins.0) begins.1)
 
@@ -277,7 +277,7 @@ part_leads format count state (before_line key stamp n lines) below ledger here 
         let more = here.2 in
         lines_lead format count state key stamp n [] lines below (record { lines_of = are.0; complete = λ whole. absurd (omega arith) }) are.1 (omega arith)
 
--- from the beginning of a text, a reader gets to each stage before which all parts are good
+-- if all parts before a stage are good, a reader gets from the beginning of the text to this stage
 pub reach : (format : Format) (before : Before) → AreGood format before → Leads format before_mark before
 reach format before_mark good = no_step format _ _ refl
 reach format before_horizon good = horizon_leads format good

@@ -106,7 +106,7 @@ key_written tag bytes (inr (inl e)) size all =
 key_written tag bytes (inr (inr e)) size all =
     subst (λ t. length bytes ≡ key_width t → key_bytes (key_in t bytes) ≡ bytes) (sym e) (λ wide. schedule_written bytes wide all) size
 
--- the key decoded for a tag has that tag
+-- a key that is decoded as a key for a tag has that tag
 pub tag_of_key : (tag : ℕ) (bytes : List ℕ) → IsTag tag → key_tag (key_in tag bytes) ≡ tag
 tag_of_key tag bytes (inl e) = subst (λ t. key_tag (key_in t bytes) ≡ t) (sym e) refl
 tag_of_key tag bytes (inr (inl e)) = subst (λ t. key_tag (key_in t bytes) ≡ t) (sym e) refl

@@ -16,7 +16,7 @@ use Rattle.state_laws.specs.TextStage.{with_entry, after_items, after_entries}
 use Rattle.cif_laws.proofs.lists.AllOf.{all_append}
 use Rattle.cif_laws.proofs.orders.Ascending.{ascending_last}
 
--- a horizon of either format is a day number
+-- each horizon that a format allows is a day number
 pub horizon_day : (format : Format) (horizon : ℕ) → IsHorizonOf format horizon → IsDay horizon
 horizon_day dks_1 horizon none = omega (arith, none)
 horizon_day dks_2 horizon day = day
