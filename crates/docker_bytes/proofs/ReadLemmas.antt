@@ -201,7 +201,8 @@ held_all (Some told) (Some rest) text lost end =
     let same : told ≡ text ++ rest = cc in
     same ∙ ap (λ r. text ++ r) end ∙ append-nil text
 
--- a parser that was fed up to the source's end has read all bytes that the source held
+-- if a parser was fed from a source until the source ended, it has read all bytes that the source
+-- held
 pub reads_all : {K : Type 0} (terms : StateTerms) (count : ℕ) (initial now : Option (List ℕ)) (parser : ParserState K)
     → HasFed TakesState count terms [] initial now parser → IsEnd now → ReadsAll terms.format terms.limit initial parser
 reads_all terms count initial now parser at end =

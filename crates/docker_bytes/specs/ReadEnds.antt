@@ -7,8 +7,7 @@ use Rattle.docker_bytes.specs.declared.read.ReadFault.TheVariants.{Source, State
 use Rattle.docker_bytes.specs.SourceRead.{IsFaultOf, ReadsOnePieceMore, RefusesState, WantsMemory}
 use Rattle.docker_bytes.specs.StateReading.{IsWhole}
 
--- the bytes that are left in a source, or `None` if contracts don't know which bytes the source
--- holds
+-- the bytes that are left in a source, or `None` if no contract says which bytes the source holds
 abbrev pub BytesLeft : Type 0
 BytesLeft = Option (List ℕ)
 

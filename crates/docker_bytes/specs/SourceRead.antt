@@ -10,8 +10,8 @@ use Rattle.state_text.specs.FaultMeaning.{cause_meant}
 use Rattle.docker_bytes.specs.StateReading.{IsMadeOf, IsWhole, IsOpen, IsWanting}
 use Rattle.docker_bytes.specs.ParserRead.{ParserState, HasRead}
 
--- says that a source held this text. If contracts don't know which bytes the source holds, this is
--- true of every text
+-- says that a source held this text. If no contract says which bytes the source holds, this is true
+-- of every text
 abbrev pub Held : Option (List ℕ) → List ℕ → Type 0
 Held None text = ⊤
 Held (Some left) text = left ≡ text

@@ -62,7 +62,7 @@ last_of (row ∷ next ∷ rows) w among = by (is_eq (row_cmp next row)) refl (λ
     by false h rest (inr inside) = let m = rest w inside in (m.0, cons-Contains row (last_rows (next ∷ rows)) m.0 m.1, m.2)
 
 module _ (rows : List (Key × Entry)) (sorted : AreSorted rows) (records : (row : Key × Entry) → Contains rows row → HasRecords (op_meant row.1.op)) where
-  -- each last row has the greatest entry of its key
+  -- each row of `last_rows rows` has the greatest entry of its key
   pub last_is_greatest : (key : model.Key) (entry : ops.Entry) → Contains (map row_meant (last_rows rows)) (key, entry)
       → IsGreatestAmong (map row_meant rows) key entry
   last_is_greatest key entry last =
@@ -77,7 +77,7 @@ module _ (rows : List (Key × Entry)) (sorted : AreSorted rows) (records : (row 
             (subst (λ e. IsAtMost entry_cmp e (entry_meant z.0.1)) (λ i. (w.2 i).1) (lasts_top rows sorted z.0 z.1 w.0 w.1 tied));
       }
 
-  -- the greatest entry of each key is in one of the last rows
+  -- for each key in `rows`, `last_rows rows` has the row with the greatest entry of the key
   pub greatest_is_last : (key : model.Key) (entry : ops.Entry) → IsGreatestAmong (map row_meant rows) key entry
       → Contains (map row_meant (last_rows rows)) (key, entry)
   greatest_is_last key entry best =

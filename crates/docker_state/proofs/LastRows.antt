@@ -38,7 +38,7 @@ later_key a b = by (row_cmp a b) refl
     by Equal is low = inr (is, low)
     by Greater is low = absurd (low refl)
 
--- a property of all rows is a property of the last row of each key
+-- if all rows have a property, so has the last row of each key
 pub lasts_all : (P : Key × Entry → Type 0) (rows : List (Key × Entry)) → AllByRecursion P rows → AllByRecursion P (last_rows rows)
 lasts_all P [] all = tt
 lasts_all P (row ∷ []) all = (all.0, tt)
@@ -104,7 +104,7 @@ of_one_key a b low tied = by (later_key a b low)
     by (inl less) = absurd (let bad : Less ≡ Equal = sym less ∙ tied in cc)
     by (inr same) = same.1
 
--- each last row is one of the rows
+-- each row of `last_rows rows` is one of the rows
 pub lasts_among : (rows : List (Key × Entry)) (z : Key × Entry) → Contains (last_rows rows) z → Contains rows z
 lasts_among rows z last =
     below_by_recursion (Contains rows) (last_rows rows) z

@@ -21,7 +21,8 @@ stamp_at_most a b below = λ above.
     let bad : Greater ≡ Less =
     sym (λ i. ordering_then (above i) (ordering_then (nat_cmp a.indicator b.indicator) (bytes_cmp a.last_reference b.last_reference))) ∙ below in cc
 
--- of two ledger items, any stamp above the higher item's stamp is also above the lower item's stamp
+-- if a stamp is above the stamp of the higher of two ledger items, it is also above the stamp of
+-- the lower item
 below_with : (a b : LedgerItem) (stamp : FileStamp) → IsBelow ledger_item_cmp a b → IsBelow file_stamp_cmp b.stamp stamp
     → IsBelow file_stamp_cmp a.stamp stamp
 below_with a b stamp before low = by (at_most_or file_stamp_total stamp a.stamp)

@@ -52,8 +52,9 @@ none_of_rest meant own floor rows behind row is first others =
 pub untold : {P : Type 0} (b : Bool) → b ≡ false → IsTrue b ↔ P → ¬ P
 untold b fails tells holds = let bad : false ≡ true = sym fails ∙ tells.1 holds in cc
 
--- Suppose a state has each item of another state that isn't below the floor, and no entry of the other state has to be staged. Then the join of the two states
--- is the first state, with the greater of the two horizons.
+-- Suppose that a state has each item of another state, unless the item is below the floor, and that
+-- no entry of the other state has to be staged. Then the join of the two states is the first state,
+-- with the greater of the two horizons.
 pub covered : (own other : State) → IsValid own → IsValid other → (floor : Option FileStamp) → IsFloor (own.ledger ++ other.ledger) floor
     → HasKeptItems own.ledger other.ledger floor → HasNoneToStage own floor other.entries → IsJoin own other (raise_horizon other.horizon own)
 covered own other valid valid_too floor is_floor has none =

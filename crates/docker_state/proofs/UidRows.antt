@@ -169,7 +169,7 @@ behind_ascends (row ∷ rows) (suc n) up = behind_ascends rows n up.1
 -- ---- the UID's schedules are neighbouring rows
 
 module _ {A : Type 0} (P : A → Type 0) where
-  -- a property of all elements at indexes below n is a property of each of the first n elements
+  -- if all elements at indexes below n have a property, each of the first n elements has it
   front_all : (xs : List A) (n : ℕ) → n ≤ length xs → ((k : ℕ) (d : A) → 0 ≤ k → k < n → P (get_or xs k d)) → (z : A) → Contains (take n xs) z → P z
   front_all xs zero bound all z among = absurd (nil-Contains z among)
   front_all [] (suc n) bound all z among = absurd (let none : suc n ≤ 0 = bound in omega arith)
@@ -180,7 +180,8 @@ module _ {A : Type 0} (P : A → Type 0) where
       by rest (inl same) = subst P same (all 0 x (omega arith) (omega arith))
       by rest (inr inside) = rest inside
 
-  -- a property of all elements at indexes from n on is a property of each element after the first n
+  -- if all elements at indexes from n on have a property, each element after the first n elements
+  -- has it
   back_all : (xs : List A) (n : ℕ) → n ≤ length xs → ((k : ℕ) (d : A) → n ≤ k → k < length xs → P (get_or xs k d)) → (z : A) → Contains (drop n xs) z → P z
   back_all [] zero bound all z among = absurd (nil-Contains z among)
   back_all [] (suc n) bound all z among = absurd (let none : suc n ≤ 0 = bound in omega arith)
@@ -242,7 +243,7 @@ schedule_of key (tiploc_body bytes) good = absurd good
 schedule_of key (association_body line) good = absurd good
 schedule_of key (schedule_body lines) good = (lines, refl)
 
--- a property of all elements of two concatenated lists is a property of all elements of the first list
+-- if all elements of two concatenated lists have a property, all elements of the first list have it
 front_of : {A : Type 0} (P : A → Type 0) (xs ys : List A) → AllByRecursion P (xs ++ ys) → AllByRecursion P xs
 front_of P [] ys all = tt
 front_of P (x ∷ xs) ys all = (all.0, front_of P xs ys all.1)

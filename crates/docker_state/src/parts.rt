@@ -120,7 +120,7 @@ impl Parts {
     }
 
     /// Makes the state from what was added. If memory runs out, the ledger items and entries are
-    /// dropped. If the state is to have an index, they are also dropped if there are more than
+    /// dropped. For a state with an index, they are also dropped if there are more than
     /// 4,294,967,295 entries or places, which are numbered in 32 bits.
     pub fn finish(self) -> Result<State, Memory>
         ensures { IfOk result (λ state. state ≡ self) }

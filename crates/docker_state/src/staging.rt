@@ -144,8 +144,8 @@ pub(crate) fn is_to_stage(
     ensures { IsTrue result
         ↔ IsToStage state.now (floor_meant floor.now) (key_meant key.now) (entry_meant entry.now) }
 {
-    // If the entry's file is newer than every known file, the entry is greater than any of ours.
-    // Then our entry of its key doesn't have to be looked up.
+    // If the entry's file is newer than every known file, the entry is greater than any of our
+    // entries. Then our entry of its key doesn't have to be looked up.
     if is_above_all(state.ledger(), &entry.stamp.file) {
         return is_kept(floor, &entry.stamp.file);
     }

@@ -76,7 +76,8 @@ impl<'a> Timetable<'a> {
         }
     }
 
-    /// The horizon of the state: a day number from 0 for 1960-01-01, or 0 if none was set.
+    /// The horizon of the state: a day number, counted from 0 for 1960-01-01. Returns 0 if no
+    /// horizon was set.
     pub fn horizon(&self) -> u16
         ensures horizon { result ≡ self.now.state.horizon }
         ensures day { IsDay result }

@@ -32,7 +32,7 @@ offered_more own staging after entries key entry are above (inr out) =
     subst (λ (s : Staging). IsStagedOf own s (entries ++ (key, entry) ∷ [])) (sym out.1)
     (record { floor = are.floor; staged = one_left_out own staging.floor entries staging.staged key entry are.staged out.0 })
 
--- no entry is staged before the first entry is given
+-- as long as no entry has been given, no entry is staged
 pub none_staged : (own : State) (staging : Staging) (entries : List (Key × Entry)) → entries ≡ [] → staging.staged ≡ []
     → IsFloor (own.ledger ++ staging.items) staging.floor → IsStagedOf own staging entries
 none_staged own staging entries none empty floor = record {

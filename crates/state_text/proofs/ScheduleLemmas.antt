@@ -84,7 +84,8 @@ lines_up_to state key count lines line bytes same here first up_to =
     let are = one_line_more state key lines line here first up_to.begin in
     subst (λ b. AreLinesUpToIn state key count (lines ++ b ∷ [])) same (record { lines_of = are.0; complete = up_to.complete }, are.1)
 
--- let the lines so far begin a schedule with the key. Then a cause for refusing the next line is also a cause for refusing it as a line of that schedule
+-- suppose that a schedule with the key begins with the earlier lines. Then a cause for refusing the
+-- next line is also a cause for refusing it as a line of that schedule
 pub line_refused : (state : State) (key : ScheduleKey) (count : ℕ) (lines : Lines) (line bytes : List ℕ) → line ≡ bytes
     → (lines ≡ []) ⊎ AreLinesIn state key lines → (lines ≡ [] → IsOfKey state.horizon key line)
     → (cause : Option StateCause) → IsLineRefusal count lines line cause → IsUpToRefusal state key count lines bytes cause

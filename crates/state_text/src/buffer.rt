@@ -6,7 +6,7 @@ ghost use Rattle.state_text.specs.Written.{Gives, Flushes};
 use arrayvec::ArrayVec;
 use cif_line::{Failed, Sink, write_all};
 
-/// The most bytes that are gathered before they are written.
+/// The greatest number of bytes that the buffer can hold.
 pub(crate) const ROOM: usize = 65_536;
 
 /// Bytes that wait to be written to a sink.

@@ -102,11 +102,11 @@ pub const ASSOC_TAG: u8 = 2;
 /// The tag of a schedule.
 pub const SCHEDULE_TAG: u8 = 3;
 
-/// The op of a deletion.
+/// The byte of a deletion's op.
 pub const DELETED: u8 = 0;
 
-/// The op of a put.
+/// The byte of a put's op. A body follows it.
 pub const PUT: u8 = 1;
 
-/// The op of an entry that has lapsed.
+/// The byte of a lapsed entry's op.
 pub const LAPSED: u8 = 2;

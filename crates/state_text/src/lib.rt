@@ -1,5 +1,5 @@
 //! The text of a state: the widths of its parts, how the text is written, and how each part is
-//! judged after the parts before it. Re-exports states from the crates below.
+//! judged once the parts before it were read. Re-exports states from the crates below.
 #![tactic(auto)]
 
 mod body;
