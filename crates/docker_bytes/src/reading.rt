@@ -14,9 +14,9 @@ use state_text::{
 };
 use std::alloc::Global;
 
-/// The reading of a text up to some byte. It keeps the data of the complete parts and the kind of
-/// the next part. It also keeps the bytes of the next part that were read, and the offset at which
-/// this part's item began.
+/// The progress of reading a text up to some byte. It keeps the data of the complete parts and the
+/// kind of the next part. It also keeps the bytes of the next part that were read, and the offset
+/// at which this part's item began.
 #[derive(Debug, Drop)]
 pub(crate) struct StateReading<K: Keeper> {
     alloc: Global,

@@ -101,7 +101,8 @@ module _ (place : List ℕ) (state : State) (kept run : List Keyed) (needed : Bo
       by (inl none) = absurd (let bad : false ≡ true = ap (λ (r : List Keyed). goes_on r key.uid) (sym none) ∙ goes in cc)
       by (inr sorted) = inr sorted
 
-  -- at a schedule with another UID, the schedules in `run` are kept or dropped, and then `run` has only the new schedule
+  -- when the walk comes to a schedule with another UID, the schedules in `run` are kept or dropped,
+  -- and then `run` has only the new schedule
   pub walk_begins : (key : ScheduleKey) (entry : Entry) (named : Bool) → goes_on run key.uid ≡ false → IsSorted bytes_cmp names
       → (named ≡ true) ↔ Contains names key.uid
       → IsWalk place (state.entries ++ (schedule_key key, entry) ∷ []) (cond needed (kept ++ run) kept) ((schedule_key key, entry) ∷ [])

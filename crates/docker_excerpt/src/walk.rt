@@ -91,7 +91,7 @@ impl ExcerptWalk {
         Ok(())
     }
 
-    /// Moves past a schedule. It has the same UID as the schedules in `run`, or another UID.
+    /// Moves past a schedule, which may have the UID of the schedules in `run` or another UID.
     fn schedule(&mut self, given: &Given, key: ScheduleKey, entry: Entry) -> Result<(), Memory>
         requires { HasWalked self.old given.now.entries }
         ensures ok { IsOk result → HasWalked self.new

@@ -58,9 +58,9 @@ module _ {E : Type 0} (picked : E → E → E) where
       (walk picked xs (b ∷ others ++ y)) (walk picked xs (others ++ y)) (walk_from picked x (walk picked xs) (others ++ y)))
       ∙ ap (λ rest. b ∷ rest) (lower_first (x ∷ xs) others y below.1)
 
-  -- Let both tables consist of two parts, and let each first part be below the other table's second
-  -- part. Then the walk over the tables is the walk over the first parts, followed by the walk over
-  -- the second parts.
+  -- Suppose that both tables consist of two parts, and that each first part is below the other
+  -- table's second part. Then the walk over the tables is the walk over the first parts, followed
+  -- by the walk over the second parts.
   from_split : (a : Key × E) (rows x : List (Key × E))
       → ((b y : List (Key × E)) → AllBelow rows y → AllBelow b x → walk picked (rows ++ x) (b ++ y) ≡ walk picked rows b ++ walk picked x y)
       → (b y : List (Key × E)) → Above a y → AllBelow rows y → AllBelow b x
@@ -95,7 +95,8 @@ module _ {E : Type 0} where
   first_below [] ys up = tt
   first_below (x ∷ xs) ys up = (all_behind (IsBelow row_cmp x) xs ys up.0, first_below xs ys up.1)
 
-  -- let all rows of one list be below a row, and all rows of a second list above it. Then each row of the first list is below each row of the second list
+  -- if all rows of one list are below a row, and all rows of a second list are above it, each row
+  -- of the first list is below each row of the second list
   below_higher : (lows highs : List (Key × E)) (row : Key × E) → AllBelow lows (row ∷ []) → Above row highs → AllBelow lows highs
   below_higher [] highs row below above = tt
   below_higher (low ∷ lows) highs row below above = (above_lower low row highs below.0.0 above, below_higher lows highs row below.1 above)
@@ -190,7 +191,8 @@ module _ {E : Type 0} (picked : E → E → E) where
     };
   }
 
-  -- placing a row whose key the first table doesn't have doesn't change the final join of the tables
+  -- if the first table doesn't have a row's key, placing the row leaves the final join of the
+  -- tables unchanged
   none_placed : (p a r : List (Key × E)) (row : Key × E) (old new : List (Key × E)) (left later : ℕ)
       → old ≡ p ++ (a ++ r) → left ≡ length (a ++ r) → new ≡ row ∷ (r ++ (p ++ a)) → later ≡ length a
       → (AreAscending (a ++ r) → AllBelow a (row ∷ []) × Above row r) → WalksOn picked old left row new later
@@ -208,7 +210,7 @@ module _ {E : Type 0} (picked : E → E → E) where
             ∙ sym (joined_is old p (a ++ r) (rest ++ row ∷ []) left old_is left_size);
       }
 
-  -- placing the join of two rows with one key doesn't change the final join of the tables
+  -- placing the join of two rows with one key leaves the final join of the tables unchanged
   level_placed : (p b r : List (Key × E)) (own row : Key × E) (old new : List (Key × E)) (left later : ℕ)
       → old ≡ p ++ (b ++ (own ∷ r)) → left ≡ length (b ++ (own ∷ r)) → new ≡ (own.0, picked own.1 row.1) ∷ (r ++ (p ++ b)) → later ≡ length b
       → row_cmp own row ≡ Equal → WalksOn picked old left row new later

@@ -17,11 +17,12 @@ row_cmp a b = key_cmp (key_meant a.0) (key_meant b.0)
 abbrev pub AreAscending : {E : Type 0} → List (Key × E) → Type 0
 AreAscending rows = IsStrictlyAscending row_cmp rows
 
--- the value of the first row with this key; none if no row has it
+-- the value of the first row with this key, or `None` if no row has it
 abbrev pub value_at : {E : Type 0} → List (Key × E) → model.Key → Option E
 value_at rows key = option_map (λ row. row.1) (find (λ row. is_eq (key_cmp (key_meant row.0) key)) rows)
 
--- the joined value of two tables at a key: the join of both values, or the only value, or none
+-- the joined value of two tables at a key: the join of both values, or the only value, or `None` if
+-- neither table has the key
 abbrev pub picked_value : {E : Type 0} → (E → E → E) → Option E → Option E → Option E
 picked_value picked None other = other
 picked_value picked (Some value) None = Some value

@@ -110,8 +110,8 @@ pub made_stamped : (item : LedgerItem) (stamp : code.FileStamp) → file_stamp_m
     → map row_meant made ≡ map (made_by (item_meant item).stamp) all
 made_stamped item stamp same all made made_is = made_is ∙ ap (λ (s : FileStamp). map (made_by s) all) same
 
--- let a state have one ledger item and, for each key, the greatest entry that the changes make. Then the state satisfies `IsMadeState`, the definition of the
--- state that the changes make
+-- suppose that a state has one ledger item and, for each key, the greatest entry that the changes
+-- make. Then the state satisfies `IsMadeState`, the definition of the state that the changes make
 pub made_state : (item : stamps.LedgerItem) (all : List model.Change) (ledger : List LedgerItem) (made rows : List (Key × Entry))
     → map item_meant ledger ≡ item ∷ [] → map row_meant made ≡ map (made_by item.stamp) all → AreAscending rows
     → ((key : model.Key) (entry : ops.Entry) → Contains (map row_meant rows) (key, entry) ↔ IsGreatestAmong (map row_meant made) key entry)

@@ -21,6 +21,6 @@ pub record AreParts (ledger : List LedgerItem) (rows : List (Kept × Row)) (note
 abbrev pub under_horizon : ℕ → State → State
 under_horizon horizon state = record { horizon = horizon; ledger = state.ledger; entries = state.entries }
 
--- the key of the last entry; none if there are no entries
+-- the key of the last entry, or `None` if there are no entries
 abbrev pub last_key : List (Key × Entry) → Option Key
 last_key entries = option_map (λ (entry : Key × Entry). entry.0) (slice_get entries (length entries - 1))

@@ -1,4 +1,4 @@
--- The live rows at a place: schedules that call there, or associations that are linked there.
+-- The live rows at a place: schedules that call there, or associations there.
 use Rattle.std.specs.Prelude.{ℕ, Bool, true, false, if◌then◌else◌, List, Option, Some, None, option_and_then}
 use Rattle.std.specs.List.{filter_map}
 use Rattle.std.specs.Str.{bytes_eq}

@@ -89,7 +89,7 @@ fewer count (row ∷ rows) up pairs among = by (fewer count rows up.1) (cut_at p
             place next inside (Contains-append_cases front ((row.0, row.1.op) ∷ back) (next.0, next.1.op)
             (subst (λ (zs : List Pair). Contains zs (next.0, next.1.op)) whole (among next (cons-Contains row rows next inside))))
 
--- a row is linked at one place at most
+-- the association in a row has at most one place
 few_links : (key : Key) (op : Op) → length (link_places key op) ≤ 1
 few_links (association_key key) (put_with (association_body line)) = omega arith
 few_links (association_key key) (put_with (tiploc_body bytes)) = omega arith
@@ -110,7 +110,7 @@ changed changes = map (λ (change : model.Change). (change.key, op_of change.act
 pub places_of_rows : (rows : List Keyed) → length (spots_of call_places rows) ≡ total (λ key op. length (call_places key op)) (pairs_of rows)
 places_of_rows rows = spots_total call_places 0 rows
 
--- there are at most as many spots (pairs of a TIPLOC and a row) of links as there are rows
+-- there are at most as many spots (pairs of a TIPLOC and a row) of associations as there are rows
 pub links_of_rows : (rows : List Keyed) → length (spots_of link_places rows) ≤ length rows
 links_of_rows rows =
     let one = spots_total link_places 0 rows in

@@ -32,7 +32,8 @@ stays horizon (put_with body) put = by (below_or horizon body)
         ≡ false = sym put ∙ gone in cc)
     by (inr above) = put_stays horizon body above
 
--- the spots (each a TIPLOC and a row's index) of one row, with the row's index in the join; none if the row isn't live in the join
+-- the spots (each a TIPLOC and a row's index) of one row, with the row's index in the join, or no
+-- spots if the row isn't live in the join
 abbrev pub at_move : Option ℕ → List (List ℕ) → List Spot
 at_move None places = []
 at_move (Some at) places = map (spot_at at) places

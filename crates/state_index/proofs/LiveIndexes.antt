@@ -1,5 +1,6 @@
--- The spots of a state's rows determine the indexes of its live table. A spot is a TIPLOC with the index of a row there. The rows that a place's spots name are
--- exactly the schedules that call there and the associations that are linked there.
+-- The spots of a state's rows determine the indexes of its live table. A spot is a TIPLOC with the
+-- index of a row there. The rows that a place's spots name are exactly the schedules that call
+-- there and the associations there.
 use Rattle.std.proofs.Common.{◌≡◌, ℕ, List, [], ◌∷◌, ◌++◌, map, refl, ap, sym, ◌∙◌, subst, Some, None, Contains}
 use Rattle.std.specs.Prelude.{Option, slice_get, option_and_then}
 use Rattle.std.specs.List.{filter_map, cons_option}
@@ -52,7 +53,7 @@ live_is_put state up key body live = by (entry_at state key) refl live
         let place = member_at state.entries (key, entry) ((entry_at_iff state up key entry).0 at) in
         (place.0, entry, place.1, put_of entry.op body is)
 
--- the lemmas that hold for both indexes, the index of calls and the index of links
+-- the lemmas that hold for both indexes, the index of calls and the index of associations
 module _ {K : Type 0} (wrap : K → Key) (row_of : List ℕ → Key → Option (List ℕ × K)) (cmp : K → K → Ordering)
     (unwrap : (place : List ℕ) (key : Key) (row : List ℕ × K) → row_of place key ≡ Some row → (row.0 ≡ place) × (key ≡ wrap row.1))
     (wrapped : (place : List ℕ) (k : K) → row_of place (wrap k) ≡ Some (place, k))
@@ -60,7 +61,8 @@ module _ {K : Type 0} (wrap : K → Key) (row_of : List ℕ → Key → Option (
   abbrev IndexRow : Type 0
   IndexRow = List ℕ × K
 
-  -- the row that the live table's index has for a spot (a TIPLOC and a row's index); none unless the row's key is of the kind that the index lists
+  -- the row that the live table's index has for a spot (a TIPLOC and a row's index), or `None` if
+  -- the row's key isn't of the kind that the index lists
   abbrev row_at : List Keyed → Spot → Option IndexRow
   row_at rows spot = option_and_then (λ (row : Keyed). row_of spot.place row.0) (slice_get rows spot.at)
 
@@ -326,7 +328,8 @@ calling_found state rows same up spots slice slice_is of place field field_is pi
     (calling_there state (subst AreAscending (sym same) up) spots (subst (λ (all : List Keyed). AreSpotsOf call_places all spots) (sym same) of) place piece
     (subst (λ p. IsPieceAt p spots piece) field_is (subst (λ zs. IsPieceAt field zs piece) slice_is is)))
 
--- the rows found through the spots (each a TIPLOC and a row's index) of links at a place are exactly the live associations there
+-- the rows found through the spots (each a TIPLOC and a row's index) of associations at a place are
+-- exactly the live associations there
 pub linked_found : (state : State) (rows : List Keyed) → state.entries ≡ rows → AreAscending rows → (spots slice : List Spot) → slice ≡ spots
     → AreSpotsOf link_places rows spots
     → (place field : List ℕ) → field ≡ place → (piece : List Spot) → IsPieceAt field slice piece → (result : List Row) → result ≡ rows_at_spots rows piece

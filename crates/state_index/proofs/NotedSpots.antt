@@ -102,7 +102,8 @@ module _ (names sorted : List (List ℕ)) (ranks : List ℕ) (are : AreRanks sor
             → AreSpots at (row ∷ rows) (piece ∷ pieces) × (length (row ∷ rows) ≡ length (piece ∷ pieces))
         by rest = ((all_here (let len = rest.1 in omega arith) rest.0.0, len_here rest.0.1), ap suc rest.1)
 
--- the postings made from the notes of calls name exactly the places where the rows' schedules call
+-- the postings of calls that are made from the rows' notes name exactly the places where the rows'
+-- schedules call
 calls_noted : (names sorted : List (List ℕ)) (ranks numbers : List ℕ) → AreRanks sorted names ranks → (count : ℕ) (rows : List Keyed) (pieces : List Piece)
     → count ≡ length rows → AreNoted names numbers (items_of rows) pieces
     → (spots_in sorted (noted_postings false ranks numbers count pieces) ≡ spots_of call_places rows)
@@ -110,7 +111,8 @@ calls_noted : (names sorted : List (List ℕ)) (ranks numbers : List ℕ) → Ar
 calls_noted names sorted ranks numbers are count rows pieces count_is noted =
     (all_spots names sorted ranks are call_places false (λ ns item piece is. is.calls) numbers count 0 rows pieces noted (omega arith)).0
 
--- the postings made from the notes of links name exactly the places where the rows' associations are linked
+-- the postings of associations that are made from the rows' notes name exactly the places of the
+-- rows' associations
 links_noted : (names sorted : List (List ℕ)) (ranks numbers : List ℕ) → AreRanks sorted names ranks → (count : ℕ) (rows : List Keyed) (pieces : List Piece)
     → count ≡ length rows → AreNoted names numbers (items_of rows) pieces
     → (spots_in sorted (noted_postings true ranks numbers count pieces) ≡ spots_of link_places rows)
@@ -137,7 +139,7 @@ walked places rows sorted walk postings same told = subst (IsWalk places rows so
     in_order : AreBelow (length sorted) postings × AreFrom 0 postings
     in_order = made_of_rows places rows sorted postings told.0 (ap length told.0 ∙ sym told.1)
 
--- a walk over the notes of calls visits the postings of the rows' calls, in row order
+-- the walk over the rows' notes for calls returns the postings of the rows' calls, in row order
 pub calls_walk : (names sorted : List (List ℕ)) (ranks numbers : List ℕ) → AreRanks sorted names ranks → (count : ℕ) (rows : List Keyed) (pieces : List Piece)
     → count ≡ length rows → AreNoted names numbers (items_of rows) pieces → (walk : List Posting) → walk ≡ noted_postings false ranks numbers count pieces
     → IsWalk call_places rows sorted walk
@@ -145,7 +147,8 @@ calls_walk names sorted ranks numbers are count rows pieces count_is noted walk 
     walked call_places rows sorted walk (noted_postings false ranks numbers count pieces) walk_is
     (calls_noted names sorted ranks numbers are count rows pieces count_is noted)
 
--- a walk over the notes of links visits the postings of the rows' links, in row order
+-- the walk over the rows' notes for associations returns the postings of the rows' associations, in
+-- row order
 pub links_walk : (names sorted : List (List ℕ)) (ranks numbers : List ℕ) → AreRanks sorted names ranks → (count : ℕ) (rows : List Keyed) (pieces : List Piece)
     → count ≡ length rows → AreNoted names numbers (items_of rows) pieces → (walk : List Posting) → walk ≡ noted_postings true ranks numbers count pieces
     → IsWalk link_places rows sorted walk
@@ -166,7 +169,7 @@ less_slots places few many slots less has = record {
   room = (let all = has.room in omega arith);
 }
 
--- memory for at least as many calls and links as the rows have is enough for their index
+-- memory for at least as many calls and associations as the rows have is enough for their index
 fits : (rows : List Keyed) (names : List (List ℕ)) (calls count : ℕ) (room : Room) → IsRoom names calls count room
     → length (spots_of call_places rows) ≤ calls → length (spots_of link_places rows) ≤ count → length rows ≤ count → HasRoomFor rows names room
 fits rows names calls count room is few_calls few_links few_rows = record {

@@ -38,7 +38,8 @@ pub record AreJoined (first second : List (Key × Entry)) (floor : Option FileSt
   pub ascending : states.AreAscending joined
   pub members : (key : model.Key) (entry : ops.Entry) → Contains joined (key, entry) ↔ LapsesTo (map row_meant whole) floor horizon key entry
 
--- a spot (a TIPLOC and a row's index) with the index that its row has in the join; none if the row isn't live in the join
+-- a spot (a TIPLOC and a row's index) with the index that its row has in the join, or `None` if the
+-- row isn't live in the join
 abbrev pub moved_spot : List (Option ℕ) → Spot → Option Spot
 moved_spot moves spot =
     option_map (λ at. record { place = spot.place; at = at }) (option_and_then (λ (move : Option ℕ). move) (slice_get moves spot.at))
@@ -47,7 +48,8 @@ moved_spot moves spot =
 abbrev pub moved_spots : List (Option ℕ) → List Spot → List Spot
 moved_spots moves spots = filter_map (moved_spot moves) spots
 
--- a posting with the indexes that its place and its row have in the join; none if the row isn't live in the join. `ranks` gives the new index of each place
+-- a posting with the indexes that its place and its row have in the join, or `None` if the row
+-- isn't live in the join. `ranks` gives the new index of each place
 abbrev pub moved_posting : List ℕ → List (Option ℕ) → Posting → Option Posting
 moved_posting ranks moves posting = option_and_then
     (λ rank. option_map (λ at. record { place = rank; at = at }) (option_and_then (λ (move : Option ℕ). move) (slice_get moves posting.at)))

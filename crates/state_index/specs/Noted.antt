@@ -5,8 +5,8 @@ pub use Rattle.cif_change.specs.Noted.{Item, items_of, items_put, Keeps, if_aske
 pub use Rattle.cif_change.specs.Noted.{ArePicked}
 use Rattle.state_index.specs.declared.posting.Posting.{Posting}
 
--- the posting of the row at index `at`, for the place with this provisional number; `ranks` gives
--- the index of the place for each number
+-- the posting of the row at index `at`, for the place that has this number in the notes; `ranks`
+-- gives the index of the place for each number
 abbrev pub posting_of : List ℕ → ℕ → ℕ → Posting
 posting_of ranks at number = record { place = get_or ranks number 0; at = at }
 

@@ -10,11 +10,11 @@ use Rattle.state_index.specs.SpotOrder.{Spot}
 use Rattle.state_index.specs.Turns.{is_put}
 use Rattle.state_index.specs.declared.posting.Posting.{Posting}
 
--- the key and the body of a row; none unless its op is a put
+-- the key and the body of a row, or `None` if its op isn't a put
 abbrev pub live_row : Key × Entry → Option Row
 live_row row = option_and_then (λ body. Some (row.0, body)) (body_of row.1.op)
 
--- the live row that a spot (a TIPLOC and a row's index) names; none if the row isn't live
+-- the live row that a spot (a TIPLOC and a row's index) names, or `None` if the row isn't live
 abbrev pub live_at : List (Key × Entry) → Spot → Option Row
 live_at rows spot = option_and_then live_row (slice_get rows spot.at)
 
@@ -22,7 +22,7 @@ live_at rows spot = option_and_then live_row (slice_get rows spot.at)
 abbrev pub rows_at_spots : List (Key × Entry) → List Spot → List Row
 rows_at_spots rows spots = filter_map (live_at rows) spots
 
--- the live row that a posting names; none if the row isn't live
+-- the live row that a posting names, or `None` if the row isn't live
 abbrev pub live_at_posting : List (Key × Entry) → Posting → Option Row
 live_at_posting rows posting = option_and_then live_row (slice_get rows posting.at)
 

@@ -35,7 +35,7 @@ abbrev pub Includes : List (List ℕ) → List (List ℕ) → Type 0
 Includes few many = (place : List ℕ) → Contains few place → Contains many place
 
 -- Says that the noted places are in order, and that there is room for this many calls and for the
--- links of this many rows.
+-- associations of this many rows.
 pub record IsRoom (names : List (List ℕ)) (most_calls most_rows : ℕ) (room : Room) : Type 0 where
   pub named : IsStrictlyAscending bytes_cmp room.places.items
   pub ranks : AreRanks room.places.items names room.ranks.items

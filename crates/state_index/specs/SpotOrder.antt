@@ -7,8 +7,7 @@ use Rattle.std.specs.Cmp.{IsTotalOrder, then_total, on_total, nat_cmp_total}
 use Rattle.std.specs.Cmp.Lexicographic.{nat_list_cmp_total}
 use Rattle.docker_model.specs.state.Order.{bytes_cmp}
 
--- a TIPLOC with the index of a row: a schedule that calls there, or an association that is linked
--- there
+-- a TIPLOC with the index of a row: a schedule that calls there, or an association there
 pub record Spot : Type 0 where
   pub place : List ℕ
   pub at : ℕ

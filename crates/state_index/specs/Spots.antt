@@ -12,7 +12,7 @@ use Rattle.state_index.specs.PostingOrder.{posting_cmp}
 use Rattle.state_index.specs.declared.index.Index.{Index}
 
 -- a function that gives, for the key and the op of a row, the places where the row's schedule
--- calls, or the place where its association is linked
+-- calls, or the place of its association
 abbrev pub Places : Type 0
 Places = Key → Op → List (List ℕ)
 
@@ -38,7 +38,8 @@ pub record AreSpotsOf (places : Places) (rows : List (Key × Entry)) (spots : Li
   pub ascending : IsStrictlyAscending spot_cmp spots
   pub members : (spot : Spot) → Contains spots spot ↔ Contains (spots_of places rows) spot
 
--- the spot of a posting: the name of its place, with its row. The posting has its place as an index in a list of names; none if the list has no such index
+-- the spot of a posting: the name of its place, with its row. The posting has its place as an index
+-- in a list of names. If the list has no such index, the result is `None`
 abbrev pub posting_spot : List (List ℕ) → Posting → Option Spot
 posting_spot names posting = option_map (spot_at posting.at) (slice_get names posting.place)
 
@@ -51,8 +52,8 @@ pub record ArePostingsOf (places : Places) (rows : List (Key × Entry)) (names :
   pub up : IsStrictlyAscending posting_cmp postings
   pub are : AreSpotsOf places rows (spots_in names postings)
 
--- Says that this is the index of the rows: its postings of calls name exactly the places where live schedules call, and its postings of links name exactly the
--- places of live associations.
+-- Says that this is the index of the rows: its postings of calls name exactly the places where live
+-- schedules call, and its postings of associations name exactly the places of live associations.
 pub record IsIndexOf (rows : List (Key × Entry)) (index : Index) : Type 0 where
   pub named : IsStrictlyAscending bytes_cmp index.places.items
   pub calls : ArePostingsOf call_places rows index.places.items index.calls.items

@@ -70,8 +70,8 @@ is_put lapsed = false
 is_put (put_with body) = true
 
 -- the index that an entry has in the join, if it is the greater entry of its key and `at` rows come
--- before it. The index is none if the entry is below the floor, or if it isn't a put after `lapse
--- horizon`
+-- before it. The result is `None` if the entry is below the floor, or if it isn't a put after
+-- `lapse horizon`
 abbrev pub goes : Option FileStamp → ℕ → ℕ → Entry → Option ℕ
 goes floor horizon at entry =
     if is_kept floor (entry_meant entry).stamp.file && is_put (lapse horizon (entry_meant entry).op) then Some at else None

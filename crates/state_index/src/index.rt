@@ -29,7 +29,7 @@ use docker_join::Entry;
 use std::alloc::Global;
 
 /// An index of a table's rows by place. For each TIPLOC it has the rows of the schedules that call
-/// there and of the associations that are linked there.
+/// there and of the associations there.
 #[derive(Debug, Drop)]
 pub struct Index {
     /// The TIPLOCs that the rows name, in ascending order and without duplicates.

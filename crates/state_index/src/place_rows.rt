@@ -1,5 +1,5 @@
 //! Iterators over the rows at a place: either the schedules that call there or the associations
-//! that are linked there.
+//! there.
 ghost use Rattle.std.specs.Prelude.{◌≡◌, List, length, map};
 ghost use Rattle.std.specs.Iterator.{YieldsFirstBy, item_count};
 ghost use Rattle.cif_change.specs.Meaning.{key_meant, body_meant};

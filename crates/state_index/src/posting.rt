@@ -7,7 +7,7 @@ ghost use Rattle.state_index.specs.PostingOrder.{posting_cmp, posting_total};
 use std::cmp::Ordering;
 
 /// An entry of an index: a place, with the row of a schedule that calls there or of an association
-/// that is linked there. Postings are ordered by place, and then by row.
+/// there. Postings are ordered by place, and then by row.
 #[derive(Clone, Copy, Debug)]
 pub struct Posting {
     /// The index of the place in the index's list of places, from 0.

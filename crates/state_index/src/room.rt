@@ -20,9 +20,9 @@ pub struct Room {
     /// For each provisional number that the notes give to a place, the index of the place in
     /// `places`.
     pub ranks: Vec<u32>,
-    /// Memory for sorting the calls.
+    /// Memory for sorting the calls' postings.
     pub calls: Slots,
-    /// Memory for sorting the links.
+    /// Memory for sorting the associations' postings.
     pub links: Slots,
 }
 
@@ -45,8 +45,8 @@ impl Room {
         )
     }
 
-    /// Sorts these places, and reserves memory for this many calls and for the links of this many
-    /// rows.
+    /// Sorts these places, and reserves memory for this many calls and for the associations of this
+    /// many rows.
     fn for_names(
         alloc: Global,
         names: &[[u8; 7]],

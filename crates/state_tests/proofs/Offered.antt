@@ -16,7 +16,8 @@ pub record CanBeOffered (staging : Staging) (entries : List (Key × Entry)) : Ty
   pub above : AllByRecursion (λ (entry : Key × Entry). IsAboveStaged staging.staged entry.0) entries
   pub ascending : AreAscending entries
 
--- a key that is above the staged keys and above the offered key is above all staged keys once the offered entry is staged
+-- if a key is above the staged keys and above the offered key, it is above all staged keys once the
+-- offered entry is staged
 above_both : (staged : List (Key × Entry)) (entry next : Key × Entry) → IsAboveStaged staged next.0 → key_cmp entry.0 next.0 ≡ Less
     → IsAboveStaged (staged ++ entry ∷ []) next.0
 above_both staged entry next above below other among = by (Contains-push_cases staged entry other among)

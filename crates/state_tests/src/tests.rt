@@ -42,7 +42,7 @@ fn pair(rt: &impl Abort, alloc: Global, one: &[&[u8]], other: &[&[u8]]) -> State
     joined(rt, alloc, first, state(rt, alloc, other))
 }
 
-/// The state with these days set as horizons, one after another.
+/// The state after these days were set as horizons, one after another.
 fn set(rt: &impl Abort, mut state: State, days: &[&str]) -> State {
     for day in days {
         state.set_horizon(Day::from_iso(day).expect(rt, "a day"));
@@ -50,7 +50,7 @@ fn set(rt: &impl Abort, mut state: State, days: &[&str]) -> State {
     state
 }
 
-/// The state of a file with these days set as horizons, one after another.
+/// The state of a file after these days were set as horizons, one after another.
 fn set_on(rt: &impl Abort, alloc: Global, file: &[&[u8]], days: &[&str]) -> State {
     set(rt, state(rt, alloc, file), days)
 }

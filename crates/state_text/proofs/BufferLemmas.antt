@@ -61,8 +61,9 @@ part_longer a x y e part =
     let within : part.0 ≤ length x = omega arith in
     (part.0, omega arith, subst (λ xs. Takes a xs e) (sym (take-append-le part.0 x y within)) part.2)
 
--- let the buffer hold b at first, and let p be written through the buffer. If the sink then takes a proper prefix of the buffer's bytes and q, it has taken a
--- proper prefix of b ++ p ++ q in all
+-- suppose that the buffer holds b at first, and that p is written through the buffer. If the sink
+-- then takes a proper prefix of the buffer's bytes and q, it has taken a proper prefix of b ++ p ++
+-- q in all
 gathers_part : (a : Told) (b p : List ℕ) (c : Told) (d q : List ℕ) (e : Told)
     → Gathers a b p c d → TakesPart c (d ++ q) e → TakesPart a (b ++ (p ++ q)) e
 gathers_part a b p c d q e first part =
@@ -151,8 +152,8 @@ module _ {X : Type 0} (bytes : List X → List ℕ) (joined : (xs ys : List X) �
     each_given a b c d e f first second =
         subst (λ p. Gathers a b p e f) (sym (one_more xs i x piece below at is)) (gathers_then a b (bytes (take i xs)) c d piece e f first second)
 
-    -- let the first i elements be written through the buffer. If the sink then takes a proper prefix of the next element's bytes, it has taken a proper prefix
-    -- of the list's bytes
+    -- suppose that the first i elements were written through the buffer. If the sink then takes a
+    -- proper prefix of the next element's bytes, it has taken a proper prefix of the list's bytes
     pub each_part : (a : Told) (b : List ℕ) (c : Told) (d : List ℕ) (e : Told)
         → Gathers a b (bytes (take i xs)) c d → TakesPart c (d ++ piece) e → TakesPart a (b ++ bytes xs) e
     each_part a b c d e first part =

@@ -75,8 +75,8 @@ written_last lines after line found at put last is =
     is ∙ ap (λ rows. slice_index_or rows at found) put ∙ ap (λ n. slice_index_or (lines ++ line ∷ []) n found) last
     ∙ get_or-append_seam lines line [] found
 
--- let a line be allowed to come next in a schedule of `count` lines. If the lines before it have the key, then with this line they are the first lines of a
--- schedule with the key
+-- suppose that a line may come next in a schedule of `count` lines. If the lines before it have the
+-- key, then with this line they are the first lines of a schedule with the key
 pub lines_up_to : (state : State) (key : ScheduleKey) (count : ℕ) (lines : Lines) (line bytes : List ℕ) → line ≡ bytes
     → (lines ≡ []) ⊎ AreLinesIn state key lines → (lines ≡ [] → IsOfKey state.horizon key line)
     → BeginUpTo count (lines ++ line ∷ []) → AreLinesUpToIn state key count (lines ++ bytes ∷ [])

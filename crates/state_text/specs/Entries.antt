@@ -22,12 +22,12 @@ op_head (put_with body) = 1 ∷ body_head body
 abbrev pub entry_head : Key × Entry → List ℕ
 entry_head entry = key_tag entry.0 ∷ key_bytes entry.0 ++ stamp_bytes entry.1.stamp ++ op_head entry.1.op
 
--- the lines of a schedule's body; none for any other body
+-- the lines of a schedule's body; no lines for any other body
 abbrev pub lines_in : Body → List (List ℕ)
 lines_in (schedule_body lines) = lines
 lines_in _ = []
 
--- the lines of the schedule that an op puts; none for any other op
+-- the lines of the schedule that an op puts; no lines for any other op
 abbrev pub op_lines : Op → List (List ℕ)
 op_lines deleted = []
 op_lines lapsed = []

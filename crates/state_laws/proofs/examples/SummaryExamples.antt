@@ -94,7 +94,7 @@ f2_entry_of = record {
   entry_is = entry_is;
 }
 
--- `f2_entry` is the only entry that the changes of the example file leave
+-- `f2_entry` is the only entry that the changes of the example file make
 only_entry : (key : Key) (entry : Entry) (made : IsEntryOf (f2 ∷ []) None key entry) → (schedule_key f2_key ≡ key) × (f2_entry ≡ entry)
 only_entry key entry made =
     let file_is : f2 ≡ made.file = Contains-single f2 made.file made.kept.among in

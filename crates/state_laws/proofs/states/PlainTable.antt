@@ -1,5 +1,5 @@
 -- Lemmas on the plain table of a set of files with distinct moments. At each key, the table has the
--- body of the last entry that the files' changes leave. Only the last full extract and the files
+-- body of the last entry that the files' changes make. Only the last full extract and the files
 -- after it count.
 use Rattle.std.proofs.Common.{cond, ◌≡◌, List, Contains, ◌⊎◌, ◌∷◌, subst, inl, inr, ap, sym, ◌∙◌, Bool, true, false, [], refl, ℕ, map, ◌++◌, ◌<◌, Some, None}
 use Rattle.std.specs.Prelude.{fold, ◌==◌, ◌||◌, Option, ◌↔◌, find, option_and_then}
@@ -95,21 +95,21 @@ last_there (entry ∷ entries) table key up = by (last_there entries (step table
     by (inl none) = first_alone entry entries table key (is_eq (key_cmp entry.0 key)) refl none
     by (inr last) = inr (not_first entry entries table key up.0 last)
 
--- ---- applying changes of files to a table equals applying the entries that the changes leave
+-- ---- applying changes of files to a table equals applying the entries that the changes make
 
--- the entry that a change of a file leaves, with its key
+-- the entry that a change of a file makes, with its key
 abbrev pub entry_of_change : List (List ℕ) → Change → Keyed
 entry_of_change file change = (change.key, entry_of file change)
 
--- the entries that the changes of a file leave
+-- the entries that the changes of a file make
 abbrev pub entries_of : List (List ℕ) → List Keyed
 entries_of file = map (entry_of_change file) (changes file)
 
--- the entries that the changes of files leave, file by file
+-- the entries that the changes of files make, file by file
 abbrev pub entries_along : List (List (List ℕ)) → List Keyed
 entries_along files = flat_map entries_of files
 
--- applying changes of a file to a table equals applying the entries that these changes leave
+-- applying changes of a file to a table equals applying the entries that these changes make
 pub fold_entries : (file : List (List ℕ)) (table : Table) (cs : List Change) → fold after_change table cs ≡ fold step table (map (entry_of_change file) cs)
 fold_entries file table [] = refl
 fold_entries file table (change ∷ cs) = fold_entries file (after_change table change) cs
@@ -118,7 +118,7 @@ fold_append : (table : Table) (xs ys : List Keyed) → fold step table (xs ++ ys
 fold_append table [] ys = refl
 fold_append table (x ∷ xs) ys = fold_append (step table x) xs ys
 
--- applying the changes of files to a table equals applying the entries that these changes leave
+-- applying the changes of files to a table equals applying the entries that these changes make
 pub after_files_is : (table : Table) (files : List (List (List ℕ))) → after_files table files ≡ fold step table (entries_along files)
 after_files_is table [] = refl
 after_files_is table (file ∷ files) =

@@ -1,5 +1,5 @@
--- A summary is made by reducing its files' ledger items and the entries that the files' changes
--- leave.
+-- A summary is the result of reducing its files' ledger items and the entries that the files'
+-- changes make.
 use Rattle.std.proofs.Common.{◌≡◌, ℕ, List, map, Contains, subst, inl, inr, ◌⊎◌, ap, sym, ◌∙◌, Some, None}
 use Rattle.std.specs.Prelude.{Option}
 use Rattle.std.specs.Ordering.{ordering_reverse, ordering_then, nat_cmp}
@@ -41,7 +41,7 @@ below_kept (Some floor) low high kept = by (at_most_or file_stamp_total floor lo
         (op_cmp low.op high.op)))
 
 module _ (files : List File) (floor : Option FileStamp) (key : Key) where
-  -- if a file that isn't older than the floor leaves an entry, the entry is among the entries of
+  -- if a file isn't older than the floor, each entry that its changes make is among the entries of
   -- all files. The file stamp of this entry isn't below the floor
   pub entry_in : (entry : Entry) → IsEntryOf files floor key entry → Contains (entries_along files) (key, entry) × IsKept floor entry.stamp.file
   entry_in entry made =
@@ -51,7 +51,7 @@ module _ (files : List File) (floor : Option FileStamp) (key : Key) where
         subst (λ (e : Entry). IsKept floor e.stamp.file) made.entry_is made.kept.kept,
       )
 
-  -- if the file stamp of an entry isn't below the floor, the entry was left by a file that isn't
+  -- if the file stamp of an entry isn't below the floor, the entry was made by a file that isn't
   -- older than the floor
   pub entry_out : (entry : Entry) → Contains (entries_along files) (key, entry) → IsKept floor entry.stamp.file → IsEntryOf files floor key entry
   entry_out entry among kept =

@@ -42,7 +42,7 @@ pub horizon_leads : (format : Format) → AreGood format before_horizon → Lead
 horizon_leads dks_1 good = absurd good
 horizon_leads dks_2 good = step_mark_2
 
--- after the head of the text, a reader reaches the number of items
+-- after the mark and, if the format has one, the horizon, a reader reaches the number of items
 pub head_leads : (format : Format) (horizon : ℕ) → IsHorizonOf format horizon → Leads format before_mark (before_ledger_count horizon)
 head_leads dks_1 horizon none = subst (λ h. Leads dks_1 before_mark (before_ledger_count h)) (sym none) step_mark_1
 head_leads dks_2 horizon day = then_leads dks_2 before_mark before_horizon (before_ledger_count horizon) step_mark_2 (step_horizon horizon day)
