@@ -158,7 +158,8 @@ fn with_rows(mut parts: Parts, rows: Vec<(Key, Entry)>) -> Result<Parts, Memory>
     Ok(parts)
 }
 
-/// Sets the horizon of a state, if there is one. No entry of the state ended before this horizon.
+/// Sets the horizon of a state, unless `horizon` is `None`. No entry of the state ended before this
+/// horizon.
 fn under_horizon(mut state: State, horizon: Option<Day>) -> State
     requires plain { state.horizon ≡ 0 }
     requires valid { IsValid (under (horizon_meant horizon) state) }

@@ -31,7 +31,7 @@ walk picked [] ys = ys
 walk picked (x ∷ xs) ys = walk_from picked x (walk picked xs) ys
 
 module _ {E : Type 0} where
-  -- Says that all these rows are above a row.
+  -- Says that all these rows are above the row `low`.
   abbrev pub Above : Key × E → List (Key × E) → Type 0
   Above low rows = AllByRecursion (IsBelow row_cmp low) rows
 

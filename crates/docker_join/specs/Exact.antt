@@ -1,4 +1,5 @@
--- Stamps that compare as equal are equal. So are entries, if the lines of their bodies are records.
+-- Stamps that compare as equal are equal. Entries that compare as equal are equal if the lines of
+-- their bodies are records.
 use Rattle.std.proofs.Common.{◌≡◌, ℕ, List, [], ◌∷◌, length, All, refl, ap, sym, ◌∙◌, arith, length-append}
 use Rattle.std.specs.Prelude.{⊤}
 use Rattle.std.specs.List.{concat}
@@ -41,7 +42,8 @@ exact_file_stamp a b _ _ tied = same_file_stamp a b (laws.exact_file_stamp (file
 pub exact_stamp : (a b : Stamp) → ⊤ → ⊤ → on stamp_meant stamp_cmp a b ≡ Equal → a ≡ b
 exact_stamp a b _ _ tied = same_stamp a b (laws.exact_stamp (stamp_meant a) (stamp_meant b) tied)
 
--- two lists of records whose joined bytes are equal are equal: all records have the same length
+-- if two lists of records have the same concatenation, they are equal: all records have the same
+-- length
 same_lines : (xs ys : List (List ℕ)) → All IsRecord xs → All IsRecord ys → concat xs ≡ concat ys → xs ≡ ys
 same_lines [] [] good_x good_y same = refl
 same_lines [] (y ∷ ys) good_x good_y same =

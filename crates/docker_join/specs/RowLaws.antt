@@ -145,7 +145,7 @@ module _ {E : Type 0} where
           let later = rest (sym (value_behind row rows key (λ tied. cc)) ∙ found) in
           (later.0, cons-Contains row rows later.0 later.1, later.2, later.3)
 
-  -- two lists of ascending rows with the same value at each key are equal
+  -- if two lists of ascending rows have the same value at each key, they are equal
   pub same_rows : (a b : List (Key × E)) → AreAscending a → AreAscending b → ((key : model.Key) → value_at a key ≡ value_at b key) → a ≡ b
   same_rows a b up_a up_b same = same_list row_total a b up_a up_b (λ row. (into a b up_a same row, into b a up_b (λ key. sym (same key)) row))
     where

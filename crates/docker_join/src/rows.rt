@@ -1,4 +1,4 @@
-//! The rows of tables: how entries that ended before a horizon lapse, and how the rows of two
+//! The rows of tables: how entries lapse that ended before a horizon, and how the rows of two
 //! tables are joined in the memory of the first table.
 ghost use Rattle.std.specs.Prelude.{◌≡◌, ◌+◌, ◌<◌, ◌≤◌, true, false, map, vec_len, vec_capacity, MatchOption};
 ghost use Rattle.std.specs.VecDeque.{deque_len, deque_capacity};

@@ -79,7 +79,8 @@ one_floor item = by (item.indicator == 70) (eqb_tells item.indicator 70)
     )
     by b (inr update) = (None, λ other among is_full. update.1 (subst (λ (i : stamps.LedgerItem). IsFull i) (sym (only item other among)) is_full), tt)
 
--- if the bodies that changes put consist of records, so do the bodies in the rows that the changes make
+-- if all bodies put by changes consist of records, so do the bodies in the rows that the changes
+-- make
 pub made_records : (all : List model.Change) → HaveRecords all → (stamp : FileStamp) (made : List (Key × Entry))
     → map row_meant made ≡ map (made_by stamp) all → All (λ (row : Key × Entry). HasRecords (op_meant row.1.op)) made
 made_records all have stamp made made_is = all_members (λ (row : Key × Entry). HasRecords (op_meant row.1.op)) made (λ row among.
@@ -87,11 +88,11 @@ made_records all have stamp made made_is = all_members (λ (row : Key × Entry).
     (subst (λ (rows : List (model.Key × ops.Entry)). Contains rows (row_meant row)) made_is (map-Contains row_meant made row among)) in
     subst (λ (pair : model.Key × ops.Entry). HasRecords pair.1.op) found.2 (have found.0 found.1))
 
--- the bodies that a file's changes put consist of records
+-- the bodies put by a file's changes consist of records
 pub file_records : (file : List (List ℕ)) → IsFile file → length file ≤ most_records → HaveRecords (changes file)
 file_records file is_file few change among = op_records change.key (op_of change.act) (file_change file is_file few change among).good.1
 
--- if changes are a thinning of a file's changes, the bodies that they put consist of records
+-- if changes are a thinning of a file's changes, the bodies put by them consist of records
 pub thin_records : (place : List ℕ) (day : ℕ) (file : List (List ℕ)) → IsFile file → length file ≤ most_records → (all kept : List model.Change)
     → all ≡ changes file → IsThinning place day all kept → HaveRecords kept
 thin_records place day file is_file few all kept all_are thinning change among =

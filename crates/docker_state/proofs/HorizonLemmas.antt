@@ -1,4 +1,5 @@
--- Lemmas on setting a horizon on a state. If the new horizon is after the old one, entries that ended before it lapse. Otherwise nothing changes.
+-- Lemmas on setting a horizon on a state. If the new horizon is after the old one, each entry
+-- lapses that ended before the new horizon. Otherwise nothing changes.
 use Rattle.std.proofs.Common.{◌≡◌, ℕ, ◌≤◌, List, map, ap, sym, ◌∙◌, subst}
 use Rattle.std.proofs.Math.Nat.{max-eq_left, max-eq_right}
 use Rattle.docker_model.specs.state.Lapse.{HasNotToLapse, lapse_entries}

@@ -21,6 +21,6 @@ pub record IsMadeState (item : stamps.LedgerItem) (changes : List model.Change) 
 abbrev pub MakeValid : stamps.LedgerItem → List model.Change → Type 0
 MakeValid item changes = (state : State) → IsMadeState item changes state → IsValid state
 
--- Says that the lines of all bodies that the changes put are records.
+-- Says that the bodies put by the changes consist of records.
 abbrev pub HaveRecords : List model.Change → Type 0
 HaveRecords changes = (change : model.Change) → Contains changes change → HasRecords (op_of change.act)

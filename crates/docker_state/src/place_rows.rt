@@ -33,7 +33,7 @@ impl<'a> Walk<'a> {
 
 /// An iterator over the live rows at a place, in key order. For each row it returns the row's index
 /// among all rows, the key and the body. No clause says that the row's index is right. A caller may
-/// use it as a hint where to look first, but no result may depend on it.
+/// use it as a hint about where to look first, but no result may depend on it.
 #[derive(Clone, Debug, Drop)]
 pub struct Numbered<'a> {
     walk: Walk<'a>,

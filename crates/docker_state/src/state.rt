@@ -128,7 +128,7 @@ impl State {
         ensures err { IfErr result (λ back. back ≡ file) }
     {
         let item = item_of(&file.header());
-        // Called for its contract, which says that the file was read.
+        // This call is made only for its contract, which says that the file was read.
         let _records = file.records();
         match State::of_changes(alloc, item, file.into_parts()) {
             Ok(state) => Ok(state),
@@ -554,8 +554,8 @@ impl Merge for State {
     ghost idempotent = { join_idempotent };
 
     /// The join of two states: the union of their ledgers, and for each key the greater entry.
-    /// Items and entries below the greater of the two floors are left out, and entries that ended
-    /// before the greater of the two horizons lapse. If one state has all that the other would
+    /// Items and entries below the greater of the two floors are left out, and each entry lapses
+    /// that ended before the greater of the two horizons. If one state has all that the other would
     /// bring, the join is that state with the greater horizon, and the memory of the other state is
     /// freed. For example, one state may be made from a full extract that is newer than all files
     /// of the other state. Then no row of the other state is read. If memory runs out, both states
@@ -588,9 +588,9 @@ struct OpenedState {
     rows: Vec<(Key, Entry)>,
 }
 
-/// Lets entries that ended before the horizon `other` lapse. Entries that ended before the horizon
-/// `own` have lapsed already, so if `other` isn't greater, no row is read. The spare memory after
-/// the rows is kept.
+/// Lets each entry lapse that ended before the horizon `other`. Entries that ended before the
+/// horizon `own` have lapsed already, so if `other` isn't greater, no row is read. The spare memory
+/// after the rows is kept.
 fn lapsed_under(mut rows: Vec<(Key, Entry)>, own: u16, other: u16) -> Vec<(Key, Entry)>
     requires lapsed { HaveLapsed own (map row_meant rows.items) }
     requires ascending { AreAscending rows.items }

@@ -61,7 +61,7 @@ impl<'a> Timetable<'a> {
     fn counting(state: &'a State, permanent: bool) -> Timetable<'a>
         ensures { result ≡ record { state = state.entry.now; permanent = permanent } }
     {
-        // Called only for its contract, which says that the state is valid.
+        // This call is made only for its contract, which says that the state is valid.
         let _entries = state.entries();
         Timetable { state, permanent }
     }

@@ -53,7 +53,8 @@ moved_row moves at (Some to) is (place ∷ places) =
     (λ i. cons_option (some i) (filter_map (moved_spot moves) (map (spot_at at) places))) ∙ ap (λ rest. spot_at to place ∷ rest)
     (moved_row moves at (Some to) is places)
 
--- the element that follows the front of a list is at the index that is the length of the front
+-- if a list consists of a front, an element and a rest, the element's index is the length of the
+-- front
 behind_front : {A : Type 0} (front : List A) (x : A) (xs : List A) → slice_get (front ++ x ∷ xs) (length front) ≡ Some x
 behind_front [] x xs = refl
 behind_front (y ∷ front) x xs = behind_front front x xs

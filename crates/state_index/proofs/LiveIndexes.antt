@@ -129,7 +129,7 @@ module _ {K : Type 0} (wrap : K → Key) (row_of : List ℕ → Key → Option (
           ∙ (λ i. key i ∷ rest i)
           ∙ sym (λ i. map (λ (r : IndexRow). wrap r.1) (cons_option (row_is rows spot row k at key i) (filter_map (row_at rows) piece)))
 
-  -- if no spot in a list is of a place, no index row found for these spots is of this place
+  -- if no spot in a list is for a place, no index row found for these spots is for this place
   not_at : (rows : List Keyed) (place : List ℕ) (spots : List Spot) → ((spot : Spot) → Contains spots spot → ¬ (spot.place ≡ place))
       → (row : IndexRow) → Contains (filter_map (row_at rows) spots) row → ¬ (row.0 ≡ place)
   not_at rows place spots none row among =
@@ -137,7 +137,8 @@ module _ {K : Type 0} (wrap : K → Key) (row_of : List ℕ → Key → Option (
       let told = told_at rows found.0 row found.2 in
       λ here. none found.0 found.1 (sym told.2 ∙ here)
 
-  -- if all spots in a list are of one place, all index rows found for these spots are of this place
+  -- if all spots in a list are for one place, all index rows found for these spots are for this
+  -- place
   is_at : (rows : List Keyed) (place : List ℕ) (spots : List Spot) → ((spot : Spot) → Contains spots spot → spot.place ≡ place)
       → (row : IndexRow) → Contains (filter_map (row_at rows) spots) row → row.0 ≡ place
   is_at rows place spots all row among =

@@ -158,7 +158,7 @@ links_walk names sorted ranks numbers are count rows pieces count_is noted walk 
 
 -- ---- the memory for an index
 
--- memory for many postings is also memory for fewer postings
+-- memory that is enough for many postings is enough for fewer postings
 less_slots : (places few many : ℕ) (slots : Slots) → few ≤ many → HasSlots places many slots → HasSlots places few slots
 less_slots places few many slots less has = record {
   none = has.none;
@@ -180,7 +180,8 @@ fits rows names calls count room is few_calls few_links few_rows = record {
   links = less_slots (length room.places.items) (length (spots_of link_places rows)) count room.links few_links is.links;
 }
 
--- there are as many pieces of the notes as rows, and these pieces have at least as many numbers as the rows have calls
+-- the notes have one piece for each row, and these pieces have at least as many numbers as the rows
+-- have calls
 pieces_fit : (names : List (List ℕ)) (numbers : List ℕ) (items : List Item) (pieces : List Piece) → AreNoted names numbers items pieces
     → (total (λ key op. length (call_places key op)) items ≤ numbers_in pieces) × (length items ≡ length pieces)
 pieces_fit names numbers [] [] are = (omega arith, refl)

@@ -64,7 +64,7 @@ module _ (names : List (List ℕ)) (up : IsStrictlyAscending bytes_cmp names) wh
   spots_ascend postings rise = chosen_ascends (posting_spot names) posting_cmp spot_cmp
       (λ a b c d below is_c is_d. same_cmp a b c d is_c is_d ∙ below) postings rise
 
-  -- an ascending list has a place at only one index
+  -- in an ascending list, a place has only one index
   one_rank : (i j : ℕ) (place : List ℕ) → slice_get names i ≡ Some place → slice_get names j ≡ Some place → i ≡ j
   one_rank i j place is_i is_j = exact_unsigned i j (sym (place_order i j place place is_i is_j) ∙ tied_itself nat_list_cmp_total place)
 

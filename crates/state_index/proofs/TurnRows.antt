@@ -22,7 +22,7 @@ use Rattle.state_index.specs.Turns.{turns_from, turns_of, wins, goes, after, fir
 abbrev pub Row : Type 0
 Row = Key × Entry
 
--- the greater of two entries, which the join takes
+-- the entry that the join takes: the greater of two entries
 abbrev pub picked : Entry → Entry → Entry
 picked = ord_max (on entry_meant entry_cmp)
 
@@ -32,7 +32,8 @@ winner (in_first one) = one
 winner (in_second other) = other
 winner (in_both one other) = (one.0, picked one.1 other.1)
 
--- Says that if a step of the walk over two tables has a row of each, the two rows have the same key.
+-- Says that if a step of the walk over two tables has a row of each table, the two rows have the
+-- same key.
 abbrev pub IsLevel : AtKey → Type 0
 IsLevel (in_first one) = ⊤
 IsLevel (in_second other) = ⊤
@@ -110,7 +111,7 @@ pub winners_are : (xs ys : List Row) → map winner (turns_of xs ys) ≡ walk pi
 winners_are [] ys = all_winners ys
 winners_are (x ∷ xs) ys = winners_from x xs (turns_of xs) (walk picked xs) (winners_are xs) ys
 
--- at each step of the walk over two tables that has a row of each, the two rows have the same key
+-- if a step of the walk over two tables has a row of each table, the two rows have the same key
 pub turns_level : (xs ys : List Row) → AllByRecursion IsLevel (turns_of xs ys)
 turns_level [] ys = all_level ys
 turns_level (x ∷ xs) ys = level_from x xs (turns_of xs) (turns_level xs) ys

@@ -21,7 +21,7 @@ use std::marker::Model;
 
 /// An iterator over the live rows at a place, in key order. For each row it returns the row's index
 /// among all rows, the key and the body. No clause says that the row's index is right. A caller may
-/// use it as a hint where to look first, but no result may depend on it.
+/// use it as a hint about where to look first, but no result may depend on it.
 #[derive(Clone, Debug, Drop)]
 pub struct Numbered<'a> {
     rows: &'a [(Key, Entry)],
@@ -109,8 +109,8 @@ impl<'a> Iterator for PlaceRows<'a> {
     }
 }
 
-/// The key and the body of a posting's row. Returns `None` if the row isn't live: its op isn't a
-/// put.
+/// The key and the body of a posting's row. Returns `None` if the row isn't live, which means that
+/// its op isn't a put.
 fn live_at<'a>(rows: &'a [(Key, Entry)], posting: &Posting) -> Option<(&'a Key, &'a Body)>
     ensures { option_map (λ row. (key_meant row.0.now, body_meant row.1.now)) result
         ≡ live_at_posting (map row_meant rows.entry.now) posting.now }

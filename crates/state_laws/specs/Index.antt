@@ -84,11 +84,11 @@ pub record AreOfUid (live : Table) (uid : List ℕ) (rows : List Row) : Type 0 w
       ↔ ((schedule : ScheduleKey) × (lines : List (List ℕ)) × (key ≡ schedule_key schedule) × (body ≡ schedule_body lines) × (live key ≡ Some body)
       × (schedule.uid ≡ uid))
 
--- the keys in the rows of the index of calls for a place
+-- the keys that the index of calls lists for a place
 abbrev pub calling_keys : List CallingRow → List ℕ → List Key
 calling_keys index place = map (λ (r : CallingRow). schedule_key r.1) (filter (λ (r : CallingRow). bytes_eq r.0 place) index)
 
--- the keys in the rows of the index of associations for a place
+-- the keys that the index of associations lists for a place
 abbrev pub linked_keys : List LinkedRow → List ℕ → List Key
 linked_keys index place = map (λ (r : LinkedRow). association_key r.1) (filter (λ (r : LinkedRow). bytes_eq r.0 place) index)
 

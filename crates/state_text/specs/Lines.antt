@@ -1,4 +1,4 @@
--- Defines the causes for which a line can't follow the other lines of a schedule in a state's text.
+-- Defines why a line is refused as the next line of a schedule in a state's text.
 use Rattle.std.specs.Prelude.{◌≡◌, ℕ, List, [], ◌∷◌, ◌++◌, length, Option, Some, None}
 use Rattle.docker_model.specs.file.Change as model
 use Rattle.docker_model.specs.file.File.{IsSchedule, BeginsSchedule}

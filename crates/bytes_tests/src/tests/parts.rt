@@ -98,7 +98,7 @@ const BAD_DESCRIPTIONS: &[&[u8]] = &[
     b"         ASHFIELD CENTRAL                                     \x7f",
 ];
 
-/// Lines that aren't valid as the body of this association.
+/// Lines that aren't valid as the body of the association with the key `JOINS`.
 const BAD_LINES: &[&[u8]] = &[
     b"AARC10001C100022406102406141111100JJSASHFELD  TP                               P",
     b"AANC10003C100022406102406141111100JJSASHFELD  TP                               P",

@@ -205,7 +205,7 @@ ends_before = inl (record {
   item_at = refl;
 })
 
--- if the horizon is the last day of the schedule, the schedule hasn't lapsed
+-- the example state with the last day of its schedule as the horizon: the schedule hasn't lapsed
 abbrev last_day_state : State
 last_day_state = record { horizon = 23541; ledger = f2_state.ledger; entries = f2_state.entries }
 

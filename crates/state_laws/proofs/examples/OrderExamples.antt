@@ -37,8 +37,8 @@ later_day_in_bytes = refl
 low_byte_first : bytes_cmp (to_le_bytes w16 255) (to_le_bytes w16 256) ≡ Greater
 low_byte_first = refl
 
--- two keys of associations with UIDs of different lengths: the first key is lower in the order of
--- fields, and the second key is lower in the order of bytes
+-- the key of an association with these two UIDs. If the UIDs have different lengths, one key can be
+-- lower in the order of fields, and the other key in the order of bytes
 abbrev association_of : List ℕ → List ℕ → Key
 association_of base associated =
     association_key (record { base = base; associated = associated; start = 0; location = codes "ASHFELD"; suffix = 32; indicator = 80 })
@@ -49,8 +49,8 @@ short_by_parts = refl
 short_by_bytes : bytes_cmp (key_bytes (association_of (codes "A") (codes "C"))) (key_bytes (association_of (codes "AB") (codes "A"))) ≡ Greater
 short_by_bytes = refl
 
--- two ledger items with the same file stamp: the update indicator is compared before the last
--- reference
+-- a ledger item with this update indicator and this last reference. Of two items with the same file
+-- stamp, the update indicators are compared first
 abbrev item_of : ℕ → List ℕ → LedgerItem
 item_of indicator last =
     record { stamp = record { moment = record { day = 23536; minute = 1260 }; reference = codes "DFROC1A" }; indicator = indicator; last_reference = last }

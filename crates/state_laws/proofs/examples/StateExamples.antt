@@ -23,7 +23,8 @@ pub item_of_f2 : ledger_item_of f2 ≡ f2_item
 unfolding days_from_civil day_count days_of_years days_of_months
 item_of_f2 = refl
 
--- the key of the schedule in the example file
+-- the key of the schedule in the example file has the UID C10001, the first day 23537 and the STP
+-- indicator 80, which is `P`
 pub key_of_f2 : schedule_named f2_basic ≡ schedule_key (record { uid = codes "C10001"; runs_from = 23537; indicator = 80 })
 unfolding days_from_civil day_count days_of_years days_of_months
 key_of_f2 = refl

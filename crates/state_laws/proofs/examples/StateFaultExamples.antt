@@ -66,7 +66,7 @@ one_byte_more = inr (inr (inr (record {
   end_at = refl;
 })))
 
--- the text with its ledger item twice
+-- the example text with its ledger item repeated
 abbrev twice : List ℕ
 twice = ledger_text dks_1 0 2 (f2_item ∷ f2_item ∷ []) ++ drop 31 text
 

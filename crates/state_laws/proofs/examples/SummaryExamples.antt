@@ -68,7 +68,7 @@ f2_state_valid = record {
   entries = (All-from_recursion (IsGoodEntry (f2_item ∷ [])) ((schedule_key f2_key, f2_entry) ∷ []) (good_entry, tt), (tt, tt));
 }
 
--- the ledger item of the example file
+-- the ledger item of the example file is `f2_item`
 item_is : ledger_item_of f2 ≡ f2_item
 item_is = item_of_f2
 

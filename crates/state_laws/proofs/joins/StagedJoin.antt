@@ -69,8 +69,8 @@ module _ (own received : State) (valid : IsValid own) (valid_too : IsValid recei
       under offered to other (inl here) = at_most_below entry_cmp other entry (to.greater other here)
       under offered to other (inr here) = subst (λ e. IsAtMost entry_cmp other e) (one_received key other entry here offered) (at_most_itself entry_total other)
 
-  -- an entry of the state is the greatest entry of its key, if it isn't below the floor and no
-  -- entry of the key is staged
+  -- if an entry of the state isn't below the floor, and no entry of its key is staged, it is the
+  -- greatest entry of the key
   own_best : (key : Key) (entry : Entry) → Contains own.entries (key, entry) → IsKept commit.floor entry.stamp.file → HasNoEntryOf staged key → Best key entry
   unfolding Best
   own_best key entry among kept none = (

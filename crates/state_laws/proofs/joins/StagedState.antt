@@ -90,8 +90,8 @@ module _ (own received : State) (floor : Option FileStamp) (staged : List (Key Ã
           subst (Î» e. IsAtMost entry_cmp other e) (one_per_key own.entries up key other entry here told.0) (at_most_itself entry_total other)
       under other (inr there) = absurd (told.2 other there)
 
-  -- the join of `own` with the state of only the received ledger items and the staged entries is
-  -- the state after the commit
+  -- the state after the commit is the join of `own` with the state that has only the received
+  -- ledger items and the staged entries
   pub join_with_staged : IsCommit own received.ledger staged after
   unfolding Best
   join_with_staged = record {

@@ -14,7 +14,7 @@ use Rattle.docker_model.specs.state.State.{IsBodyOf, IsOpOf}
 use Rattle.cif_laws.proofs.orders.Orders.{then_equal, exact_stamp}
 use Rattle.cif_laws.proofs.lists.Fronts.{same_front}
 
--- two lists of records with the same concatenation are equal
+-- if two lists of records have the same concatenation, they are equal
 pub same_lines : (xs ys : List (List ℕ)) → All IsRecord xs → All IsRecord ys → concat xs ≡ concat ys → xs ≡ ys
 same_lines [] [] good_x good_y same = refl
 same_lines [] (y ∷ ys) good_x good_y same =
@@ -28,7 +28,7 @@ same_lines (x ∷ xs) (y ∷ ys) good_x good_y same =
     let rest = same_lines xs ys (All-tail IsRecord x xs good_x) (All-tail IsRecord y ys good_y) parts.1 in
     λ i. parts.0 i ∷ rest i
 
--- two well-formed bodies of one key with the same bytes are equal
+-- if two well-formed bodies of one key have the same bytes, they are equal
 same_body : (key : Key) (a b : Body) → IsBodyOf key a → IsBodyOf key b → body_bytes a ≡ body_bytes b → a ≡ b
 same_body (tiploc_key code) (tiploc_body a) (tiploc_body b) good_a good_b same = ap tiploc_body same
 same_body (tiploc_key code) (tiploc_body a) (association_body b) good_a good_b same = absurd good_b
@@ -61,7 +61,7 @@ same_op key (put_with a) (put_with b) good_a good_b tied =
     let parts = then_equal (bytes_cmp (body_bytes a) (body_bytes b)) (nat_cmp (body_tag a) (body_tag b)) behind.1 in
     ap put_with (same_body key a b good_a good_b (exact_bytes (body_bytes a) (body_bytes b) parts.0))
 
--- two well-formed entries of one key that tie in the order are equal
+-- if two well-formed entries of one key tie in the order, they are equal
 pub exact_entry : (key : Key) (a b : Entry) → IsOpOf key a.op → IsOpOf key b.op → entry_cmp a b ≡ Equal → a ≡ b
 exact_entry key a b good_a good_b tied =
     let parts = then_equal (stamp_cmp a.stamp b.stamp) (op_cmp a.op b.op) tied in

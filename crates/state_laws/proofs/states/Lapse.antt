@@ -16,7 +16,7 @@ use Rattle.docker_model.specs.state.Lapse.{lapse, HasNotToLapse, lapse_entry}
 
 -- ---- a put lapses or stays
 
--- a body ended before the horizon, or its end is at least the horizon
+-- a body ended before the horizon, or it ends on the horizon or later
 pub below_or : (horizon : ℕ) (body : Body) → (body_end body < horizon) ⊎ (horizon ≤ body_end body)
 below_or horizon body = by (nat_lt (body_end body) horizon) refl
   where

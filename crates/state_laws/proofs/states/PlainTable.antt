@@ -129,7 +129,7 @@ after_files_is table (file ∷ files) =
 number_below : (m n : ℕ) → m < n → nat_cmp m n ≡ Less
 number_below m n below = λ i. cond (lt-ltb m n below i) Less (cond (m == n) Equal Greater)
 
--- of two entries of one file with the same key, the later entry has the greater stamp
+-- if two entries come from one file and have the same key, the later entry has the greater stamp
 pub within_file : (file : List (List ℕ)) (first second : Change) → Apart first second → Ascends (entry_of_change file first) (entry_of_change file second)
 within_file file first second (inl below) same =
     (λ i. ordering_then (tied_itself file_stamp_total (file_stamp_of file) i) (number_below first.number second.number below i))

@@ -142,7 +142,7 @@ module _ (items more : List LedgerItem) (entries others : List Keyed) (once twic
         → IsKept second.floor best.stamp.file → IsKept second.floor top.stamp.file → lapse_entry twice.horizon best ≡ lapse_entry twice.horizon top
     same_lapse best top is_best is_top kept_best kept_top = by (stands best is_best kept_best)
       where
-        -- lapsing makes `best` and `top` equal, if the second step of the reduction contains `best`
+        -- lapsing makes `best` and `top` equal, if the second step of the reduction receives `best`
         -- itself
         itself : Contains (once.entries ++ others) (key, best) → lapse_entry twice.horizon best ≡ lapse_entry twice.horizon top
         itself there =

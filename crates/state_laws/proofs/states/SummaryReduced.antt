@@ -20,7 +20,8 @@ use Rattle.state_laws.proofs.states.ReducedEntries.{IsReduced}
 abbrev pub File : Type 0
 File = List (List ℕ)
 
--- an entry below the floor is at most any entry that isn't below the floor
+-- if one entry is below the floor and another entry isn't, the first entry is at most the second
+-- entry
 pub below_kept : (floor : Option FileStamp) (low high : Entry) → IsKept floor high.stamp.file → IsKept floor low.stamp.file ⊎ IsAtMost entry_cmp low high
 below_kept None low high kept = inl tt
 below_kept (Some floor) low high kept = by (at_most_or file_stamp_total floor low.stamp.file)

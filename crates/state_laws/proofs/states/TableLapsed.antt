@@ -27,7 +27,7 @@ pub live_stays : (horizon : ℕ) (table : Table) (key : Key) (body : Body) → t
     → lapse_table horizon table key ≡ Some body
 live_stays horizon table key body is above = ap (option_and_then (unlapsed horizon)) is ∙ body_stays horizon body above
 
--- each body in a lapsed table is in the table before lapsing
+-- each body in a lapsed table was in the table before lapsing
 pub was_live : (horizon : ℕ) (table : Table) (key : Key) (body : Body) → lapse_table horizon table key ≡ Some body → table key ≡ Some body
 was_live horizon table key body is = by (table key) is
   where

@@ -170,7 +170,7 @@ one_fault format limit text first second (inr (inr (inr one))) (inr (inr (inl tw
     absurd (end_and_short format limit text one.state second (stop_of_tail format limit text first one) two)
 one_fault format limit text first second (inr (inr (inr one))) (inr (inr (inr two))) = tail_and_tail format limit text first second one two
 
--- a state's text within the limit has no fault
+-- if a state's text is within the limit, it has no fault
 pub no_fault_of_state : (format : Format) → (limit : ℕ) (text : List ℕ) (state : State) (fault : StateFault) → IsStateText format limit text state
     → ¬ IsStateFault format limit text fault
 no_fault_of_state format limit text state fault is found = by found

@@ -205,7 +205,7 @@ walk format limit text zero before rest told few = one_step_on format limit text
 walk format limit text (suc steps) before rest told few =
     one_step_on format limit text before rest told (λ after more further less. walk format limit text steps after more further (omega arith))
 
--- each text of bytes is the text of a state within the limit, or has a fault
+-- each list of bytes is the text of a state within the limit, or has a fault
 pub text_or_fault : (format : Format) → (limit : ℕ) (text : List ℕ) → All (λ b. b < 256) text → Answer format limit text
 text_or_fault format limit text small =
     walk format limit text (length text) before_mark text

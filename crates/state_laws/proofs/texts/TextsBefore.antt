@@ -59,7 +59,7 @@ all_lines count state key stamp lines =
     (after_entries count (with_entry state (schedule_key key) stamp (put_with (schedule_body lines))))
     (in_entry count state (before_line key stamp (length lines) lines))
 
--- up to and including the first items of a ledger, the text is `ledger_text` of these items
+-- the text up to and including the first items of a ledger is `ledger_text` of these items
 pub after_items_text : (format : Format) (horizon : ℕ) → (count : ℕ) (ledger : List LedgerItem) → length ledger ≤ count
     → text_before format (after_items horizon count ledger) ≡ ledger_text format horizon count ledger
 after_items_text format horizon count ledger within = by (leb_tells count (length ledger))
