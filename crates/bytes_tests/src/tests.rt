@@ -194,8 +194,8 @@ fn day(rt: &impl Abort) -> Day {
     Day::from_iso("2024-06-15").expect(rt, "a day")
 }
 
-/// Asserts that, with this limit, a text has this fault: when it is read, and when a parser is fed
-/// the text, `step` bytes at a time.
+/// Asserts that a text has this fault with this limit, both when it is read and when a parser is
+/// fed the text `step` bytes at a time.
 fn refused_by(
     rt: &impl Abort,
     alloc: Global,

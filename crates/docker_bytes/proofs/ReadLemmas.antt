@@ -94,7 +94,8 @@ told_as_state format limit text piece rest found told result so_far memory state
     let same = not_memory found told result memory state is in
     subst (IsFaultOf format limit ((text ++ piece) ++ rest)) same.0 (told_so_far format limit text piece rest found.at found.cause same.1 so_far)
 
--- a parser's fault at the end of a text is returned as a fault of the text or, after a complete text, as `Memory`
+-- the read fault for a parser's fault at the end of a text is a fault of the text. After a complete
+-- text, it is `Memory`
 pub ended_for : {A : Type 0} (format : Format) (limit : ℕ) (text : List ℕ) (IsMade : A → Type 0) (found : StateFault) (result : ReadFault)
     → IsUnended format limit text found → (found.cause ≡ cause.Memory → result ≡ fault.Memory)
     → (found.cause ≢ cause.Memory → result ≡ fault.State found)
@@ -166,7 +167,7 @@ tail_told format limit text piece rest used More found below more at is = absurd
 abbrev pub terms_of : {K : Type 0} → ParserState K → StateTerms
 terms_of parser = record { format = format_of parser.reading; limit = parser.reading.limit }
 
--- a parser before its first piece has read the empty text
+-- before its first piece, a parser has read the empty text
 pub at_start : {K : Type 0} (parser : ParserState K) → IsUnread parser → parser.reading.limit < 2 ^ 64 → TakesState parser (terms_of parser) []
 at_start parser unread small = record { read = unread; small = small }
 
@@ -338,7 +339,8 @@ pub read_itself : (format : Format) (limit : ℕ) (initial : Option (List ℕ)) 
 read_itself format limit initial made read =
     record { text = read.text; held = read.held; is = made_itself format limit read.text made read.of }
 
--- if `after` is the join with the state of a text, and the source held this text, `after` is the join with the state whose text the source held
+-- if a source held a text, and `after` is the join with the state that has this text, then `after`
+-- is the join with the state whose text the source held
 pub joined : (format : Format) (limit : ℕ) (initial : Option (List ℕ)) (text : List ℕ) (own after : State) → Held initial text
     → JoinsText format limit text own after → JoinsState format limit initial own after
 joined format limit initial text own after held joins =

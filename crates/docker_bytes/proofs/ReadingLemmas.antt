@@ -264,7 +264,7 @@ told_stays format limit text read front behind at cause = by cause
         inr (subst (λ xs. IsLong format limit xs (record { at = at; cause = told })) (sym whole)
         (long_stays format limit ((text ++ read) ++ front) behind (record { at = at; cause = told }) long))
 
--- bytes that are taken from the front of the rest are appended to the bytes before the rest
+-- if bytes are taken from the front of the rest, they are appended to the bytes before the rest
 pub rest_more : (piece rest front behind : List ℕ) → before_rest piece rest ++ rest ≡ piece → rest ≡ front ++ behind
     → (before_rest piece behind ≡ before_rest piece rest ++ front) × (before_rest piece behind ++ behind ≡ piece)
 rest_more piece rest front behind whole split = (now, ap (λ xs. xs ++ behind) now ∙ all)

@@ -18,9 +18,9 @@ use std::marker::Brand;
 use std::mem;
 
 /// Joins a state with the state whose text a source holds. The text has the mark `DKS2`. The source
-/// is read as by `read_state`, and the faults are the same. Of the received entries, only the
-/// entries that the state will take over are kept. The state takes these entries over after the end
-/// of the source, so a fault leaves the state unchanged.
+/// is read in the same way as by `read_state`, with the same faults. Of the received entries, only
+/// the entries that the state will take over are kept. The state takes these entries over after the
+/// end of the source, so a fault leaves the state unchanged.
 pub fn join_state<S: Source>(
     alloc: Global,
     state: &mut State,

@@ -31,7 +31,7 @@ pub(crate) struct StateReading<K: Keeper> {
 }
 
 impl<K: Keeper> StateReading<K> {
-    /// The reading of a text in this format, of at most `limit` bytes, before its first byte.
+    /// A reading that hasn't read any byte, for a text in this format of at most `limit` bytes.
     pub(crate) fn new(
         alloc: Global,
         format: Format,

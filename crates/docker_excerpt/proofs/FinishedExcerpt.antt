@@ -58,7 +58,8 @@ module _ (place : List ℕ) (day horizon : ℕ) (told : State) (valid : IsValid 
       → part.entries ≡ rows → part ≡ excerpt_on place day (under horizon told)
   part_is part rows is same_horizon same entries = λ i. record { horizon = same_horizon i; ledger = same i; entries = (entries ∙ is) i }
 
-  -- each docker of the state made from the entries that the excerpt keeps, for the place and the day, is a docker of the state whose parts were taken
+  -- for the place and the day, each docker of the state made from the kept entries is a docker of
+  -- the state whose parts were taken
   pub is_excerpt_of : (part : State) (rows entries : List (Key × Entry)) → rows ≡ (excerpt_on place day told).entries → part.horizon ≡ horizon
       → part.ledger ≡ told.ledger → part.entries ≡ rows → entries ≡ told.entries → StandsAt place day (with_entries part entries) part
   is_excerpt_of part rows entries is same_horizon same kept given =

@@ -12,7 +12,7 @@ use Rattle.docker_excerpt.specs.Walked.{state_of_entries}
 abbrev Keyed : Type 0
 Keyed = Key × Entry
 
--- a key that is above all entries is above all entries that may count on the day
+-- if a key is above all entries, it is above all entries that may count on the day
 pub near_above : (day : ℕ) (near entries : List Keyed) (key : Key) → near ≡ near_entries day entries → IsAboveEntries (state_of_entries entries) key
     → IsAboveEntries (state_of_entries near) key
 near_above day near entries key is above =

@@ -45,7 +45,8 @@ module _ (place : List ℕ) (day : ℕ) (lines : List (List ℕ)) (is_file : IsF
       (live_of_summary lines (summary_of lines) (summary_is lines) key)
       ∙ sym (thin_live place day lines kept thinning part of key)
 
-  -- each docker of the state that the thin changes make, for the place and the day, is a docker of the file's summary
+  -- for the place and the day, each docker of the state that the thin changes make is a docker of
+  -- the file's summary
   stands_for_summary : StandsAt place day (summary_of lines) part
   stands_for_summary docker made = record {
     place_is = made.place_is;
@@ -65,7 +66,8 @@ given_is_state file lines of_lines kept part of entries given = λ i. record {
   entries = given i;
 }
 
--- each docker of the state that the thin changes make, for the place and the day, is a docker of the file's state
+-- for the place and the day, each docker of the state that the thin changes make is a docker of the
+-- file's state
 pub thin_stands : (place : List ℕ) (day : ℕ) (file : FileRead) (lines : List (List ℕ)) → IsOfRecords file lines → IsFile lines
     → length lines ≤ most_records → (kept : List Change) → IsThinning place day file.changes_made kept
     → (part : State) → IsStateOfChanges lines kept part → (entries : List (Key × Entry)) → entries ≡ (state_of_read file).entries

@@ -7,8 +7,9 @@ use Rattle.docker_model.specs.state.Order.{bytes_cmp}
 use Rattle.docker_model.specs.state.State.{State}
 use Rattle.docker_laws.specs.ExcerptWalk.{names_in, HasKept}
 
--- says that these names are the UIDs of the associated trains of the live associations among the
--- entries. The order of the names doesn't matter, and a name may occur more than once
+-- says that these names are exactly the UIDs that the live associations among the entries have for
+-- their associated trains. The order of the names doesn't matter, and a name may occur more than
+-- once
 abbrev pub AreNames : List (List ℕ) → List (Key × Entry) → Type 0
 AreNames names entries = (uid : List ℕ) → Contains names uid ↔ Contains (names_in entries) uid
 

@@ -212,7 +212,8 @@ kept_state item kept lines state item_is is =
     let of = subst (λ (i : stamps.LedgerItem). IsMadeState i kept state) item_is is in
     record { horizon = of.horizon; ledger = of.ledger; ascending = of.ascending; entries = of.entries }
 
--- the state that the kept changes of a file make is valid if these changes are a thinning for a place and a day
+-- if the kept changes of a file are a thinning for a place and a day, the state that they make is
+-- valid
 pub valid_of_kept : (place : List ℕ) (day : ℕ) (item : stamps.LedgerItem) (all kept : List model.Change) (lines : List (List ℕ))
     → item ≡ ledger_item_of lines → IsFile lines → length lines ≤ most_records → all ≡ changes lines → IsThinning place day all kept → MakeValid item kept
 valid_of_kept place day item all kept lines item_is is_file few all_are thinning state is =

@@ -83,7 +83,7 @@ last_among (m ∷ next ∷ more) z last = by (is_made_of_key (Some next) (key_me
     by true rest inside = cons-Contains m (next ∷ more) z (rest inside)
     by false rest inside = cases rest (Contains-cons m (last_made (next ∷ more)) z inside)
 
--- there are at most as many last rows, one for each key, as there are rows
+-- `last_made` keeps at most as many numbered rows as there are
 pub last_len : (made : List Made) → length (numbers_in (last_made made)) ≤ length made
 last_len made = let one = length-map (last_made made) (λ (m : Made). m.1) in let two = fewer made in omega arith
   where

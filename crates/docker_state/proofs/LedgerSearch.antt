@@ -1,4 +1,5 @@
--- Lemmas on the search that finds whether a ledger has all items of a list, apart from the items below the floor.
+-- Lemmas on the search that finds out whether a ledger has all items of a list, apart from the
+-- items below the floor.
 use Rattle.std.proofs.Common.{◌≡◌, ◌+◌, ℕ, ◌<◌, ◌≤◌, List, map, Bool, true, length, get_or, ◌∙◌, subst, arith}
 use Rattle.std.specs.Prelude.{Option, ◌↔◌, IsTrue}
 use Rattle.std.specs.List.{AllWithin}

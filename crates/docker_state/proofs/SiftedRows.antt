@@ -101,7 +101,8 @@ module _ (state : State) (valid : IsValid state) (place : List ℕ) where
   ascending_there links =
       filter_ascends (on (λ (row : Row). row.0) key_cmp) (passes links place) (live_rows state.entries) (ascends state.entries valid.entries.1)
 
-  -- the rows that the walk finds for `links` = false are exactly the live schedules that call at the place
+  -- if `links` is false, the rows that the walk finds are exactly the live schedules that call at
+  -- the place
   pub calling_sifted : AreCalling (live_table state) place (rows_here false place state.entries)
   calling_sifted = subst (AreCalling (live_table state) place) (sym (rows_here_are false place state.entries)) (record {
     ascending = ascending_there false;
@@ -111,7 +112,7 @@ module _ (state : State) (valid : IsValid state) (place : List ℕ) where
     );
   })
 
-  -- the rows that the walk finds for `links` = true are exactly the live associations at the place
+  -- if `links` is true, the rows that the walk finds are exactly the live associations at the place
   pub linked_sifted : AreLinked (live_table state) place (rows_here true place state.entries)
   linked_sifted = subst (AreLinked (live_table state) place) (sym (rows_here_are true place state.entries)) (record {
     ascending = ascending_there true;
@@ -121,6 +122,7 @@ module _ (state : State) (valid : IsValid state) (place : List ℕ) where
     );
   })
 
-  -- the number of rows that the walk finds for `links` = false is the number of live schedules that call at the place
+  -- if `links` is false, the number of rows that the walk finds is the number of live schedules
+  -- that call at the place
   pub calls_counted : (count : ℕ) → count ≡ length (rows_here false place state.entries) → IsCallingCount (live_table state) place count
   calls_counted count is = (rows_here false place state.entries, calling_sifted, sym is)

@@ -105,7 +105,7 @@ module _ (own : State) (valid : IsValid own) (items : List LedgerItem) (floor : 
       either item kept (inl here) = here
       either item kept (inr there) = has item there kept
 
--- a good entry whose key is above all staged entries can be staged after them
+-- a good entry can be staged after the staged entries, if its key is above their keys
 pub entry_here : (items : List LedgerItem) (staged : List (model.Key × ops.Entry)) (key : model.Key) (entry : ops.Entry) → IsAboveStaged staged key
     → IsGoodEntry items (key, entry)
     → IsStampHere (staged_state items staged) key entry.stamp

@@ -10,7 +10,7 @@ ghost use Rattle.docker_state.specs.Meaning.{floor_meant, item_meant};
 use crate::item::LedgerItem;
 use docker_join::{FileStamp, Pick};
 
-/// The first ledger item of a full extract. Returns `None` if there is no full extract.
+/// The first ledger item that is for a full extract. Returns `None` if there is no full extract.
 fn first_full(items: &[LedgerItem]) -> Option<&LedgerItem>
     ensures { option_copied result ≡ find (λ item. (item_meant item).indicator == 70) items.now }
 {

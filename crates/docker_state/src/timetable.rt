@@ -49,8 +49,8 @@ impl<'a> Timetable<'a> {
         Timetable::counting(state, false)
     }
 
-    /// The timetable without the short-term plan. Of the live entries of a state, only its timing
-    /// points count, and schedules and associations with the STP indicator `P`.
+    /// The timetable without the short-term plan. Only the live timing points of a state count, and
+    /// its live schedules and associations with the STP indicator `P`.
     pub fn permanent(state: &'a State) -> Timetable<'a>
         ensures { result ≡ record { state = state.entry.now; permanent = true } }
     {
@@ -117,7 +117,7 @@ impl<'a> Timetable<'a> {
 
     /// Those schedules of a UID that count. Each is returned with its lines, in the order of the
     /// keys. First reads the row at index `near`, for example an index from `TimetableRows`. If
-    /// that row is of the UID, no search is needed.
+    /// that row is a schedule of the UID, no search is needed.
     pub fn of_uid_near(&self, uid: &Uid, near: usize) -> UidSchedules<'a>
         ensures rows { AreOfUid (live_in self.now) uid.now result }
         ensures good { IsOfGoodRows (live_in self.now) }

@@ -14,7 +14,7 @@ pub one_places : (live : Table) (text other : List ℕ) → IsPlacesText live te
 one_places live text other one two =
     one.text_is ∙ ap places_text (one_rows live one.rows two.rows one.are two.are) ∙ sym two.text_is
 
--- the greatest number of a list is unique
+-- a list of numbers has at most one greatest number
 one_greatest : (numbers : List ℕ) (first second : Option ℕ) → IsGreatest numbers first → IsGreatest numbers second → first ≡ second
 one_greatest numbers None None one two = refl
 one_greatest numbers None (Some b) one two = absurd (nil-Contains b (subst (λ ns. Contains ns b) one two.0))

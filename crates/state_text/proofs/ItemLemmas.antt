@@ -66,7 +66,7 @@ items_above item items last next test is at tested =
     above_last (λ (it : LedgerItem). it) ledger_item_cmp ledger_item_total (map item items) (item last) next test is.ascending
     (ap (λ n. slice_get (map item items) (n - 1)) size ∙ slice_get-map item items (length items - 1) ∙ (λ k. option_map item (at k))) tested
 
--- the letter of an extract indicator is F or U
+-- the letter of an update indicator is F or U
 pub is_letter : (extract : Extract) → ((extract_letter extract == 70) || (extract_letter extract == 85)) ≡ true
 is_letter letter.Full = refl
 is_letter letter.Update = refl

@@ -15,7 +15,7 @@ use Rattle.docker_state.specs.Staging.{Staging, IsOffered, IsAboveStaged}
 use Rattle.state_text.specs.Receiving.{given_state, items_of, IsStagedOf}
 use Rattle.state_text.specs.PartsSoFar.{under}
 
--- a key above the keys of all entries given is above the keys of the entries staged
+-- if a key is above the keys of all given entries, it is above the keys of the staged entries
 pub above_staged : (own : State) (floor : Option FileStamp) (entries staged : List (Key × Entry)) (key : Key) → IsStaged own floor entries staged
     → All (λ (entry : Key × Entry). IsBelow key_cmp entry.0 key) entries → IsAboveStaged staged key
 above_staged own floor entries staged key are above other among =

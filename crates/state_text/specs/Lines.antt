@@ -28,8 +28,8 @@ abbrev pub AreLinesUpToIn : State → model.ScheduleKey → ℕ → List (List �
 AreLinesUpToIn state key n lines = AreLinesUpTo key n lines × HaveNotToLapse state lines
 
 -- says why a line is refused as one of the `n` lines of a schedule with this key. For `bad_body`,
--- the earlier lines with this line don't begin a schedule of `n` lines with this key. For `None`,
--- they do, but memory ran out for the line
+-- no schedule of `n` lines with this key begins with the earlier lines and this line. For `None`,
+-- some schedule does, but memory ran out for the line
 abbrev pub IsUpToRefusal : State → model.ScheduleKey → ℕ → List (List ℕ) → List ℕ → Option StateCause → Type 0
 IsUpToRefusal state key n lines line None = AreLinesUpToIn state key n (lines ++ line ∷ [])
 IsUpToRefusal state key n lines line (Some bad_body) = ¬ AreLinesUpToIn state key n (lines ++ line ∷ [])

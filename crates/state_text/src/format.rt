@@ -63,10 +63,10 @@ pub const MINUTE_AT: usize = 2;
 /// The offset of the reference in a file stamp.
 pub const REFERENCE_AT: usize = 4;
 
-/// The offset of the extract indicator in a ledger item.
+/// The offset of the update indicator in a ledger item.
 pub const INDICATOR_AT: usize = 11;
 
-/// The offset of the previous file's reference in a ledger item.
+/// The offset of the last file reference in a ledger item.
 pub const LAST_REFERENCE_AT: usize = 12;
 
 /// The offset of the record number in a stamp.

@@ -45,8 +45,8 @@ fn let_go(journey: &mut Journey, lines: &mut Vec<Line>)
     lines.clear();
 }
 
-/// Replaces the memory of an empty buffer, unless the buffer has room for just `count` lines
-/// already. The new memory has room for `count` lines. If memory runs out, the buffer is unchanged.
+/// Replaces the memory of an empty buffer, unless the buffer already has room for exactly `count`
+/// lines. The new memory has room for `count` lines. If memory runs out, the buffer is unchanged.
 fn room_for(lines: &mut Vec<Line>, alloc: Global, count: usize)
     requires { lines.old.items ≡ [] }
     ensures { lines.new.items ≡ [] }

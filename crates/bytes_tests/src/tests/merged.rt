@@ -84,7 +84,7 @@ const PLAIN: Records = &[HD, BS, LO, LT, ZZ];
 /// The text of the state of `PLAIN`.
 const OF_PLAIN: Records = &[MARK, ONE, ITEM, ONE, HEAD, BS, LO, LT];
 
-/// A file of the next day, which revises the schedule of C10001.
+/// A file of 10 June, which revises the schedule of C10001.
 const REVISION: Records = &[HD_10B, BS_REVISED, LO_0905, LT_0935, ZZ];
 
 /// The text of the state of `PLAIN` and `REVISION`.

@@ -45,7 +45,7 @@ pub(super) const HEAD_10B: &[u8] =
 pub(super) const HEAD_9C: &[u8] =
     b"\x03C10001\x5b\xf1P\x5b\xf0\x04\xecDFROC1C\x00\x00\x00\x02\x01\x00\x00\x00\x03";
 
-/// The head of the entry for C10002's schedule from the full extract.
+/// The head of the entry for C10002's schedule from the full extract of 7 June.
 pub(super) const HEAD_C10002: &[u8] =
     b"\x03C10002\x5b\xf1P\x5b\xee\x04\xecDFROC1B\x00\x00\x00\x02\x01\x00\x00\x00\x03";
 

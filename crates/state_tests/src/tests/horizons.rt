@@ -49,10 +49,10 @@ fn a_horizon(rt: HostRuntime) {
 /// A file that revises a schedule.
 const REVISION: &[&[u8]] = &[HD_10B, BS_REVISED, LO_0905, LT_0935, ZZ];
 
-/// An older file, in which the same schedule ends later.
+/// A file that is older than `REVISION`, in which the same schedule ends later.
 const OLDER: &[&[u8]] = &[HD_8A, BS_JULY, LO, LT, ZZ];
 
-/// What is shown for the join of the two files if the horizon is after the revision's end.
+/// What is shown for the join of `REVISION` and `OLDER` if the horizon is after the revision's end.
 const REVISION_LAPSED: &[&[u8]] = &[
     b"horizon 23542",
     b"item 23535 1260 DFROC1A U DFROC1Z",

@@ -114,7 +114,8 @@ fn timetable(rt: &impl Abort, alloc: Global) -> Table<Entry> {
     and(rt, alloc, all, schedule(rt, b"C30001"), 23536, Op::Deleted)
 }
 
-/// A table from a later file: another short trip is put, and the round trip is deleted.
+/// A table from a file that is later than the files of `timetable`. It puts another short trip, and
+/// deletes the round trip.
 fn update(rt: &impl Abort, alloc: Global) -> Table<Entry> {
     let short = put(rt, alloc, SHORT);
     let all = Table::new(alloc);
@@ -160,8 +161,8 @@ fn postings_are(rt: &impl Abort, index: &Index, postings: &[Posting], wanted: &[
     }
 }
 
-/// Asserts that an index has these calls, each given as a place and a row, and one link: the first
-/// row, the association, at Colwell.
+/// Asserts that an index has these calls, each given as a place and a row. Its only posting of an
+/// association has the place Colwell and the first row.
 fn index_is(rt: &impl Abort, index: &Index, calls: &[(&str, u32)]) {
     postings_are(rt, index, index.calls.as_slice(), calls);
     postings_are(rt, index, index.links.as_slice(), &[("COLWELL", 0)]);

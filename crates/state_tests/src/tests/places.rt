@@ -21,8 +21,8 @@ fn add_found(rt: &impl Abort, alloc: Global, text: &mut Vec<u8>, key: &Key, body
     add_body(rt, text, body);
 }
 
-/// Appends the rows found at a place to a text. Each is shown with a word and its index among the
-/// rows, from 0. The contracts promise nothing about this index: it is only a hint.
+/// Appends the rows found at a place to a text. Each row is shown with a word, and with its index
+/// among the rows, from 0. The contracts promise nothing about this index: it is only a hint.
 fn add_place_rows(
     rt: &impl Abort,
     alloc: Global,
@@ -96,7 +96,7 @@ const AT_COLWELL: &[&[u8]] = &[
     LT_DUNMERE_1100,
 ];
 
-/// What is found at Elm, where no schedule calls.
+/// What is shown for Elm, where no schedule calls: only the schedule of the UID C30002.
 const AT_ELM: &[&[u8]] = &[
     b"of it C30002 23537",
     BS_C30002,

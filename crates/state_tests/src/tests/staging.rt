@@ -114,16 +114,16 @@ fn received_is(
 /// A file with one schedule.
 const SCHEDULE: &[&[u8]] = &[HD, BS, LO, LT, ZZ];
 
-/// A later file that revises the schedule.
+/// A file that is later than `SCHEDULE` and revises its schedule.
 const REVISION: &[&[u8]] = &[HD_10B, BS_REVISED, LO_0905, LT_0935, ZZ];
 
 /// An update that deletes one schedule and puts another.
 const UPDATE: &[&[u8]] = &[HD_5A, BS_C10003, BS, LO, LT, ZZ];
 
-/// A later full extract, with a third schedule.
+/// A full extract that is later than `UPDATE`, with a third schedule.
 const EXTRACT: &[&[u8]] = &[HD_7B, BS_C10002, LO_1000, LT_1030, ZZ];
 
-/// What is shown for a state with only the full extract.
+/// What is shown for a state that knows only the file `EXTRACT`.
 const EXTRACT_ONLY: &[&[u8]] = &[
     b"item 23534 1260 DFROC1B F DFROC1A",
     b"floor 23534 1260 DFROC1B",
