@@ -76,8 +76,7 @@ fn files_in(rt: &impl Abort, alloc: Global, text: &[u8], step: usize, limit: u64
     ledger.items().len()
 }
 
-/// The text of the state of the file of 9 June. The file has one schedule, and the text has 311
-/// bytes.
+/// The text of the state `known_state`. The text has 311 bytes.
 fn known_text(rt: &impl Abort, alloc: Global) -> Vec<u8> {
     joined_text(rt, alloc, &[MARK, ONE, ITEM, ONE, HEAD, BS, LO, LT])
 }

@@ -339,8 +339,8 @@ pub read_itself : (format : Format) (limit : ℕ) (initial : Option (List ℕ)) 
 read_itself format limit initial made read =
     record { text = read.text; held = read.held; is = made_itself format limit read.text made read.of }
 
--- if a source held a text, and `after` is the join with the state that has this text, then `after`
--- is the join with the state whose text the source held
+-- suppose that a source held a text, and that `after` is the join with the state that has this
+-- text. Then `after` is the join with the state whose text the source held
 pub joined : (format : Format) (limit : ℕ) (initial : Option (List ℕ)) (text : List ℕ) (own after : State) → Held initial text
     → JoinsText format limit text own after → JoinsState format limit initial own after
 joined format limit initial text own after held joins =

@@ -51,8 +51,8 @@ pub(crate) fn has_name(names: &[Uid], uid: &Uid) -> bool
     names.binary_search(uid).is_ok()
 }
 
-/// Whether the schedules of a UID are needed if one more entry is added to them: they were needed
-/// before, or the entry is a live schedule that calls at the place.
+/// Whether the schedules of a UID are needed if one more entry is added to them. They are needed if
+/// they were needed before, or if the entry is a live schedule that calls at the place.
 pub(crate) fn is_needed_with(needed: bool, place: &Tiploc, op: &Op) -> bool
     ensures { result ≡ (needed || is_call place.now (op_meant op.now)) }
 {

@@ -116,8 +116,8 @@ module _ {E : Type 0} (picked : E → E → E) where
           let none : value_at xs key ≡ None = subst (λ k. value_at xs k ≡ None) (exact_key (key_meant y.0) key is) (value_above (key_meant y.0) xs above) in
           value_here y tail key is ∙ sym (λ i. picked_value picked (none i) (value_here y ys key is i))
 
-  -- if the first rows of both tables have the same key, the join of these two rows, followed by the
-  -- rest of the join, has the joined value at each key
+  -- suppose that the first rows of both tables have the same key. Then the join of these two rows,
+  -- followed by the rest of the join, has the joined value at each key
   both_out : (x y : Key × E) (xs ys tail : List (Key × E)) (key : model.Key) → row_cmp x y ≡ Equal → value_at tail key ≡ Both xs ys key
       → value_at ((x.0, picked x.1 y.1) ∷ tail) key ≡ Both (x ∷ xs) (y ∷ ys) key
   both_out x y xs ys tail key level later = by (key_cmp (key_meant x.0) key) refl

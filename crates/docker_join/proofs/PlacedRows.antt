@@ -95,8 +95,8 @@ module _ {E : Type 0} where
   first_below [] ys up = tt
   first_below (x ∷ xs) ys up = (all_behind (IsBelow row_cmp x) xs ys up.0, first_below xs ys up.1)
 
-  -- if all rows of one list are below a row, and all rows of a second list are above it, each row
-  -- of the first list is below each row of the second list
+  -- suppose that all rows of one list are below a row, and all rows of a second list are above it.
+  -- Then each row of the first list is below each row of the second list
   below_higher : (lows highs : List (Key × E)) (row : Key × E) → AllBelow lows (row ∷ []) → Above row highs → AllBelow lows highs
   below_higher [] highs row below above = tt
   below_higher (low ∷ lows) highs row below above = (above_lower low row highs below.0.0 above, below_higher lows highs row below.1 above)

@@ -26,8 +26,9 @@ pub record IsRunAbove {E : Type 0} (key : model.Key) (rows : List (Key × E)) (n
   pub above : (d : Key × E) → 0 < run → is_above_at key rows n run d ≡ true
   pub below : (d : Key × E) → run < left → is_above_at key rows n (run + 1) d ≡ false
 
--- Says what taking the last row of a ring buffer does: if a row is left to be placed and the last row has the key, the last row was removed. Otherwise no row
--- was taken, and the ring buffer is unchanged.
+-- Says what taking the last row of a ring buffer does. If a row is left to be placed and the last
+-- row has the key, the last row was removed. Otherwise no row was taken, and the ring buffer is
+-- unchanged.
 abbrev pub IsTaken : {E : Type 0} → model.Key → ℕ → ℕ → List (Key × E) → List (Key × E) → Option (Key × E) → Type 0
 IsTaken key n left old new None = (new ≡ old) × ((d : _) → 0 < left → is_level_at key old n d ≡ false)
 IsTaken key n left old new (Some own) = (old ≡ new ++ own ∷ []) × ((key_cmp (key_meant own.0) key ≡ Equal) × (0 < left))

@@ -11,8 +11,8 @@ use Rattle.docker_join.specs.Rows.{AreAscending}
 use Rattle.docker_join.proofs.Lookup.{by_key, rows_rise}
 use Rattle.docker_state.specs.Near.{IsAboveBefore, IsBelowAt}
 
--- if a key is above the row just before an index and below the row at the index, it is above all
--- rows before the index and below all other rows
+-- suppose that a key is above the row just before an index, and below the row at the index. Then it
+-- is above all rows before the index, and below all other rows
 pub parts_at_gap : (rows : List (Key × Entry)) (key : model.Key) (at : ℕ) → AreAscending rows → IsBelowAt key rows at → IsAboveBefore key rows at
     → IsPartitionPoint (λ row. by_key key row ≡ Less) (λ row. by_key key row ≡ Greater) rows at
 parts_at_gap rows key at up below above = (

@@ -31,8 +31,8 @@ pub one_row_more : (file : FileStamp) (changes : List model.Change) (change : mo
 one_row_more file changes change rows after row pushed same before =
     ap (map row_meant) pushed ∙ map-append row_meant rows (row ∷ []) ∙ (λ i. before i ++ same i ∷ []) ∙ sym (map-append (made_by file) changes (change ∷ []))
 
--- if the first two rows have different keys, and each row after the first is the last row of its
--- key, then each row is the last row of its key
+-- suppose that the first two rows have different keys, and that each row after the first is the
+-- last row of its key. Then each row is the last row of its key
 pub one_apart_more : (row : Key × Entry) (behind : List (Key × Entry)) → is_of_key (slice_get behind 0) (key_meant row.0) ≡ false
     → last_rows behind ≡ behind → last_rows (row ∷ behind) ≡ row ∷ behind
 one_apart_more row [] apart rest = refl

@@ -33,6 +33,6 @@ is_here false place key body = is_call place key body
 abbrev pub row_here : Bool → List ℕ → Key × Entry → Option Row
 row_here links place row = option_and_then (λ body. if is_here links place row.0 body then Some (row.0, body) else None) (body_of row.1.op)
 
--- those of the rows that are live and at the place, in the same order
+-- the live rows at the place, in the order of the given rows
 abbrev pub rows_here : Bool → List ℕ → List (Key × Entry) → List Row
 rows_here links place rows = filter_map (row_here links place) rows

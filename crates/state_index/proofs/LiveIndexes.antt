@@ -61,8 +61,8 @@ module _ {K : Type 0} (wrap : K → Key) (row_of : List ℕ → Key → Option (
   abbrev IndexRow : Type 0
   IndexRow = List ℕ × K
 
-  -- the row that the live table's index has for a spot (a TIPLOC and a row's index), or `None` if
-  -- the row's key isn't of the kind that the index lists
+  -- the row that the live table's index has for a spot (a TIPLOC and a row's index). The result is
+  -- `None` if the row's key isn't of the kind that the index lists
   abbrev row_at : List Keyed → Spot → Option IndexRow
   row_at rows spot = option_and_then (λ (row : Keyed). row_of spot.place row.0) (slice_get rows spot.at)
 

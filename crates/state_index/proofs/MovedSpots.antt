@@ -56,8 +56,8 @@ module _ (moves : List (Option ℕ)) where
   pub moved_ascends : AreRising moves → (spots : List Spot) → IsStrictlyAscending spot_cmp spots → IsStrictlyAscending spot_cmp (moved_spots moves spots)
   moved_ascends rise spots up = chosen_ascends (moved_spot moves) spot_cmp spot_cmp (moved_below rise) spots up
 
-  -- if each spot (a TIPLOC and a row's index) of one list is in a second list, this is still true after the spots of both lists get the new indexes of their
-  -- rows
+  -- suppose that each spot (a TIPLOC and a row's index) of one list is in a second list. This is
+  -- still true after the spots of both lists get the new indexes of their rows
   pub moved_same : (spots others : List Spot) → ((spot : Spot) → Contains spots spot → Contains others spot) → (spot : Spot)
       → Contains (moved_spots moves spots) spot → Contains (moved_spots moves others) spot
   moved_same spots others same spot among =

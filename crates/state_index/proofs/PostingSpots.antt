@@ -118,7 +118,8 @@ same_rows names rank place at (posting ∷ piece) here rows =
         let same : spot ≡ spot_at posting.at place = some_is spot (spot_at posting.at place) told in
         λ i. cons_option (option_and_then live_row (slice_get rows (sym (ap (λ (s : Spot). s.at) same) i))) (rest i)
 
--- if all postings of one list are in a second list, the spots (each a TIPLOC and a row's index) made from the first list are spots made from the second list
+-- if all postings of one list are in a second list, each spot made from the first list is also made
+-- from the second list. A spot is a TIPLOC with a row's index
 pub same_spots : (names : List (List ℕ)) (postings others : List Posting) → ((posting : Posting) → Contains postings posting → Contains others posting)
     → (spot : Spot)
     → Contains (spots_in names postings) spot → Contains (spots_in names others) spot

@@ -44,7 +44,8 @@ abbrev pub moved_spot : List (Option ℕ) → Spot → Option Spot
 moved_spot moves spot =
     option_map (λ at. record { place = spot.place; at = at }) (option_and_then (λ (move : Option ℕ). move) (slice_get moves spot.at))
 
--- the spots (each a TIPLOC and a row's index) with the indexes that their rows have in the join; spots of rows that aren't live in the join are left out
+-- the spots (each a TIPLOC and a row's index) with the indexes that their rows have in the join.
+-- Spots of rows that aren't live in the join are left out
 abbrev pub moved_spots : List (Option ℕ) → List Spot → List Spot
 moved_spots moves spots = filter_map (moved_spot moves) spots
 
@@ -55,7 +56,8 @@ moved_posting ranks moves posting = option_and_then
     (λ rank. option_map (λ at. record { place = rank; at = at }) (option_and_then (λ (move : Option ℕ). move) (slice_get moves posting.at)))
     (slice_get ranks posting.place)
 
--- the postings with the indexes that their places and rows have in the join; postings of rows that aren't live in the join are left out
+-- the postings with the indexes that their places and rows have in the join. Postings of rows that
+-- aren't live in the join are left out
 abbrev pub moved_postings : List ℕ → List (Option ℕ) → List Posting → List Posting
 moved_postings ranks moves postings = filter_map (moved_posting ranks moves) postings
 

@@ -52,8 +52,8 @@ pub record ArePostingsOf (places : Places) (rows : List (Key × Entry)) (names :
   pub up : IsStrictlyAscending posting_cmp postings
   pub are : AreSpotsOf places rows (spots_in names postings)
 
--- Says that this is the index of the rows: its postings of calls name exactly the places where live
--- schedules call, and its postings of associations name exactly the places of live associations.
+-- Says that this is the index of the rows. Its postings of calls name exactly the places where live
+-- schedules call. Its postings of associations name exactly the places of live associations.
 pub record IsIndexOf (rows : List (Key × Entry)) (index : Index) : Type 0 where
   pub named : IsStrictlyAscending bytes_cmp index.places.items
   pub calls : ArePostingsOf call_places rows index.places.items index.calls.items

@@ -19,11 +19,12 @@ abbrev pub linked_row : List ℕ → Key → Option LinkedRow
 linked_row place (association_key key) = Some (place, key)
 linked_row _ _ = None
 
--- the rows of the index of calls: for each spot (a TIPLOC and a row's index) in a list, the TIPLOC with the key of the row, if this key is a schedule's
+-- the rows of the index of calls: for each spot in a list, the TIPLOC with the key of the row, if
+-- this key is a schedule's. A spot is a TIPLOC with a row's index
 abbrev pub calling_rows : List (Key × Entry) → List Spot → List CallingRow
 calling_rows rows spots = filter_map (λ (spot : Spot). option_and_then (λ (row : Key × Entry). calling_row spot.place row.0) (slice_get rows spot.at)) spots
 
--- the rows of the index of associations: for each spot (a TIPLOC and a row's index) in a list, the
--- TIPLOC with the key of the row, if this key is an association's
+-- the rows of the index of associations: for each spot in a list, the TIPLOC with the key of the
+-- row, if this key is an association's. A spot is a TIPLOC with a row's index
 abbrev pub linked_rows : List (Key × Entry) → List Spot → List LinkedRow
 linked_rows rows spots = filter_map (λ (spot : Spot). option_and_then (λ (row : Key × Entry). linked_row spot.place row.0) (slice_get rows spot.at)) spots

@@ -1,5 +1,7 @@
--- The text that lists what a state knows: its horizon, its newest full extract, the latest of its schedules' last days, and the numbers of live schedules,
--- associations and timing points. Days are numbered from 1960-01-01, which is 0, to 2059-12-31, which is 36524.
+-- The text that lists what a state knows: its horizon, its newest full extract, the latest of its
+-- schedules' last days, and three counts. The counts are the numbers of live schedules,
+-- associations and timing points. Days are numbered from 1960-01-01, which is 0, to 2059-12-31,
+-- which is 36524.
 use Rattle.std.specs.Prelude.{◌≡◌, ℕ, ◌≤◌, ◌==◌, nat_le, if◌then◌else◌, List, [], ◌++◌, length, filter, codes, decimal, Contains, Option, Some, None}
 use Rattle.std.specs.List.{filter_map}
 use Rattle.docker_model.specs.records.Date.{last_day}

@@ -13,8 +13,7 @@ use std::alloc::Global;
 use std::process::Abort;
 use test_records::{BS, BS_REVISED, LO, LT};
 
-/// The text of the state of the file of 9 June, in the older format. The file has one schedule, and
-/// the text has 309 bytes.
+/// The text of the state `known_state`, in the older format. The text has 309 bytes.
 fn old_text(rt: &impl Abort, alloc: Global) -> Vec<u8> {
     joined_text(rt, alloc, &[OLD_MARK, ONE, ITEM, ONE, HEAD, BS, LO, LT])
 }

@@ -155,8 +155,9 @@ op_three = inl (record {
     no_op (inr (inl e)) = omega arith
     no_op (inr (inr e)) = omega arith
 
--- a lapsed op is good even if the horizon of the text is 0. Its entry has no body. So the text has
--- the fault `has_tail` at the first byte of the body that the put had
+-- a lapsed op is good even if the horizon of the text is 0. If the put of the example text is
+-- changed to a lapsed op, the entry ends after the op. The fault is `has_tail` at the first byte of
+-- the old body
 op_two : IsStateFault dks_2 1000 (take 66 text ++ 2 ∷ drop 67 text) (record { at = 67; cause = has_tail })
 op_two = inr (inr (inr (record {
   state = state_with 0 (lapsed_entry ∷ []);

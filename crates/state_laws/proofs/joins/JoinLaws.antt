@@ -31,8 +31,8 @@ join_reduced a b c is = record {
   of_keys = is.entries;
 }
 
--- if a state has the greater of two states' horizons, and satisfies `IsReduced` for the ledger
--- items and the entries of both states, it is the join of the two states
+-- suppose that a state has the greater of two states' horizons, and satisfies `IsReduced` for the
+-- ledger items and the entries of both states. Then it is the join of the two states
 pub reduced_join : (a b c : State) → c.horizon ≡ max a.horizon b.horizon → IsReduced (a.ledger ++ b.ledger) (a.entries ++ b.entries) c → IsJoin a b c
 reduced_join a b c horizon is = record {
   horizon = horizon;

@@ -114,8 +114,8 @@ fn timetable(rt: &impl Abort, alloc: Global) -> Table<Entry> {
     and(rt, alloc, all, schedule(rt, b"C30001"), 23536, Op::Deleted)
 }
 
-/// A table from a file that is later than the files of `timetable`. It puts another short trip, and
-/// deletes the round trip.
+/// A table from a file that is later than the files of `timetable`. The file puts another short
+/// trip, and deletes the round trip.
 fn update(rt: &impl Abort, alloc: Global) -> Table<Entry> {
     let short = put(rt, alloc, SHORT);
     let all = Table::new(alloc);
