@@ -104,7 +104,7 @@ picked_all items (m ∷ made) are =
     let rest = picked_all items made (λ z among. are z (cons-Contains m made z among)) in
     λ i. here i ∷ rest i
 
--- the numbers of the last rows are the indexes of their keys and ops in the list of items
+-- the number of each row in `last_made` is the index of the row's key and op in the list of items
 pub last_picked : (items : List Item) (made sorted : List Made) → ((z : Made) → Contains sorted z → Contains made z) → AreNumbered items made
     → ArePicked items (numbers_in (last_made sorted)) (items_of (map row_meant (rows_in (last_made sorted))))
 last_picked items made sorted from are = picked_all items (last_made sorted) (λ z among. are z (from z (last_among sorted z among)))

@@ -122,7 +122,8 @@ to_stage_tells own valid floor key entry mine is b tells =
       λ to. tells.1 (subst (λ (o : Option ops.Entry). IsKept floor entry.stamp.file × IsGreaterThan o entry) (sym is) (told.0 to)),
     )
 
--- if a received entry isn't below the floor, the entry has to be staged if and only if our entry of its key is less
+-- suppose that a received entry isn't below the floor. Then the entry has to be staged if and only
+-- if our entry of its key is less
 pub below_tells : (Kept : Type 0) → Kept → (to : Ordering) (b : Bool) → b ≡ is_lt to → IsTrue b ↔ (Kept × (to ≡ Less))
 below_tells Kept kept Less b same = (λ _. (kept, refl), λ _. same)
 below_tells Kept kept Equal b same =
@@ -142,7 +143,8 @@ none_in : {A : Type 0} (xs : List A) → (length xs == 0) ≡ true → xs ≡ []
 none_in [] empty = refl
 none_in (x ∷ xs) empty = absurd (let size : length (x ∷ xs) ≡ 0 = eqb-true (length (x ∷ xs)) 0 empty in omega arith)
 
--- if no entry is staged, nothing new was received if and only if the ledger has each received item that isn't below the floor
+-- suppose that no entry is staged. Then nothing new was received if and only if the ledger has each
+-- received item that isn't below the floor
 pub nothing_new_tells : (ledger : List LedgerItem) (staging : Staging) (empty : Bool) → empty ≡ (length staging.staged == 0) → empty ≡ true
     → (b : Bool) → IsTrue b ↔ HasKeptItems ledger staging.items staging.floor → IsTrue b ↔ HasNothingNew ledger staging
 nothing_new_tells ledger staging empty size is b tells =

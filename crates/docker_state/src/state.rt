@@ -526,7 +526,7 @@ impl State {
         floor_of(self.ledger.as_slice())
     }
 
-    /// The floor of this ledger and another state's ledger together.
+    /// The floor of this state's ledger and another state's ledger together.
     pub(crate) fn floor_with(&self, other: &State) -> Option<FileStamp>
         ensures { IsFloor (self.now.ledger ++ other.now.ledger) (floor_meant result) }
     {
