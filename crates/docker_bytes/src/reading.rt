@@ -133,8 +133,8 @@ impl<K: Keeper> StateReading<K> {
 
     /// Takes the complete lines at the front of a piece, up to but not including the schedule's
     /// last line. Takes no line if the next part isn't a line, or if some of its bytes have already
-    /// been read. The number of lines is computed once for all these lines. Returns the bytes after
-    /// these lines.
+    /// been read. The number of these lines is computed only once. Returns the bytes after these
+    /// lines.
     fn take_lines<'a>(&mut self, piece: &'a [u8]) -> Result<&'a [u8], StateFault>
         requires { IsReading self.old }
         ensures rest { IfOk result (λ behind.

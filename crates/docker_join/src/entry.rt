@@ -117,7 +117,7 @@ pub struct Entry {
 
 impl Entry {
     /// Lets the op lapse if its body ended before the horizon. The stamp is unchanged, so that no
-    /// older entry counts instead of this one. Returns whether the op has lapsed in this call.
+    /// older entry counts instead of this entry. Returns whether the op has lapsed in this call.
     pub fn lapse(&mut self, horizon: u16) -> bool
         ensures lapsed { entry_meant self.new ≡ lapse_entry horizon (entry_meant self.old) }
         ensures same { result ≡ false → self.new ≡ self.old }

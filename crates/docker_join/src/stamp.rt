@@ -86,7 +86,7 @@ impl Merge for FileStamp {
 
     ghost idempotent = { greater_itself (λ _. ⊤) (on_total file_stamp_meant file_stamp_total) };
 
-    /// The greater of the two file stamps, the newer one. No memory is allocated.
+    /// The greater of the two file stamps: the stamp of the newer file. No memory is allocated.
     fn join(self, _alloc: Global, other: FileStamp) -> Result<FileStamp, (FileStamp, FileStamp)>
         ensures always { IsOk result }
         ensures ok { IfOk result (IsGreater (on file_stamp_meant file_stamp_cmp) self other) }
@@ -172,7 +172,7 @@ impl Merge for Stamp {
 
     ghost idempotent = { greater_itself (λ _. ⊤) (on_total stamp_meant stamp_total) };
 
-    /// The greater of the two stamps, the newer one. No memory is allocated.
+    /// The greater of the two stamps, which is the newer stamp. No memory is allocated.
     fn join(self, _alloc: Global, other: Stamp) -> Result<Stamp, (Stamp, Stamp)>
         ensures always { IsOk result }
         ensures ok { IfOk result (IsGreater (on stamp_meant stamp_cmp) self other) }

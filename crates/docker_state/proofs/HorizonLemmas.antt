@@ -1,4 +1,4 @@
--- Lemmas on setting a horizon on a state. If the new horizon is after the old one, each entry
+-- Lemmas on setting a horizon on a state. If the new horizon is after the old horizon, each entry
 -- lapses that ended before the new horizon. Otherwise nothing changes.
 use Rattle.std.proofs.Common.{◌≡◌, ℕ, ◌≤◌, List, map, ap, sym, ◌∙◌, subst}
 use Rattle.std.proofs.Math.Nat.{max-eq_left, max-eq_right}

@@ -28,7 +28,7 @@ fn are_below(ledger: &[LedgerItem], floor: &Option<FileStamp>) -> bool
 
 /// Whether these entries add nothing to a state. An entry adds nothing if it is below the floor, or
 /// if the state has the same or a greater entry of its key. If the keys of the rows ascend, each
-/// lookup begins near the previous one.
+/// lookup begins near the previous lookup.
 fn none_to_stage(own: &State, rows: &[(Key, Entry)], floor: &Option<FileStamp>) -> bool
     ensures { IsTrue result
         → HasNoneToStage own.now (floor_meant floor.now) (map row_meant rows.now) }

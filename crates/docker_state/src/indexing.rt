@@ -1,4 +1,4 @@
-//! The index of a state's rows, if the state is to have one.
+//! The index of a state's rows, if the state is to have an index.
 ghost use Rattle.std.specs.Prelude.{◌≡◌, ◌≤◌, ◌++◌, [], ◌∷◌, ℕ, List, length, map, vec_len, vec_capacity, IsOk, IsErr, IfOk};
 ghost use Rattle.docker_model.specs.file.Change as model;
 ghost use Rattle.docker_model.specs.state.Op as ops;

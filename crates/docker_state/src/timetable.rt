@@ -1,5 +1,5 @@
 //! Timetables: the live entries of a state that count for a docker. These are all live entries, or
-//! only the permanent ones.
+//! only the permanent entries.
 ghost use Rattle.std.specs.Prelude.{◌≡◌, true, false, option_map};
 ghost use Rattle.std.specs.Option.{option_copied};
 ghost use Rattle.cif_change.specs.Meaning.{body_meant};
@@ -57,7 +57,7 @@ impl<'a> Timetable<'a> {
         Timetable::counting(state, true)
     }
 
-    /// The timetable in which all live entries count, or only the permanent ones.
+    /// The timetable in which all live entries count, or only the permanent entries.
     fn counting(state: &'a State, permanent: bool) -> Timetable<'a>
         ensures { result ≡ record { state = state.entry.now; permanent = permanent } }
     {

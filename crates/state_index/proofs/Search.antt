@@ -65,7 +65,7 @@ module _ {A B : Type 0} (f : A → B) {cmp : B → B → Ordering} (total : IsTo
       here x i within is same (inl before) = let below = parts.0 i x (omega arith) before in let at_x = ap to is in let equal = tied x same in cc
       here x i within is same (inr after) = let above = parts.1 i x after within in let at_x = ap to is in let equal = tied x same in cc
 
-  -- the search finds an element with the value if and only if the list has one
+  -- the search finds an element with the value if and only if the list has such an element
   pub search_tells : (found : Result ℕ ℕ) → IsSearchInRange found (length xs) → IsBinarySearchResult to xs found → (b : Bool) → b ≡ is_ok found
       → IsTrue b ↔ Contains (map f xs) z
   search_tells (Ok at) within is b same = (

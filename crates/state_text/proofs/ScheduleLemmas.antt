@@ -22,7 +22,8 @@ first_kind line begin =
     let same : line ≡ begin.1.basic = ap first_record begin.1.whole in
     (subst (HasKind basic_schedule) (sym same) begin.1.kind, subst HasGoodFields (sym same) begin.1.fields)
 
--- if a line can't be the first line of a schedule with this key, it doesn't begin one
+-- if a line can't be the first line of a schedule with this key, no schedule with this key begins
+-- with the line
 pub not_first : (state : State) (key : ScheduleKey) (count : ℕ) (lines : Lines) (line : List ℕ) → lines ≡ [] → ¬ IsFirstOf state.horizon key line
     → ¬ AreLinesUpToIn state key count (lines ++ line ∷ [])
 not_first state key count lines line none bad are =

@@ -22,7 +22,7 @@ use std::mem;
 
 /// A type that stands for the state that receives the parts of one text. It exists only for
 /// clauses. Since the type is part of the keeper's type, no call can replace the receiving state by
-/// another one.
+/// another state.
 pub trait Receiver {
     ghost use Rattle.docker_model.specs.state.State as states;
 

@@ -61,7 +61,7 @@ item_floor (first ∷ before) item later is raises =
     by None none kept = none item among raises.0
     by (Some stamp) greatest kept = not_above stamp (file_stamp_cmp stamp first.stamp) refl kept (greatest.greatest item among raises.0)
 
--- from the end of a ledger's first items, a reader gets to the end of all its items
+-- after the first items of a ledger, a reader gets to the end of all items of the ledger
 pub items_lead : (format : Format) (horizon : ℕ) → (count : ℕ) (before later : List LedgerItem) → IsLedger (before ++ later) → length (before ++ later) ≤ count
     → Leads format (after_items horizon count before) (after_items horizon count (before ++ later))
 items_lead format horizon count before [] is within = no_step format _ _ (ap (after_items horizon count) (sym (append-nil before)))
@@ -111,7 +111,7 @@ line_size lines line more begins =
     let all = recursion_from_All IsRecord ((lines ++ line ∷ more) ++ begins.0) begins.1.records in
     (all_behind IsRecord lines (line ∷ more) (all_front IsRecord (lines ++ line ∷ more) begins.0 all)).0.0
 
--- from the end of a schedule's first lines, a reader gets to the end of all its lines
+-- after the first lines of a schedule, a reader gets to the end of all lines of the schedule
 pub lines_lead : (format : Format) → (count : ℕ) (state : State) (key : ScheduleKey) (stamp : Stamp) (n : ℕ) (lines more : List (List ℕ))
     → length state.entries < count
     → AreLinesUpTo key n (lines ++ more) → HaveNotToLapse state (lines ++ more) → length (lines ++ more) ≤ n
@@ -208,7 +208,7 @@ entry_leads format count state key stamp (put_with body) below ledger told above
 abbrev state_of : (horizon : ℕ) → List LedgerItem → List (Key × Entry) → State
 state_of horizon ledger entries = record { horizon = horizon; ledger = ledger; entries = entries }
 
--- from the end of a state's first entries, a reader gets to the end of all its entries
+-- after the first entries of a state, a reader gets to the end of all entries of the state
 pub entries_lead : (format : Format) (horizon : ℕ) → (count : ℕ) (ledger : List LedgerItem) (before later : List (Key × Entry)) → IsLedger ledger
     → AllByRecursion (IsToldEntry format horizon ledger) later → AreAscending (before ++ later)
     → length (before ++ later) ≤ count → Leads format (after_entries count (record { horizon = horizon; ledger = ledger; entries = before }))

@@ -101,7 +101,7 @@ fn add_horizon(rt: &impl Abort, alloc: Global, text: &mut Vec<u8>, horizon: u16)
     }
 }
 
-/// Appends the floor to a text, if there is one.
+/// Appends the floor to a text, if there is a floor.
 fn add_floor(rt: &impl Abort, alloc: Global, text: &mut Vec<u8>, floor: Option<FileStamp>) {
     if let Some(floor) = floor {
         add(rt, text, b"floor ");
