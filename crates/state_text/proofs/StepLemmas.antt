@@ -31,7 +31,8 @@ taken_all lines line taken n is last =
     let same : length taken ≡ length (lines ++ line ∷ []) = ap (λ (ls : List (List ℕ)). length ls) is in
     omega arith
 
--- the result of reading the last part of an entry is a correct judgement of this part if it is the stage after the entry, or `Memory`
+-- suppose that reading the last part of an entry results in the stage after the entry, or in
+-- `Memory`. Then this result judges the part correctly
 pub entry_judged : (format : Format) (before after : Before) (bytes : List ℕ) (new : State) (lines : List (List ℕ)) (result : Result Stage StateCause)
     → IfOk result (λ s. (ls : List (List ℕ)) → stage_meant s new ls ≡ after) → IfOk result (λ s. IsFresh s new)
     → IfErr result (λ told. told ≡ cause.Memory) → after ≡ advance format before bytes → IsWantingHere format before bytes
@@ -41,7 +42,8 @@ entry_judged format before after bytes new lines (Ok s) is fresh err same here =
 entry_judged format before after bytes new lines (Err told) is fresh err same here =
     subst (λ (k : StateCause). IsBadHere format before bytes (cause_meant k)) (sym err) here
 
--- a correct judgement of a part at one stage is correct at any equal stage
+-- if two stages are equal, a correct judgement of a part at one stage is also correct at the other
+-- stage
 pub judged_at : (meant format : Format) (at exact : Stage) → meant ≡ format → at ≡ exact → (state new : State) (lines after : List (List ℕ)) (bytes : List ℕ)
     (result : Result Stage StateCause) → Judges format (stage_meant exact state lines) bytes new after result
     → Judges meant (stage_meant at state lines) bytes new after result

@@ -22,7 +22,7 @@ fn old_text(rt: &impl Abort, alloc: Global) -> Vec<u8> {
 /// fault is at one of these offsets.
 const BEGINNINGS: [u64; 5] = [0, 4, 12, 31, 39];
 
-/// Asserts that migrating from a source is refused with this fault.
+/// Asserts that the text of a source can't be migrated, because of this fault.
 pub(super) fn refused_old_source<S: Source>(
     rt: &impl Abort,
     alloc: Global,
@@ -36,7 +36,7 @@ pub(super) fn refused_old_source<S: Source>(
     same(rt, read, Some(ReadFault::State(fault)));
 }
 
-/// Asserts that migrating the concatenation of these pieces is refused with this fault.
+/// Asserts that the concatenation of these pieces can't be migrated, because of this fault.
 pub(super) fn refused_old(
     rt: &impl Abort,
     alloc: Global,
@@ -72,7 +72,7 @@ fn an_old_text_gives_its_state(rt: HostRuntime) {
     gives(&rt, alloc, old.as_slice(), known.as_slice(), 4096);
 }
 
-/// Asserts that migrating each proper prefix of a text is refused because the prefix is too short.
+/// Asserts that no proper prefix of a text can be migrated, because the prefix is too short.
 fn refused_fronts(rt: &impl Abort, alloc: Global, text: &[u8]) {
     for (n, _) in text.iter().enumerate() {
         let fault = at(last_place(&BEGINNINGS, n), StateCause::Short);
