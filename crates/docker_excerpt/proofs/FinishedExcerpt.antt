@@ -47,7 +47,8 @@ module _ (place : List ℕ) (day horizon : ℕ) (told : State) (valid : IsValid 
   kept_entries rows is =
       subst (λ (all : List (Key × Entry)). AreEntries told.ledger all) (sym is) (excerpt_on_valid place day (under horizon told) valid).entries
 
-  -- a state with the entries that the excerpt keeps is valid with the horizon
+  -- if a state has this ledger and the entries that the excerpt keeps, it is valid with the horizon
+  -- in place of its own
   pub kept_valid : (state : State) (rows : List (Key × Entry)) → rows ≡ (excerpt_on place day told).entries → state.ledger ≡ told.ledger → state.entries ≡ rows
       → IsValid (under horizon state)
   kept_valid state rows is same entries =

@@ -62,7 +62,7 @@ below_all row next (other ∷ rows) below later = (by (later_key next other late
         let d = key_total.antisymm (key_meant row.0) (key_meant next.0) in
         cc
 
--- if a list of rows is sorted, the rows in `last_rows` of this list ascend
+-- if rows are sorted, the rows in `last_rows rows` ascend
 pub lasts_ascend : (rows : List (Key × Entry)) → AreSorted rows → AreAscending (last_rows rows)
 lasts_ascend [] sorted = tt
 lasts_ascend (row ∷ []) sorted = (tt, tt)
