@@ -2,7 +2,7 @@
 use Rattle.std.proofs.Common.{◌≡◌, Bool, true, false, cond, List, [], ◌++◌, sym, ◌∙◌, append-nil}
 use Rattle.docker_model.specs.docker.DockerLine.{DockerLine}
 
--- if the test passes, appending the lines `more` is appending the conditional lines `cond test more []`
+-- if the test passes, appending the conditional lines `cond test more []` appends the lines `more`
 pub added_if : (test : Bool) (more before after : List DockerLine) → test ≡ true → after ≡ before ++ more → after ≡ before ++ cond test more []
 added_if test more before after is same = same ∙ (λ i. before ++ cond (sym is i) more [])
 

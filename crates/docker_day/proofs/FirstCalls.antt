@@ -48,7 +48,7 @@ known_calls live place day known uid suffix (Some event) are is = by (bytes_eq k
         ∙ ap (λ u. first_call (train_in rows u day) place suffix) ((bytes_eq-Decides known.uid uid).0 same)
     by false other told = cc
 
--- if `later` is `None`, `kept_or` returns the event that is already in the map
+-- if `later` is `None`, the value of `kept_or event later` is `event`
 pub kept_alone : (event : Option events.Occurrence) → kept_or event None ≡ event
 kept_alone None = refl
 kept_alone (Some event) = refl

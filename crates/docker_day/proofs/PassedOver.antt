@@ -108,7 +108,7 @@ none_late place day start key detail (event ∷ events) before none =
         let none_behind : some_late events ≡ false = (λ i. sym h i || some_late events) ∙ none in
         (λ i. cond (elsewhere h i) (line_at_event key start detail event ∷ []) [] ++ rest none_behind i)
 
--- a train that doesn't pass midnight up to its last line at a place has no docker line at this
+-- if a train doesn't pass midnight up to its last record at a place, it has no docker line at this
 -- place on a day later than the start day
 no_lines_then : (place : List ℕ) (day start : ℕ) (key : ScheduleKey) (lines : List (List ℕ)) → start < day
     → some_late (occurrences_to place lines) ≡ false → event_lines place day start key lines ≡ []
@@ -146,7 +146,8 @@ module _ (live : Table) (rows : List Row) (are : AreRowsOf live rows) (place : L
           (λ i. cond (runs_not live rows train (day - back) are is_live ((λ j. sym h j && schedule_runs (first_record train.lines) (day - back)) ∙ idle) i)
           (event_lines place day (day - back) train.key train.lines) [])
 
-  -- a train that doesn't pass midnight up to its last line at the place has no docker line for a start day before the day
+  -- if a train doesn't pass midnight up to its last record at the place, it has no docker line for
+  -- a start day before the day
   early_back : (train : choices.Train) (back : ℕ) → 0 < back → some_late (occurrences_to place train.lines) ≡ false
       → lines_back (Train train) back ≡ []
   early_back train back some early = by (nat_le back day) refl

@@ -53,7 +53,7 @@ pub passed_again : (day : ℕ) (all rest fewer : List Row) → AreLeft all rest 
 passed_again day all rest fewer left first second = λ place live are_live rows are.
     first place live are_live rows are ∙ second place live (left.live live are_live) rows are
 
--- if neither the rows read so far nor the next row may have lines, the rows read so far and the next row may be skipped
+-- if neither the rows read so far nor the next row may have lines, all these rows may be skipped
 pub none_behind : (day : ℕ) (all rest fewer : List Row) (so_far may : Bool) → AreLeft all rest → (so_far ≡ false → ArePassedOver day all rest)
     → (¬ (◌≡◌ {A = Option Bool} (Some may) (Some true)) → ArePassedOver day rest fewer) → (so_far || may) ≡ false → ArePassedOver day all fewer
 none_behind day all rest fewer true may left before after none = let bad : true ≡ false = none in cc

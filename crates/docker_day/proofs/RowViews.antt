@@ -1,4 +1,4 @@
--- The typed views of a walk's rows have the same lines as the rows.
+-- The typed views of a walk's rows have the same docker lines as these rows.
 use Rattle.std.proofs.Common.{◌≡◌, ℕ, List, [], ◌∷◌, ◌++◌, refl, Some}
 use Rattle.std.specs.Prelude.{Option}
 use Rattle.docker_model.specs.file.Change.{Key, tiploc_key, association_key, schedule_key, Body, tiploc_body, association_body, schedule_body}

@@ -1,5 +1,5 @@
--- The lines after the last line at a place can be dropped, because none of these lines has an event
--- at the place.
+-- The records of a schedule after its last record at a place can be dropped, because none of these
+-- records has an event at the place.
 use Rattle.std.proofs.Common.{◌≡◌, ℕ, Bool, true, false, cond, List, [], ◌∷◌, ◌++◌, refl, ap, sym, ◌∙◌, append_assoc}
 use Rattle.std.specs.Prelude.{◌&&◌}
 use Rattle.docker_model.specs.file.Change.{ScheduleKey}
@@ -26,7 +26,7 @@ module _ (place : List ℕ) (day start : ℕ) (key : ScheduleKey) (detail : Deta
   there_parts (event ∷ events) behind =
       ap (λ more. line_of event ++ more) (there_parts events behind) ∙ sym (append_assoc (line_of event) (there events) (there behind))
 
-  -- the events at a line that isn't at the place have no docker lines
+  -- if a record isn't at the place, its events have no docker lines
   none_elsewhere : (p : Progress) (line : List ℕ) (times : List (Occasion × ℕ)) → names_place place line ≡ false
       → there (occurrences_at p line times) ≡ []
   none_elsewhere p line [] elsewhere = refl
@@ -35,8 +35,8 @@ module _ (place : List ℕ) (day start : ℕ) (key : ScheduleKey) (detail : Deta
       [] ++ there (occurrences_at (past_time p time) line times))
       ∙ none_elsewhere (past_time p time) line times elsewhere
 
-  -- if a walk has the progress `p`, the lines up to the last line at the place have the same docker
-  -- lines as all lines
+  -- if a walk continues from the progress `p`, the records up to the last record at the place have
+  -- the same docker lines as all records
   lines_up_to : (p : Progress) (lines : List (List ℕ)) → there (occurrences_from p (up_to_last place lines)) ≡ there (occurrences_from p lines)
   lines_up_to p [] = refl
   lines_up_to p (line ∷ lines) = by (names_place place line) refl (up_to_last place lines) (lines_up_to next lines)
@@ -61,7 +61,7 @@ module _ (place : List ℕ) (day start : ℕ) (key : ScheduleKey) (detail : Deta
           ∙ sym (there_parts here (occurrences_from next lines))
       by named h (found ∷ rest) same = with_line (found ∷ rest) same
 
-  -- the events of a schedule up to its last line at the place have the same docker lines as all its
-  -- events
+  -- the events of a schedule up to its last record at the place have the same docker lines as all
+  -- its events
   pub lines_to_last : (lines : List (List ℕ)) → there (occurrences_to place lines) ≡ there (occurrences lines)
   lines_to_last lines = lines_up_to (before_all (first_record lines)) lines ∙ ap there (all_met lines)

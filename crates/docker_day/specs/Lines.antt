@@ -106,8 +106,8 @@ listed (Some line) = line ∷ []
 abbrev pub schedule_piece : (List ℕ → ℕ → Option Train) → List ℕ → ℕ → ScheduleKey → List (List ℕ) → ℕ → List DockerLine
 schedule_piece trains place day key lines start = if runs_by (trains key.uid start) key then event_lines place day start key lines else []
 
--- the docker line of an association at an event of the base train. The list is empty if the event
--- is on another day
+-- the docker line of an association at an event of the base train, as a list. The list is empty if
+-- the event is on another day
 abbrev pub link_line_at : (List ℕ → ℕ → Option Train) → ℕ → ℕ → Link → Occasion → ScheduleKey → Occurrence → List DockerLine
 link_line_at trains day start link occasion base event =
     if is_today day start event
@@ -119,16 +119,16 @@ abbrev pub link_line_by : (List ℕ → ℕ → Option Train) → ℕ → ℕ �
 link_line_by trains day start link occasion base None = []
 link_line_by trains day start link occasion base (Some event) = link_line_at trains day start link occasion base event
 
--- the docker line of an association. The list is empty if there is no base train, or if the
--- association has no occasion because its category isn't `JJ`, `VV` or `NP`
+-- the docker line of an association, as a list. The list is empty if there is no base train, or if
+-- the association has no occasion because its category isn't `JJ`, `VV` or `NP`
 abbrev pub link_line_with : (List ℕ → ℕ → Option Train) → ℕ → ℕ → Link → Option Occasion → Option Train → List DockerLine
 link_line_with trains day start link None base = []
 link_line_with trains day start link (Some occasion) None = []
 link_line_with trains day start link (Some occasion) (Some base) =
     link_line_by trains day start link occasion base.key (find (is_call link.key.location link.key.suffix) (occurrences base.lines))
 
--- the docker line of an association for a start day of its base train. The list is empty if the
--- association isn't in force on that day
+-- the docker line of an association for a start day of its base train, as a list. The list is empty
+-- if the association isn't in force on that day
 abbrev pub link_piece : (List ℕ → ℕ → Option Train) → (Group → ℕ → Option Link) → ℕ → Link → ℕ → List DockerLine
 link_piece trains links day link start =
     if is_in_force links start link.key link.line

@@ -64,8 +64,8 @@ impl<'a> Docker<'a> {
         self.day
     }
 
-    /// The description of the timing point: 26 bytes, which are spaces if the timing point isn't
-    /// live.
+    /// The description of the timing point: 26 bytes, which are spaces if the state has no live row
+    /// for the timing point.
     pub fn description(&self) -> &'a [u8; 26]
         ensures { result.now ≡ self.now.description }
     {

@@ -23,9 +23,9 @@ use docker_state::{State, Timetable};
 use std::alloc::Global;
 use train_choice::{associations_at, schedules_at};
 
-/// Makes the docker of a timing point and a day. The docker has the events of trains that run, and
-/// the associations, at this timing point on this day. Returns `Lapsed` if and only if the state
-/// has a horizon and the day is earlier than three days after the horizon. On such a day, the
+/// Makes the docker of a timing point and a day. The docker has a line for each event of a train,
+/// and for each association, at this timing point on this day. Returns `Lapsed` if and only if the
+/// state has a horizon and the day is earlier than three days after the horizon. On such a day, the
 /// docker could lack the lines of lapsed entries. Returns `Memory` if there is no room for the
 /// lines, or for the trains that are looked up for them.
 pub fn docker<'a>(
@@ -114,7 +114,8 @@ fn is_refused(horizon: u16, day: Day) -> bool
     (horizon > 0) & (day.number() < horizon + 3)
 }
 
-/// The description of a timing point: 26 bytes, which are spaces if the timing point isn't live.
+/// The description of a timing point: 26 bytes, which are spaces if the timetable has no live row
+/// for the timing point.
 fn description<'a>(timetable: &Timetable<'a>, tiploc: &Tiploc) -> &'a [u8; 26]
     ensures text { result.now ≡ description_in (live_in timetable.now (tiploc_key tiploc.now)) }
     ensures good { IsOfGoodRows (live_in timetable.now) }

@@ -36,7 +36,7 @@ pub fn write_docker<K: Sink>(docker: &Docker<'_>, sink: &mut K) -> Result<(), Fa
     write_all(sink, &last_line())
 }
 
-/// Writes the lines.
+/// Writes docker lines, each with a line feed.
 fn write_lines<K: Sink>(sink: &mut K, lines: &[DockerLine<'_>]) -> Result<(), Failed>
     requires { K.failures sink.old < 2 ^ 64 - 1 }
     ensures whole { OnOk result

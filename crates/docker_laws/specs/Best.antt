@@ -1,4 +1,5 @@
--- The best element of a list, which is the first in an order among the elements that pass a test.
+-- The best element of a list. Of the elements that pass a test, the best element is the first in an
+-- order.
 use Rattle.std.specs.Prelude.{◌≡◌, Bool, true, false, if◌then◌else◌, List, Option, Some, None, Contains}
 use Rattle.std.specs.declared.cmp.Ordering.{Ordering}
 use Rattle.std.specs.Ordering.{is_lt}
@@ -10,12 +11,14 @@ abbrev pub IsBest : {A : Type 0} → (A → A → Ordering) → (A → Bool) →
 IsBest {A} cmp test xs None = (z : A) → Contains xs z → test z ≡ false
 IsBest {A} cmp test xs (Some x) = Contains xs x × (test x ≡ true) × ((z : A) → Contains xs z → test z ≡ true → IsAtMost cmp x z)
 
--- the best element after an element that passes the test is appended: the appended element if it
--- comes before the previous best, and otherwise the previous best
+-- the best element after `x`, which passes the test, is appended to a list. If the list had no best
+-- element, or `x` comes before it, the result is `x`. Otherwise the result is the best element as
+-- before
 abbrev pub better : {A : Type 0} → (A → A → Ordering) → Option A → A → Option A
 better cmp None x = Some x
 better cmp (Some b) x = if is_lt (cmp x b) then Some x else Some b
 
--- the best element after an element is appended, whether or not that element passes the test
+-- the best element after `x` is appended to a list. If `x` fails the test, the result is the best
+-- element as before
 abbrev pub with_one_more : {A : Type 0} → (A → A → Ordering) → (A → Bool) → Option A → A → Option A
 with_one_more cmp test found x = if test x then better cmp found x else found

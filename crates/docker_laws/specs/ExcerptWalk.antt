@@ -36,7 +36,7 @@ abbrev pub name_in : Key → Op → Option (List ℕ)
 name_in (association_key key) (put_with (association_body line)) = Some key.associated
 name_in _ _ = None
 
--- the UIDs of the associated trains in all associations that these entries put
+-- the UIDs of the associated trains of all associations that these entries put
 abbrev pub names_in : List (Key × Entry) → List (List ℕ)
 names_in entries = filter_map (λ entry. name_in entry.0 entry.1.op) entries
 

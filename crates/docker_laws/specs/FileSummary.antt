@@ -9,9 +9,9 @@ use Rattle.docker_model.specs.state.State.{State}
 use Rattle.docker_model.specs.state.Summary.{entry_of}
 
 -- the list `first ∷ entries` after an entry is inserted in key order. The first argument says how
--- the key of the inserted entry compares with the first key. A lower key is put at the front. An
--- equal key isn't inserted. A higher key belongs later in the list, and `rest` is `entries` with
--- that key inserted
+-- the key of the inserted entry compares with the first key. If it is lower, the entry is put at
+-- the front. If it is equal, the entry isn't inserted. If it is higher, the entry belongs later in
+-- the list, and `rest` is `entries` with the entry inserted
 abbrev pub placed : Ordering → Key × Entry → Key × Entry → List (Key × Entry) → List (Key × Entry) → List (Key × Entry)
 placed Less entry first entries rest = entry ∷ first ∷ entries
 placed Equal entry first entries rest = first ∷ entries

@@ -63,7 +63,7 @@ abbrev pub partner_identity : (List ℕ → ℕ → Option Train) → List ℕ �
 partner_identity trains uid None = codes "????"
 partner_identity trains uid (Some day) = identity_of (trains uid day)
 
--- a list of only one line, the docker line of an association for this event of the base train. The
+-- the docker line of an association for this event of the base train, as a list of one line. The
 -- list is empty if there is no event, or if the event is on another day
 abbrev pub line_at : (List ℕ → ℕ → Option Train) → ℕ → ℕ → AssociationKey → List ℕ → Occasion → Train → Option Event → List DockerLine
 line_at trains day start key line occasion base None = []
@@ -73,8 +73,8 @@ line_at trains day start key line occasion base (Some event) =
     (partner_identity trains key.associated (partner_start (column 37 line) start)) ∷ []
     else []
 
--- a list of at most one line, the docker line of an association with this occasion and this base
--- train. The list is empty if there is no occasion, or if no base train runs
+-- the docker line of an association with this occasion and this base train, as a list of at most
+-- one line. The list is empty if there is no occasion, or if no base train runs
 abbrev pub line_with : (List ℕ → ℕ → Option Train) → ℕ → ℕ → AssociationKey → List ℕ → Option Occasion → Option Train → List DockerLine
 line_with trains day start key line None base = []
 line_with trains day start key line (Some occasion) None = []

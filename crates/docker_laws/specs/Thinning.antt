@@ -1,7 +1,7 @@
--- Thinning removes the parts of a table that the docker of one place on one day doesn't need. It
--- removes TIPLOCs and associations of other places, and schedules that run on no start day near the
--- day. Of a schedule that doesn't call at the place, it leaves only the basic schedule, the origin
--- and the terminus. Each change can be thinned by itself.
+-- Thinning removes from a table what the docker of one place on one day doesn't need. It removes
+-- TIPLOCs and associations of other places, and schedules that run on no start day near the day. Of
+-- a schedule that doesn't call at the place, it leaves only the basic schedule, the origin and the
+-- terminus. Each change can be thinned by itself.
 use Rattle.std.specs.Prelude.{◌≡◌, ℕ, Bool, true, false, if◌then◌else◌, List, [], ◌∷◌, map, filter}
 use Rattle.std.specs.Prelude.{fold, Option, Some, None, option_and_then, not, Contains, ◌↔◌}
 use Rattle.std.specs.Ordering.{is_eq}
@@ -24,8 +24,8 @@ is_end (Some origin_location) = true
 is_end (Some terminating_location) = true
 is_end _ = false
 
--- the thin records of a schedule: its basic schedule, origin and terminus. For example, of the
--- records BS, BX, LO, LI, LT these are BS, LO, LT
+-- the thin records of a schedule: its basic schedule, origin and terminus. For example, if a
+-- schedule has the records BS, BX, LO, LI, LT, its thin records are BS, LO, LT
 abbrev pub thin_lines : List (List ℕ) → List (List ℕ)
 thin_lines [] = []
 thin_lines (basic ∷ others) = basic ∷ filter (λ line. is_end (kind_of line)) others

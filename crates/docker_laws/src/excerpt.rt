@@ -19,7 +19,7 @@ ghost use Rattle.docker_laws.specs.Excerpt.{IsNeeded, IsExcerpt, IsSublist, IsEx
 ghost use Rattle.docker_laws.specs.ExcerptWalk.{ExcerptSoFar, nothing_kept, is_here, has_uid, names_in, is_call, is_run_calling, is_run_needed};
 ghost use Rattle.docker_laws.specs.ExcerptWalk.{kept_after_run, goes_on, next_kept, kept_from, kept_so_far, excerpt_for, HasKept};
 
-/// A table and each of its excerpts for a place have the same docker of the place on each day.
+/// A table and each of its excerpts for a place have the same docker for that place on each day.
 pub fn excerpt_has_one_docker()
     ensures list { (place : List ℕ) (live part : Table) (day : ℕ) (lines : List DockerLine)
         → IsExcerpt place live part
@@ -31,7 +31,7 @@ pub fn excerpt_has_one_docker()
         → IsExcerpt place live part → HasGoodBodies live → HasGoodBodies part }
 {}
 
-/// An excerpt of a valid state for a place is valid. It has the same dockers of the place as the
+/// An excerpt of a valid state for a place is valid. It has the same dockers for the place as the
 /// state, and the program refuses them for the same days. The relation "is an excerpt of" is
 /// reflexive and transitive.
 pub fn excerpt_of_state()
@@ -56,7 +56,7 @@ pub fn excerpt_of_state()
 
 /// The result of a walk over a state's entries in key order is an excerpt of the state. An entry of
 /// the state is in the excerpt if and only if the docker of the place may depend on its key. The
-/// excerpt of a valid state is valid, and has the same dockers of the place.
+/// excerpt of a valid state is valid, and has the same dockers for the place as the state.
 pub fn walk_leaves_excerpt()
     ensures is { (place : List ℕ) (state : State)
         → AreAscending state.entries → IsExcerptState place state (excerpt_for place state) }
@@ -233,8 +233,9 @@ pub fn near_state_has_one_docker()
         ↔ IsDockerText (live_table (near_state day state)) place day text }
 {}
 
-/// The excerpt of a valid state for a place and a day is valid and has the same docker of the place
-/// on the day. Its horizon is unchanged, so the program refuses dockers for the same days.
+/// The excerpt of a valid state for a place and a day is valid, and has the same docker for this
+/// place and day as the state. Its horizon is unchanged, so the program refuses dockers for the
+/// same days.
 pub fn excerpt_on_has_one_docker()
     ensures valid { (place : List ℕ) (day : ℕ) (state : State)
         → IsValid state → IsValid (excerpt_on place day state) }

@@ -23,8 +23,8 @@ ghost use Rattle.docker_laws.specs.Thinning.{is_end, thin_lines, lines_for, body
 ghost use Rattle.docker_laws.specs.Thinning.{thin_changes, table_of, IsThinning, HasNoChangeOf, AreAtMost, without, IsStateOfChanges};
 ghost use Rattle.docker_laws.specs.FileSummary.{summary_of};
 
-/// A table with well-formed bodies has the same docker of a place on a day as the table thinned for
-/// that place and day. The bodies of the thinned table are well formed too.
+/// Suppose that the bodies of a table are well formed. For a place and a day, the table and its
+/// thinned table have the same docker. The bodies of the thinned table are well formed too.
 pub fn thinned_table_has_one_docker()
     ensures list { (place : List ℕ) (day : ℕ) (live : Table) (lines : List DockerLine)
         → HasGoodBodies live → IsDockerList live place day lines
@@ -36,8 +36,9 @@ pub fn thinned_table_has_one_docker()
         → HasGoodBodies live → HasGoodBodies (thinned place day live) }
 {}
 
-/// Suppose that a table is thinned for a place and a day. An excerpt of the result for this place
-/// has the same docker of the place on the day as the whole table.
+/// Suppose that a table is thinned for a place and a day, and that an excerpt of the thinned table
+/// is made for the place. The excerpt and the whole table have the same docker for the place and
+/// the day.
 pub fn excerpt_of_thinned_has_one_docker()
     ensures list { (place : List ℕ) (day : ℕ) (live part : Table) (lines : List DockerLine)
         → HasGoodBodies live → IsExcerpt place (thinned place day live) part
@@ -47,8 +48,8 @@ pub fn excerpt_of_thinned_has_one_docker()
         → IsDockerText live place day text ↔ IsDockerText part place day text }
 {}
 
-/// If one table may replace another for a place and a day, both have the same docker of the place
-/// on the day. The bodies of both tables must be well formed. A table may be replaced by its
+/// If one table may replace another for a place and a day, both have the same docker for that place
+/// and that day. The bodies of both tables must be well formed. A table may be replaced by its
 /// thinned table.
 pub fn stand_in_has_one_docker()
     ensures list { (place : List ℕ) (day : ℕ) (live part : Table) (lines : List DockerLine)
@@ -61,8 +62,8 @@ pub fn stand_in_has_one_docker()
         → HasGoodBodies live → StandsFor place day live (thinned place day live) }
 {}
 
-/// For the docker of a place and a day, a schedule may be replaced by its records that the docker
-/// needs (`lines_for`). If the schedule doesn't call at the place, it may be replaced by any
+/// For the docker of a place and a day, a schedule may be replaced by those of its records that the
+/// docker needs (`lines_for`). If the schedule doesn't call at the place, it may be replaced by any
 /// records that have the same first record and don't call at the place. The first record followed
 /// by any origin and any terminus with good fields is a schedule with the same key.
 pub fn stand_in_of_a_schedule()
@@ -197,8 +198,8 @@ pub fn kept_changes_make_the_thinned_table()
 {}
 
 /// A state that is made from the kept changes of a file is valid. Its live table is the table of
-/// the file, thinned for the place and the day. The state has the same docker of the place on the
-/// day as the summary of the file.
+/// the file, thinned for the place and the day. The state and the summary of the file have the same
+/// docker for the place and the day.
 pub fn state_of_thinning_has_one_docker()
     ensures valid { (place : List ℕ) (day : ℕ) (file : List (List ℕ)) (kept : List Change)
         (part : State) → IsFile file → length file ≤ most_records

@@ -1,5 +1,5 @@
 -- The schedule found for a UID and a day is unique. The schedule came from one of the state's
--- files, and the train on a docker's lines runs by this schedule.
+-- files. Each train on a docker's lines runs by the schedule found for it.
 use Rattle.std.proofs.Common.{◌≡◌, ℕ, ◌+◌, ◌<◌, ◌≤◌, List, Bool, true, false, cond, refl, ap, sym, ◌∙◌, subst, inl, inr, ◌⊎◌, Some, None, Contains, arith}
 use Rattle.std.specs.Prelude.{Option, option_map, IsTrue, ◌&&◌, nat_le, nat_lt}
 use Rattle.std.proofs.lemmas.Bool.{cases_lt, leb-true}
@@ -55,7 +55,7 @@ one_found state uid day (Some a) (Some b) (one, stamp) (two, its) =
     let stamps = one_stamp state a.schedule b.schedule a.stamp b.stamp same stamp its in
     λ i. Some (record { schedule = same i; stamp = stamps i })
 
--- a state has at most one text for a UID and a day
+-- a state has at most one train text for a UID and a day
 pub one_text : (state : State) (uid : List ℕ) (day : ℕ) (text other : List ℕ) → IsTrainText state uid day text → IsTrainText state uid day other → text ≡ other
 one_text state uid day text other (found, is, text_is) (second, its, other_is) =
     text_is ∙ ap (train_text uid day) (one_found state uid day found second is its) ∙ sym other_is

@@ -67,7 +67,7 @@ pub link_of_rows : (live : Table) (rows : List Row) (group : Group) (day : ℕ) 
     → IsLinkOn live group day found → found ≡ link_in rows group day
 link_of_rows live rows group day found are is = one_link_answer live group day found (link_in rows group day) is (links_tell live rows are group day)
 
--- if all bodies of a table are good, its rows have good bodies
+-- if all bodies of a table are well formed, so are the bodies of its rows
 pub good_rows : (live : Table) (rows : List Row) → HasGoodBodies live → ((key : Key) (body : Body) → Contains rows (key, body) → live key ≡ Some body)
     → AreGoodRows rows
 good_rows live [] good each = tt
@@ -77,7 +77,7 @@ good_rows live (row ∷ rows) good each = (
       (λ key body among. each key body (cons-Contains row rows (key, body) among)),
 )
 
--- the schedules of a UID have good bodies
+-- if all bodies of a table are well formed, so are the bodies of a UID's schedules
 pub good_of_uid : (live : Table) (uid : List ℕ) (rows : List Row) → HasGoodBodies live → AreOfUid live uid rows → AreGoodRows rows
 good_of_uid live uid rows good are = good_rows live rows good (λ key body among. ((are.members key body).0 among).4)
 
@@ -99,7 +99,7 @@ linked_each live place rows are key body among = let one = (are.members key body
 pub live_linked : (live : Table) (place : List ℕ) (rows : List Row) → AreLinked live place rows → AreLive live rows
 live_linked live place rows are = live_rows live rows (linked_each live place rows are)
 
--- the associations at a place have good bodies
+-- if all bodies of a table are well formed, so are the bodies of the associations at a place
 pub good_linked : (live : Table) (place : List ℕ) (rows : List Row) → HasGoodBodies live → AreLinked live place rows → AreGoodRows rows
 good_linked live place rows good are = good_rows live rows good (linked_each live place rows are)
 
@@ -112,7 +112,7 @@ calling_each live place rows are key body among = let one = (are.members key bod
 pub live_calling : (live : Table) (place : List ℕ) (rows : List Row) → AreCalling live place rows → AreLive live rows
 live_calling live place rows are = live_rows live rows (calling_each live place rows are)
 
--- the schedules that call at a place have good bodies
+-- if all bodies of a table are well formed, so are the bodies of the schedules that call at a place
 pub good_calling : (live : Table) (place : List ℕ) (rows : List Row) → HasGoodBodies live → AreCalling live place rows → AreGoodRows rows
 good_calling live place rows good are = good_rows live rows good (calling_each live place rows are)
 

@@ -53,8 +53,8 @@ falls_few key lines number of = let all = few_midnights key lines of in let some
 same_key : (a b : ScheduleKey) → schedule_key a ≡ schedule_key b → a ≡ b
 same_key a b h = cc
 
--- a schedule runs on a day if and only if its dates include the day and its days run include the
--- weekday. The first date is the runs-from date in the schedule's key
+-- a schedule runs on a day if and only if the day is within the schedule's dates, and the weekday
+-- of the day is among its days run. The first date is the runs-from date in the schedule's key
 pub runs_by_key : (key : ScheduleKey) (lines : List (List ℕ)) (day : ℕ) → IsScheduleOf key lines
     → (nat_le key.runs_from day && runs_until (columns 16 21 (first_record lines)) (columns 22 28 (first_record lines)) day)
     ≡ schedule_runs (first_record lines) day

@@ -171,7 +171,7 @@ all_met lines =
     lines_met lines [] lines (before_all (first_record lines)) refl (record { number_is = refl; falls_are = refl; last_is = refl }) refl
     ∙ ap (map (occurrence_of lines)) (sym (events_walked lines))
 
--- if the walked lines are the schedule's lines, and the walk begins with the train identity in the
+-- if `walked` are the lines of the schedule, and the walk begins with the train identity in the
 -- first line, the walk yields the schedule's events
 pub events_met : (lines walked : List (List ℕ)) (identity : List ℕ) (events : List Occurrence) → walked ≡ lines → identity ≡ columns 33 36 (first_record lines)
     → events ≡ occurrences_from (record { number = 1; falls = 0; last = None; identity = identity }) walked → events ≡ occurrences lines

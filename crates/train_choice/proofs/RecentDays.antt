@@ -1,5 +1,6 @@
--- On which of three days a schedule runs: a given day and the two days before it. The runs-from
--- date in the schedule's key and two fields of its basic schedule determine these days.
+-- On which of three days a schedule runs. The three days are a given day and the two days before
+-- it. The runs-from date in the schedule's key and two fields of its basic schedule determine on
+-- which of these days it runs.
 use Rattle.std.proofs.Common.{◌≡◌, ℕ, ◌-◌, ◌<◌, Bool, true, false, List, refl, ap, sym, ◌∙◌, subst, arith}
 use Rattle.std.specs.Prelude.{◌&&◌, ◌||◌, not, nat_le, nat_lt}
 use Rattle.std.proofs.lemmas.Bool.{leb-true, ltb-true}
@@ -40,7 +41,7 @@ never_yet key lines day of late back =
         (λ i. sym h i && runs_until (columns 16 21 (first_record lines)) (columns 22 28 (first_record lines)) (day - back))
         ∙ runs_by_key key lines (day - back) of
 
--- the conjunction of these four tests doesn't depend on their order
+-- in this conjunction of four tests, the last two tests may be exchanged
 four_tests : (a b c e : Bool) → ((a && (b && c)) && e) ≡ (a && (b && (e && c)))
 four_tests false b c e = refl
 four_tests true false c e = refl

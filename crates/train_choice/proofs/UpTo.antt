@@ -21,7 +21,8 @@ last_named place last [] named = λ i. before_named (named i) last []
 last_named place last (line ∷ lines) named =
     ap (before_named (names_place place line) line) (last_named place last lines named) ∙ kept (names_place place line) line last lines
 
--- a last line that isn't at the place isn't one of the lines up to the last line at the place
+-- if the last line isn't at the place, removing it leaves the lines up to the last line at the
+-- place unchanged
 pub last_elsewhere : (place last : List ℕ) (lines : List (List ℕ)) → names_place place last ≡ false
     → up_to_last place (lines ++ last ∷ []) ≡ up_to_last place lines
 last_elsewhere place last [] elsewhere = λ i. before_named (elsewhere i) last []

@@ -1,4 +1,5 @@
--- On which of three days a schedule runs: a given day and the two days before it.
+-- On which of three days a schedule runs. The three days are a given day and the two days before
+-- it.
 use Rattle.std.specs.Prelude.{◌≡◌, ℕ, Bool, ◌&&◌, ◌||◌, ◌-◌, not, List, nat_le, nat_lt}
 use Rattle.docker_model.specs.records.Record.{columns}
 use Rattle.docker_model.specs.records.Date.{end_number, runs_on_weekday, weekday_of}
@@ -18,7 +19,7 @@ abbrev pub runs_back : List (List ℕ) → ℕ → ℕ → Bool
 runs_back lines day back = nat_le back day && schedule_runs (first_record lines) (day - back)
 
 -- whether the day `back` days before `day` exists, isn't before the first date, and falls on a
--- weekday that the days run include
+-- weekday that is among the days run
 abbrev pub begun_back : List ℕ → ℕ → ℕ → ℕ → Bool
 begun_back days first day back = nat_le back day && (nat_le first (day - back) && runs_on_weekday days (weekday_of (day - back)))
 
@@ -31,13 +32,13 @@ lasts_back last day back = nat_le (day - back) last
 abbrev pub runs_back_by_fields : List ℕ → ℕ → ℕ → ℕ → Bool
 runs_back_by_fields line first day back = begun_back (columns 22 28 line) first day back && lasts_back (end_number (columns 16 21 line)) day back
 
--- whether the day `back` days before `day` exists and falls on a weekday that the days run include
+-- whether the day `back` days before `day` exists and falls on a weekday that is among the days run
 abbrev pub marked_back : List ℕ → ℕ → ℕ → Bool
 marked_back days day back = nat_le back day && runs_on_weekday days (weekday_of (day - back))
 
 -- whether the schedule may run on one of three days: the day and the two days before it. That is so
--- if its runs-from date isn't after the day, and its days run include at least one of the three
--- weekdays
+-- if its runs-from date isn't after the day, and at least one of the three weekdays is among its
+-- days run
 abbrev pub may_run_recently : ScheduleKey → List (List ℕ) → ℕ → Bool
 may_run_recently key lines day = not (nat_lt day key.runs_from)
     && (marked_back (columns 22 28 (first_record lines)) day 0 || marked_back (columns 22 28 (first_record lines)) day 1

@@ -72,8 +72,8 @@ impl<'a> DayTrains<'a> {
         }
     }
 
-    /// Whether the train that was looked up last runs by the schedule. Returns `None` if no train
-    /// has been looked up, or if that train has another UID.
+    /// Whether the train that was looked up last runs by the schedule with this key. Returns `None`
+    /// if no train has been looked up, or if that train has another UID.
     fn known(&self, key: &ScheduleKey) -> Option<bool>
         ensures { IfSome result (λ answer. (rows : List Row)
             → AreRowsOf (live_in self.now.timetable) rows

@@ -10,8 +10,8 @@ ghost use Rattle.train_choice.specs.Runs.{runs_until};
 use cif_line::{Day, Kind, Line, kind};
 
 /// Whether a basic schedule (BS) or an association (AA) runs on a day. That is so if the day is in
-/// the period from the record's first date to its last date, and the record's days run include the
-/// weekday.
+/// the period from the record's first date to its last date, and the weekday of the day is among
+/// the record's days run.
 pub fn runs(line: &Line, day: Day) -> bool
     requires kind { HasKind basic_schedule line.now ⊎ HasKind association line.now }
     requires good { HasGoodFields line.now }
@@ -59,7 +59,7 @@ pub(crate) fn association_runs(line: &Line, day: Day) -> bool
     (line.day(16).number() <= day.number()) & runs_until(line, 22, 28, day)
 }
 
-/// Whether the day isn't after the last date, and the days run include its weekday. `last` and
+/// Whether the day isn't after the last date, and its weekday is among the days run. `last` and
 /// `days` are the first columns of these two fields.
 fn runs_until(line: &Line, last: usize, days: usize, day: Day) -> bool
     requires last_from { 0 < last }

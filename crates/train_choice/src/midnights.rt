@@ -38,8 +38,8 @@ fn falls_among(events: Events<'_>, event: u64) -> Option<u64>
     None
 }
 
-/// Whether a train passes midnight before some event, among the events up to its last line at a
-/// place. The call reads only the times of the lines, so it costs less than a walk over the events.
+/// Whether a train passes midnight before one of its events up to its last line at a place. The
+/// call reads only the times of the lines, so it costs less than a walk over the events.
 pub fn passes_midnight(view: &ScheduleView<'_>, place: &Tiploc) -> bool
     ensures { result ≡ some_late (occurrences_to place.now view.now.lines) }
 {

@@ -1,5 +1,5 @@
-//! On which of three days a schedule runs: a given day and the two days before it. A train that
-//! starts on one of these three days may still be under way on the day.
+//! On which of three days a schedule runs. The three days are a given day and the two days before
+//! it. A train that starts on one of these three days may still be under way on the given day.
 ghost use Rattle.std.specs.Prelude.{◌≡◌, ◌≤◌, ◌||◌, ◌-◌, false};
 ghost use Rattle.std.specs.Option.{SomeIff};
 ghost use Rattle.docker_model.specs.records.Record.{HasKind, basic_schedule, columns};
@@ -8,7 +8,8 @@ ghost use Rattle.train_choice.specs.RecentRuns.{AreRecentRuns, begun_back, lasts
 
 use cif_line::{Day, Days, Line};
 
-/// On which of three days a schedule runs: a given day and the two days before it.
+/// On which of three days a schedule runs. The three days are a given day and the two days before
+/// it.
 #[derive(Clone, Copy, Debug)]
 pub struct RecentRuns {
     /// Whether the schedule runs on the given day.
@@ -49,9 +50,9 @@ pub fn day_back(day: Day, back: u16) -> Option<Day>
     Day::from_number(number)
 }
 
-/// On which of the three days a schedule that begins on `first` runs: `day` and the two days before
-/// it. The days-run field and the last date are read from `line`, which is the basic schedule. The
-/// last date is read only if the result depends on it.
+/// On which of three days a schedule that begins on `first` runs. The three days are `day` and the
+/// two days before it. The days-run field and the last date are read from `line`, which is the
+/// basic schedule. The last date is read only if the result depends on it.
 #[tactic(auto, using(crate::proofs::RunFields::schedule_fields))]
 pub(crate) fn recent_runs_of(line: &Line, first: Day, day: Day) -> RecentRuns
     requires kind { HasKind basic_schedule line.now }
@@ -82,7 +83,7 @@ pub(crate) fn recent_runs_of(line: &Line, first: Day, day: Day) -> RecentRuns
 }
 
 /// Whether the day `back` days before `day` exists, isn't before the first date, and falls on a
-/// weekday that the days run include.
+/// weekday that is among the days run.
 fn begun_back(days: &Days, first: Day, day: Day, back: u16) -> bool
     ensures { result ≡ begun_back days.now first day back }
 {
@@ -99,8 +100,8 @@ fn lasts_back(last: u16, day: Day, back: u16) -> bool
     day.number().saturating_sub(back) <= last
 }
 
-/// Whether the days run of a basic schedule include the weekday of at least one of three days: the
-/// day and the two days before it.
+/// Whether the weekday of at least one of three days is among the days run of a basic schedule. The
+/// three days are `day` and the two days before it.
 pub(crate) fn runs_on_recent_weekday(line: &Line, day: Day) -> bool
     ensures { result ≡ (marked_back (columns 22 28 line.now) day 0
         || marked_back (columns 22 28 line.now) day 1 || marked_back (columns 22 28 line.now) day 2) }
@@ -110,8 +111,8 @@ pub(crate) fn runs_on_recent_weekday(line: &Line, day: Day) -> bool
         | runs_on_weekday_back(line, day, 2)
 }
 
-/// Whether the days run of a basic schedule include the weekday of the day `back` days before
-/// `day`. Returns false if there is no such day.
+/// Whether the weekday of the day `back` days before `day` is among the days run of a basic
+/// schedule. Returns false if there is no such day.
 fn runs_on_weekday_back(line: &Line, day: Day, back: u16) -> bool
     ensures { result ≡ marked_back (columns 22 28 line.now) day back }
 {

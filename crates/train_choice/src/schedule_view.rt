@@ -98,8 +98,8 @@ impl<'a> ScheduleView<'a> {
         (self.key.runs_from.number() <= day.number()) && schedule_runs_on(self.first(), day)
     }
 
-    /// On which of three days the schedule runs: a day and the two days before it. The call doesn't
-    /// read the lines if the day is before the runs-from date in the key.
+    /// On which of three days the schedule runs. The three days are `day` and the two days before
+    /// it. The call doesn't read the lines if `day` is before the runs-from date in the key.
     pub fn recent_runs(&self, day: Day) -> RecentRuns
         ensures { AreRecentRuns (runs_back self.now.lines day) result }
     {
@@ -110,8 +110,8 @@ impl<'a> ScheduleView<'a> {
     }
 
     /// Whether the schedule may run on a day or on one of the two days before. That is so if its
-    /// runs-from date isn't after the day, and its days run include at least one of the three
-    /// weekdays. The call reads only the key and three flags, so it costs less than `recent_runs`.
+    /// runs-from date isn't after the day, and at least one of the three weekdays is among its days
+    /// run. The call reads only the key and three flags, so it costs less than `recent_runs`.
     pub fn may_run_recently(&self, day: Day) -> bool
         ensures { result ≡ may_run_recently self.now.key self.now.lines day }
     {

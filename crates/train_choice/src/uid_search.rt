@@ -35,7 +35,7 @@ impl<'a> UidSearch<'a> {
         }
     }
 
-    /// A search for which no row to begin at is given.
+    /// A search without a hint: the row at which to begin isn't known.
     pub(crate) fn without_hint(timetable: &Timetable<'a>) -> UidSearch<'a>
         ensures { result ≡ timetable.entry.now }
     {

@@ -27,12 +27,13 @@ use Rattle.docker_laws.proofs.dockers.OneDockerLine.{one_identity}
 use Rattle.cif_laws.proofs.orders.AtMost.{eq_is}
 use Rattle.docker_laws.proofs.dockers.ScheduleLines.{number_itself}
 
--- the docker lines of an association for one start day of the base train: at most one
+-- the list of the docker lines that an association has for one start day of the base train. The
+-- list has at most one line
 abbrev pub link_piece : (List ℕ → ℕ → Option Train) → (Group → ℕ → Option Link) → ℕ → AssociationKey → List ℕ → ℕ → List DockerLine
 link_piece trains links day key line start =
     cond (is_in_force links start key line) (line_with trains day start key line (category_occasion (columns 35 36 line)) (trains key.base start)) []
 
--- the line is a docker line of this association, for this start day of the base train
+-- the line is a docker line of the association with this key, for this start day of the base train
 pub record IsOfAssociation (live : Table) (place : List ℕ) (day : ℕ) (key : AssociationKey) (start : ℕ) (line : DockerLine) : Type 0 where
   pub made : IsAssociationLine live place day line
   pub of_key : made.key ≡ key
@@ -47,7 +48,7 @@ pub record IsInForce (live : Table) (start : ℕ) (key : AssociationKey) (line :
 
 module _ (live : Table) (trains : List ℕ → ℕ → Option Train) (links : Group → ℕ → Option Link) (tell : TellsTrains live trains)
     (tell_links : TellsLinks live links) (place : List ℕ) (day : ℕ) where
-  -- `partner_identity` is the identity that the line prints for the associated train
+  -- `partner_identity` computes the train identity that a docker line has for the associated train
   partner_is : (uid : List ℕ) (start : Option ℕ) → IsPartnerIdentity live uid start (partner_identity trains uid start)
   partner_is uid None = refl
   partner_is uid (Some start) = by (trains uid start) (tell uid start)
@@ -173,7 +174,8 @@ module _ (live : Table) (trains : List ℕ → ℕ → Option Train) (links : Gr
       by false h inside = absurd (nil-Contains docker_line inside)
       by true h inside = with_category (in_force_back key line start is_live h) (category_occasion (columns 35 36 line)) refl inside
 
-  -- `link_piece` computes each docker line of an association, for the start day of the line
+  -- each docker line of an association is among the lines that `link_piece` computes for this
+  -- association and for the start day of the line's base train
   pub link_piece_forth : (docker_line : DockerLine) (made : IsAssociationLine live place day docker_line)
       → Contains (link_piece trains links day made.key made.association made.start) docker_line
   link_piece_forth docker_line made =
@@ -214,7 +216,8 @@ module _ (live : Table) (trains : List ℕ → ℕ → Option Train) (links : Gr
           subst (λ at. Contains (line_at trains day made.start made.key made.association made.occasion base at) docker_line) (sym first)
           (at_day base same.0 same.1)
 
-  -- no two lines of one association and one start day tie in the order of lines
+  -- of the docker lines that an association has for one start day, no two tie in the order of
+  -- docker lines
   pub link_piece_apart : (key : AssociationKey) (line : List ℕ) (start : ℕ) → AreApart docker_line_cmp (link_piece trains links day key line start)
   link_piece_apart key line start = by (is_in_force links start key line) (category_occasion (columns 35 36 line)) (trains key.base start)
     where

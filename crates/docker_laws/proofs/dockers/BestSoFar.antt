@@ -1,5 +1,5 @@
--- The best element of a list can be computed element by element. The best element is the first in
--- an order among the elements that pass a test.
+-- The best element of a list can be computed element by element. Of the elements that pass a test,
+-- the best element is the one that comes first in an order.
 use Rattle.std.proofs.Common.{◌≡◌, List, [], ◌∷◌, ◌++◌, refl, ap, sym, ◌∙◌, subst, inl, inr, ◌⊎◌, Some, None, Bool, true, false, cond, Contains}
 use Rattle.std.specs.Prelude.{Option}
 use Rattle.std.specs.declared.cmp.Ordering.{Ordering}

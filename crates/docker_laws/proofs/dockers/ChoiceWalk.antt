@@ -20,7 +20,7 @@ link_total : IsTotalOrder (on (λ (link : Link). link.key) association_choice_cm
 link_total = on_total (λ (link : Link). link.key) association_choice_total
 
 module _ (uid : List ℕ) (day : ℕ) where
-  -- from the empty list of rows, no schedule is chosen
+  -- if there are no rows, no schedule is chosen
   pub none_chosen : IsChosenSoFar uid day [] None
   none_chosen = best_of_none train_total (is_running uid day)
 
@@ -47,7 +47,7 @@ module _ (uid : List ℕ) (day : ℕ) where
   chosen_more rows (association_key key) body found best = other_row rows (association_key key, body) found refl best
 
 module _ (group : Group) (day : ℕ) where
-  -- from the empty list of rows, no association is chosen
+  -- if there are no rows, no association is chosen
   pub none_linked : IsLinkSoFar group day [] None
   none_linked = best_of_none link_total (is_linked group day)
 

@@ -25,8 +25,8 @@ module _ (counts : Key → Bool) where
       ascending_of (on (λ (row : Row). row.0) key_cmp) (counted_rows counts rows)
       (later_filter (IsBelow (on (λ (row : Row). row.0) key_cmp)) row_counts rows (later_of (on (λ (row : Row). row.0) key_cmp) rows up))
 
-  -- a body in the restricted table is in the whole table at the same key, and the key passes the
-  -- test
+  -- if the restricted table has a body at a key, the whole table has the same body at this key, and
+  -- the key passes the test
   pub was_counted : (live : Table) (key : Key) (body : Body) → counted_table counts live key ≡ Some body → (counts key ≡ true) × (live key ≡ Some body)
   was_counted live key body is = by (counts key) refl is
     where
@@ -34,7 +34,8 @@ module _ (counts : Key → Bool) where
       by true h told = (h, told)
       by false h none = absurd (let bad : None ≡ Some body = none in cc)
 
-  -- a body of the whole table is in the restricted table if its key passes the test
+  -- if the whole table has a body at a key, and the key passes the test, the restricted table has
+  -- the same body at this key
   stays_counted : (live : Table) (key : Key) (body : Body) → counts key ≡ true → live key ≡ Some body → counted_table counts live key ≡ Some body
   stays_counted live key body passes is = (λ i. cond (passes i) (live key) None) ∙ is
 

@@ -72,8 +72,8 @@ falls_here lines before later time number whole is =
     front : (xs : List ℕ) (x : ℕ) (ys : List ℕ) → take (length xs + 1) ((xs ++ x ∷ []) ++ ys) ≡ xs ++ x ∷ []
     front xs x ys = ap (take (length xs + 1)) (append_assoc xs (x ∷ []) ys) ∙ take-append-add xs (x ∷ ys) 1
 
--- the times of a schedule, split at a record: the times before the record, the times in the record,
--- and the times after the record
+-- the times of a schedule are the times of the records before `line`, then the times of `line`, and
+-- then the times of the records after `line`
 pub times_split : (front : List (List ℕ)) (line : List ℕ) (rest : List (List ℕ))
     → times_along (front ++ line ∷ rest) ≡ times_along front ++ (map (λ (time : Occasion × ℕ). time.1) (times_of line) ++ times_along rest)
 times_split front line rest =

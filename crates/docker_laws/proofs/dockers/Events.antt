@@ -52,8 +52,8 @@ one_event lines a b in_a in_b same = by (one_before (λ (x y : Event). x.number 
 
 -- ---- the record of each event contains the event's occasion and time
 
--- a member of `enumerate_from n xs` has the number `n + k` and the element of `xs` at index `k`,
--- for some `k`
+-- for each member of `enumerate_from n xs` there is an index `k`. The member is the pair of `n + k`
+-- and the element of `xs` at index `k`
 stands_at : {A : Type 0} (n : ℕ) (xs : List A) (z : ℕ × A) (d : A) → Contains (enumerate_from n xs) z → (k : ℕ) × (z.0 ≡ n + k) × (k < length xs)
     × (get_or xs k d ≡ z.1)
 stands_at n [] z d among = absurd (nil-Contains z among)
@@ -127,7 +127,7 @@ at_a_line lines event among = by (Contains-map as_event (enumerate_from 1 (place
 
 -- ---- each event is an arrival, a pass or a departure, at a location record
 
--- the occasion is an event of a train: an arrival, a pass or a departure
+-- the occasion is an arrival, a pass or a departure
 abbrev pub IsOfTrain : Occasion → Type 0
 IsOfTrain occasion = (occasion ≡ arrival) ⊎ (occasion ≡ pass) ⊎ (occasion ≡ departure)
 

@@ -1,4 +1,4 @@
--- A table and each of its excerpts for a place have the same docker of the place.
+-- A table and each of its excerpts for a place have the same docker for that place.
 use Rattle.std.proofs.Common.{◌≡◌, ℕ, List, subst, inl, inr, ◌⊎◌, refl, ap, sym, ◌∙◌, Some, None}
 use Rattle.std.specs.Prelude.{Option, ◌↔◌}
 use Rattle.docker_model.specs.records.Record.{column}
@@ -69,7 +69,7 @@ association_over one other group day key line same is = record {
       (associated_over other one group day another others (λ link of. sym (same link of)) runs);
 }
 
--- ---- if a table agrees with another table where the docker depends on it, the docker lines agree
+-- ---- if two tables agree wherever the docker depends on them, they have the same docker lines
 
 -- the table `other` agrees with the table `one` wherever the docker of the place depends on `one`.
 -- The two tables have the same schedules of each UID that the docker needs, and the same
@@ -151,7 +151,7 @@ module _ (place : List ℕ) (live part : Table) (is : IsExcerpt place live part)
       by (inl same) = same
       by (inr none) = absurd (none.1 needed)
 
-  -- a body in the excerpt is in the table, at the same key
+  -- if the excerpt has a body at a key, the table has the same body at this key
   pub was_there : (key : Key) (body : Body) → part key ≡ Some body → live key ≡ Some body
   was_there key body there = by (is key)
     where

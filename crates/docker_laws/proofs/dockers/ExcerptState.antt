@@ -1,4 +1,4 @@
--- An excerpt of a valid state for a place is valid. It has the same dockers of the place as the
+-- An excerpt of a valid state for a place is valid. It has the same dockers for the place as the
 -- state, and the program refuses them for the same days. One excerpt of a state has exactly the
 -- entries whose keys the docker of the place needs.
 use Rattle.std.proofs.Common.{◌++◌, ◌≡◌, ℕ, List, [], ◌∷◌, subst, inl, inr, ◌⊎◌, refl, ap, sym, ◌∙◌, Bool, true, false, cond, Some, None}
@@ -33,7 +33,7 @@ use Rattle.state_laws.proofs.indexes.CallsTest.{any_forth, calls_test}
 
 -- ---- an excerpt of a valid state is valid
 
--- if a state with a ledger may have a list of entries, it may also have any sublist of the list
+-- if a list may be the entries of a state with this ledger, so may each sublist of the list
 pub some_entries : (ledger : List LedgerItem) (some all : List Keyed) → AreEntries ledger all → IsSublist some all → AreEntries ledger some
 some_entries ledger some all are is = (
   sublist_all (IsGoodEntry ledger) some all is are.0,
@@ -211,7 +211,7 @@ abbrev pub is_name : List ℕ → Option (List ℕ) → Bool
 is_name uid None = false
 is_name uid (Some name) = bytes_eq name uid
 
--- whether the entry is a live association at the place whose associated train has the UID
+-- whether the entry is a live association at the place, and the UID belongs to its associated train
 abbrev pub names_as : List ℕ → List ℕ → Keyed → Bool
 names_as place uid entry = is_here place entry.0 && is_name uid (name_in entry.0 entry.1.op)
 

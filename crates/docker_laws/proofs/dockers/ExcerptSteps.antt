@@ -42,7 +42,8 @@ pub so_far_more : (place : List ℕ) (entries : List Keyed) (entry : Keyed)
     → kept_so_far place (entries ++ entry ∷ []) ≡ next_kept place (kept_so_far place entries) entry
 so_far_more place entries entry = fold_more (next_kept place) nothing_kept entries (entry ∷ [])
 
--- the kept entries of a walk that continues from any entry equal the kept entries of the whole walk
+-- a walk over some entries that is continued over the rest keeps the same entries as one walk over
+-- all entries
 pub kept_from_there : (place : List ℕ) (front rest : List Keyed)
     → kept_from place (kept_so_far place front) rest ≡ kept_after_run place (kept_so_far place (front ++ rest))
 kept_from_there place front rest = ap (kept_after_run place) (sym (fold_more (next_kept place) nothing_kept front rest))
@@ -62,7 +63,7 @@ module _ (place : List ℕ) (P : List Keyed → ExcerptSoFar → Type 0)
 
 -- ---- the entries in `kept` and `run` are a sublist of the entries that the walk has passed
 
--- `kept_after_run` gives a sublist of the entries in `kept` and `run`
+-- `kept_after_run` gives a sublist of the entries in `kept`, followed by the entries in `run`
 pub after_run_within : (place : List ℕ) (so_far : ExcerptSoFar) → IsSublist (kept_after_run place so_far) (so_far.kept ++ so_far.run)
 after_run_within place so_far = by (is_run_needed place so_far)
   where
@@ -173,7 +174,7 @@ module _ (place : List ℕ) where
   run_of_one_uid : (entries : List Keyed) → OfOneUid entries (kept_so_far place entries)
   run_of_one_uid = all_along place OfOneUid (λ done so_far x here. one_uid_more done so_far x.0 x.1 here) ([], λ r among. absurd (nil-Contains r among))
 
-  -- if a schedule with a UID may be appended to `run`, all entries in `run` have this UID
+  -- if `goes_on` is true of `run` and a UID, each entry in `run` has this UID
   pub run_uid : (entries : List Keyed) (uid : List ℕ) (r : Keyed) → goes_on (kept_so_far place entries).run uid ≡ true
       → Contains (kept_so_far place entries).run r → has_uid uid r.0 ≡ true
   run_uid entries uid r goes among =
@@ -257,8 +258,8 @@ module _ (place : List ℕ) where
   named_more done so_far (tiploc_key code) entry here = named_other done so_far (tiploc_key code, entry) (is_here place (tiploc_key code)) refl here
   named_more done so_far (association_key key) entry here = named_other done so_far (association_key key, entry) (is_here place (association_key key)) refl here
 
-  -- the entries in `kept` name the same associated trains as all entries at the place that the walk
-  -- has passed
+  -- of the entries that the walk has passed, the entries at the place name the same associated
+  -- trains as the entries in `kept`
   pub names_so_far : (entries : List Keyed)
       → names_in (kept_so_far place entries).kept ≡ names_in (filter (λ (entry : Keyed). is_here place entry.0) entries)
   names_so_far entries = (all_along place AreNamed (λ done so_far x here. named_more done so_far x.0 x.1 here) (refl, refl) entries).0
@@ -281,8 +282,8 @@ module _ (place : List ℕ) (so_far : ExcerptSoFar) where
       cond (goes i) (record { kept = so_far.kept; run = so_far.run ++ (schedule_key key, entry) ∷ [] })
       (record { kept = kept_after_run place so_far; run = (schedule_key key, entry) ∷ [] })
 
-  -- at a schedule with another UID than the entries in `run`, the walk keeps or drops these
-  -- entries, and then has only the schedule in `run`
+  -- when the walk comes to a schedule whose UID isn't the UID of the entries in `run`, it keeps or
+  -- drops these entries. After this step, `run` has only the schedule
   pub begins_run : (key : ScheduleKey) (entry : Entry) → goes_on so_far.run key.uid ≡ false
       → next_kept place so_far (schedule_key key, entry) ≡ record { kept = kept_after_run place so_far; run = (schedule_key key, entry) ∷ [] }
   begins_run key entry stops = λ i.
@@ -308,7 +309,7 @@ module _ (place : List ℕ) (so_far : ExcerptSoFar) where
   here_then x true h none = λ i. record { kept = ends_none none i ++ x ∷ []; run = [] }
   here_then x false h none = false_true h
 
-  -- a TIPLOC or an association at the place is kept
+  -- the TIPLOC of the place is kept, and so is an association at the place
   pub keeps_here : (key : Key) (entry : Entry) → is_here place key ≡ true → so_far.run ≡ []
       → next_kept place so_far (key, entry) ≡ record { kept = so_far.kept ++ (key, entry) ∷ []; run = [] }
   keeps_here (schedule_key key) entry here none = false_true here
@@ -320,7 +321,8 @@ module _ (place : List ℕ) (so_far : ExcerptSoFar) where
   elsewhere_then x true h none = absurd (let bad : true ≡ false = h in cc)
   elsewhere_then x false h none = let back : [] ≡ so_far.run = sym none in λ i. record { kept = ends_none none i; run = back i }
 
-  -- a TIPLOC or an association of another place leaves `kept` and `run` unchanged
+  -- the TIPLOC of another place, or an association at another place, leaves `kept` and `run`
+  -- unchanged
   pub drops_elsewhere : (key : Key) (entry : Entry) → ((uid : List ℕ) → has_uid uid key ≡ false) → is_here place key ≡ false → so_far.run ≡ []
       → next_kept place so_far (key, entry) ≡ so_far
   drops_elsewhere (schedule_key key) entry never elsewhere none = false_true (sym (never key.uid) ∙ (bytes_eq-Decides key.uid key.uid).1 refl)
@@ -379,14 +381,14 @@ calls_more place run entry =
     list_any-append (λ (e : Keyed). is_call place e.1.op) run (entry ∷ [])
     ∙ ap (λ b. is_run_calling place run || b) (or_false (is_call place entry.1.op))
 
--- appending an entry to a list appends the UID of the entry's associated train, if it has one, to
--- the UIDs that the list names
+-- if an entry is appended to a list, the UID of the entry's associated train is appended to the
+-- UIDs that the list names. If the entry has no associated train, these UIDs are unchanged
 pub names_with : (xs : List Keyed) (entry : Keyed) → names_in (xs ++ entry ∷ []) ≡ names_in xs ++ names_in (entry ∷ [])
 names_with xs entry = filter_map-append (λ (e : Keyed). name_in e.0 e.1.op) xs (entry ∷ [])
 
 -- ---- at the end, an entry is kept if and only if the docker of the place needs the entry's key
 
--- at the key of an entry, the live table has the body that the entry puts, if any
+-- at the key of an entry, the live table has the entry's body, or no body if the entry has none
 live_of : (state : State) → AreAscending state.entries → (key : Key) (entry : Entry) → Contains state.entries (key, entry)
     → live_table state key ≡ body_of entry.op
 live_of state up key entry among =

@@ -22,7 +22,8 @@ or_assoc : (a b c : Bool) → (a || (b || c)) ≡ ((a || b) || c)
 or_assoc true b c = refl
 or_assoc false b c = refl
 
--- before its first entry, the loop has no kept entries, and no entries of a current UID
+-- before the first entry, the lists `kept` and `run` of the loop are empty, and no schedule is
+-- needed
 pub kept_first : (place : List ℕ) → HasKept place [] [] [] false
 kept_first place = record { so_far = refl; is_needed = refl }
 
@@ -66,9 +67,10 @@ module _ (place : List ℕ) (entries kept run : List Keyed) (needed : Bool) (has
       ∙ names_stay place entries key entry
       ∙ ap (λ (so_far : ExcerptSoFar). names_in so_far.kept) has.so_far
 
-  -- at a schedule with another UID than the entries in `run`, the loop keeps or drops these
-  -- entries, and then has only the schedule in `run`. The docker needs this schedule if its UID
-  -- belongs to the associated train of a kept association, or if the schedule calls at the place
+  -- when the loop comes to a schedule whose UID isn't the UID of the entries in `run`, it keeps or
+  -- drops these entries. After this step, `run` has only the schedule. The docker needs the
+  -- schedule if its UID belongs to the associated train of a kept association, or if the schedule
+  -- calls at the place
   pub kept_begins : (key : ScheduleKey) (entry : Entry) (named : Bool) → goes_on run key.uid ≡ false
       → (named ≡ true) ↔ Contains (names_in kept) key.uid
       → HasKept place (entries ++ (schedule_key key, entry) ∷ []) (cond needed (kept ++ run) kept) ((schedule_key key, entry) ∷ [])
@@ -104,7 +106,7 @@ module _ (place : List ℕ) (state : State) (kept run : List Keyed) (needed : Bo
   pub kept_alone : (key : Key) → IsAboveEntries state key → ((uid : List ℕ) → has_uid uid key ≡ false) → run ≡ []
   kept_alone key above never = sym (ap (λ (so_far : ExcerptSoFar). so_far.run) has.so_far) ∙ no_run_before place state.entries key above never
 
-  -- a TIPLOC or an association at the place is kept
+  -- the TIPLOC of the place is kept, and so is an association at the place
   pub kept_here : (key : Key) (entry : Entry) → IsAboveEntries state key → ((uid : List ℕ) → has_uid uid key ≡ false) → is_here place key ≡ true
       → HasKept place (state.entries ++ (key, entry) ∷ []) (kept ++ (key, entry) ∷ []) [] false
   kept_here key entry above never here = record {
@@ -112,7 +114,7 @@ module _ (place : List ℕ) (state : State) (kept run : List Keyed) (needed : Bo
     is_needed = refl;
   }
 
-  -- a TIPLOC or an association of another place isn't kept
+  -- the TIPLOC of another place isn't kept, and neither is an association at another place
   pub kept_elsewhere : (key : Key) (entry : Entry) → IsAboveEntries state key → ((uid : List ℕ) → has_uid uid key ≡ false) → is_here place key ≡ false
       → HasKept place (state.entries ++ (key, entry) ∷ []) kept [] false
   kept_elsewhere key entry above never elsewhere = record {
@@ -123,7 +125,7 @@ module _ (place : List ℕ) (state : State) (kept run : List Keyed) (needed : Bo
     is_needed = refl;
   }
 
-  -- at the end of the loop, the entries of the excerpt are `kept`, followed by `run` if the docker
-  -- needs `run`
+  -- at the end of the loop, the entries of the excerpt are the entries in `kept`, followed by the
+  -- entries in `run` if the docker needs them
   pub kept_last : (excerpt_for place state).entries ≡ cond needed (kept ++ run) kept
   kept_last = ap (kept_after_run place) has.so_far ∙ ended place state.entries kept run needed has

@@ -63,7 +63,7 @@ first_decides Less b less greater = cc
 first_decides Equal b less greater = cc
 first_decides Greater b less greater = let bad : Greater ≡ Less = less in cc
 
--- in key order a schedule between two schedules of one UID has the same UID
+-- in key order, a schedule that is between two schedules of one UID has this UID too
 uid_between : (a b c : ScheduleKey) → schedule_key_cmp a b ≡ Less → schedule_key_cmp b c ≡ Less → a.uid ≡ c.uid → b.uid ≡ a.uid
 uid_between a b c up further same =
     let low = first_decides (bytes_cmp a.uid b.uid) (ordering_then (nat_cmp a.runs_from b.runs_from) (nat_cmp a.indicator b.indicator)) up in
@@ -272,7 +272,8 @@ module _ (place : List ℕ) (all : List Keyed) (order : AllLater Below all) wher
         ∙ ap (λ (ys : List Keyed). filter (λ (entry : Keyed). is_needed place all entry.0) done ++ ys) (sym of_run)
         ∙ sym (filter-append test done (first ∷ others))
 
-  -- `kept_after_run` gives exactly the passed entries whose keys the docker needs
+  -- of the entries in `done` and `run`, `kept_after_run` gives exactly the entries whose keys the
+  -- docker needs
   run_end : (done kept run rest : List Keyed) → IsAt place all done (record { kept = kept; run = run }) rest → IsEnded run rest
       → kept_after_run place (record { kept = kept; run = run }) ≡ filter (λ (entry : Keyed). is_needed place all entry.0) (done ++ run)
   run_end done kept [] rest at ended = at.kept ∙ ap (filter (λ (entry : Keyed). is_needed place all entry.0)) (sym (append-nil done))
@@ -331,8 +332,8 @@ module _ (place : List ℕ) (all : List Keyed) (order : AllLater Below all) wher
           subst (λ (e : Keyed). has_uid at.uid e.0 ≡ true) (Contains-single {A = Keyed} (schedule_key key, entry) r last)
           ((bytes_eq-Decides key.uid at.uid).1 uid_is)
 
-  -- if the next entry is a schedule with another UID than the entries in `run`, no later entry has
-  -- their UID
+  -- if the next entry is a schedule whose UID isn't the UID of the entries in `run`, no entry from
+  -- this schedule on has the UID of the entries in `run`
   ends : (done : List Keyed) (so_far : ExcerptSoFar) (key : ScheduleKey) (entry : Entry) (rest : List Keyed)
       → IsAt place all done so_far ((schedule_key key, entry) ∷ rest) → goes_on so_far.run key.uid ≡ false
       → IsEnded so_far.run ((schedule_key key, entry) ∷ rest)
@@ -351,8 +352,9 @@ module _ (place : List ℕ) (all : List Keyed) (order : AllLater Below all) wher
           hit (between_uid r.0 (schedule_key key) y.0 other (run_below done so_far (schedule_key key, entry) rest at r in_run)
           (next_below done so_far (schedule_key key, entry) rest at y there) of_r of_y)
 
-  -- at a schedule with another UID than the entries in `run`, the walk keeps or drops these
-  -- entries, and then has only the schedule in `run`. This preserves the invariant
+  -- when the walk comes to a schedule whose UID isn't the UID of the entries in `run`, it keeps or
+  -- drops these entries. After this step, `run` has only the schedule. The step preserves the
+  -- invariant
   begins : (done : List Keyed) (so_far : ExcerptSoFar) (key : ScheduleKey) (entry : Entry) (rest : List Keyed)
       → IsAt place all done so_far ((schedule_key key, entry) ∷ rest) → goes_on so_far.run key.uid ≡ false
       → IsAt place all (done ++ so_far.run) (record { kept = kept_after_run place so_far; run = (schedule_key key, entry) ∷ [] }) rest
@@ -375,7 +377,7 @@ module _ (place : List ℕ) (all : List Keyed) (order : AllLater Below all) wher
           at.apart z y other here (Contains-append_right so_far.run ((schedule_key key, entry) ∷ rest) y behind) of_z of_y
       by z y other (inr here) behind of_z of_y = ended z y other here behind of_z of_y
 
-  -- the invariant holds for some list `done` of passed entries
+  -- the invariant holds for some list `done` of entries that the walk has passed
   abbrev Goes : ExcerptSoFar → List Keyed → Type 0
   Goes so_far rest = (now : List Keyed) × IsAt place all now so_far rest
 

@@ -1,5 +1,5 @@
--- The schedules of a table with good bodies pass midnight at most twice, so each event is at most
--- two days after the train's start day.
+-- If the bodies of a table are well formed, its schedules pass midnight at most twice. So each
+-- event is at most two days after the train's start day.
 use Rattle.std.proofs.Common.{◌≡◌, ℕ, ◌+◌, ◌≤◌, List, take, drop, subst, inl, inr, ◌⊎◌, ap, sym, ◌∙◌, Some, arith}
 use Rattle.std.specs.Prelude.{IsTrue}
 use Rattle.std.proofs.lemmas.Bool.{eqb-true}
@@ -44,7 +44,7 @@ bodies_few live good key lines is = few_midnights key lines (good (schedule_key 
 
 -- ---- a train with an event on a day starts at most two days before the event
 
--- a schedule passes midnight up to an event at most as often as in its whole journey
+-- up to an event, a schedule passes midnight at most as often as in its whole journey
 pub falls_below : (lines : List (List ℕ)) (number : ℕ) → falls_to lines number ≤ midnights lines
 falls_below lines number =
     subst (λ times. falls_to lines number ≤ fall_count times) (take-append-drop number (times_along lines))

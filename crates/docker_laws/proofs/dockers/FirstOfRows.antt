@@ -1,6 +1,6 @@
--- The first value, in an order, that has a property. A search in a list finds this value under two
--- conditions. The list must have each value with the property, and a value must pass the test if
--- and only if it has the property.
+-- Of all values with a property, the first value in an order. A search in a list finds this value
+-- under two conditions. The list must have each value with the property, and a value must pass the
+-- test if and only if it has the property.
 use Rattle.std.proofs.Common.{◌≡◌, List, refl, sym, ◌∙◌, Some, None, Bool, true, Contains}
 use Rattle.std.specs.Prelude.{Option, find}
 use Rattle.std.specs.declared.cmp.Ordering.{Ordering}

@@ -11,7 +11,7 @@ use Rattle.state_laws.proofs.states.PlainTable.{Keyed, live_at, live_none}
 use Rattle.cif_laws.proofs.orders.Orders.{same_key}
 use Rattle.cif_laws.proofs.lists.FilteredMembers.{find_some}
 
--- a body in the live table belongs to the state's entry at that key
+-- each body in the live table is the body of the state's entry at the same key
 pub live_entry : (state : State) (key : Key) (body : Body) → live_table state key ≡ Some body → (entry : Entry) × Contains state.entries (key, entry)
     × (entry.op ≡ put_with body)
 live_entry state key body is = by (find (λ entry. is_eq (key_cmp entry.0 key)) state.entries) refl

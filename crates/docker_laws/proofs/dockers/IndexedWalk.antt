@@ -33,8 +33,8 @@ module _ (live : Table) (place : List ℕ) (linked calling : List Row) (are_link
   live_row key body (inl here) = let one = (are_linked.members key body).0 here in ap live one.2 ∙ one.4.is_live ∙ ap Some (sym one.3)
   live_row key body (inr here) = let one = (are_calling.members key body).0 here in ap live one.2 ∙ one.4.is_live ∙ ap Some (sym one.3)
 
-  -- the rows linked at a place, followed by the rows that call there, are enough to find all docker
-  -- lines of the place: they satisfy `IsWalk`
+  -- the rows of the associations at a place, followed by the rows of the schedules that call there,
+  -- are enough to find all docker lines of the place: they satisfy `IsWalk`
   pub indexed_walk : IsWalk live place (linked ++ calling)
   indexed_walk = record {
     ascending = ascending_of (on (λ (row : Row). row.0) key_cmp) (linked ++ calling)
@@ -49,8 +49,8 @@ module _ (live : Table) (place : List ℕ) (linked calling : List Row) (are_link
         ((are_linked.members (association_key key) (association_body line)).1 (key, line, refl, refl, record { is_live = is; here = here }));
   }
 
--- the lines gathered from the linked rows and the calling rows of a place are, after sorting, the
--- docker list
+-- suppose that lines are gathered from the rows of the associations at a place and of the schedules
+-- that call there. After sorting, these lines are the docker list
 pub indexed_docker : (live : Table) (place : List ℕ) (day : ℕ) (rows linked calling : List Row) (lines : List DockerLine) → HasGoodBodies live
     → AreRowsOf live rows
     → AreLinked live place linked → AreCalling live place calling

@@ -34,7 +34,7 @@ first_there key lines of = subst (λ (ls : List (List ℕ)). 0 < length ls) (sym
 pub schedule_first : (line : List ℕ) → HasKind basic_schedule line → HasGoodFields line → is_date (columns 10 15 line) ≡ true
 schedule_first line is good = (good_fields basic_schedule line is good).1.0
 
--- the checked fields of a basic schedule after its runs-from date
+-- of a basic schedule, the checked fields that come after the runs-from date
 schedule_later : Bool → List CheckedField
 schedule_later deletion = cond deletion [] (checked 16 21 is_end_date ∷ checked 22 28 is_days ∷ []) ++ checked 80 80 is_stp_indicator ∷ []
 

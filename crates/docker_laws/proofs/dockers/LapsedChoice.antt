@@ -21,8 +21,8 @@ within_end first last days day runs =
     let dates = (both (nat_le (date_number first) day && nat_le day (end_number last)) (runs_on_weekday days (weekday_of day)) runs).0 in
     leb-true day (end_number last) (both (nat_le (date_number first) day) (nat_le day (end_number last)) dates).1
 
--- if neither a day is before the horizon, nor an end date before the day, the end date isn't before
--- the horizon
+-- if a day isn't before the horizon, and an end date isn't before the day, the end date isn't
+-- before the horizon
 end_reached : (horizon day : ℕ) (last : List ℕ) → horizon ≤ no_end_number → horizon ≤ day → day ≤ end_number last → horizon ≤ readable_end last
 end_reached horizon day last bound from to = by (is_end_date last)
   where

@@ -1,5 +1,5 @@
--- Lapsing a table with a horizon leaves the dockers of all days from the third day after the
--- horizon unchanged.
+-- If a table is lapsed with a horizon, its dockers from the third day after the horizon on are
+-- unchanged.
 use Rattle.std.proofs.Common.{◌≡◌, ℕ, ◌+◌, ◌-◌, ◌≤◌, List, ◌++◌, inl, inr, ◌⊎◌, refl, ap, sym, ◌∙◌, Bool, true, false, cond, Some, None, arith}
 use Rattle.std.specs.Prelude.{Option, ◌↔◌, ◌==◌, nat_lt, option_and_then, codes}
 use Rattle.std.specs.List.{flat_map}
@@ -59,7 +59,7 @@ pub record CarriesOver (one other : Table) (day : ℕ) : Type 0 where
       × (IsPartnerIdentity one key.associated (partner_start indicator start) identity
       → IsPartnerIdentity other key.associated (partner_start indicator start) identity)
 
--- each line of an event in the docker of `one` is in the docker of `other`
+-- each event line in the docker of `one` is also in the docker of `other`
 pub event_line_over : (one other : Table) (place : List ℕ) (day : ℕ) → CarriesOver one other day → (line : DockerLine) → IsEventLine one place day line
     → IsEventLine other place day line
 event_line_over one other place day carries line is = record {
@@ -74,7 +74,7 @@ event_line_over one other place day carries line is = record {
   is = is.is;
 }
 
--- each line of an association in the docker of `one` is in the docker of `other`
+-- each association line in the docker of `one` is also in the docker of `other`
 pub association_line_over : (one other : Table) (place : List ℕ) (day : ℕ) → CarriesOver one other day → (line : DockerLine)
     → IsAssociationLine one place day line → IsAssociationLine other place day line
 association_line_over one other place day carries line is =

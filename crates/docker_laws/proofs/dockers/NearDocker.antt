@@ -1,5 +1,5 @@
--- The dockers of a day are unchanged if schedules that run on no start day near the day are removed
--- from the table.
+-- If a table loses only schedules that run on no start day near a day, the dockers of that day are
+-- unchanged.
 use Rattle.std.proofs.Common.{◌≡◌, ℕ, zero, suc, ◌+◌, ◌-◌, ◌≤◌, List, [], ◌∷◌, subst, inl, inr, ◌⊎◌, refl}
 use Rattle.std.proofs.Common.{ap, sym, ◌∙◌, Bool, true, false, cond, Some, None, Contains, arith}
 use Rattle.std.specs.Prelude.{Option, ◌↔◌, ◌==◌, nat_lt, IsTrue}
@@ -185,7 +185,7 @@ abbrev pub IsNearPart : ℕ → Table → Table → Type 0
 IsNearPart day live part = (key : Key) → (part key ≡ live key) ⊎ ((part key ≡ None) × IsLeftOut day live key)
 
 module _ (day : ℕ) (live part : Table) (is : IsNearPart day live part) where
-  -- a body in the table `part` is in the table `live`, at the same key
+  -- if the table `part` has a body at a key, the table `live` has the same body at this key
   was_there : (key : Key) (body : Body) → part key ≡ Some body → live key ≡ Some body
   was_there key body there = by (is key)
     where

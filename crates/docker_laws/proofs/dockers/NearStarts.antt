@@ -13,7 +13,7 @@ use Rattle.docker_laws.specs.Gathering.{start_days, IsWalk}
 use Rattle.docker_laws.proofs.dockers.StartDays.{event_within, start_days_iff}
 use Rattle.docker_laws.proofs.dockers.FewMidnights.{bodies_few}
 
--- the train of an event's line starts on the docker's day or on one of the two days before it
+-- the train of an event line starts on the docker's day or on one of the two days before it
 pub event_near : (live : Table) (place : List ℕ) (day : ℕ) (line : DockerLine) → HasGoodBodies live → (made : IsEventLine live place day line)
     → (made.start ≤ day) × (day ≤ made.start + 2)
 event_near live place day line good made =
@@ -23,8 +23,8 @@ event_near live place day line good made =
     let today = made.today in
     (omega arith, omega arith)
 
--- the base train of an association's line starts on the docker's day or on one of the two days
--- before it
+-- the base train of an association line starts on the docker's day or on one of the two days before
+-- it
 pub association_near : (live : Table) (place : List ℕ) (day : ℕ) (line : DockerLine) → HasGoodBodies live → (made : IsAssociationLine live place day line)
     → (made.start ≤ day) × (day ≤ made.start + 2)
 association_near live place day line good made =

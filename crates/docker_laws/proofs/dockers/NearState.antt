@@ -67,16 +67,16 @@ pub near_valid : (day : ℕ) (state : State) → IsValid state → IsValid (near
 near_valid day state valid =
     some_valid state (near_state day state) valid refl refl (sublist_filter (λ (entry : Keyed). may_count day entry.1.op) state.entries)
 
--- a valid state and its part with only the entries that may count on a day have the same docker
--- list on that day
+-- if a valid state loses the entries that can't count on a day, its docker lists for that day are
+-- unchanged
 pub near_state_list : (place : List ℕ) (day : ℕ) (state : State) (lines : List DockerLine) → IsValid state
     → IsDockerList (live_table state) place day lines ↔ IsDockerList (live_table (near_state day state)) place day lines
 near_state_list place day state lines valid =
     near_list_iff day (live_table state) (live_table (near_state day state)) (near_part day state valid.entries.1)
     (bodies_few (live_table state) (good_bodies state valid)) place lines
 
--- a valid state and its part with only the entries that may count on a day have the same docker
--- text on that day
+-- if a valid state loses the entries that can't count on a day, its docker texts for that day are
+-- unchanged
 pub near_state_text : (place : List ℕ) (day : ℕ) (state : State) (text : List ℕ) → IsValid state
     → IsDockerText (live_table state) place day text ↔ IsDockerText (live_table (near_state day state)) place day text
 near_state_text place day state text valid =

@@ -106,8 +106,8 @@ lapses_alike horizon live = λ i key. by (is_permanent key) (live key) i
     by true found = refl
     by false found = refl
 
--- suppose that the program doesn't refuse dockers of the day because of a horizon. Lapsing a table
--- with this horizon leaves the permanent docker of the table unchanged
+-- if the program doesn't refuse the dockers of a day because of a horizon, lapsing a table with
+-- this horizon leaves the permanent dockers of that day unchanged
 lapsed_iff : (horizon : ℕ) (live : Table) (place : List ℕ) (day : ℕ) (text : List ℕ) → IsDay horizon → HasGoodBodies live → ¬ IsDayRefused horizon day
     → IsDockerText (permanent_table live) place day text ↔ IsDockerText (permanent_table (lapse_table horizon live)) place day text
 lapsed_iff horizon live place day text is_day good printed =
@@ -138,15 +138,16 @@ permanent_is_plain files horizon state table place day text are is_day summary p
     subst (λ (t : Table). IsDockerText (permanent_table t) place day text ↔ IsDockerText (permanent_table table) place day text)
     (sym (live_is_lapsed_plain files horizon state table summary plain)) (told.1, told.0)
 
--- suppose that the program doesn't refuse dockers of the day because of a horizon. Lapsing a state
--- with this horizon leaves the permanent docker of the state unchanged
+-- if the program doesn't refuse the dockers of a day because of a horizon, lapsing a state with
+-- this horizon leaves the permanent dockers of that day unchanged
 permanent_stays : (horizon : ℕ) (state : State) (place : List ℕ) (day : ℕ) (text : List ℕ) → IsDay horizon → IsValid state → ¬ IsDayRefused horizon day
     → IsDockerText (permanent_table (live_table state)) place day text → IsDockerText (permanent_table (live_table (lapse_state horizon state))) place day text
 permanent_stays horizon state place day text is_day valid printed is =
     subst (λ (t : Table). IsDockerText (permanent_table t) place day text) (sym (live_lapsed horizon state))
     ((lapsed_iff horizon (live_table state) place day text is_day (good_bodies state valid) printed).0 is)
 
--- two summaries of the same files have the same permanent docker
+-- two summaries of the same files have the same permanent docker for each place and each day,
+-- unless the program refuses the docker because of a horizon
 pub permanent_of_files : (files others : List (List (List ℕ))) (horizon theirs : ℕ) (one two : State) → AreFiles files → AreFiles others
     → HaveSameFiles files others → IsDay horizon → IsDay theirs → IsSummary files horizon one → IsSummary others theirs two
     → (place : List ℕ) (day : ℕ) → ¬ IsDayRefused horizon day → ¬ IsDayRefused theirs day → (text other : List ℕ)

@@ -31,7 +31,7 @@ use Rattle.docker_laws.proofs.dockers.Events.{numbers_ascend}
 use Rattle.docker_laws.proofs.dockers.OneDockerLine.{tied_lines_agree}
 use Rattle.cif_laws.proofs.orders.AtMost.{eq_is}
 
--- `n == n` is true for each number
+-- `n == n` is true for each number `n`
 pub number_itself : (n : ℕ) → (n == n) ≡ true
 number_itself n = search rules
 
@@ -135,7 +135,8 @@ module _ (live : Table) (trains : List ℕ → ℕ → Option Train) (tell : Tel
           inner true h here = made (runs_as train (exact_schedule_key train.key key (eq_is (schedule_key_cmp train.key key) h)) runs) here
           inner false h here = absurd (nil-Contains line here)
 
-  -- `schedule_piece` computes the docker line of each event, for the event's schedule and start day
+  -- each event line of the docker is among the lines that `schedule_piece` computes for the line's
+  -- schedule and start day
   pub schedule_piece_forth : (line : DockerLine) (made : IsEventLine live place day line)
       → Contains (schedule_piece trains place day made.key made.schedule made.start) line
   schedule_piece_forth line made = by (trains made.key.uid made.start) (tell made.key.uid made.start)
@@ -154,7 +155,8 @@ module _ (live : Table) (trains : List ℕ → ℕ → Option Train) (tell : Tel
           ∙ (λ i. is_eq (tied_itself schedule_key_total made.key i)) in
           subst (λ b. Contains (cond b (event_lines place day made.start made.key made.schedule) []) line) (sym runs_is) inside
 
-  -- no two lines of one schedule and one start day tie
+  -- of the docker lines that a schedule has for one start day, no two tie in the order of docker
+  -- lines
   pub schedule_piece_apart : (key : ScheduleKey) (lines : List (List ℕ)) (start : ℕ)
       → AreApart docker_line_cmp (schedule_piece trains place day key lines start)
   schedule_piece_apart key lines start = by (runs_by (trains key.uid start) key)

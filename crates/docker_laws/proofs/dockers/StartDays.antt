@@ -1,5 +1,5 @@
 -- The events of a live schedule are on the train's start day or on one of the two days after it. So
--- the trains of a docker have at most three start days.
+-- the trains of one day's docker start on at most three different days.
 use Rattle.std.proofs.Common.{◌≡◌, ℕ, zero, suc, ◌+◌, ◌-◌, ◌≤◌, List, [], ◌∷◌, subst, inl, inr, ◌⊎◌, Some, Contains, arith}
 use Rattle.std.specs.Prelude.{filter, nat_le}
 use Rattle.std.proofs.lemmas.Bool.{leb-true, le-leb}

@@ -37,7 +37,7 @@ left_by act = body_of (op_of act)
 
 -- ---- thinning commutes with one change
 
--- the thin form of an act leaves the thinned form of the body that the act leaves
+-- the body that the thin form of an act leaves is the thinned form of the body that the act leaves
 thin_left : (place : List ℕ) (day : ℕ) (act : Act) → left_by (thin_act place day act) ≡ option_and_then (thin_body place day) (left_by act)
 thin_left place day delete = refl
 thin_left place day (put body) = by (may_count day (put_with body))
@@ -64,7 +64,7 @@ none_or true = refl
 none_or false = refl
 
 module _ (place : List ℕ) (day : ℕ) where
-  -- a change to a key that can't matter leaves the thinned table unchanged
+  -- a change to a key that can't matter at the place leaves the thinned table unchanged
   step_elsewhere : (table : Table) (change : Change) (key : Key) → may_matter place change.key ≡ false
       → thinned place day (after_change table change) key ≡ thinned place day table key
   step_elsewhere table change key no_matter = by (is_of key change) refl
@@ -360,7 +360,8 @@ thinning_more place day all kept (change ∷ more) is =
     rest : List Change
     rest = filter (λ (c : Change). may_matter place c.key) more
 
-    -- the change is kept if the test passes, and dropped otherwise
+    -- the claim of `thinning_more` for a change that is kept if the test is true, and dropped
+    -- otherwise
     Goal : Bool → Type 0
     Goal test = IsThinning place day (all ++ change ∷ [] ++ more) (kept ++ map (thin_change place day) (cond test (change ∷ rest) rest))
 

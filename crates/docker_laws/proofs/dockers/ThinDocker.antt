@@ -1,4 +1,5 @@
--- A table and the table thinned for a place and a day have the same docker of the place on the day.
+-- A table and its thinned table for a place and a day have the same docker for that place and that
+-- day.
 use Rattle.std.proofs.Common.{◌≡◌, ℕ, ◌+◌, ◌≤◌, List, subst, inl, inr, ◌⊎◌, refl, ap, sym, ◌∙◌, Bool, true, false, cond, Some, None, arith}
 use Rattle.std.specs.Prelude.{Option, ◌↔◌, option_and_then}
 use Rattle.std.proofs.lemmas.Slice.Eq.{bytes_eq-Decides}
@@ -32,7 +33,7 @@ use Rattle.docker_laws.proofs.dockers.ThinBody.{first_of_thin, thin_elsewhere, n
 
 -- ---- which records may replace a schedule
 
--- the relation "may replace in the docker" between schedules is symmetric
+-- if records may replace a schedule in the docker, the schedule may also replace these records
 turned : (place : List ℕ) (day : ℕ) (one other : List (List ℕ)) → IsStandIn place day one other → IsStandIn place day other one
 turned place day one other is = record {
   runs = λ start near. sym (is.runs start near);
@@ -61,7 +62,7 @@ stand_in_by_first place day whole lines same none no_other = record {
     by (inl calls) = absurd (elsewhere whole none calls)
     by (inr calls) = absurd (elsewhere lines no_other calls)
 
--- the records that the docker of the place needs may replace the schedule
+-- the records of a schedule that the docker of the place needs may replace the whole schedule
 pub needed_stand_in : (place : List ℕ) (day : ℕ) (lines : List (List ℕ)) → IsStandIn place day lines (lines_for place lines)
 needed_stand_in place day lines = by (calls_at place lines) refl
   where
@@ -100,7 +101,8 @@ module _ (one other : Table) (place : List ℕ) (day : ℕ) (forth : Covers one 
         found.2,
       )
 
-  -- a train that calls at the place runs according to the same records in both tables
+  -- if a train calls at the place and starts near the day, it runs according to the same records in
+  -- both tables
   calling_over : (start : ℕ) → IsStartNear day start → (uid : List ℕ) (key : ScheduleKey) (lines : List (List ℕ)) → CallsAt place lines
       → TrainRuns one uid start key lines → TrainRuns other uid start key lines
   calling_over start near uid key lines calls is =
@@ -259,8 +261,8 @@ module _ (place : List ℕ) (day : ℕ) (live part : Table) (stands : StandsFor 
 -- ---- the thinned table may replace the table
 
 module _ (place : List ℕ) (day : ℕ) (live : Table) where
-  -- if a schedule in the table runs near the day, the thinned table has at the same key the
-  -- schedule's records that the docker needs (`lines_for`)
+  -- if a schedule in the table runs near the day, the thinned table has records of this schedule at
+  -- the same key: the records that the docker needs (`lines_for`)
   schedule_left : (key : ScheduleKey) (lines : List (List ℕ)) → live (schedule_key key) ≡ Some (schedule_body lines)
       → runs_near day (first_record lines) ≡ true → thinned place day live (schedule_key key) ≡ Some (schedule_body (lines_for place lines))
   schedule_left key lines is_live runs =

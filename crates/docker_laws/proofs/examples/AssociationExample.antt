@@ -156,7 +156,7 @@ at_colwell = record { number = 2; place = 2; occasion = arrival; time = 2860 }
 abbrev the_line : DockerLine
 the_line = line_of_association next_working 80 base_key 23537 base_lines at_colwell (codes "C40002") (codes "4D42")
 
--- the example line is an association's line in the docker
+-- the example line is in the docker, as the line of an association
 pub works_on : IsAssociationLine (live_table linked) (codes "COLWELL") 23537 the_line
 works_on = record {
   start = 23537;

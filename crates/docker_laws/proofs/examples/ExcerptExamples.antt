@@ -57,7 +57,7 @@ key_of uid day letter = record { uid = uid; runs_from = day; indicator = letter 
 abbrev pub stops : List (List ℕ)
 stops = week (codes "C40001") (codes "4D40") (codes "ASHFELD") (codes "COLWELL")
 
--- on 11 June an overlay of this train ends at BRAYTON
+-- an overlay of the train C40001. On 11 June this train ends at BRAYTON and not at COLWELL
 abbrev pub short : List (List ℕ)
 short = one_day (codes "C40001") (codes "4D40") (codes "ASHFELD") (codes "BRAYTON")
 

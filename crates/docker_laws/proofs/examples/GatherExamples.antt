@@ -54,7 +54,8 @@ day_before : gathered (train_in rows) (link_in rows) (codes "COLWELL") 23536 row
 unfolding days_from_civil day_count days_of_years days_of_months
 day_before = refl
 
--- if the associated train is cancelled, its identity is printed as `????`
+-- rows in which the associated train is cancelled. The docker then prints `????` as the identity of
+-- this train
 abbrev cancelled : List Row
 cancelled = (
   association_key (record { base = codes "C40001"; associated = codes "C40002"; start = 23537; location = codes "COLWELL"; suffix = 32; indicator = 80 }),
@@ -108,8 +109,8 @@ division_at_colwell : map line_text (gathered (train_in divided) (link_in divide
 unfolding days_from_civil day_count days_of_years days_of_months
 division_at_colwell = refl
 
--- the trains `twice_lines` and `divided_lines` call at COLWELL, and `twice_lines` doesn't call at
--- ELM
+-- the schedules `twice_lines` and `divided_lines` call at COLWELL, and `twice_lines` doesn't call
+-- at ELM
 colwell_called_at : (calls_at (codes "COLWELL") twice_lines ≡ true) × (calls_at (codes "COLWELL") divided_lines ≡ true)
     × (calls_at (codes "ELM    ") twice_lines ≡ false)
 colwell_called_at = (refl, refl, refl)

@@ -53,7 +53,7 @@ night_here = refl
 abbrev change_of : ℕ → Key → Act → Change
 change_of number key act = record { number = number; key = key; act = act }
 
--- on 11 June an overlay takes another route and doesn't call at COLWELL
+-- an overlay for 11 June. On this day the train takes another route and doesn't call at COLWELL
 abbrev way_round : List (List ℕ)
 way_round =
     bs (codes "N") (codes "C40001") (codes "240611") (codes "240611") (codes "0100000") (codes "4D40") (codes "O")
@@ -103,11 +103,11 @@ differ whole wrong day line has no_event no_association same = nil-Contains line
 abbrev put_schedule : ℕ → ScheduleKey → List (List ℕ) → Change
 put_schedule number key lines = change_of number (schedule_key key) (put (schedule_body lines))
 
--- a single change: the put of the train that ends at COLWELL
+-- a list of one change, which puts the schedule of the train that ends at COLWELL
 abbrev stops_alone : List Change
 stops_alone = put_schedule 2 stops_key stops ∷ []
 
--- the train arrives at COLWELL at 23:50
+-- the event of the train's arrival at COLWELL at 23:50
 abbrev arrives : Event
 arrives = record { number = 2; place = 2; occasion = arrival; time = 2860 }
 
@@ -308,7 +308,7 @@ basic_alone_is_wrong is = by is.journey_or_none
 
 -- ---- wrong: an associated train that starts on the next day is dropped
 
--- a train on 12 June that doesn't call at COLWELL
+-- the schedule of a train that runs on 12 June and doesn't call at COLWELL
 abbrev follows_on : List (List ℕ)
 follows_on =
     bs (codes "N") (codes "C40002") (codes "240612") (codes "240612") (codes "0010000") (codes "4D42") (codes "P")

@@ -41,8 +41,8 @@ run_holds format offices events exchange each run =
 
 -- ---- two summaries of the same files have the same dockers
 
--- if the program refuses a docker with neither of two horizons, it doesn't refuse the docker with
--- the greater horizon
+-- if neither of two horizons makes the program refuse the dockers of a day, the greater horizon
+-- doesn't make the program refuse them either
 pub greater_prints : (a b day : ℕ) → ¬ IsDayRefused a day → ¬ IsDayRefused b day → ¬ IsDayRefused (max a b) day
 greater_prints a b day first second = by (nat_lt a b) refl
   where
@@ -50,8 +50,8 @@ greater_prints a b day first second = by (nat_lt a b) refl
     by true h = let below = ltb-true a b h in subst (λ n. ¬ IsDayRefused n day) (sym (max-eq_right (omega arith))) second
     by false h = subst (λ n. ¬ IsDayRefused n day) (sym (max-eq_left (ltb-false a b h))) first
 
--- suppose that the program doesn't refuse dockers of the day because of a horizon. Lapsing a state
--- with this horizon leaves the docker of the day unchanged
+-- if the program doesn't refuse the dockers of a day because of a horizon, lapsing a state with
+-- this horizon leaves the dockers of that day unchanged
 docker_stays : (horizon : ℕ) (state : State) (place : List ℕ) (day : ℕ) (text : List ℕ) → IsDay horizon → IsValid state → ¬ IsDayRefused horizon day
     → IsDockerText (live_table state) place day text → IsDockerText (live_table (lapse_state horizon state)) place day text
 docker_stays horizon state place day text is_day valid printed is = by (nat_lt 0 horizon) (nat_lt day (horizon + 3)) refl refl

@@ -3,8 +3,8 @@ use Rattle.train_choice.specs.Along.{AreGoodRows}
 use Rattle.docker_day.specs.Portions.{AreLeft, AreOpened, ArePassedOver}
 use Rattle.docker_day.proofs.portions.open_portion.Given as goal
 
--- the rows of the portion and the remaining rows are all rows. If no row of the portion may have
--- lines, the whole portion may be skipped
+-- the rows of the portion, followed by the remaining rows, are all rows. If no row of the portion
+-- may have lines, the whole portion may be skipped
 abbrev pub invariant-loop-may_run : goal.invariant-loop-may_run
 invariant-loop-may_run l = record {
   good : AreGoodRows l.rows;
