@@ -18,19 +18,19 @@ pub(crate) const PUT_AGAIN: File = &[HD, BS, LO, LT, BS_DELETED, BS, LO_0905, LT
 /// A file that puts a train and then deletes it.
 pub(crate) const PUT_AND_DELETED: File = &[HD, BS, LO, LT, BS_DELETED, ZZ];
 
-/// One train from Ashfeld to Brayton, on weekdays from 10 to 14 June 2024.
+/// A file with one train from Ashfeld to Brayton, on weekdays from 10 to 14 June 2024.
 pub(crate) const MORNING: File = &[HD, BS, LO, LT, ZZ];
 
 /// The file of the morning train, without its trailer.
 pub(crate) const OPEN: File = &[HD, BS, LO, LT];
 
-/// The morning train, put by a record with the transaction `R`.
+/// A file with the morning train, which is put by a record with the transaction `R`.
 pub(crate) const REVISED: File = &[HD, BS_REVISED, LO, LT, ZZ];
 
-/// A train from Ashfeld to Brayton that leaves in the evening.
+/// A file with a train from Ashfeld to Brayton that leaves in the evening.
 pub(crate) const EVENING: File = &[HD, BS, LO_2355, LT_0005, ZZ];
 
-/// The morning train, in a full extract.
+/// A full extract with the morning train.
 pub(crate) const FULL: File = &[HD_FULL, BS, LO, LT, ZZ];
 
 /// A file of 10 June that revises the morning train to leave five minutes later.
@@ -54,7 +54,7 @@ pub(crate) const DELETION: File = &[HD_9B, BS_DELETED, ZZ];
 /// A file of 8 June that puts C10001. `DELETION` deletes this train on 9 June.
 pub(crate) const EIGHTH: File = &[HD_8A, BS, LO, LT, ZZ];
 
-/// A new timing point.
+/// A file with a new timing point.
 pub(crate) const PLACE: File = &[HD, TI, ZZ];
 
 /// A file of 10 June that gives the timing point of `PLACE` a new code.
@@ -79,19 +79,19 @@ macro_rules! week {
     };
 }
 
-/// A train with an overlay on two days and a cancellation on a third day.
+/// A file with a train that has an overlay on two days and a cancellation on a third day.
 pub(crate) const WEEK: File = week!();
 
-/// A train with an overlay and a cancellation, and with another schedule for the weekend.
+/// A file with a train that has an overlay, a cancellation, and another schedule for the weekend.
 pub(crate) const WEEKEND: File = week!(BS_WEEKEND, LO_0910, LT);
 
-/// A train that runs past midnight, calls at Colwell and passes Dunmere.
+/// A file with a train that runs past midnight, calls at Colwell and passes Dunmere.
 pub(crate) const NIGHT: File = &[HD, BS_NIGHT, LO_2355, LI_0000, LI_0010, LT_0020, ZZ];
 
-/// A train that runs past two midnights.
+/// A file with a train that runs past two midnights.
 pub(crate) const TWO_NIGHTS: File = &[HD, BS_NIGHT, LO_2355, LI_0010, LI_COLWELL_0005, LT_0006, ZZ];
 
-/// A train that runs past three midnights, which no schedule may do.
+/// A file with a train that runs past three midnights, which no schedule may do.
 pub(crate) const THREE_NIGHTS: File = &[
     HD,
     BS_NIGHT,
@@ -102,7 +102,8 @@ pub(crate) const THREE_NIGHTS: File = &[
     ZZ,
 ];
 
-/// A train that calls at Colwell twice. Another train divides from this train at the second call.
+/// A file with two trains. The first train calls at Colwell twice, and the second train divides
+/// from the first at its second call.
 pub(crate) const DIVISION: File = &[
     HD,
     BS_C30001,
@@ -117,7 +118,7 @@ pub(crate) const DIVISION: File = &[
     ZZ,
 ];
 
-/// A train whose identity changes on the way.
+/// A file with a train whose identity changes on the way.
 pub(crate) const IDENTITY: File = &[
     HD,
     BS_C50001,
@@ -141,10 +142,10 @@ pub(crate) const DELETED: File = &[HD, BS_DELETED, ZZ];
 /// A file of 8 June in which the morning train runs until the end of July.
 pub(crate) const JULY: File = &[HD_8A, BS_JULY, LO, LT, ZZ];
 
-/// A train that leaves Ashfeld half a minute past 09:00, without a public time.
+/// A file with a train that leaves Ashfeld half a minute past 09:00, without a public time.
 pub(crate) const HALF: File = &[HD, BS, LO_HALF, LT, ZZ];
 
-/// A train from Ashfeld to Ashfeld that arrives at the time at which it leaves.
+/// A file with a train from Ashfeld to Ashfeld that arrives at the time at which it leaves.
 pub(crate) const ROUND: File = &[HD, BS, LO, LT_ASHFELD_0900, ZZ];
 
 /// A file with a train to Colwell, a train from Colwell past midnight, and then these further
@@ -165,45 +166,48 @@ macro_rules! two_trains {
     };
 }
 
-/// A train to Colwell. Its next working starts on the next day.
+/// A file with a train to Colwell and its next working, which starts on the next day.
 pub(crate) const NEXT_DAY: File = two_trains!(BS_C40001, AA_N);
 
-/// A train to Colwell. Its next working starts on the same day.
+/// A file with a train to Colwell and its next working, which starts on the same day.
 pub(crate) const SAME_DAY: File = two_trains!(BS_C40001, AA_S);
 
-/// A train to Colwell and its next working. The association has a space as its date indicator.
+/// A file with a train to Colwell and its next working. The association has a space as its date
+/// indicator.
 pub(crate) const NO_INDICATOR: File = two_trains!(BS_C40001, AA_BLANK);
 
-/// A train to Colwell. Its next working starts on the day before.
+/// A file with a train to Colwell and its next working, which starts on the day before.
 pub(crate) const DAY_BEFORE: File = two_trains!(BS_C40001, AA_P);
 
-/// A train to Colwell and its next working. The association has an unknown date indicator.
+/// A file with a train to Colwell and its next working. The association has an unknown date
+/// indicator.
 pub(crate) const UNKNOWN_INDICATOR: File = two_trains!(BS_C40001, AA_X);
 
-/// Two trains with an association of an unknown category. The first train runs to Colwell.
+/// A file with a train to Colwell, a second train, and an association of these two trains with an
+/// unknown category.
 pub(crate) const UNKNOWN_CATEGORY: File = two_trains!(BS_C40001, AA_OTHER);
 
-/// A train to Colwell and its next working, on the last day of the calendar.
+/// A file with a train to Colwell and its next working, on the last day of the calendar.
 pub(crate) const LAST_DAY: File = two_trains!(BS_C40001_LAST, AA_LAST);
 
-/// A train to Colwell. Its next working is cancelled.
+/// A file with a train to Colwell and its next working. The next working is cancelled.
 pub(crate) const PARTNER_CANCELLED: File = two_trains!(BS_C40001, AA_N, BS_C40002_CANCELLED);
 
-/// A train to Colwell that is cancelled, and its next working.
+/// A file with a train to Colwell and its next working. The train to Colwell is cancelled.
 pub(crate) const BASE_CANCELLED: File = two_trains!(BS_C40001, AA_N, BS_C40001_CANCELLED);
 
-/// The morning train, and its deletion in the same file.
+/// A file with the morning train, which the same file then deletes.
 pub(crate) const WITHDRAWN: File = &[HD, BS, LO, LT, BS_DELETED, ZZ];
 
-/// A deletion of the morning train, followed by an origin whose time isn't a time of day. The
-/// origin of a deletion isn't checked.
+/// A file with a deletion of the morning train, followed by an origin whose time isn't a time of
+/// day. The origin of a deletion isn't checked.
 pub(crate) const DELETED_AT_NO_TIME: File = &[HD, BS_DELETED, LO_2400, LT, ZZ];
 
 /// An update of the year 2000, without changes.
 pub(crate) const EARLY: File = &[HD_EARLY, ZZ];
 
-/// A train that runs on Wednesdays, by a schedule without a last day.
+/// A file with a train that runs on Wednesdays, by a schedule without a last day.
 pub(crate) const NO_END: File = &[HD, BS_NO_END, LO, LT, ZZ];
 
-/// An amendment of a timing point that leaves its code unchanged.
+/// A file with an amendment of a timing point that leaves its code unchanged.
 pub(crate) const AMENDED: File = &[HD, TA_SAME, ZZ];

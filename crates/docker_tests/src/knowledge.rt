@@ -97,7 +97,7 @@ pub(crate) enum Step {
 }
 
 impl Step {
-    /// Returns the office of this event.
+    /// Returns the index of the office at which this event happens.
     fn office(&self) -> usize {
         match self {
             Step::Take { office, .. }
@@ -108,7 +108,7 @@ impl Step {
         }
     }
 
-    /// Returns the message that is delivered or reloaded; `None` for other events.
+    /// Returns the index of the message that is delivered or reloaded; `None` for other events.
     fn message(&self) -> Option<usize> {
         match self {
             Step::Deliver { message, .. } | Step::Reload { message, .. } => Some(*message),

@@ -1,5 +1,5 @@
-//! Tests by worked examples that need several crates: what offices print and send, what runs of
-//! events leave, and what commands write. The crate holds only tests.
+//! Tests by worked examples that need several crates: what offices print and send, what results
+//! from runs of events, and what commands write. The crate has only tests.
 #![tactic(auto)]
 
 #[cfg(test)]

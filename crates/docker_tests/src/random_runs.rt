@@ -1,6 +1,6 @@
 //! A thousand random runs of three offices. At the end of a run, each office's state must have the
 //! text that follows from what the office knows. Each message must have the text that follows from
-//! what the message knows.
+//! the knowledge that it brings.
 ghost use Rattle.docker_office.specs.RunEnds.{HasGoodLimit};
 ghost use Rattle.docker_office.specs.RunMeaning.{event_meant};
 
@@ -67,8 +67,8 @@ fn random_steps(rt: &impl Abort, alloc: Global, dice: &mut Dice) -> Vec<Step> {
     steps
 }
 
-/// Returns the event with this index, with the text of its file. If there is no such event, returns
-/// one in which an office that doesn't exist sends its state.
+/// Returns the event with this index, with the text of its file. If there is no event with this
+/// index, an office that doesn't exist sends its state in the event that is returned.
 fn event_at<'a>(steps: &[Step], place: usize, texts: &'a [Vec<u8>]) -> Event<'a>
     ensures { HasGoodLimit (event_meant result) }
 {
@@ -204,8 +204,8 @@ impl Tally {
     }
 }
 
-/// Works out what offices and messages know at the end of a run. Asserts that each reply is the
-/// expected one.
+/// Works out the knowledge of each office and each message at the end of a run. Asserts that each
+/// reply is the expected reply.
 fn known_at_end(
     rt: &impl Abort,
     alloc: Global,
@@ -261,7 +261,7 @@ fn offices_are_of_known(
     }
 }
 
-/// Asserts that each message has the text that follows from what the message knows.
+/// Asserts that each message has the text that follows from the knowledge that the message brings.
 fn messages_are_of_known(
     rt: &impl Abort,
     alloc: Global,

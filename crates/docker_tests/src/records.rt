@@ -132,7 +132,7 @@ pub(crate) const LT_ASHFELD_0930: &str =
 pub(crate) const LT_ASHFELD_0005: &str =
     "LTASHFELD 0005 00062  FL                                                        ";
 
-/// C30002 divides from C30001 at its second call at Colwell.
+/// An association: C30002 divides from C30001 at the second call of C30001 at Colwell.
 pub(crate) const AA_DIVIDE: &str =
     "AANC30001C300022406102406101000000VVSCOLWELL2 TP                               P";
 
@@ -160,7 +160,7 @@ pub(crate) const HD_7B: &str =
 pub(crate) const HD_9C: &str =
     "HDTPS.UDFROC1.PD2406090906242100DFROC1CDFROC1BUA                                ";
 
-/// A timing point.
+/// The record of a new timing point.
 pub(crate) const TI: &str =
     "TIASHFELD         ASHFIELD CENTRAL                                              ";
 
@@ -332,7 +332,7 @@ pub(crate) const LN: &str =
 pub(crate) const LO_2400: &str =
     "LOASHFELD 2400 09001  SL                                                        ";
 
-/// A schedule of C10001 from 29 February 2023, which doesn't exist.
+/// A schedule of C10001 from 29 February 2023, a day that doesn't exist.
 pub(crate) const BS_NO_DAY: &str =
     "BSNC100012302292406141111100 POO1A10                                           P";
 

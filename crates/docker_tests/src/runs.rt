@@ -132,7 +132,7 @@ macro_rules! up_to_reload {
     };
 }
 
-/// Returns the end of a run of three offices. The last event of the run is refused, because its
+/// Returns the result of a run of three offices. The last event of the run is refused, because its
 /// file has no trailer.
 fn three_left(rt: &impl Abort, alloc: Global) -> Exchange {
     let early = text_of(rt, alloc, FIFTH);
@@ -173,7 +173,7 @@ fn three_offices(rt: HostRuntime) {
     message_is(&rt, alloc, &left, 4, LATE_STATE);
 }
 
-/// Returns the end of a run of three offices, whose last event is the first office's reload.
+/// Returns the result of a run of three offices, whose last event is the first office's reload.
 fn reload_left(rt: &impl Abort, alloc: Global) -> Exchange {
     let early = text_of(rt, alloc, FIFTH);
     let full = text_of(rt, alloc, SEVENTH);
@@ -193,8 +193,8 @@ fn three_offices_up_to_a_reload(rt: HostRuntime) {
     ends(&rt, alloc, &left, 1, LATE_STATE);
 }
 
-/// Returns the end of a run of two offices. Its last event sets a horizon at a third office, which
-/// doesn't exist.
+/// Returns the result of a run of two offices. Its last event sets a horizon at a third office,
+/// which doesn't exist.
 fn horizon_left(rt: &impl Abort, alloc: Global) -> Exchange {
     let text = text_of(rt, alloc, MORNING);
     let day = day_of(rt, "2024-06-15");
@@ -225,8 +225,8 @@ fn two_offices_and_a_horizon(rt: HostRuntime) {
     prints_there(&rt, alloc, &left, 0, "2024-06-10", ASHFELD_0900);
 }
 
-/// Returns the end of a run of two offices. The first office sends its state, sets a horizon, and
-/// sends its state again. Then its first message is delivered to the second office.
+/// Returns the result of a run of two offices. The first office sends its state, sets a horizon,
+/// and sends its state again. Then its first message is delivered to the second office.
 fn delivery_left(rt: &impl Abort, alloc: Global) -> Exchange {
     let text = text_of(rt, alloc, MORNING);
     let day = day_of(rt, "2024-06-15");
@@ -261,7 +261,7 @@ macro_rules! up_to_loss {
     };
 }
 
-/// Returns the end of a run whose last event is a reload that loses the revision of the morning
+/// Returns the result of a run whose last event is a reload that loses the revision of the morning
 /// train.
 fn lost_left(rt: &impl Abort, alloc: Global) -> Exchange {
     let text = text_of(rt, alloc, MORNING);
@@ -270,8 +270,8 @@ fn lost_left(rt: &impl Abort, alloc: Global) -> Exchange {
     left_by(rt, alloc, 1, events)
 }
 
-/// Returns the end of a run in which a message with the revision of the morning train is delivered
-/// to the office after the reload.
+/// Returns the result of a run in which, after the reload, a message with the revision of the
+/// morning train is delivered to the office.
 fn found_left(rt: &impl Abort, alloc: Global) -> Exchange {
     let text = text_of(rt, alloc, MORNING);
     let revision = text_of(rt, alloc, REVISION);
@@ -291,7 +291,7 @@ fn what_a_reload_lost_comes_again(rt: HostRuntime) {
     ends(&rt, alloc, &found, 0, REVISED_STATE);
 }
 
-/// Returns the end of a run of five offices. The first office takes three files. The last office
+/// Returns the result of a run of five offices. The first office takes three files. The last office
 /// receives the same files from the other three offices.
 fn five_left(rt: &impl Abort, alloc: Global, files: [File; 3]) -> Exchange {
     let first = text_of(rt, alloc, files[0]);

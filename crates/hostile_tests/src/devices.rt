@@ -32,8 +32,8 @@ pub(crate) fn source(desk: &Desk, words: &[&str]) {
     sources(desk, asked, text.as_slice());
 }
 
-/// Prints the answer for a source that fails at the first read, at the second, and so on, up to a
-/// source that doesn't fail.
+/// Prints the answers for a source that fails at the first read, at the second read, and so on, up
+/// to a source that doesn't fail.
 fn sources(desk: &Desk, asked: Asked<'_>, text: &[u8]) {
     let good = asked.answer_to(desk, text);
     let mut spans = Spans::new();
@@ -115,8 +115,8 @@ pub(crate) fn files(desk: &Desk, words: &[&str]) {
     sinks(desk, own, Output::Files, wanted);
 }
 
-/// Lets an office write to a sink that fails at the first write, at the second, and so on, up to a
-/// sink that doesn't fail.
+/// Lets an office write to a sink that fails at the first write, at the second write, and so on, up
+/// to a sink that doesn't fail.
 fn sinks(desk: &Desk, own: &str, output: Output, wanted: &str) {
     let (before, wanted) = (desk.text(own), desk.text(wanted));
     let office = office_of(desk, before.as_slice());
@@ -124,8 +124,8 @@ fn sinks(desk: &Desk, own: &str, output: Output, wanted: &str) {
     write_all(desk, &office, output, before.as_slice(), wanted.as_slice());
 }
 
-/// Prints the answer for a sink that fails at the first write, at the second, and so on. The answer
-/// also says whether the office's state changed.
+/// Prints the answers for a sink that fails at the first write, at the second write, and so on.
+/// Each answer also says whether the office's state changed.
 fn write_all(desk: &Desk, office: &Office, output: Output, before: &[u8], wanted: &[u8]) {
     let mut spans = Spans::new();
     for call in 1..=MOST_CALLS {

@@ -19,7 +19,7 @@ fn feed_all(parser: &mut FileParser, text: &[u8]) -> Result<(), FileFault> {
     Ok(())
 }
 
-/// Whether each further call of a parser that has returned this fault returns the fault again.
+/// Whether a parser that has returned this fault returns the same fault at each further call.
 fn repeats(mut parser: FileParser, fault: FileFault) -> bool {
     let fed = parser.feed(b"");
     let again = parser.feed(b"ZZ\n");

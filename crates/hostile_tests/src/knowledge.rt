@@ -18,28 +18,28 @@ pub(crate) struct Known {
     pub(crate) ninth: bool,
 }
 
-/// No file.
+/// No file is included.
 const NONE: Known = Known {
     fifth: false,
     seventh: false,
     ninth: false,
 };
 
-/// Only the update of 5 June.
+/// Only the update of 5 June is included.
 const FIFTH: Known = Known {
     fifth: true,
     seventh: false,
     ninth: false,
 };
 
-/// Only the full extract of 7 June.
+/// Only the full extract of 7 June is included.
 const SEVENTH: Known = Known {
     fifth: false,
     seventh: true,
     ninth: false,
 };
 
-/// Only the update of 9 June.
+/// Only the update of 9 June is included.
 const NINTH: Known = Known {
     fifth: false,
     seventh: false,

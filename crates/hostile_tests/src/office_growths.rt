@@ -87,7 +87,8 @@ fn has_printed(desk: &Desk, office: &Office, words: [&str; 3], is_first: bool) -
     true
 }
 
-/// An office for the docker of a timing point and a day, which has read the state with this text.
+/// An office for the docker of a timing point and a day. The office has read the state with this
+/// text.
 fn at_place(desk: &Desk, text: &[u8], place: Tiploc, day: Day) -> Result<PlaceOffice, OfficeFault> {
     PlaceOffice::read(desk.alloc(), place, day, &mut source_of(text), MOST_BYTES)
 }
@@ -123,7 +124,7 @@ pub(crate) fn read_at_place(desk: &Desk, words: &[&str]) {
 }
 
 /// Runs a row with the arguments `STATE TIPLOC DATE DOCKER`. An office for the timing point and the
-/// day, which has read the state, prints the docker.
+/// day has read the state, and prints the docker.
 pub(crate) fn print_at_place(desk: &Desk, words: &[&str]) {
     let [name, place, day, wanted] = words else {
         return desk.trouble("STATE TIPLOC DATE DOCKER");

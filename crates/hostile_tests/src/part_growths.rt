@@ -136,8 +136,8 @@ fn commit(desk: &Desk, own: &mut State, staging: Staging, at: At) -> Result<(), 
     done
 }
 
-/// Runs a row with the arguments `STATE OTHER JOINED`. The first state receives the second, which
-/// has one file and one entry. The first state must then equal the third.
+/// Runs a row with the arguments `STATE OTHER JOINED`. The first state receives the second state,
+/// which has one file and one entry. The first state must then equal the third state.
 pub(crate) fn staging(desk: &Desk, call: &str, words: &[&str]) {
     let [own, other, wanted] = words else {
         return desk.trouble("STATE OTHER JOINED");

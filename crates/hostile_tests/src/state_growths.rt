@@ -67,7 +67,7 @@ fn feed_all(parser: &mut StateParser, text: &[u8]) -> Result<(), StateFault> {
     Ok(())
 }
 
-/// Whether each further call of a parser that has returned this fault returns the fault again.
+/// Whether a parser that has returned this fault returns the same fault at each further call.
 fn repeats(mut parser: StateParser, fault: StateFault) -> bool {
     let fed = parser.feed(b"").err();
     let again = parser.feed(b"DKS2").err();
@@ -150,8 +150,8 @@ fn receive(desk: &Desk, state: &mut State, text: &[u8]) -> Result<(), ReadFault>
     join_state(desk.alloc(), state, &mut source_of(text), MOST_BYTES)
 }
 
-/// Runs a row with the arguments `STATE OTHER JOINED`. The first state receives the second from a
-/// source, and must then equal the third.
+/// Runs a row with the arguments `STATE OTHER JOINED`. The first state receives the second state
+/// from a source, and must then equal the third state.
 pub(crate) fn join_text(desk: &Desk, words: &[&str]) {
     let [own, other, wanted] = words else {
         return desk.trouble("STATE OTHER JOINED");

@@ -11,7 +11,8 @@ use test_records::{
     BS, BS_CANCELLED, BS_OVERLAY, BS_WEEK, BS_WEEKEND, HD, LO, LO_0910, LO_0915, LT, ZZ,
 };
 
-/// Checks which of a permanent schedule, its overlay and its cancellation is chosen on each day.
+/// A UID has a permanent schedule, an overlay and a cancellation. Checks which of them is chosen on
+/// each day.
 #[test]
 fn choice(rt: HostRuntime) {
     let alloc = rt.alloc();

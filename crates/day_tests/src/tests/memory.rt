@@ -73,7 +73,8 @@ fn made(rt: &impl Abort, alloc: Global, state: &State) -> Kept {
     }
 }
 
-/// The expected text of the docker, whose list of lines grows more than once.
+/// The expected text of the docker. While the docker is made, its list of lines grows more than
+/// once.
 fn wanted(rt: &impl Abort, alloc: Global) -> Vec<u8> {
     match text(alloc, DIVISION, b"\n") {
         Ok(wanted) => wanted,

@@ -31,8 +31,8 @@ use Rattle.docker_laws.proofs.runs.RunEnd.{greater_prints, one_text}
 
 -- ---- leaving out the short-term plan commutes with applying changes
 
--- applying a change to a permanent key commutes with leaving out the short-term plan. A change to
--- any other key leaves the permanent table unchanged
+-- if a change is to a key that passes `is_permanent`, applying the change commutes with leaving out
+-- the short-term plan. A change to any other key leaves the permanent table unchanged
 after_one : (table : Table) (change : Change)
     → permanent_table (after_change table change)
     ≡ cond (is_permanent change.key) (after_change (permanent_table table) change) (permanent_table table)
@@ -69,8 +69,8 @@ after_one table change = by (is_permanent change.key) refl
     by false h = λ i key.
         (outside key (is_permanent key) refl ∙ passed h key (is_eq (key_cmp change.key key)) refl) i
 
--- leaving out the short-term plan after applying changes equals leaving out the plan first and then
--- applying only the changes to permanent keys
+-- leaving out the short-term plan after applying changes equals leaving it out first and then
+-- applying only the changes whose keys pass `is_permanent`
 pub permanent_along : (table : Table) (changes : List Change)
     → permanent_table (fold after_change table changes)
     ≡ fold after_change (permanent_table table) (filter (λ (it : Change). is_permanent it.key) changes)

@@ -64,8 +64,8 @@ fn lapsed(rt: HostRuntime) {
     );
 }
 
-/// Prints the text for C10001 on 10 June to a sink with this room, and asserts the fault and the
-/// bytes that the sink then has.
+/// Prints the text for C10001 on 10 June to a sink with this room. Asserts the fault, and the bytes
+/// that the sink then has.
 fn takes(rt: &impl Abort, alloc: Global, state: &State, room: usize, wanted: Option<TrainFault>) {
     let mut kept = Kept::new(alloc, room).expect(rt, "room");
     let all = text(alloc, &[MONDAY, BS_WEEK, LO, LT, END], b"\n").expect(rt, "a text");

@@ -1,6 +1,6 @@
 //! Lines that occur in several of the worked texts.
 
-/// The heading of 17 June, on which no schedule of C10001 runs.
+/// The heading for 17 June, on which no schedule of C10001 runs.
 pub(crate) const NONE_ON_17_JUNE: &[u8] =
     b"TRAIN  C10001  2024-06-17   NONE                                                ";
 
