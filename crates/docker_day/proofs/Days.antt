@@ -24,8 +24,8 @@ same_test a b c d forth back = by (a == b) refl (c == d) refl
 pub today_is : (day start falls : ℕ) → start ≤ day → (falls == day - start) ≡ (start + falls == day)
 today_is day start falls low = same_test falls (day - start) (start + falls) day (λ same. omega arith) (λ same. omega arith)
 
--- the lines for the start days are the concatenation of the lines for the day, for the day before
--- and for two days before
+-- the lines for the start days are the concatenation of three lists: the lines for the day, for the
+-- day before it, and for the day two days before it
 pub starts_split : {A : Type 0} (piece : ℕ → List A) (day : ℕ) → flat_map piece (start_days day)
     ≡ cond (nat_le 0 day) (piece (day - 0)) [] ++ (cond (nat_le 1 day) (piece (day - 1)) [] ++ (cond (nat_le 2 day) (piece (day - 2)) [] ++ []))
 starts_split {A} piece day = along (0 ∷ 1 ∷ 2 ∷ [])

@@ -85,7 +85,7 @@ not_not : (b : Bool) → not b ≡ false → b ≡ true
 not_not true h = refl
 not_not false h = absurd (true_false h)
 
--- if no midnight is passed before any event, no event is on a day later than the start day
+-- if no midnight is passed before any event, no docker line is on a day later than the start day
 none_late : (place : List ℕ) (day start : ℕ) (key : ScheduleKey) (detail : Detail) (events : List Occurrence) → start < day → some_late events ≡ false
     → lines_there place day start key detail events ≡ []
 none_late place day start key detail [] before none = refl

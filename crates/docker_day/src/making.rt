@@ -127,7 +127,7 @@ fn description<'a>(timetable: &Timetable<'a>, tiploc: &Tiploc) -> &'a [u8; 26]
 }
 
 /// The description in a TIPLOC's body. The body is columns 10 to 72 of the TIPLOC record, and the
-/// description columns 19 to 44.
+/// description is columns 19 to 44 of this record.
 fn description_of(bytes: &[u8; 63]) -> &[u8; 26]
     ensures { result.now ≡ columns 10 35 bytes.now }
 {

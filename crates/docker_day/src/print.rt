@@ -1,5 +1,5 @@
-//! The text of a docker: a heading, the docker's lines and a last line. Each has 56 columns and a
-//! line feed.
+//! The text of a docker: a heading, the docker's lines and a last line. Each line of the text has
+//! 56 columns and a line feed.
 ghost use Rattle.std.specs.Prelude.{◌≡◌, ℕ, List, ◌-◌, ◌^◌, ◌<◌, IsErr, OnOk, OnErr};
 ghost use Rattle.std.specs.List.{flat_map};
 ghost use Rattle.cif_device.specs.Device.{CountsFailure, Takes, TakesPart};

@@ -97,8 +97,8 @@ AreAtMost highest changes = (change : Change) → Contains changes change → Is
 abbrev pub without : Key → List Change → List Change
 without key changes = filter (λ (change : Change). not (is_eq (key_cmp change.key key))) changes
 
--- `state` is the state after these changes of a file, which may be thin. The state has the file's
--- ledger item and, at each key, the greatest of the entries that the changes leave
+-- `state` is the state after these changes of a file. The changes may be thin. The state has the
+-- file's ledger item and, at each key, the greatest of the entries that the changes leave
 pub record IsStateOfChanges (file : List (List ℕ)) (changes : List Change) (state : State) : Type 0 where
   pub horizon : state.horizon ≡ 0
   pub ledger : state.ledger ≡ ledger_item_of file ∷ []

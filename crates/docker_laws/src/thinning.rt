@@ -94,8 +94,8 @@ pub fn thin_body_is_of_its_key()
         → calls_at place lines ≡ false → calls_at place (thin_lines lines) ≡ false }
 {}
 
-/// The thin records of a schedule, and whether the schedule calls at a place, can be computed
-/// record by record.
+/// Record by record, a walk can compute the thin records of a schedule, and whether the schedule
+/// calls at a place.
 pub fn thin_lines_in_a_walk()
     ensures first { (basic : List ℕ) → thin_lines (basic ∷ []) ≡ basic ∷ [] }
     ensures end { (basic : List ℕ) (others : List (List ℕ)) (line : List ℕ)

@@ -45,23 +45,23 @@ fn a_sink_that_fails_once(rt: HostRuntime) {
     sends(&rt, alloc, &office, 312, Ok(()), text.as_slice());
 }
 
-/// Returns the result when an office takes a file. The source returns one byte per read, and only
-/// the read with this number fails.
+/// Lets an office take a file, and returns the result. The source returns one byte per read, and
+/// only the read with this number fails.
 fn taken(office: &mut Office, text: &[u8], read: u64) -> Result<(), OfficeFault>
     requires { 0 < read }
 {
     office.take(&mut Fuse::new(Bytes::new(text, 1), read), 1000)
 }
 
-/// Returns the result when an office receives a state. The source returns one byte per read, and
-/// only the read with this number fails.
+/// Lets an office receive a state, and returns the result. The source returns one byte per read,
+/// and only the read with this number fails.
 fn received(office: &mut Office, text: &[u8], read: u64) -> Result<(), OfficeFault>
     requires { 0 < read }
 {
     office.receive(&mut Fuse::new(Bytes::new(text, 1), read), 1000)
 }
 
-/// Returns the result when an office reloads a state. The source returns one byte per read, and
+/// Lets an office reload a state, and returns the result. The source returns one byte per read, and
 /// only the read with this number fails.
 fn reloaded(office: &mut Office, text: &[u8], read: u64) -> Result<(), OfficeFault>
     requires { 0 < read }
@@ -69,8 +69,8 @@ fn reloaded(office: &mut Office, text: &[u8], read: u64) -> Result<(), OfficeFau
     office.reload(&mut Fuse::new(Bytes::new(text, 1), read), 1000)
 }
 
-/// Returns the fault when an office for Ashfeld is made from a source whose read with this number
-/// fails, or `None` if the office is made.
+/// Makes an office for Ashfeld from a source whose read with this number fails. Returns the fault,
+/// or `None` if the office is made.
 fn read_at_place(rt: &impl Abort, alloc: Global, text: &[u8], read: u64) -> Option<OfficeFault>
     requires { 0 < read }
 {
@@ -79,8 +79,8 @@ fn read_at_place(rt: &impl Abort, alloc: Global, text: &[u8], read: u64) -> Opti
     PlaceOffice::read(alloc, place, day, &mut source, 1000).err()
 }
 
-/// Returns the fault when an office with only a ledger is made from a source whose read with this
-/// number fails, or `None` if the office is made.
+/// Makes an office with only a ledger from a source whose read with this number fails. Returns the
+/// fault, or `None` if the office is made.
 fn read_ledger(alloc: Global, text: &[u8], read: u64) -> Option<OfficeFault>
     requires { 0 < read }
 {

@@ -67,8 +67,8 @@ fn random_steps(rt: &impl Abort, alloc: Global, dice: &mut Dice) -> Vec<Step> {
     steps
 }
 
-/// Returns the event with this index, with the text of its file. If there is no event with this
-/// index, an office that doesn't exist sends its state in the event that is returned.
+/// Returns the event with this index, with the text of its file. If there is no such event, returns
+/// an event in which an office that doesn't exist sends its state.
 fn event_at<'a>(steps: &[Step], place: usize, texts: &'a [Vec<u8>]) -> Event<'a>
     ensures { HasGoodLimit (event_meant result) }
 {

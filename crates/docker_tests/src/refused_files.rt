@@ -35,7 +35,7 @@ const REFUSED: &[Row] = &[
     (&[], 0, 1, FileCause::NoEnd),
 ];
 
-/// Returns the result when an office takes a file of at most `limit` records.
+/// Lets an office take a file of at most `limit` records, and returns the result.
 fn taken(office: &mut Office, text: &[u8], limit: u16) -> Result<(), OfficeFault> {
     office.take(&mut Bytes::new(text, 9), u32::from(limit))
 }

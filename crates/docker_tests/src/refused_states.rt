@@ -25,8 +25,8 @@ const NEWER: &[Ask] = &[Ask::Receive, Ask::Reload, Ask::Place, Ask::Ledger];
 /// The call that reads a state in the older format.
 const OLDER: &[Ask] = &[Ask::Migrate];
 
-/// Returns the result when an office reads a text by this call, with a limit of `limit` bytes. The
-/// source returns at most 9 bytes per read.
+/// Lets an office read a text by this call, with a limit of `limit` bytes, and returns the result.
+/// The source returns at most 9 bytes per read.
 fn read_in(
     rt: &impl Abort,
     alloc: Global,

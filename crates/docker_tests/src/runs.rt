@@ -15,8 +15,8 @@ use std::alloc::Global;
 use std::process::Abort;
 use test_records::printed::{ASHFELD_0900, NONE_ON_18_JUNE};
 
-/// Returns the event in which an office takes this text. The text may have as many records as any
-/// file.
+/// Returns the event in which an office takes this text. The limit of the event is the most records
+/// that any file may have.
 fn take(office: usize, text: &[u8]) -> Event<'_>
     ensures { HasGoodLimit (event_meant result) }
 {

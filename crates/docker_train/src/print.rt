@@ -1,5 +1,5 @@
 //! The text for a UID and a day: a heading, the records of the chosen schedule and a last line.
-//! Each has 80 columns and a line feed.
+//! Each line of the text has 80 columns and a line feed.
 ghost use Rattle.std.specs.Prelude.{◌≡◌, ℕ, List, ◌-◌, ◌^◌, ◌<◌, ◌↔◌, IsOk, IsErr, Err, OnOk, OnErr, Some};
 ghost use Rattle.std.specs.List.{flat_map};
 ghost use Rattle.std.specs.Option.{option_copied};

@@ -25,7 +25,7 @@ same_recent_runs test other recent same are = record {
   two_before_is = are.two_before_is ∙ same 2;
 }
 
--- a schedule that begins after a day doesn't run on that day, nor on any day before it
+-- a schedule that begins after a day runs neither on that day nor on any day before it
 pub never_yet : (key : ScheduleKey) (lines : List (List ℕ)) (day : ℕ) → IsScheduleOf key lines → day < key.runs_from
     → (back : ℕ) → false ≡ runs_back lines day back
 never_yet key lines day of late back =

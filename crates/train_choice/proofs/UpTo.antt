@@ -9,7 +9,8 @@ use Rattle.docker_model.specs.state.State.{IsScheduleOf}
 use Rattle.train_choice.specs.UpTo.{names_place, before_named, up_to_last}
 use Rattle.train_choice.proofs.KeptLines.{lines_good, lines_few}
 
--- if the lines up to the last line at a place include a later line, they also include the line before it
+-- if the lines up to the last line at a place include a line, they also include the line before
+-- that line
 kept : (named : Bool) (line last : List ℕ) (lines : List (List ℕ)) → before_named named line (lines ++ last ∷ []) ≡ (line ∷ lines) ++ last ∷ []
 kept named line last [] = refl
 kept named line last (next ∷ lines) = refl

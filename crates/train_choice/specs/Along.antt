@@ -1,6 +1,6 @@
 -- The choice of a schedule or an association, made row by row. The best schedule or association is
 -- the one that comes first in the order of choice. This file also defines which rows are live, and
--- which have good bodies.
+-- which rows have well-formed bodies.
 use Rattle.std.specs.Prelude.{◌≡◌, ℕ, List, [], ◌∷◌, Option, Some, ⊤}
 use Rattle.docker_model.specs.file.Change.{schedule_key, schedule_body, association_key, association_body}
 use Rattle.docker_model.specs.state.Table.{Table}

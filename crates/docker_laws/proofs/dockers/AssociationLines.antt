@@ -39,8 +39,9 @@ pub record IsOfAssociation (live : Table) (place : List ℕ) (day : ℕ) (key : 
   pub of_key : made.key ≡ key
   pub of_start : made.start ≡ start
 
--- the association may have a docker line for this start day. The association is the chosen
--- association of its group, isn't a cancellation, and has the date indicator S, a space, N or P
+-- the association may have a docker line for this start day of its base train. The association is
+-- the chosen association of its group, isn't a cancellation, and has the date indicator S, a space,
+-- N or P
 pub record IsInForce (live : Table) (start : ℕ) (key : AssociationKey) (line : List ℕ) : Type 0 where
   pub chosen : IsChosenAssociation live (group_of key) start key line
   pub no_cancellation : ¬ (key.indicator ≡ 67)

@@ -42,8 +42,8 @@ pub so_far_more : (place : List ℕ) (entries : List Keyed) (entry : Keyed)
     → kept_so_far place (entries ++ entry ∷ []) ≡ next_kept place (kept_so_far place entries) entry
 so_far_more place entries entry = fold_more (next_kept place) nothing_kept entries (entry ∷ [])
 
--- a walk over some entries that is continued over the rest keeps the same entries as one walk over
--- all entries
+-- a walk that stops after some entries, and then continues over the rest, keeps the same entries as
+-- one walk over all entries
 pub kept_from_there : (place : List ℕ) (front rest : List Keyed)
     → kept_from place (kept_so_far place front) rest ≡ kept_after_run place (kept_so_far place (front ++ rest))
 kept_from_there place front rest = ap (kept_after_run place) (sym (fold_more (next_kept place) nothing_kept front rest))
@@ -63,7 +63,8 @@ module _ (place : List ℕ) (P : List Keyed → ExcerptSoFar → Type 0)
 
 -- ---- the entries in `kept` and `run` are a sublist of the entries that the walk has passed
 
--- `kept_after_run` gives a sublist of the entries in `kept`, followed by the entries in `run`
+-- the result of `kept_after_run` is a sublist of the entries in `kept` followed by the entries in
+-- `run`
 pub after_run_within : (place : List ℕ) (so_far : ExcerptSoFar) → IsSublist (kept_after_run place so_far) (so_far.kept ++ so_far.run)
 after_run_within place so_far = by (is_run_needed place so_far)
   where

@@ -340,7 +340,7 @@ module _ (place : List ℕ) (all : List Keyed) (order : AllLater Below all) wher
   ends done so_far key entry rest at stops r y other in_run behind of_r of_y =
       by (Contains-cons {A = Keyed} (schedule_key key, entry) rest y behind)
     where
-      -- the next entry has another UID than the entries in `run`
+      -- the UID of the next entry differs from the UID of the entries in `run`
       hit : has_uid other (schedule_key key) ≡ true → ⊥
       hit h =
           let same : at.uid ≡ key.uid = uid_once at.uid other r.0 (at.of_uid r in_run) of_r ∙ sym ((bytes_eq-Decides key.uid other).0 h) in

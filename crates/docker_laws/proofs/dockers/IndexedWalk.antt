@@ -33,8 +33,9 @@ module _ (live : Table) (place : List ℕ) (linked calling : List Row) (are_link
   live_row key body (inl here) = let one = (are_linked.members key body).0 here in ap live one.2 ∙ one.4.is_live ∙ ap Some (sym one.3)
   live_row key body (inr here) = let one = (are_calling.members key body).0 here in ap live one.2 ∙ one.4.is_live ∙ ap Some (sym one.3)
 
-  -- the rows of the associations at a place, followed by the rows of the schedules that call there,
-  -- are enough to find all docker lines of the place: they satisfy `IsWalk`
+  -- `linked` has the rows of the associations at a place, and `calling` has the rows of the
+  -- schedules that call there. Together they are enough to find all docker lines of the place
+  -- (`IsWalk`)
   pub indexed_walk : IsWalk live place (linked ++ calling)
   indexed_walk = record {
     ascending = ascending_of (on (λ (row : Row). row.0) key_cmp) (linked ++ calling)

@@ -30,7 +30,7 @@ first_there key lines of = subst (λ (ls : List (List ℕ)). 0 < length ls) (sym
 
 -- ---- the dates and the days run of a good basic schedule are well formed
 
--- the runs-from date of a good basic schedule is a date
+-- the runs-from field of a good basic schedule is a date
 pub schedule_first : (line : List ℕ) → HasKind basic_schedule line → HasGoodFields line → is_date (columns 10 15 line) ≡ true
 schedule_first line is good = (good_fields basic_schedule line is good).1.0
 
@@ -44,12 +44,13 @@ unfolding schedule_later
 later_good line is good stays =
     subst (λ b. AllByRecursion (IsGoodIn line) (schedule_later b)) stays (good_fields basic_schedule line is good).1.1
 
--- the runs-to date of a good basic schedule is an end date, unless the record is a deletion
+-- the runs-to field of a good basic schedule is an end date, unless the record is a deletion
 pub schedule_last : (line : List ℕ) → HasKind basic_schedule line → HasGoodFields line → is_deletion line ≡ false → is_end_date (columns 16 21 line) ≡ true
 unfolding schedule_later
 schedule_last line is good stays = (later_good line is good stays).0
 
--- the days run of a good basic schedule are seven digits 0 or 1, unless the record is a deletion
+-- the days-run field of a good basic schedule has seven digits 0 or 1, unless the record is a
+-- deletion
 pub schedule_days : (line : List ℕ) → HasKind basic_schedule line → HasGoodFields line → is_deletion line ≡ false → is_days (columns 22 28 line) ≡ true
 unfolding schedule_later
 schedule_days line is good stays = (later_good line is good stays).1.0

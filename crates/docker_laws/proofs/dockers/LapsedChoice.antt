@@ -1,6 +1,6 @@
--- If a day isn't before a horizon, lapsing a table with this horizon leaves the chosen schedules
--- and associations of the day unchanged. A schedule or association that runs on the day hasn't
--- lapsed.
+-- Suppose that a table is lapsed with a horizon, and that a day isn't before this horizon. Then the
+-- schedules and associations that are chosen for the day are unchanged. A schedule or an
+-- association that runs on the day doesn't lapse.
 use Rattle.std.proofs.Common.{ℕ, ◌≤◌, List, Bool, true, false, cond, arith}
 use Rattle.std.specs.Prelude.{◌↔◌, ◌&&◌, IsTrue, nat_le}
 use Rattle.std.proofs.lemmas.Bool.{leb-true}
@@ -48,8 +48,8 @@ module _ (horizon : ℕ) (bound : horizon ≤ no_end_number) (live : Table) wher
     running_back uid key lines is =
         record { uid_is = is.uid_is; is_live = was_live horizon live (schedule_key key) (schedule_body lines) is.is_live; runs_then = is.runs_then }
 
-    -- on a day that isn't before the horizon, the table and the lapsed table choose the same
-    -- schedule of a UID
+    -- on a day that isn't before the horizon, the same schedule of a UID is chosen from the table
+    -- and from the lapsed table
     pub chosen_iff : (uid : List ℕ) (key : ScheduleKey) (lines : List (List ℕ)) → IsChosen live uid day key lines ↔ IsChosen
         (lapse_table horizon live) uid day key lines
     chosen_iff uid key lines = (
@@ -90,8 +90,8 @@ module _ (horizon : ℕ) (bound : horizon ≤ no_end_number) (live : Table) wher
     associated_back group key line is =
         record { group_is = is.group_is; is_live = was_live horizon live (association_key key) (association_body line) is.is_live; runs_then = is.runs_then }
 
-    -- on a day that isn't before the horizon, the table and the lapsed table choose the same
-    -- association of a group
+    -- on a day that isn't before the horizon, the same association of a group is chosen from the
+    -- table and from the lapsed table
     pub association_iff : (group : Group) (key : AssociationKey) (line : List ℕ) → IsChosenAssociation live group day key line ↔ IsChosenAssociation
         (lapse_table horizon live) group day key line
     association_iff group key line = (

@@ -1,6 +1,6 @@
 -- If a valid state keeps only the entries that may count on a day, it is still valid, and its
 -- dockers of that day are unchanged. Its excerpt for a place is valid too, and has the same docker
--- of the place on that day.
+-- for that place and day as the whole state.
 use Rattle.std.proofs.Common.{◌≡◌, ℕ, List, [], ◌∷◌, ◌++◌, inl, inr, ◌⊎◌, refl, ap, sym, ◌∙◌, Bool, true, false, cond, None, Contains, append-nil}
 use Rattle.std.specs.Prelude.{◌↔◌, filter}
 use Rattle.std.proofs.lemmas.List.Elements.{filter-append}

@@ -34,7 +34,7 @@ pub record AreTied (a b : DockerLine) : Type 0 where
   pub numbers : a.number ≡ b.number
   pub associated : associated_uid a.detail ≡ associated_uid b.detail
 
--- two lines that tie are equal in each field that the order of docker lines compares
+-- two docker lines that tie are equal in each field that the order of docker lines compares
 pub tied_lines_agree : (a b : DockerLine) → docker_line_cmp a b ≡ Equal → AreTied a b
 tied_lines_agree a b e =
     let p = then_equal (nat_cmp a.time b.time) _ e in
@@ -59,7 +59,7 @@ pub record AreOneEvent (live : Table) (place : List ℕ) (day : ℕ) (a b : Dock
   pub starts : one.start ≡ two.start
   pub lines : a ≡ b
 
--- two lines of events that tie belong to one schedule and one start day
+-- two event lines that tie belong to one schedule and one start day
 pub same_event_line : (live : Table) (place : List ℕ) (day : ℕ) (a b : DockerLine) (one : IsEventLine live place day a) (two : IsEventLine live place day b)
     → docker_line_cmp a b ≡ Equal → AreOneEvent live place day a b one two
 same_event_line live place day a b one two e =
@@ -157,7 +157,7 @@ first_event_is base location suffix event is =
     let parts = both (bytes_eq (columns 3 9 (event_line base event)) location) (column 10 (event_line base event) == suffix) told.1 in
     (told.0, eqb-true _ _ parts.1, (bytes_eq-Decides (columns 3 9 (event_line base event)) location).0 parts.0)
 
--- two lines of associations that tie belong to one association and one start day
+-- two association lines that tie belong to one association and one start day
 pub same_association_line : (live : Table) (place : List ℕ) (day : ℕ) (a b : DockerLine) (one : IsAssociationLine live place day a)
     (two : IsAssociationLine live place day b)
     → docker_line_cmp a b ≡ Equal → AreOneAssociation live place day a b one two

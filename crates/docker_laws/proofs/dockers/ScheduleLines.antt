@@ -72,7 +72,7 @@ module _ (place : List ℕ) (day start : ℕ) (key : ScheduleKey) (lines : List 
       subst (Contains (event_lines place day start key lines)) (sym is.is)
       (map-Contains (line_of_event key start lines) (filter test (events_of lines)) is.event (filter_forth test (events_of lines) is.event is.among passes))
 
-  -- no two lines that `event_lines` computes tie, since their events have different numbers
+  -- of the lines that `event_lines` computes, no two tie, since their events have different numbers
   pub event_lines_apart : AreApart docker_line_cmp (event_lines place day start key lines)
   unfolding test
   event_lines_apart =

@@ -1,5 +1,5 @@
--- On each day that isn't before the horizon, a state chooses the same schedules and associations
--- before and after its entries lapse.
+-- On each day that isn't before the horizon, the same schedules and associations are chosen from a
+-- state before and after its entries lapse.
 use Rattle.std.proofs.Common.{ℕ, ◌≤◌, List, subst, sym}
 use Rattle.std.specs.Prelude.{◌↔◌}
 use Rattle.docker_model.specs.records.Date.{IsDay}
@@ -10,8 +10,8 @@ use Rattle.state_laws.proofs.states.TableLapsed.{live_lapsed}
 use Rattle.docker_laws.proofs.dockers.LapsedChoice.{chosen_iff, train_iff, association_iff}
 use Rattle.docker_laws.proofs.dockers.PrintedDocker.{day_bound}
 
--- on a day that isn't before the horizon, a state chooses the same schedule before and after its
--- entries lapse
+-- on a day that isn't before the horizon, the same schedule is chosen from a state before and after
+-- its entries lapse
 pub state_chosen_iff : (horizon : ℕ) (state : State) (uid : List ℕ) (day : ℕ) (key : ScheduleKey) (lines : List (List ℕ)) → IsDay horizon → horizon ≤ day
     → IsChosen (live_table state) uid day key lines ↔ IsChosen (live_table (lapse_state horizon state)) uid day key lines
 state_chosen_iff horizon state uid day key lines is_day from =
@@ -26,8 +26,8 @@ state_train_iff horizon state uid day key lines is_day from =
     subst (λ table. TrainRuns (live_table state) uid day key lines ↔ TrainRuns table uid day key lines) (sym (live_lapsed horizon state))
     (train_iff horizon (day_bound horizon is_day) (live_table state) day from uid key lines)
 
--- on a day that isn't before the horizon, a state chooses the same association before and after its
--- entries lapse
+-- on a day that isn't before the horizon, the same association is chosen from a state before and
+-- after its entries lapse
 pub state_association_iff : (horizon : ℕ) (state : State) (group : Group) (day : ℕ) (key : AssociationKey) (line : List ℕ) → IsDay horizon → horizon ≤ day
     → IsChosenAssociation (live_table state) group day key line ↔ IsChosenAssociation (live_table (lapse_state horizon state)) group day key line
 state_association_iff horizon state group day key line is_day from =

@@ -96,7 +96,7 @@ thin_is lines is =
 
 -- ---- a journey of only an origin and a terminus passes midnight at most twice
 
--- the times in a list of occasions with times
+-- the times in a list of pairs, each of which is an occasion and a time
 abbrev times_in : List (Occasion × ℕ) → List ℕ
 times_in timings = map (λ (time : Occasion × ℕ). time.1) timings
 
@@ -260,7 +260,7 @@ thin_of_key key lines is = record {
   key_is = ap schedule_named (first_of_thin lines) ∙ is.key_is;
 }
 
--- the records of a schedule that the docker of a place needs are a schedule with the same key
+-- the records that the docker of a place needs of a schedule are a schedule with the same key
 pub needed_of_key : (place : List ℕ) (key : ScheduleKey) (lines : List (List ℕ)) → IsScheduleOf key lines → IsScheduleOf key (lines_for place lines)
 needed_of_key place key lines is = by (calls_at place lines)
   where

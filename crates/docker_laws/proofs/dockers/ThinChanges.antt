@@ -1,5 +1,5 @@
--- The table after the changes kept for a place and a day equals the thinned table after all
--- changes.
+-- The table after the changes that are kept for a place and a day equals the thinned table after
+-- all changes.
 use Rattle.std.proofs.Common.{arith, append-nil, append_assoc, ◌≡◌, ℕ, List, [], ◌∷◌, ◌++◌, subst, inl, inr}
 use Rattle.std.proofs.Common.{◌⊎◌, refl, ap, sym, ◌∙◌, Bool, true, false, cond, Some, None, Contains, map}
 use Rattle.std.specs.Prelude.{Option, option_and_then, filter, fold, not}
@@ -425,7 +425,7 @@ still_at_most highest kept change low more other among = by (Contains-append_cas
     by (inr last) = subst (λ (c : Change). IsAtMost key_cmp c.key highest) (Contains-single change other last) more
 
 -- if one more change is kept, and its key is above the upper bound `highest`, this key is an upper
--- bound of all keys
+-- bound of the keys of all kept changes
 pub raised_at_most : (highest : Key) (kept : List Change) (change : Change) → AreAtMost highest kept → IsBelow key_cmp highest change.key
     → AreAtMost change.key (kept ++ change ∷ [])
 raised_at_most highest kept change low below =

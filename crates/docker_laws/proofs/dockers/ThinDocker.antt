@@ -46,7 +46,7 @@ turned place day one other is = record {
     swap (inr calls) = inl calls
 
 -- records with the same first record may replace a schedule, if neither these records nor the
--- schedule call at the place
+-- records of the schedule call at the place
 pub stand_in_by_first : (place : List ℕ) (day : ℕ) (whole lines : List (List ℕ)) → first_record lines ≡ first_record whole → calls_at place whole ≡ false
     → calls_at place lines ≡ false → IsStandIn place day whole lines
 stand_in_by_first place day whole lines same none no_other = record {
@@ -62,7 +62,7 @@ stand_in_by_first place day whole lines same none no_other = record {
     by (inl calls) = absurd (elsewhere whole none calls)
     by (inr calls) = absurd (elsewhere lines no_other calls)
 
--- the records of a schedule that the docker of the place needs may replace the whole schedule
+-- the records that the docker of the place needs of a schedule may replace the schedule
 pub needed_stand_in : (place : List ℕ) (day : ℕ) (lines : List (List ℕ)) → IsStandIn place day lines (lines_for place lines)
 needed_stand_in place day lines = by (calls_at place lines) refl
   where

@@ -13,7 +13,7 @@ use Rattle.cif_laws.proofs.records.Builders.{no_text, bs, lo, f2_origin, f2_term
 use Rattle.cif_laws.proofs.lists.Membership.{Contains-cons, nil-Contains}
 use Rattle.state_laws.proofs.states.PlainTable.{Keyed, Found, NotFound, find_in, live_at, live_none}
 
--- a body in the live table is the body of one of the state's entries
+-- each body in the live table is the body of one of the state's entries
 pub in_state : (state : State) (key : Key) (body : Body) → live_table state key ≡ Some body → (entry : Entry) × Contains state.entries (key, entry)
     × (body_of entry.op ≡ Some body)
 in_state state key body h = by (find_in state.entries key)

@@ -53,7 +53,7 @@ key_of uid day letter = record { uid = uid; runs_from = day; indicator = letter 
 
 -- ---- an overlay that doesn't call at COLWELL, of a train that calls there on other days
 
--- a train that ends at COLWELL
+-- the schedule of a train that ends at COLWELL
 abbrev pub stops : List (List ℕ)
 stops = week (codes "C40001") (codes "4D40") (codes "ASHFELD") (codes "COLWELL")
 
@@ -132,7 +132,7 @@ partner = week (codes "C40002") (codes "4D42") (codes "BRAYTON") (codes "ASHFELD
 abbrev partner_key : ScheduleKey
 partner_key = key_of (codes "C40002") 23537 80
 
--- an association at COLWELL
+-- the record of an association at COLWELL
 abbrev pub link : List ℕ
 link =
     aa (codes "N") (codes "C40001") (codes "C40002") (codes "240610") (codes "240616") (codes "1111111") (codes "NP") (codes "S")

@@ -277,7 +277,8 @@ dropped_overlay_is_wrong =
     differ (table_of overlaid) (table_of stops_alone) 23538 (line_of_event stops_key 23538 stops arrives) (stops_line 23538 refl refl)
     no_arrival_then no_link_then
 
--- the overlay may also be kept with another origin and terminus, if neither is COLWELL
+-- the overlay with another origin and another terminus. The overlay may also be kept in this form,
+-- because neither is COLWELL
 abbrev other_ends : List (List ℕ)
 other_ends =
     first_record way_round ∷ lo (codes "EASTRIG") no_text (codes "0000") no_text no_text no_text
