@@ -19,8 +19,8 @@ same_test a b c d forth back = by (a == b) refl (c == d) refl
         let holds : (a == b) ≡ true = ap (λ (n : ℕ). a == n) (sym (back (eqb-true c d g))) ∙ number_itself a in
         sym h ∙ holds
 
--- an event is on a day if and only if its number of midnights equals the number of days from the
--- start day to that day
+-- an event is on a day if and only if the number of midnights before the event equals the number of
+-- days from the start day to that day
 pub today_is : (day start falls : ℕ) → start ≤ day → (falls == day - start) ≡ (start + falls == day)
 today_is day start falls low = same_test falls (day - start) (start + falls) day (λ same. omega arith) (λ same. omega arith)
 

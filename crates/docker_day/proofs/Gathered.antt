@@ -22,7 +22,8 @@ use Rattle.docker_day.specs.Lines.{Adds}
 use Rattle.docker_day.specs.DockerValue.{Docker}
 use Rattle.docker_day.specs.Dockers.{HasGathered, IsDockerOf}
 
--- sorting the docker lines of any walk that includes all associations at a place and all schedules that call there yields the docker list
+-- if a walk includes all associations at a place and all schedules that call there, sorting the
+-- docker lines of the walk yields the docker list
 docker_of_walk : (live : Table) (place : List ℕ) (day : ℕ) (rows walk : List Row) (none made lines : List DockerLine) → HasGoodBodies live
     → AreRowsOf live rows → IsWalk live place walk
     → none ≡ [] → Adds live (λ trains links. gathered trains links place day walk) none made → IsPermutation made lines → IsSorted docker_line_cmp lines

@@ -15,6 +15,6 @@ pub record Docker : Type 0 where
 unfoldable pub head : List ℕ → ℕ → List ℕ → List ℕ
 head place day description = codes "DOCKER " ++ place ++ spaces 1 ++ day_text day ++ spaces 1 ++ description ++ spaces 4
 
--- the text of a docker: heading, lines and last line, each with a line feed
+-- the text of a docker: the heading, the docker's lines and the last line, each with a line feed
 abbrev pub text_of : Docker → List ℕ
 text_of docker = ended (head docker.place docker.day docker.description) ++ flat_map (λ line. ended (line_text line)) docker.lines ++ ended last_line

@@ -6,8 +6,8 @@ use Rattle.docker_model.specs.docker.DockerLine.{platform_by_kind, track_by_kind
 use Rattle.docker_model.specs.records.PrintedTime.{spaces}
 use Rattle.docker_day.specs.declared.location.Location.{Location}
 
--- what a docker prints from a location record: platform, line, path, and the public times of
--- arrival and departure
+-- what a docker prints from a location record: the platform, the line, the path, and the public
+-- times of the arrival and the departure
 pub record Shown : Type 0 where
   pub platform : List ℕ
   pub track : List ℕ

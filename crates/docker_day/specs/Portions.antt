@@ -11,9 +11,9 @@ use Rattle.train_choice.specs.Known.{PlaceDay}
 use Rattle.docker_day.specs.RowViews.{views_in, views_of}
 use Rattle.docker_day.specs.declared.row_view.RowView.{RowView}
 
--- says that two properties of the rows `before` hold for the rows `after` too. If all rows of
--- `before` have good bodies, so have all rows of `after`. If all rows of `before` are live, so are
--- all rows of `after`
+-- says that two properties of the rows `before` hold for the rows `after` too. If the bodies of all
+-- rows of `before` are well formed, so are the bodies of all rows of `after`. If all rows of
+-- `before` are live, so are all rows of `after`
 pub record AreLeft (before after : List Row) : Type 0 where
   pub good : AreGoodRows before → AreGoodRows after
   pub live : (live : Table) → AreLive live before → AreLive live after

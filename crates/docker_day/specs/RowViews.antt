@@ -15,7 +15,7 @@ use Rattle.docker_day.specs.Lines.{runs_recently, is_under_way, link_here, sched
 use Rattle.docker_day.specs.declared.row_view.RowView.{RowView}
 use Rattle.docker_day.specs.declared.row_view.RowView.TheVariants.{Train, Link, Other}
 
--- the typed view of a row: schedule, association or neither
+-- the typed view of a row: a schedule, an association or neither
 abbrev pub view_of : Key → Body → RowView
 view_of (schedule_key key) (schedule_body lines) = Train (record { key = key; lines = lines })
 view_of (association_key key) (association_body line) = Link (record { key = key; line = line })

@@ -2,7 +2,7 @@
 ghost use Rattle.std.specs.Prelude.{◌≡◌, ◌<◌};
 ghost use Rattle.docker_model.specs.records.PrintedTime.{minute_text};
 
-/// A minute of the day as hours and minutes, HHMM.
+/// A minute of the day as four digits, in the form HHMM.
 pub fn clock_text(minute: u16) -> [u8; 4]
     requires { minute < 1440 }
     ensures { result ≡ minute_text minute }

@@ -20,8 +20,8 @@ use std::marker::Model;
 use train_choice::{LinkView, Occasion, Occurrence, ScheduleView};
 
 /// A line of a docker: an event of a train, or an association of the train with another train.
-/// Lines are ordered by time, occasion, UID, start day, event number and UID of the associated
-/// train.
+/// Lines are ordered by the time, the occasion, the UID, the start day, the number of the event,
+/// and the UID of the associated train.
 #[derive(Debug, Drop)]
 pub struct DockerLine<'a> {
     time: Time,
@@ -216,8 +216,8 @@ impl<'a> DockerLine<'a> {
         self.number
     }
 
-    /// The origin and destination of the train. The line of an association has the associated train
-    /// instead.
+    /// The origin and the destination of the train. The line of an association has the associated
+    /// train instead.
     pub fn detail(&self) -> Detail
         ensures { detail_meant result ≡ self.now.detail }
     {

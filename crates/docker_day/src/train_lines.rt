@@ -85,7 +85,7 @@ fn add_events<'a>(
     }
 }
 
-/// Like `add_events`, for a train whose origin and destination are in `detail`.
+/// Like `add_events`, for a train whose origin and destination are given as `detail`.
 fn add_there<'a>(
     lines: &mut Vec<DockerLine<'a>>,
     train: &ScheduleView<'a>,
@@ -116,7 +116,7 @@ fn is_there(event: &Occurrence<'_>, place: &Tiploc, day: Day, start: Day) -> boo
     is_here(event, place) & is_today(event, day, start)
 }
 
-/// The origin and destination of a train. Returns `None` if its schedule has no journey.
+/// The origin and the destination of a train. Returns `None` if its schedule has no journey.
 fn detail_of(train: &ScheduleView<'_>) -> Option<Detail>
     ensures ends { IfSome result (λ detail. detail_meant detail
         ≡ ends (tiploc_of_first (codes "LO") train.now.lines)

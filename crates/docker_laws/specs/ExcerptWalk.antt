@@ -10,8 +10,8 @@ use Rattle.docker_model.specs.state.Op.{Op, put_with, Entry}
 use Rattle.docker_model.specs.state.State.{State}
 
 -- what a walk has computed after any number of entries. The field `kept` has the entries that are
--- in the excerpt for certain. The field `run` has the entries for the schedules of the current UID,
--- which may still be dropped
+-- in the excerpt for certain. The field `run` has the entries for the schedules of the current UID.
+-- These entries may still be dropped
 pub record ExcerptSoFar : Type 0 where
   pub kept : List (Key × Entry)
   pub run : List (Key × Entry)

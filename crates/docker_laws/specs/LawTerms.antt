@@ -9,11 +9,11 @@ use Rattle.docker_model.specs.run.Knowledge.{Holds}
 abbrev pub IsNear : ℕ → ℕ → Type 0
 IsNear start day = (start ≤ day) × (day ≤ start + 2)
 
--- each index row in the list is for this place
+-- each pair in the list is for this place: its first component is the place
 abbrev pub AreAt : {K : Type 0} → List ℕ → List (List ℕ × K) → Type 0
 AreAt {K} place rows = (row : List ℕ × K) → Contains rows row → row.0 ≡ place
 
--- no index row in the list is for this place
+-- no pair in the list is for this place: no first component is the place
 abbrev pub AreElsewhere : {K : Type 0} → List ℕ → List (List ℕ × K) → Type 0
 AreElsewhere {K} place rows = (row : List ℕ × K) → Contains rows row → ¬ (row.0 ≡ place)
 

@@ -41,8 +41,8 @@ abbrev pub body_for : List ℕ → Body → Body
 body_for place (schedule_body lines) = schedule_body (lines_for place lines)
 body_for place body = body
 
--- whether the docker of the place may depend on the body at this key, judged only by the key. The
--- key must be the place's TIPLOC, an association at the place, or any schedule
+-- whether the docker of the place may depend on the body at this key, judged only by the key. It
+-- may depend on the place's TIPLOC, on the associations at the place, and on all schedules
 abbrev pub may_matter : List ℕ → Key → Bool
 may_matter place (tiploc_key code) = bytes_eq code place
 may_matter place (association_key key) = bytes_eq key.location place

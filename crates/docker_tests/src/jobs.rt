@@ -6,7 +6,8 @@ use docker_cmd::{JobFault, Subcommand, job};
 use std::alloc::Global;
 use std::process::Abort;
 
-/// A row: words, and the subcommand, timing point and day number of the job that they name.
+/// A row: the words, and the subcommand, the timing point and the day number of the job that they
+/// name.
 type Row = (
     &'static [&'static str],
     Subcommand,

@@ -134,7 +134,7 @@ pub(crate) struct Known {
 }
 
 impl Known {
-    /// Returns the knowledge of no files, with no horizon.
+    /// Returns knowledge that has no files and no horizon.
     fn nothing() -> Known {
         Known {
             files: [false; FILES.len()],

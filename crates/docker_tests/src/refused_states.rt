@@ -224,8 +224,8 @@ fn refuses_older(rt: &impl Abort, alloc: Global, row: &Other) {
     refuses_by(rt, alloc, OLDER, text.as_slice(), limit, found);
 }
 
-/// Asserts that an office refuses the text of this row in the new format, whose mark and horizon
-/// take two more bytes.
+/// Asserts that an office refuses the text of this row in the new format. In this format, the mark
+/// and the horizon together have two more bytes than the mark of the older format.
 fn refuses_newer(rt: &impl Abort, alloc: Global, row: &Other) {
     let (parts, limit, at, cause) = *row;
     let text = marked(rt, alloc, MARK, parts);

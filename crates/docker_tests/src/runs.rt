@@ -173,7 +173,8 @@ fn three_offices(rt: HostRuntime) {
     message_is(&rt, alloc, &left, 4, LATE_STATE);
 }
 
-/// Returns the result of a run of three offices, whose last event is the first office's reload.
+/// Returns the result of a run of three offices. The last event of the run is the first office's
+/// reload.
 fn reload_left(rt: &impl Abort, alloc: Global) -> Exchange {
     let early = text_of(rt, alloc, FIFTH);
     let full = text_of(rt, alloc, SEVENTH);

@@ -180,7 +180,7 @@ found_to_run state start day key lines open_day near runs =
     }
 
 -- for each event on a docker, the schedule of the event's train is the schedule found for the
--- train's UID on its start day
+-- train's UID and start day
 pub event_train : (state : State) (place : List ℕ) (day : ℕ) (line : DockerLine) → IsValid state → ¬ IsDayRefused state.horizon day
     → (made : IsEventLine (live_table state) place day line)
     → IsFoundToRun state line.uid line.start (record { key = made.key; lines = made.schedule })
@@ -190,7 +190,7 @@ event_train state place day line valid open_day made =
     (found_to_run state made.start day made.key made.schedule open_day near.1 made.train_runs)
 
 -- for each association on a docker, the schedule of the base train is the schedule found for the
--- base train's UID on its start day
+-- base train's UID and start day
 pub base_train : (state : State) (place : List ℕ) (day : ℕ) (line : DockerLine) → IsValid state → ¬ IsDayRefused state.horizon day
     → (made : IsAssociationLine (live_table state) place day line)
     → IsFoundToRun state line.uid line.start (record { key = made.base_key; lines = made.base })

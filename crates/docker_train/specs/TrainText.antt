@@ -33,8 +33,8 @@ IsFoundFor state uid day (Some found) =
 abbrev pub number_text : ℕ → List ℕ
 number_text number = spaces (10 - length (decimal number)) ++ decimal number
 
--- the 34 columns of a stamp: date and time of the extract, its current file reference, and the
--- record number
+-- the 34 columns of a stamp: the date and the time of the extract, its current file reference, and
+-- the record number
 unfoldable pub stamp_text : Stamp → List ℕ
 stamp_text stamp =
     day_text stamp.file.moment.day ++ spaces 1 ++ minute_text stamp.file.moment.minute ++ spaces 1 ++ stamp.file.reference ++ spaces 1
@@ -68,8 +68,8 @@ lines_of (Some found) = found.schedule.lines
 abbrev pub last_line : List ℕ
 last_line = codes "END" ++ spaces 77
 
--- the text for a UID, a day and the schedule found: heading, lines and last line, each with a line
--- feed
+-- the text for a UID, a day and the schedule found: the heading, the lines of the schedule and the
+-- last line, each with a line feed
 abbrev pub train_text : List ℕ → ℕ → Option Stamped → List ℕ
 train_text uid day found = ended (heading uid day found) ++ flat_map ended (lines_of found) ++ ended last_line
 

@@ -28,8 +28,8 @@ pub fn train_came_from_a_file()
         → CameFrom files found }
 {}
 
-/// If no two files have the same moment, their summary and their plain table have the same chosen
-/// schedule for each UID, on each day from the horizon on.
+/// If no two files of a set have the same moment, the summary and the plain table of the files have
+/// the same chosen schedule for each UID, on each day from the horizon on.
 pub fn found_train_is_plain()
     ensures { (files : List (List (List ℕ))) (horizon : ℕ) (state : State) (table : Table)
         (uid : List ℕ) (day : ℕ) (found : Option Stamped) → IsSummary files horizon state
@@ -37,8 +37,8 @@ pub fn found_train_is_plain()
         → IsChosenOn table uid day (option_map (λ (it : Stamped). it.schedule) found) }
 {}
 
-/// On a docker that isn't refused, each event's train runs by the schedule found for its UID on its
-/// start day. The same holds for the base train of each association on the docker.
+/// On a docker that isn't refused, each event's train runs by the schedule found for the train's
+/// UID and start day. The same holds for the base train of each association on the docker.
 pub fn trains_of_a_docker()
     ensures events { (state : State) (place : List ℕ) (day : ℕ) (line : DockerLine)
         → IsValid state → ¬ IsDayRefused state.horizon day

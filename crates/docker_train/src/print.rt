@@ -69,7 +69,7 @@ pub fn write_train<K: Sink>(train: &ChosenTrain<'_>, sink: &mut K) -> Result<(),
     write_all(sink, &last_line())
 }
 
-/// Writes the lines of a schedule.
+/// Writes the lines of a schedule, each with a line feed.
 fn write_lines<K: Sink>(sink: &mut K, lines: &[Line]) -> Result<(), Failed>
     requires { K.failures sink.old < 2 ^ 64 - 1 }
     ensures whole { OnOk result
@@ -138,8 +138,8 @@ fn running(stp: Stp) -> &'static [u8; 9]
     }
 }
 
-/// The 34 columns of a stamp: date and time of the extract, its current file reference, and the
-/// record number.
+/// The 34 columns of a stamp: the date and the time of the extract, its current file reference, and
+/// the record number.
 #[tactic(auto, unfolding(crate::specs::TrainText::stamp_text))]
 fn text_of_stamp(stamp: &Stamp) -> [u8; 34]
     requires { stamp.now.file.minute < 1440 }

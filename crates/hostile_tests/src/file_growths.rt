@@ -6,7 +6,7 @@ use crate::texts::{MOST_RECORDS, STEP, compare_state, file_of};
 use cif_file::{CifFile, FileFault, FileParser, read_pieces};
 use docker_state::State;
 
-/// A parser for a file with the greatest limit.
+/// A parser for a file, with the greatest limit on the number of records.
 fn new_parser(desk: &Desk) -> FileParser {
     FileParser::new(desk.alloc(), MOST_RECORDS)
 }
@@ -146,8 +146,8 @@ fn are_same_headers(one: &CifFile, other: &CifFile) -> bool {
         && first.extract() == second.extract()
 }
 
-/// Runs a row with the arguments `FILE STATE`. The call makes the state of the file, which must
-/// equal `STATE`.
+/// Runs a row with the arguments `FILE STATE`. The call makes the state of the file. This state
+/// must equal `STATE`.
 pub(crate) fn of_file(desk: &Desk, words: &[&str]) {
     let [name, wanted] = words else {
         return desk.trouble("FILE STATE");

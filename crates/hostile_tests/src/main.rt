@@ -5,9 +5,9 @@
 //! expected text, the program also prints a statement about the difference, so that its output
 //! differs from the file `stdout`.
 //!
-//! A row that begins with `growth` is a call that allocates memory. The call is made once, and once
-//! more if memory runs out. `tests/growth/calls` runs the program once for each allocation of the
-//! first call, and refuses that allocation.
+//! A row that begins with `growth` names a call that allocates memory. The call is made once, and
+//! once more if memory runs out. `tests/growth/calls` runs the program once for each allocation of
+//! the first call, and refuses that allocation.
 #![tactic(auto)]
 
 mod answers;

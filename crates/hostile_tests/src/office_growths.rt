@@ -62,9 +62,9 @@ pub(crate) fn print(desk: &Desk, words: &[&str]) {
     }
 }
 
-/// Lets an office print a docker, and prints whether it is the expected docker. If this is the
-/// row's call, the call's ending is printed first. Returns false if the call is refused and nothing
-/// is written.
+/// Lets an office print a docker, and prints whether it is the expected docker. If `is_first` is
+/// true, this is the row's call, and the call's ending is printed first. Returns false if the call
+/// is refused and nothing is written.
 fn has_printed(desk: &Desk, office: &Office, words: [&str; 3], is_first: bool) -> bool {
     let [place, day, wanted] = words;
     let Some((place, day)) = occasion_of(desk, place, day) else {

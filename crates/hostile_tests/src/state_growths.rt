@@ -54,7 +54,7 @@ fn join_again(desk: &Desk, one: State, other: State, wanted: &str) {
     }
 }
 
-/// A parser for a text with the greatest limit.
+/// A parser for the text of a state, with the greatest limit on the number of bytes.
 fn new_parser(desk: &Desk) -> StateParser {
     StateParser::new(desk.alloc(), MOST_BYTES)
 }
@@ -220,8 +220,8 @@ pub(crate) fn make_docker(desk: &Desk, words: &[&str]) {
     }
 }
 
-/// Makes a docker, and prints whether it is the expected docker. If this is the row's call, the
-/// call's ending is printed first. Returns false if memory runs out.
+/// Makes a docker, and prints whether it is the expected docker. If `is_first` is true, this is the
+/// row's call, and the call's ending is printed first. Returns false if memory runs out.
 fn has_made(desk: &Desk, state: &State, words: [&str; 3], is_first: bool) -> bool {
     let [place, day, wanted] = words;
     let Some((place, day)) = occasion_of(desk, place, day) else {

@@ -29,7 +29,7 @@ abbrev pub IsKnownTrain : Table → ℕ → Option UidTrain → Type 0
 IsKnownTrain live day None = ⊤
 IsKnownTrain live day (Some known) = (rows : List Row) → AreRowsOf live rows → known.train ≡ train_in rows known.uid day
 
--- the order of UIDs and days: by UID, then by day
+-- the order of UIDs and days: by the UID, and then by the day
 abbrev pub uid_day_cmp : List ℕ × ℕ → List ℕ × ℕ → Ordering
 uid_day_cmp a b = ordering_then (bytes_cmp a.0 b.0) (nat_cmp a.1 b.1)
 
@@ -39,7 +39,7 @@ AreIdentities live known =
     (uid : List ℕ) (day : ℕ) (identity : List ℕ) → get uid_day_cmp known (uid, day) ≡ Some identity
     → (rows : List Row) → AreRowsOf live rows → identity ≡ identity_of (train_in rows uid day)
 
--- the order of groups: by base train, associated train, location and suffix
+-- the order of groups: by the base train, the associated train, the location and the suffix
 abbrev pub group_cmp : Group → Group → Ordering
 group_cmp a b =
     ordering_then (bytes_cmp a.base b.base) (ordering_then (bytes_cmp a.associated b.associated)

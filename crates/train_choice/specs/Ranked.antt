@@ -1,5 +1,5 @@
--- The order in which schedules and associations are chosen: by STP indicator in alphabetical order,
--- and then by first date, the latest first.
+-- The order in which schedules and associations are chosen: by the STP indicator in alphabetical
+-- order, and then by the first date, the latest first.
 use Rattle.std.specs.Prelude.{ℕ, Bool, true, ◌==◌, Option, Some, None}
 use Rattle.std.specs.declared.cmp.Ordering.{Ordering}
 use Rattle.std.specs.Ordering.{is_lt}

@@ -1,4 +1,4 @@
-//! The trains that start on a day, with the last train that was looked up.
+//! The trains that start on a day. The train that was looked up last is remembered.
 ghost use Rattle.std.specs.Prelude.{◌≡◌, true, List, IfSome};
 ghost use Rattle.docker_model.specs.file.File.{first_record};
 ghost use Rattle.state_laws.specs.Row.{Row, AreRowsOf};

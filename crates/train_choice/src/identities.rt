@@ -13,8 +13,8 @@ use std::alloc::Global;
 use std::collections::BTreeMap;
 use std::marker::Model;
 
-/// Train identities by UID and start day. Each identity is remembered after it has been looked up,
-/// so the schedules of a UID are searched only once for each day.
+/// Train identities, each stored under a UID and a start day. Each identity is remembered after it
+/// has been looked up, so the schedules of a UID are searched only once for each day.
 #[derive(Debug, Drop)]
 pub struct Identities<'a> {
     timetable: Timetable<'a>,

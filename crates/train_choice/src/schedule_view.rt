@@ -62,7 +62,7 @@ impl<'a> ScheduleView<'a> {
         ScheduleView::of(self.key, self.lines)
     }
 
-    /// The key: UID, runs-from date and STP indicator.
+    /// The key: the UID, the runs-from date and the STP indicator.
     pub fn key(&self) -> &'a ScheduleKey
         ensures { schedule_key_meant result.now ≡ self.now.key }
     {

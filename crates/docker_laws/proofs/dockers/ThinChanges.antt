@@ -293,16 +293,16 @@ module _ (place : List ℕ) (day : ℕ) where
     abbrev before : List Change
     before = map (thin_change place day) changes
 
-    -- a sublist of the thin changes is also a sublist of the thin changes with one more change
-    -- appended
+    -- a sublist of the thin changes stays a sublist if one more thin change is appended to the thin
+    -- changes
     still_some : (others : List Change) → IsSublist others kept → IsSublist others (map (thin_change place day) (changes ++ change ∷ []))
     still_some others inside =
         subst (IsSublist others) (sym (map-append (thin_change place day) changes (change ∷ [])))
         (sublist_onward others kept (before ++ thin_change place day change ∷ []) inside
         (sublist_onward kept before (before ++ thin_change place day change ∷ []) is.some (sublist_front before (thin_change place day change ∷ []))))
 
-    -- a sublist of the thin changes, with a thin change appended, is a sublist of the thin changes
-    -- with that change appended
+    -- if the same thin change is appended to a sublist of the thin changes and to the thin changes,
+    -- the first list is still a sublist of the second list
     some_more : (others : List Change) → IsSublist others kept
         → IsSublist (others ++ thin_change place day change ∷ []) (map (thin_change place day) (changes ++ change ∷ []))
     some_more others inside =

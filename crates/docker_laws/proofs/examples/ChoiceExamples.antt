@@ -38,8 +38,8 @@ placed key lines = (schedule_key key, put_lines lines)
 abbrev key_of : ℕ → ℕ → ScheduleKey
 key_of day letter = record { uid = codes "C10001"; runs_from = day; indicator = letter }
 
--- the three schedules of one UID: a permanent schedule, an overlay on two of its days, and a
--- cancellation on a third day
+-- `permanent`, `overlay` and `cancellation` are three schedules of one UID. The overlay replaces
+-- the permanent schedule on two days, and the cancellation applies on a third day
 abbrev permanent : List (List ℕ)
 permanent = bs (codes "N") (codes "C10001") (codes "240610") (codes "240616") (codes "1111111") (codes "1A10") (codes "P") ∷ f2_origin ∷ f2_terminus ∷ []
 

@@ -153,7 +153,7 @@ stops_line start runs today = record {
 -- ---- wrong: the put of a schedule that can't count is dropped, and an earlier put of the same key
 -- is kept
 
--- a revision of the schedule, which now ends on 10 June
+-- a revision that makes the schedule end on 10 June
 abbrev ended : List (List ℕ)
 ended =
     bs (codes "N") (codes "C40001") (codes "240610") (codes "240610") (codes "1000000") (codes "4D40") (codes "P")
@@ -207,7 +207,8 @@ no_arrival line is =
 no_link : (line : DockerLine) → ¬ IsAssociationLine (table_of revised) place 23543 line
 no_link line is = none_some (association_body is.association) is.chosen.associated.is_live
 
--- if the revision is dropped but not the earlier put, a train arrives on 16 June
+-- if the revision is dropped but not the earlier put, the docker is wrong: a train arrives on 16
+-- June
 dropped_revision_is_wrong : ¬ ((lines : List DockerLine) → IsDockerList (table_of revised) place 23543 lines
     ↔ IsDockerList (table_of stops_alone) place 23543 lines)
 unfolding days_from_civil day_count days_of_years days_of_months
@@ -269,7 +270,7 @@ no_arrival_then line is = by (is_eq (schedule_key_cmp short_key is.key)) (is_eq 
 no_link_then : (line : DockerLine) → ¬ IsAssociationLine (table_of overlaid) place 23538 line
 no_link_then line is = none_some (association_body is.association) is.chosen.associated.is_live
 
--- if the overlay is dropped, a train arrives on 11 June
+-- if the overlay is dropped, the docker is wrong: a train arrives on 11 June
 dropped_overlay_is_wrong : ¬ ((lines : List DockerLine) → IsDockerList (table_of overlaid) place 23538 lines
     ↔ IsDockerList (table_of stops_alone) place 23538 lines)
 unfolding days_from_civil day_count days_of_years days_of_months
