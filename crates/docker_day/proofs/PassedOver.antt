@@ -45,7 +45,7 @@ no_line = []
 true_false : true ≡ false → ⊥
 true_false bad = cc
 
--- if a live schedule doesn't run on a day, no train runs by this schedule on that day
+-- if a live schedule doesn't run on a day, no train runs according to this schedule on that day
 pub runs_not : (live : Table) (rows : List Row) (train : choices.Train) (start : ℕ) → AreRowsOf live rows → IsLiveTrain live train
     → schedule_runs (first_record train.lines) start ≡ false → runs_by (train_in rows train.key.uid start) train.key ≡ false
 runs_not live rows train start are is_live idle = by (train_in rows train.key.uid start) (trains_tell live rows are train.key.uid start)

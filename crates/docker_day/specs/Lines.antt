@@ -102,7 +102,7 @@ listed None = []
 listed (Some line) = line ∷ []
 
 -- the docker lines of a schedule for a start day. There are none unless the train of the schedule's
--- UID runs by this schedule on the start day
+-- UID runs according to this schedule on the start day
 abbrev pub schedule_piece : (List ℕ → ℕ → Option Train) → List ℕ → ℕ → ScheduleKey → List (List ℕ) → ℕ → List DockerLine
 schedule_piece trains place day key lines start = if runs_by (trains key.uid start) key then event_lines place day start key lines else []
 

@@ -18,9 +18,9 @@ use crate::visit::Visit;
 use cif_line::{Day, Memory, Tiploc};
 use train_choice::{Occurrence, ScheduleView, ends_of, passes_midnight};
 
-/// Adds the docker lines of a schedule for a visit, if a train runs by the schedule on the start
-/// day. `row` is the index of the schedule's row. Returns `Memory` if there is no room for the
-/// lines.
+/// Adds the docker lines of a schedule for a visit, if a train runs according to the schedule on
+/// the start day. `row` is the index of the schedule's row. Returns `Memory` if there is no room
+/// for the lines.
 pub(crate) fn add_schedule<'a>(
     lines: &mut Vec<DockerLine<'a>>,
     visit: &mut Visit<'a>,

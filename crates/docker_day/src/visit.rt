@@ -102,9 +102,9 @@ impl<'a> Visit<'a> {
         self.start
     }
 
-    /// Whether a train runs by this schedule: whether the schedule is the one chosen for its UID on
-    /// the start day, and isn't a cancellation. The schedule has to run on that day. `row` is the
-    /// index of its row.
+    /// Whether a train runs according to this schedule. It does if the schedule is the one chosen
+    /// for its UID on the start day, and isn't a cancellation. The schedule has to run on that day.
+    /// `row` is the index of its row.
     pub(crate) fn runs_by(&mut self, row: usize, train: &ScheduleView<'a>) -> bool
         requires live { IsLiveTrain (live_in self.old.timetable) train.now }
         requires runs { schedule_runs (first_record train.now.lines) self.old.start ≡ true }

@@ -206,7 +206,7 @@ pub(crate) const DELETED_AT_NO_TIME: File = &[HD, BS_DELETED, LO_2400, LT, ZZ];
 /// An update of the year 2000, without changes.
 pub(crate) const EARLY: File = &[HD_EARLY, ZZ];
 
-/// A file with a train that runs on Wednesdays, by a schedule without a last day.
+/// A file with a train that runs on Wednesdays, according to a schedule without a last day.
 pub(crate) const NO_END: File = &[HD, BS_NO_END, LO, LT, ZZ];
 
 /// A file with an amendment of a timing point that leaves its code unchanged.

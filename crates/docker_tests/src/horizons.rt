@@ -58,8 +58,8 @@ DOCKER ASHFELD 2024-06-24
 END                                                     
 ";
 
-/// Sets the row's horizon. Asserts the size of the state's text, that the row's first day is
-/// refused, and the docker of the second day.
+/// Sets the row's horizon. Asserts the size of the state's text, and the docker of the row's second
+/// day. Also asserts that the row's first day is refused.
 fn is_after(rt: &impl Abort, alloc: Global, office: &mut Office, row: &Row) {
     let (horizon, bytes, refused, printed, docker) = *row;
     set(rt, office, horizon);

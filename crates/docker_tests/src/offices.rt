@@ -63,7 +63,8 @@ pub(crate) fn sent(rt: &impl Abort, alloc: Global, office: &Office) -> Kept {
     kept
 }
 
-/// Returns an office for one timing point and one day that has read the state of another office.
+/// Returns an office for one timing point and one day. The office has read the state of another
+/// office.
 pub(crate) fn at_place(
     rt: &impl Abort,
     alloc: Global,

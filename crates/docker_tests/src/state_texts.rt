@@ -23,7 +23,8 @@ pub(crate) const ONE: &str = "\0\0\0\0\0\0\0\x01";
 
 pub(crate) const TWO: &str = "\0\0\0\0\0\0\0\x02";
 
-/// Two ledger items: of the update of 9 June, and of a full extract with the same date and time.
+/// Two ledger items: one of the update of 9 June, and one of a full extract with the same date and
+/// time.
 pub(crate) const ITEM: &str = "\x5b\u{f0}\x04\u{ec}DFROC1AUDFROC1Z";
 
 const ITEM_FULL: &str = "\x5b\u{f0}\x04\u{ec}DFROC1AFDFROC1Z";

@@ -1,5 +1,5 @@
 -- The schedule found for a UID and a day is unique. The schedule came from one of the state's
--- files. Each train on a docker's lines runs by the schedule found for it.
+-- files. Each train on a docker's lines runs according to the schedule found for it.
 use Rattle.std.proofs.Common.{◌≡◌, ℕ, ◌+◌, ◌<◌, ◌≤◌, List, Bool, true, false, cond, refl, ap, sym, ◌∙◌, subst, inl, inr, ◌⊎◌, Some, None, Contains, arith}
 use Rattle.std.specs.Prelude.{Option, option_map, IsTrue, ◌&&◌, nat_le, nat_lt}
 use Rattle.std.proofs.lemmas.Bool.{cases_lt, leb-true}

@@ -37,8 +37,8 @@ pub fn found_train_is_plain()
         → IsChosenOn table uid day (option_map (λ (it : Stamped). it.schedule) found) }
 {}
 
-/// On a docker that isn't refused, each event's train runs by the schedule found for the train's
-/// UID and start day. The same holds for the base train of each association on the docker.
+/// On a docker that isn't refused, each event's train runs according to the schedule found for the
+/// train's UID and start day. The same holds for the base train of each association on the docker.
 pub fn trains_of_a_docker()
     ensures events { (state : State) (place : List ℕ) (day : ℕ) (line : DockerLine)
         → IsValid state → ¬ IsDayRefused state.horizon day

@@ -42,7 +42,7 @@ fn copied_body(alloc: Global, body: &Body) -> Result<Body, AllocError>
     }
 }
 
-/// A schedule with the same lines.
+/// The body of a schedule with a copy of these lines.
 fn copied_lines(alloc: Global, lines: &Lines) -> Result<Body, AllocError>
     ensures { IfOk result (λ copy. body_meant copy ≡ body_meant (Body.Schedule lines.now)) }
 {

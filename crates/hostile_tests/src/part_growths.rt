@@ -124,7 +124,7 @@ fn receive(desk: &Desk, own: &mut State, other: &State, at: At) -> Result<(), Me
     }
 }
 
-/// Commits the staged entries.
+/// Joins the staged ledger items and entries to the state.
 fn commit(desk: &Desk, own: &mut State, staging: Staging, at: At) -> Result<(), Memory>
     requires { IsFloor (own.old.ledger ++ staging.items) staging.floor }
 {

@@ -58,12 +58,12 @@ impl Lines<'_> {
     }
 }
 
-/// Lines that end in line feeds.
+/// These lines, each with a line feed at its end.
 fn fed<'a>(lines: &'a [&'a [u8]]) -> Lines<'a> {
     before(lines, b"")
 }
 
-/// Lines that end in line feeds, before a last line without a line end.
+/// These lines, each with a line feed at its end, and then the line `open` without a line end.
 fn before<'a>(lines: &'a [&'a [u8]], open: &'a [u8]) -> Lines<'a> {
     Lines {
         ended: lines,

@@ -183,8 +183,9 @@ best_alone train day runs =
     running : is_running train.key.uid day train ≡ true
     running = λ i. (bytes_eq-Decides train.key.uid train.key.uid).1 refl i && runs i
 
--- let a walk over a UID's rows start from one of the UID's live schedules that run on the day. Then the walk's result is the schedule chosen on the day. Unless
--- this schedule is a cancellation, the UID's train runs by this schedule
+-- let a walk over a UID's rows start from one of the UID's live schedules that run on the day. Then
+-- the walk's result is the schedule chosen on the day. Unless this schedule is a cancellation, the
+-- UID's train runs according to it
 train_from_it : (live : Table) (rows : List Row) (train : Train) (day : ℕ) (walk : List Row) (found : Option Train) → AreRowsOf live rows
     → IsLiveTrain live train → schedule_runs (first_record train.lines) day ≡ true → HasSchedulesOf live train.key.uid walk
     → found ≡ chosen_along train.key.uid day (Some train) walk → unless_cancelled found ≡ train_in rows train.key.uid day
@@ -194,8 +195,9 @@ train_from_it live rows train day walk found are is_live runs has is =
     (subst (IsChosenSoFar train.key.uid day (row_of train ∷ walk)) (sym is)
     (chosen_behind train.key.uid day (row_of train ∷ []) walk (Some train) (best_alone train day runs))))
 
--- let a walk over a UID's rows start from one of the UID's live schedules that run on the day. Unless the walk's result is a cancellation, the UID's train runs
--- by the schedule that the walk returns
+-- let a walk over a UID's rows start from one of the UID's live schedules that run on the day.
+-- Unless the walk's result is a cancellation, the UID's train runs according to the schedule that
+-- the walk returns
 pub train_from_told : (live : Table) (rows : List Row) (train : Train) (key : ScheduleKey) (day : ℕ) (walk : List Row) (best found : Option Train)
     → key ≡ train.key → AreRowsOf live rows → IsLiveTrain live train → schedule_runs (first_record train.lines) day ≡ true → HasSchedulesOf live key.uid walk
     → best ≡ chosen_along key.uid day (Some train) walk → found ≡ unless_cancelled best → found ≡ train_in rows train.key.uid day

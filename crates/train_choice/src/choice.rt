@@ -1,4 +1,4 @@
-//! Chooses the schedule by which a train runs on a day.
+//! Chooses the schedule according to which a train runs on a day.
 ghost use Rattle.std.specs.Prelude.{◌≡◌, true, List, None, Some};
 ghost use Rattle.std.specs.Ordering.{on};
 ghost use Rattle.cif_change.specs.Meaning.{key_meant, body_meant};

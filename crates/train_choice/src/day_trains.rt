@@ -55,10 +55,10 @@ impl<'a> DayTrains<'a> {
         }
     }
 
-    /// Whether a train runs by this schedule: whether the schedule is the one chosen for its UID on
-    /// the start day, and isn't a cancellation. The schedule has to run on the day. `row` is a
-    /// hint: the row at which the search for the UID's schedules begins. A wrong hint makes the
-    /// search longer, and leaves the result unchanged.
+    /// Whether a train runs according to this schedule. It does if the schedule is the one chosen
+    /// for its UID on the start day, and isn't a cancellation. The schedule has to run on the day.
+    /// `row` is a hint: the row at which the search for the UID's schedules begins. A wrong hint
+    /// makes the search longer, and leaves the result unchanged.
     pub fn runs_by(&mut self, row: usize, train: &ScheduleView<'a>) -> bool
         requires live { IsLiveTrain (live_in self.old.timetable) train.now }
         requires runs { schedule_runs (first_record train.now.lines) self.old.day ≡ true }
@@ -72,8 +72,8 @@ impl<'a> DayTrains<'a> {
         }
     }
 
-    /// Whether the train that was looked up last runs by the schedule with this key. Returns `None`
-    /// if no train has been looked up, or if that train has another UID.
+    /// Whether the train that was looked up last runs according to the schedule with this key.
+    /// Returns `None` if no train has been looked up, or if that train has another UID.
     fn known(&self, key: &ScheduleKey) -> Option<bool>
         ensures { IfSome result (λ answer. (rows : List Row)
             → AreRowsOf (live_in self.now.timetable) rows

@@ -8,8 +8,8 @@ use crate::schedule_view::ScheduleView;
 use cif_change::ScheduleKey;
 use cif_line::Uid;
 
-/// A UID, and the schedule by which its train runs on a start day. The schedule is `None` if the
-/// train doesn't run on that day.
+/// A UID, and the schedule according to which its train runs on a start day. The schedule is `None`
+/// if the train doesn't run on that day.
 #[derive(Debug, Drop)]
 pub(crate) struct UidTrain<'a> {
     pub(crate) uid: Uid,
@@ -17,8 +17,8 @@ pub(crate) struct UidTrain<'a> {
 }
 
 impl<'a> UidTrain<'a> {
-    /// Whether the train runs by the schedule with this key. Returns `None` if the key has another
-    /// UID.
+    /// Whether the train runs according to the schedule with this key. Returns `None` if the key
+    /// has another UID.
     pub(crate) fn asked(&self, key: &ScheduleKey) -> Option<bool>
         ensures { result ≡ (if bytes_eq self.now.uid key.now.uid
             then Some (runs_by self.now.train (schedule_key_meant key.now)) else None) }
@@ -30,7 +30,7 @@ impl<'a> UidTrain<'a> {
         }
     }
 
-    /// Whether the train runs by the schedule with this key.
+    /// Whether the train runs according to the schedule with this key.
     pub(crate) fn runs_by(&self, key: &ScheduleKey) -> bool
         ensures { result ≡ runs_by self.now.train (schedule_key_meant key.now) }
     {

@@ -14,7 +14,7 @@ use test_records::{BS_NIGHT, HD, LI_0000, LI_0005, LI_0010, LO_2355, LT_0006_PLA
 /// A file with a train that passes midnight twice.
 const TWO_NIGHTS: &[&[u8]] = &[HD, BS_NIGHT, LO_2355, LI_0010, LI_0005, LT_0006_PLAIN, ZZ];
 
-/// Events just after midnight are on the day after the start.
+/// Events just after midnight are on the day after the train's start day.
 #[test]
 fn midnight(rt: HostRuntime) {
     let alloc = rt.alloc();
@@ -26,7 +26,7 @@ fn midnight(rt: HostRuntime) {
     shows(&rt, alloc, files, "DUNMERE", "2024-06-11", &[NIGHT_PASSES]);
 }
 
-/// Events after a second midnight are two days after the start.
+/// Events after a second midnight are two days after the train's start day.
 #[test]
 fn two_midnights(rt: HostRuntime) {
     let alloc = rt.alloc();

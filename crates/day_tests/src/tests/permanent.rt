@@ -18,10 +18,11 @@ use test_records::{
     LT_0020, LT_1100_PLAIN, LT_ASHFELD_0100, LT_COLWELL_2350, LT_DUNMERE_1100, TI, ZZ, text,
 };
 
-/// A docker line: C10001 leaves Ashfeld at 09:00, by a new schedule with the STP indicator `N`.
+/// A docker line: C10001 leaves Ashfeld at 09:00, according to a new schedule with the STP
+/// indicator `N`.
 const LEAVES_AS_NEW: &[u8] = b"0900  D 1A10 C10001 N   1   SL      0900 ASHFELD BRAYTON";
 
-/// A docker line: C10001 leaves Colwell at 10:45, by its overlay.
+/// A docker line: C10001 leaves Colwell at 10:45, according to its overlay.
 const LEAVES_ELSEWHERE: &[u8] = b"1045  D 1A10 C10001 O   5                COLWELL DUNMERE";
 
 /// The cancellation of C20001 on 10 June.
@@ -68,8 +69,8 @@ fn keeps(rt: &impl Abort, alloc: Global, files: &[&[&[u8]]], at: &str, on: &str,
     lines_are(rt, alloc, &joined_back(rt, alloc, files), at, on, wanted);
 }
 
-/// A permanent schedule is on the docker of each day on which it runs, even if it is overlaid or
-/// cancelled on that day.
+/// A permanent schedule is on the permanent docker of each day on which it runs, even if it is
+/// overlaid or cancelled on that day.
 #[test]
 fn overlaid_and_cancelled(rt: HostRuntime) {
     let alloc = rt.alloc();
@@ -112,7 +113,8 @@ fn new_trains_left_out(rt: HostRuntime) {
     keeps(&rt, alloc, beside, "ASHFELD", "2024-06-15", &[LEAVES_0910]);
 }
 
-/// If an overlay moves a train to other places, its permanent schedule is still on the docker.
+/// If an overlay moves a train to other places, its permanent schedule is still on the permanent
+/// docker.
 #[test]
 fn train_moved_away(rt: HostRuntime) {
     let alloc = rt.alloc();
@@ -143,7 +145,8 @@ fn two_permanent_schedules(rt: HostRuntime) {
     shows(&rt, alloc, files, "ASHFELD", "2024-06-15", &[LEAVES_0910]);
 }
 
-/// A cancelled train that passes midnight is on the docker of the day after its start.
+/// A cancelled train that passes midnight is on the permanent docker of the day after its start
+/// day.
 #[test]
 fn cancelled_night_train(rt: HostRuntime) {
     let alloc = rt.alloc();

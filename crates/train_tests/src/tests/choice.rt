@@ -34,29 +34,31 @@ const TRAINS: &[&[u8]] = &[
     ZZ,
 ];
 
-/// The heading for 10 June, on which C10001 runs by its permanent schedule, record 5 of the file.
+/// The heading for 10 June. On this day C10001 runs according to its permanent schedule, record 5
+/// of the file.
 const PERMANENT: &[u8] =
     b"TRAIN  C10001  2024-06-10 P RUNS      2024-06-09 2100 DFROC1A          5        ";
 
-/// The heading for 11 June, on which C10001 runs by its overlay, record 8.
+/// The heading for 11 June. On this day C10001 runs according to its overlay, record 8 of the file.
 const OVERLAY: &[u8] =
     b"TRAIN  C10001  2024-06-11 O RUNS      2024-06-09 2100 DFROC1A          8        ";
 
-/// The heading for 13 June, on which C10001 runs by the new schedule, record 12. A new schedule is
-/// chosen before an overlay.
+/// The heading for 13 June. On this day C10001 runs according to the new schedule, record 12 of the
+/// file. A new schedule is chosen before an overlay.
 const NEW: &[u8] =
     b"TRAIN  C10001  2024-06-13 N RUNS      2024-06-09 2100 DFROC1A         12        ";
 
-/// The heading for 14 June, on which C10001 is cancelled by record 11.
+/// The heading for 14 June. On this day C10001 is cancelled by record 11 of the file.
 const CANCELLED: &[u8] =
     b"TRAIN  C10001  2024-06-14 C CANCELLED 2024-06-09 2100 DFROC1A         11        ";
 
-/// The heading for 16 June, on which C10001 runs by the permanent schedule that begins later,
-/// record 15.
+/// The heading for 16 June. On this day C10001 runs according to the permanent schedule that begins
+/// later, record 15 of the file.
 const SUNDAY: &[u8] =
     b"TRAIN  C10001  2024-06-16 P RUNS      2024-06-09 2100 DFROC1A         15        ";
 
-/// The heading for 14 June, on which C10002 runs by its schedule, record 2.
+/// The heading for 14 June. On this day C10002 runs according to its schedule, record 2 of the
+/// file.
 const OTHER: &[u8] =
     b"TRAIN  C10002  2024-06-14 P RUNS      2024-06-09 2100 DFROC1A          2        ";
 

@@ -31,16 +31,18 @@ const RESTORES: &[&[u8]] = &[HD_10B_0605, BS_CANCELLED_DELETED, ZZ];
 /// A file that is newer than `FIRST` and revises the permanent schedule.
 const REVISES: &[&[u8]] = &[HD_10B_0605, BS_REVISED_SHORTER, LO_0920, LT, ZZ];
 
-/// The heading for 11 June, on which C10001 runs by the overlay, record 5 of the first file.
+/// The heading for 11 June. On this day C10001 runs according to the overlay, record 5 of the first
+/// file.
 const OVERLAY: &[u8] =
     b"TRAIN  C10001  2024-06-11 O RUNS      2024-06-09 2100 DFROC1A          5        ";
 
-/// The heading for 14 June, on which C10001 runs by the permanent schedule, record 2 of the first
-/// file.
+/// The heading for 14 June. On this day C10001 runs according to the permanent schedule, record 2
+/// of the first file.
 const RESTORED: &[u8] =
     b"TRAIN  C10001  2024-06-14 P RUNS      2024-06-09 2100 DFROC1A          2        ";
 
-/// The heading for 12 June, on which C10001 runs by the revision, record 2 of the second file.
+/// The heading for 12 June. On this day C10001 runs according to the revision, record 2 of the
+/// second file.
 const REVISED: &[u8] =
     b"TRAIN  C10001  2024-06-12 P RUNS      2024-06-10 0605 DFROC1B          2        ";
 
@@ -75,7 +77,8 @@ fn deleted(rt: HostRuntime) {
     );
 }
 
-/// A later file deletes a cancellation. The train runs again, by the schedule of the first file.
+/// A later file deletes a cancellation. The train runs again, according to the schedule of the
+/// first file.
 #[test]
 fn restored(rt: HostRuntime) {
     let restored: &[&[u8]] = &[RESTORED, BS_WEEK, LO, LT, END];

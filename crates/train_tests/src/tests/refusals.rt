@@ -11,7 +11,7 @@ use std::alloc::Global;
 use std::process::Abort;
 use test_records::{BS_WEEK, HD, LO, LT, ZZ, text};
 
-/// A permanent schedule of C10001 from 10 to 16 June.
+/// A file with a permanent schedule of C10001, from 10 to 16 June.
 const WEEK: &[&[u8]] = &[HD, BS_WEEK, LO, LT, ZZ];
 
 /// The heading for 13 June.
