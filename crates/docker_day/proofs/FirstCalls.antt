@@ -1,4 +1,5 @@
--- The calls of base trains at a place, each with its first event, and how the calls of the base train that was looked up last are stored.
+-- Lemmas on the calls that base trains make at a place, each with its first event. The calls of the
+-- base train that was looked up last are stored.
 use Rattle.std.proofs.Common.{◌≡◌, ℕ, ◌==◌, Bool, true, false, cond, List, refl, ap, sym, ◌∙◌, subst, Some, None, eqb-true}
 use Rattle.std.specs.Prelude.{Option, ◌&&◌, IfSome, IfOk, option_map, Result, Ok, Err}
 use Rattle.std.specs.BTreeMap.{BTreeMap, get, Updates}

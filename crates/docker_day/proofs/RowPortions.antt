@@ -124,7 +124,8 @@ module _ (there : PlaceDay) (portion : List (ℕ × RowView)) where
   AddsFirst n before after =
       Adds (live_in there.timetable) (λ trains links. lines_of trains links there.place there.day (views_in (take n portion))) before after
 
-  -- if a walk has moved rows to a portion, and the lines of the portion were added, the walk has added the lines of the rows that it has passed
+  -- suppose that a walk has moved rows to a portion, and that the lines of the portion were added.
+  -- Then the walk has added the lines of all rows that it has passed
   pub moved_open : (all rest : List Row) (rows : List (ℕ × RowView)) (first second : List DockerLine) → AreOpened all rest [] portion → rows ≡ portion
       → Adds (live_in there.timetable) (λ trains links. lines_of trains links there.place there.day (views_in rows)) first second
       → HaveMoved there all rest first second

@@ -28,8 +28,8 @@ pub fn train_came_from_a_file()
         → CameFrom files found }
 {}
 
-/// If no two files of a set have the same moment, the summary and the plain table of the files have
-/// the same chosen schedule for each UID, on each day from the horizon on.
+/// Suppose that no two files of a set have the same moment. On each day from the horizon on, the
+/// summary and the plain table of the files have the same chosen schedule for each UID.
 pub fn found_train_is_plain()
     ensures { (files : List (List (List ℕ))) (horizon : ℕ) (state : State) (table : Table)
         (uid : List ℕ) (day : ℕ) (found : Option Stamped) → IsSummary files horizon state

@@ -16,7 +16,7 @@ pub(crate) enum Answer {
     Changed,
     /// The call succeeded, but its result isn't the expected result.
     Unlike,
-    /// After a device failed, a second try with a good device had the wrong result.
+    /// After a device failed, a second try with a good device gave the wrong result.
     Stuck,
 }
 

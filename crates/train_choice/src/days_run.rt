@@ -9,8 +9,8 @@ ghost use Rattle.train_choice.specs.Runs.{runs_until};
 
 use cif_line::{Day, Kind, Line, kind};
 
-/// Whether a basic schedule (BS) or an association (AA) runs on a day. That is so if the day is in
-/// the period from the record's first date to its last date, and the weekday of the day is among
+/// Whether a basic schedule (BS) or an association (AA) runs on a day. The day must be in the
+/// period from the record's first date to its last date, and the weekday of the day must be among
 /// the record's days run.
 pub fn runs(line: &Line, day: Day) -> bool
     requires kind { HasKind basic_schedule line.now ⊎ HasKind association line.now }

@@ -132,7 +132,7 @@ as_many lines =
         ∙ (λ i. length-map {B = Placed} (times_of l) (λ (time : Occasion × ℕ). (n, time)) i + placed_long (n + 1) ls i)
         ∙ sym (length-append (times_of l) (flat_map times_of ls))
 
--- a schedule has an event with a number if and only if the number is from 1 to the number of times
+-- the numbers of a schedule's events are exactly the numbers from 1 to the number of its times
 pub number_there : (lines : List (List ℕ)) (number : ℕ) → ((event : Event) × Contains (events_of lines) event × (event.number ≡ number))
     ↔ ((1 ≤ number) × (number ≤ length (times_along lines)))
 number_there lines number = (forth, back)

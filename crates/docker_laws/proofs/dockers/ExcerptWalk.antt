@@ -332,8 +332,8 @@ module _ (place : List ℕ) (all : List Keyed) (order : AllLater Below all) wher
           subst (λ (e : Keyed). has_uid at.uid e.0 ≡ true) (Contains-single {A = Keyed} (schedule_key key, entry) r last)
           ((bytes_eq-Decides key.uid at.uid).1 uid_is)
 
-  -- if the next entry is a schedule whose UID isn't the UID of the entries in `run`, no entry from
-  -- this schedule on has the UID of the entries in `run`
+  -- suppose that the next entry is a schedule whose UID isn't the UID of the entries in `run`. Then
+  -- no entry from this schedule on has the UID of the entries in `run`
   ends : (done : List Keyed) (so_far : ExcerptSoFar) (key : ScheduleKey) (entry : Entry) (rest : List Keyed)
       → IsAt place all done so_far ((schedule_key key, entry) ∷ rest) → goes_on so_far.run key.uid ≡ false
       → IsEnded so_far.run ((schedule_key key, entry) ∷ rest)

@@ -31,8 +31,8 @@ use Rattle.docker_laws.proofs.runs.RunEnd.{greater_prints, one_text}
 
 -- ---- leaving out the short-term plan commutes with applying changes
 
--- if a change is to a key that passes `is_permanent`, applying the change commutes with leaving out
--- the short-term plan. A change to any other key leaves the permanent table unchanged
+-- applying a change whose key passes `is_permanent` commutes with leaving out the short-term plan.
+-- A change to any other key leaves the permanent table unchanged
 after_one : (table : Table) (change : Change)
     → permanent_table (after_change table change)
     ≡ cond (is_permanent change.key) (after_change (permanent_table table) change) (permanent_table table)

@@ -301,8 +301,8 @@ module _ (place : List ℕ) (day : ℕ) where
         (sublist_onward others kept (before ++ thin_change place day change ∷ []) inside
         (sublist_onward kept before (before ++ thin_change place day change ∷ []) is.some (sublist_front before (thin_change place day change ∷ []))))
 
-    -- if the same thin change is appended to a sublist of the thin changes and to the thin changes,
-    -- the first list is still a sublist of the second list
+    -- suppose that the same thin change is appended to the thin changes and to a sublist of them.
+    -- Then the longer sublist is a sublist of the longer list
     some_more : (others : List Change) → IsSublist others kept
         → IsSublist (others ++ thin_change place day change ∷ []) (map (thin_change place day) (changes ++ change ∷ []))
     some_more others inside =

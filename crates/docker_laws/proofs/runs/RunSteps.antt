@@ -81,8 +81,8 @@ module _ (format : Format) (known : KnownSets) (states : List State) (messages :
   pub after_refusal : (event : RunEvent) (why : Refusal) → Holds format (after_reply known (event, refused why)) states messages
   after_refusal event why = holds
 
-  -- states and messages still match the knowledge (`Holds`) if an office's knowledge is replaced,
-  -- and the office's state is replaced by the state of the new knowledge
+  -- suppose that an office's knowledge is replaced, and that the office's state is replaced by the
+  -- state of the new knowledge. Then states and messages still match the knowledge (`Holds`)
   with_office_holds : (office : ℕ) (now : Known) (state : State) → IsGoodKnown format now → IsStateOf now state
       → Holds format (record { offices = set known.offices office now; messages = known.messages }) (set states office state) messages
   with_office_holds office now state good is = record {
@@ -92,8 +92,9 @@ module _ (format : Format) (known : KnownSets) (states : List State) (messages :
     messages_are = holds.messages_are;
   }
 
-  -- states and messages still match the knowledge (`Holds`) if more knowledge is added to an
-  -- office's knowledge, and the office's state is joined with the state of the added knowledge
+  -- suppose that more knowledge is added to an office's knowledge, and that the office's state is
+  -- joined with the state of the added knowledge. Then states and messages still match the
+  -- knowledge (`Holds`)
   joined_in : (office : ℕ) (more : Known) (one joined : State) → IsOffice known office → IsGoodKnown format more → IsStateOf more one
       → IsJoin (office_state states office) one joined
       → Holds format (record { offices = set known.offices office (united more (office_known known office)); messages = known.messages })
