@@ -62,8 +62,8 @@ pub fn stand_in_has_one_docker()
         → HasGoodBodies live → StandsFor place day live (thinned place day live) }
 {}
 
-/// For the docker of a place and a day, a schedule may be replaced by those of its records that the
-/// docker needs (`lines_for`). If the schedule doesn't call at the place, it may be replaced by any
+/// For the docker of a place and a day, a schedule may be replaced by the records that the docker
+/// needs of it (`lines_for`). If the schedule doesn't call at the place, it may be replaced by any
 /// records that have the same first record and don't call at the place. The first record followed
 /// by any origin and any terminus with good fields is a schedule with the same key.
 pub fn stand_in_of_a_schedule()
