@@ -18,7 +18,7 @@ abbrev pub better : {A : Type 0} → (A → A → Ordering) → Option A → A �
 better cmp None x = Some x
 better cmp (Some b) x = if is_lt (cmp x b) then Some x else Some b
 
--- the best element after `x` is appended to a list. If `x` fails the test, the result is the best
--- element as before
+-- the best element after `x` is appended to a list. If `x` passes the test, the result is computed
+-- by `better`. Otherwise the result is the best element as before
 abbrev pub with_one_more : {A : Type 0} → (A → A → Ordering) → (A → Bool) → Option A → A → Option A
 with_one_more cmp test found x = if test x then better cmp found x else found
