@@ -55,8 +55,8 @@ struct States {
     own: String,
 }
 
-/// Prints the table for an extract and an update of it. These words come before the plain program's
-/// own words. The states are left in the folder.
+/// Prints the table for an extract and an update of it. `plain` are the words that start the plain
+/// program; the words of a command follow them. The states are left in the folder.
 pub fn table(program: &str, plain: &[&str], extract: &str, update: &str, folder: &str) -> Result<()> {
     let states = make_states(program, extract, update, folder)?;
     let (place, date) = busiest(extract)?;

@@ -157,7 +157,7 @@ impl Tally {
 /// For files, for states, and for states of the older format.
 type Tallies = [Tally; 3];
 
-/// The state of each file, the state of all files, and the state of all files under a horizon.
+/// The state of each file, the state of all files, and the state of all files with a horizon.
 fn states_of(files: &[Vec<u8>]) -> Option<Vec<Vec<u8>>> {
     let kept = |words: &[&str], files: &[Vec<u8>]| answer(words, files).state;
     let empty = kept(&["new", "STATE"], &[])?;

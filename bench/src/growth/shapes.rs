@@ -84,8 +84,8 @@ fn uid(kind: u8, number: usize) -> [u8; 6] {
     [kind, a, b, c, d, e]
 }
 
-/// A basic schedule from this first day on. Some end on the docker's day, so that they lapse under
-/// a horizon.
+/// A basic schedule from this first day on. Some end on the docker's day, so that they lapse when a
+/// later horizon is set.
 fn basic(uid: &[u8; 6], first: usize, stp: u8) -> Record {
     let mut record = Record::new(b"BS");
     record.at(3, b"N").at(4, uid).yymmdd(10, first as i32).at(16, b"999999").days(22, 0x7F).at(33, b"1A00").at(80, &[stp]);

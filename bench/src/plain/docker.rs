@@ -122,8 +122,8 @@ pub fn docker(excerpt: &Excerpt) -> String {
         }
     }
     let mut trains = Trains { rows: &excerpt.trains, known: HashMap::new() };
-    // Base UID, associated UID and base suffix. In the key, the first day comes between the
-    // associated UID and the suffix.
+    // The UIDs of the base train and the associated train, and the base train's suffix. In the key,
+    // the first day comes between the UIDs and the suffix.
     let group = |link: &Link| (at::<12>(&link.key, 1), link.key[22]);
     let mut links: Vec<&Link> = excerpt.links.iter().collect();
     links.sort_by_key(|link| group(link));

@@ -1,5 +1,5 @@
-//! The material of the docker of one place and day, collected from changes or entries while they
-//! are read.
+//! The trains and the associations from which the docker of one place and day is made. They are
+//! collected from changes or entries while these are read.
 
 use super::fields::{at, pair, LAST_DAY};
 use super::keeper::{Act, Keeper};

@@ -42,14 +42,14 @@ pub fn tiploc(code: &[u8]) -> Key {
     joined(&[&[TIPLOC], code])
 }
 
-/// The key of an association's line: base and associated UID, first day, location, base suffix and
-/// STP indicator.
+/// The key of an association's line: the UIDs of the base train and the associated train, the first
+/// day, the location, the base train's suffix and the STP indicator.
 pub fn association(line: &[u8]) -> Key {
     let first = day(&line[15..]).to_be_bytes();
     joined(&[&[ASSOCIATION], &line[3..15], &first, &line[37..45], &line[79..80]])
 }
 
-/// The key of a basic schedule: UID, first day and STP indicator.
+/// The key of a basic schedule: the UID, the first day and the STP indicator.
 pub fn schedule(line: &[u8]) -> Key {
     joined(&[&[SCHEDULE], &line[3..9], &day(&line[9..]).to_be_bytes(), &line[79..80]])
 }

@@ -120,7 +120,7 @@ fn take(state: impl Read, file: impl Read) -> Result<State, Stop> {
     Ok(state)
 }
 
-/// The docker of a state. Refuses a day before the horizon plus three days.
+/// The docker of a state. Refuses a day before the third day after the horizon.
 fn print(file: impl Read, place: [u8; 7], day: u16) -> Result<String, Stop> {
     let mut excerpt = Excerpt::of_state(place, day);
     let (horizon, _) = text::read(file, Format::Dks2, &mut excerpt)?;

@@ -132,7 +132,8 @@ impl State {
         Ok(())
     }
 
-    /// Raises the horizon to this one if that is greater, and makes what ends before it lapse.
+    /// Raises the state's horizon to this one if this one is later. Entries that end before the
+    /// horizon lapse.
     pub fn raise(&mut self, horizon: u16) {
         self.horizon = self.horizon.max(horizon);
         let Table { arena, rows } = &mut self.table;

@@ -11,7 +11,7 @@ use docker_office::{StateCause, StateFault};
 use std::alloc::Global;
 use std::process::Abort;
 
-/// A size that is larger than any answer in these tests.
+/// More bytes than any answer in these tests has.
 const ROOM: usize = 1000;
 
 /// A row: a status, a text, and the bytes of the answer.

@@ -47,7 +47,7 @@ pub(crate) const DAY_REFUSED: &str = "\
 docker: day refused: before horizon plus three days
 ";
 
-/// The answer that has no text, for a request that succeeded.
+/// The answer to a request that succeeded, if the answer has no text.
 pub(crate) const DONE: &str = "0 0 0\n";
 
 /// The answer to a request whose file can't be read or stored.

@@ -10,16 +10,17 @@ use std::process::Abort;
 /// The kind of a line, and its bytes if it has the form of a request.
 type Told<'a> = (&'static str, &'a [u8]);
 
-/// A line with the form of a request.
+/// The kind of a line that has the form of a request.
 const LINE: &str = "line";
 
-/// A line that is too long, or that has a byte that isn't printable.
+/// What a test expects for a line that is too long, or that has a byte that isn't printable. The
+/// bytes of the line aren't compared.
 const BAD: Told<'static> = ("bad", b"");
 
-/// The bytes after the last line feed.
+/// What a test expects for the bytes after the last line feed. These bytes aren't compared.
 const CUT: Told<'static> = ("cut", b"");
 
-/// The end of the input.
+/// What a test expects for the end of the input.
 const END: Told<'static> = ("end", b"");
 
 /// A row: a text, and its lines in order.

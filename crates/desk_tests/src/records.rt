@@ -16,7 +16,7 @@ pub(crate) const REVISION: Parts = &[HD_10B, BS_REVISED, LO_0905, LT, ZZ];
 /// The file `REVISION`, without its trailer.
 pub(crate) const OPEN: Parts = &[HD_10B, BS_REVISED, LO_0905, LT];
 
-/// The mark of a state's text, and no horizon.
+/// The mark of a state's text, and then the horizon 0, which stands for no horizon.
 const MARK: &[u8] = b"DKS2\0\0";
 
 /// The mark, and the horizon of 15 June 2024.

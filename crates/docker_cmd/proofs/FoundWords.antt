@@ -7,12 +7,12 @@ use Rattle.clap.specs.Walk.{Row, first_of}
 use Rattle.docker_cmd.specs.Words.{Text, texts}
 use Rattle.docker_cmd.specs.Grammar.{found_words}
 
--- looking up all ids returns the words in `found`, which are the words of the ids before `i`, and
--- then the words of the ids from `i` on. It returns None if one of the ids from `i` on has no word
+-- `found` has the words of the ids before `i`. Looking up all ids returns `found`, followed by the
+-- words of the ids from `i` on, or None if one of these ids has no word
 abbrev pub HasFound : List (Bor Text) → List Row → ℕ → List Text → Type 0
 HasFound ids rows i found = found_words (texts ids) rows ≡ option_map (λ rest. found ++ rest) (found_words (texts (drop i ids)) rows)
 
--- looking up no ids returns no words
+-- if no id has been looked up yet, no word has been found
 pub none_yet : (ids : List (Bor Text)) (rows : List Row) → HasFound ids rows 0 []
 none_yet ids rows = by (found_words (texts ids) rows)
   where
@@ -33,8 +33,8 @@ one_on : (ids : List (Bor Text)) (rows : List Row) (i : ℕ) (d : Bor Text) (fou
 one_on ids rows i d found within has =
     has ∙ ap (λ left. option_map (λ rest. found ++ rest) (found_words (texts left) rows)) (drop_more ids i d within)
 
--- if id `i` has a word, appending this word to the words found before gives the words found up to
--- and including id `i`
+-- if id `i` has a word, the words found before this id, followed by this word, are the words found
+-- up to and including id `i`
 pub one_more : (ids : List (Bor Text)) (rows : List Row) (i : ℕ) (d : Bor Text) (found : List Text) (word : Text) → i < length ids
     → first_of (slice_index_or ids i d).now rows ≡ Some word → HasFound ids rows i found → HasFound ids rows (i + 1) (found ++ word ∷ [])
 one_more ids rows i d found word within here has =

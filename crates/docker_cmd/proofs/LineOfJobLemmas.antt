@@ -40,7 +40,7 @@ ended (y ∷ a) [] s good same =
     cc
 ended (y ∷ a) (z ∷ b) s good same = ended a b s good.1 (cc)
 
--- if a text begins with printable bytes, its first line is at least as long as these bytes
+-- if a text begins with printable bytes, its first line has at least as many bytes
 long : (a b r s : List ℕ) → ArePrintable a → length b < length a → a ++ r ≡ b ++ 10 ∷ s → ⊥
 long [] b r s good short same = absurd (omega arith)
 long (y ∷ a) [] r s good short same =
@@ -54,8 +54,8 @@ pub printable_more : (line : List ℕ) (b : ℕ) → ArePrintable line → is_pr
 printable_more [] b good here = (here, tt)
 printable_more (y ∷ line) b good here = (good.0, printable_more line b good.1 here)
 
--- reading the bytes of a line and then one more byte is the same as reading the line with this byte
--- appended
+-- if the bytes of a line were read and then one more byte, the line with this byte appended was
+-- read
 pub reads_on : (old now new : Option (List ℕ)) (line : List ℕ) (b : ℕ) → Reads old line now → Reads now (b ∷ []) new → Reads old (line ++ b ∷ []) new
 reads_on old now None line b first then_one = first ∙ ap (option_map (λ rest. line ++ rest)) then_one
 reads_on old now (Some rest) line b first then_one = first ∙ ap (option_map (λ rest. line ++ rest)) then_one ∙ ap Some (sym (append_assoc line (b ∷ []) rest))

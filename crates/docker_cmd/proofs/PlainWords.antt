@@ -13,7 +13,8 @@ use Rattle.clap.specs.Kinds.{or_else}
 use Rattle.clap.proofs.SimpleLemmas.{is_false}
 use Rattle.docker_cmd.specs.Words.{is_plain_word}
 
--- the state of `clap`'s walk between two words, where the next value has this position
+-- the state of `clap`'s walk between two words. The walk holds `h`, and the next value has this
+-- position
 abbrev pub at : Held → ℕ → Walk
 at h position = record (walk_from h) { position = position }
 

@@ -142,8 +142,7 @@ state_refused first left second second_left failed failed_now fault holds few re
     by office.Sink why = why
 
 -- suppose that the first source hasn't failed, and taking a file from the second source ends with a
--- fault.
--- Then one of the two sources has failed if and only if the fault is `Source`
+-- fault. Then one of the two sources has failed if and only if the fault is `Source`
 pub file_failed : (A : Type 0) (one one_now two two_now : ℕ) (fault : OfficeFault) → one_now ≡ one → CountsTaking {A = A} two two_now (Err fault)
     → FailsBy one one_now two two_now fault
 file_failed A one one_now two two_now (office.File fault) same counted = (same, counted)

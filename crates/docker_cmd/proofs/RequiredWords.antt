@@ -233,8 +233,8 @@ missing position (id ∷ ids) (word ∷ words) rows fresh =
 
 -- ---- the matches and the faults of a subcommand
 
--- the faults if there are more words than ids, or fewer. If the numbers are equal, there is no
--- fault
+-- the faults for a wrong number of words: more words than ids, or fewer. If the numbers are equal,
+-- the list is empty
 abbrev pub count_fault : List Text → List Text → Kinds
 count_fault ids words = or_else (surplus_fault ids words) (cond (is_short ids words) (kind.MissingRequiredArgument ∷ []) [])
 

@@ -13,7 +13,7 @@ use Rattle.docker_cmd.specs.Grammar.{found_words}
 use Rattle.docker_cmd.proofs.FirstWord.{built_with}
 use Rattle.docker_cmd.proofs.RequiredWords.{Fits, Fresh, leaf, paired}
 
--- searching for a subcommand's name finds this subcommand
+-- a search for a subcommand's name finds this subcommand
 pub named_back : (s : Subcommand) → subcommand_named (name_of s) ≡ Some s
 unfolding subcommand_named
 named_back New = refl
@@ -121,14 +121,14 @@ suit migrate_task words is = is
 
 -- ---- looking up words at ids
 
--- looking up one word by the id of its argument finds this word
+-- if one word is looked up by the id of its argument, the result is this word
 one_found : (a : Text) → ((x : Text) → found_words (a ∷ []) (paired (a ∷ []) (x ∷ [])) ≡ Some (x ∷ []))
     → (words : List Text) → length words ≡ 1 → found_words (a ∷ []) (paired (a ∷ []) words) ≡ Some words
 one_found a found [] one = absurd (omega (arith, one))
 one_found a found (x ∷ []) one = found x
 one_found a found (x ∷ y ∷ words) one = absurd (omega (arith, one))
 
--- looking up two words by the ids of their arguments finds these words
+-- if two words are looked up by the ids of their arguments, the result is these words
 two_found : (a b : Text) → ((x y : Text) → found_words (a ∷ b ∷ []) (paired (a ∷ b ∷ []) (x ∷ y ∷ [])) ≡ Some (x ∷ y ∷ []))
     → (words : List Text) → length words ≡ 2 → found_words (a ∷ b ∷ []) (paired (a ∷ b ∷ []) words) ≡ Some words
 two_found a b found [] two = absurd (omega (arith, two))
@@ -136,7 +136,7 @@ two_found a b found (x ∷ []) two = absurd (omega (arith, two))
 two_found a b found (x ∷ y ∷ []) two = found x y
 two_found a b found (x ∷ y ∷ z ∷ words) two = absurd (omega (arith, two))
 
--- looking up three words by the ids of their arguments finds these words
+-- if three words are looked up by the ids of their arguments, the result is these words
 three_found : (a b c : Text) → ((x y z : Text) → found_words (a ∷ b ∷ c ∷ []) (paired (a ∷ b ∷ c ∷ []) (x ∷ y ∷ z ∷ [])) ≡ Some (x ∷ y ∷ z ∷ []))
     → (words : List Text) → length words ≡ 3 → found_words (a ∷ b ∷ c ∷ []) (paired (a ∷ b ∷ c ∷ []) words) ≡ Some words
 three_found a b c found [] three = absurd (omega (arith, three))

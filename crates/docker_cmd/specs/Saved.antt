@@ -20,8 +20,8 @@ pub record HoldsVersion (earlier : List (List ℕ)) (bytes : DeviceBytes) (numbe
   pub there : number < length earlier
   pub held : bytes ≡ Some (slice_index_or earlier number [])
 
--- what a state can gain at once: a file, a version of any STATE file (given by its number in a list
--- of versions), or a horizon
+-- one thing that a state can gain: a file, a version of any STATE file (given by its number in a
+-- list of versions), or a horizon
 pub data Gain : Type 0 where
   file_gained : (file : List (List ℕ)) → Gain
   version_gained : (number : ℕ) → Gain

@@ -1,4 +1,4 @@
--- How a folder's history grows by one request after another.
+-- How each request adds events to a folder's history.
 use Rattle.std.proofs.Common.{◌≡◌, ℕ, List, [], ◌∷◌, ◌++◌, Bool, true, false, ap, subst, ◌∙◌, append_assoc, Ok}
 use Rattle.std.specs.Prelude.{Option, Result, ⊤}
 use Rattle.cif_device.specs.Device.{Takes}
@@ -10,7 +10,8 @@ use Rattle.docker_model.specs.state.StateText.{dks_2, state_text}
 use Rattle.docker_desk.specs.Desk.{EndsSaving}
 use Rattle.docker_desk.specs.Reading.{OpensOnce, Reading, events_of}
 
--- appending events to a history, and then more events, is the same as appending their concatenation
+-- if the events `first` are appended to a history, and then the events `next`, the history has
+-- gained the events `first ++ next`
 pub then : (old middle new : List Event) (first next : List Event) → middle ≡ old ++ first → new ≡ middle ++ next → new ≡ old ++ (first ++ next)
 then old middle new first next before after =
     after ∙ ap (λ (events : List Event). events ++ next) before ∙ append_assoc old first next
@@ -21,8 +22,8 @@ pub draft_took : (names_bytes : Bool) (text : List ℕ) (before after : Bytes) �
 draft_took true text before after empty takes = rw empty at takes
 draft_took false text before after empty takes = rw empty at takes
 
--- making a draft, and then failing to replace the file with it, adds the events `drafted` and
--- `unplaced` to the history
+-- if a draft was made but couldn't replace the file, the history gained the events `drafted` and
+-- `unplaced`
 pub then_unplaced : (name made_for : Text) (look : ℕ) (old middle new : List Event) (took bytes : Bytes)
     → middle ≡ old ++ drafted name look ∷ [] → new ≡ middle ++ unplaced made_for took ∷ [] → made_for ≡ name → took ≡ bytes
     → new ≡ old ++ drafted name look ∷ unplaced name bytes ∷ []
@@ -45,7 +46,7 @@ opens_as name Stops Ends own now old new result before after is same opens = rec
       subst (λ (state : State). Ends state new result opens.read) is (subst (λ (state : State). Ends own state result opens.read) same opens.ends);
 }
 
--- opening a file and closing it adds the events `opened` and `closed` to the history
+-- if a file was opened and then closed, the history gained the events `opened` and `closed`
 pub then_closed : (name : Text) (held left : Bytes) (old opened_now new : List Event) → opened_now ≡ old ++ opened name held ∷ []
     → new ≡ opened_now ++ closed left ∷ [] → new ≡ old ++ events_of name (record { held = held; left = left })
 then_closed name held left old opened_now new opens closes = then old opened_now new (opened name held ∷ []) (closed left ∷ []) opens closes

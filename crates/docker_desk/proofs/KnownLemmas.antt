@@ -32,7 +32,7 @@ use Rattle.docker_desk.specs.Learning.{AreLearned, Hears, HearsFile, HearsState,
 
 -- ---- what is known
 
--- uniting what is known with `nothing` changes nothing
+-- if what is known is united with `nothing`, it stays the same
 known_with_nothing : (known : Known) → united known nothing ≡ known
 known_with_nothing known = λ i. record { files = append-nil known.files i; horizon = max-zero known.horizon i }
 
@@ -43,7 +43,7 @@ nothing_heard old heard before after none same is =
     subst (λ h. IsKnown (united old h) after) (sym none)
     (subst (λ k. IsKnown k after) (sym (known_with_nothing old)) (subst (IsKnown old) (sym same) is))
 
--- the join of two states is the summary of everything that is known of either state
+-- the join of two states is the summary of what the two states know together
 known_joined : (old heard : Known) (own other after : State) → IsKnown old own → IsKnown heard other
     → IsJoin own other after → IsKnown (united old heard) after
 known_joined old heard own other after first second join = record {
@@ -62,8 +62,8 @@ known_raised old heard day state is_day heard_is known =
           (raised_summary old.files old.horizon day state known.is);
     })
 
--- if a state is the summary of one file without a horizon, what is known is this file and no
--- horizon
+-- if a state is the summary of one file with the horizon 0, this file and this horizon are what is
+-- known
 known_file : (file : List (List ℕ)) (state : State) → IsFile file → length file ≤ most_records → IsSummary (file ∷ []) 0 state
     → IsKnown (record { files = file ∷ []; horizon = 0 }) state
 known_file file state is few summary = record {

@@ -28,11 +28,11 @@ first_ahead byte old new (Some rest) same = ap (λ bytes. Some (bytes ++ rest)) 
 
 -- ---- bytes without a line feed
 
--- every byte of the line is printable
+-- each of these bytes is printable
 abbrev pub ArePrintable : List ℕ → Type 0
 ArePrintable = AllByRecursion (λ b. is_printable b ≡ true)
 
--- printable bytes contain no line feed
+-- if all bytes of a line are printable, none of them is a line feed
 pub printable_without : (line : List ℕ) → ArePrintable line → IsWithoutFeed line
 printable_without [] good = tt
 printable_without (b ∷ line) good = (other b good.0, printable_without line good.1)
@@ -52,7 +52,8 @@ without_both (x ∷ xs) ys first second = (first.0, without_both xs ys first.1 s
 
 -- ---- one reading after another
 
--- reading bytes and then more bytes is the same as reading their concatenation
+-- if the bytes `line` were read and then the bytes `more`, the concatenation `line ++ more` was
+-- read
 pub reads_on : (old now new : Option (List ℕ)) (line more : List ℕ) → Reads old line now → Reads now more new → Reads old (line ++ more) new
 reads_on old now None line more first then_more = first ∙ ap (option_map (λ rest. line ++ rest)) then_more
 reads_on old now (Some rest) line more first then_more =
@@ -95,8 +96,8 @@ skips_feed None new read = tt
 skips_feed (Some text) None read = let never : ⊥ = cc in absurd never
 skips_feed (Some text) (Some rest) read = record { skipped = []; rest = rest; whole = cc; one = tt; behind = refl }
 
--- reading a byte other than a line feed, and then skipping what follows on the line, skips the rest
--- of the line
+-- suppose that a byte was read that isn't a line feed. If the bytes that follow on its line were
+-- then skipped, the rest of the line was skipped
 pub skips_byte : (old now new : Option (List ℕ)) (b : ℕ) → Reads old (b ∷ []) now → b ≢ 10 → SkipsLine now new → SkipsLine old new
 skips_byte None now new b read other line = tt
 skips_byte (Some text) None new b read other line = let never : ⊥ = cc in absurd never
@@ -112,13 +113,13 @@ skips_byte (Some text) (Some left) new b read other line =
     behind : (text left : List ℕ) (b : ℕ) (skipped rest : List ℕ) → text ≡ b ∷ left → left ≡ skipped ++ 10 ∷ rest → text ≡ b ∷ skipped ++ 10 ∷ rest
     behind text left b skipped rest first second = cc
 
--- at the end of a source, reading nothing skips the rest of the last line
+-- if a source is at its end and nothing is read, the rest of the last line was skipped
 pub skips_end : (old new : Option (List ℕ)) → IsEnd old → new ≡ old → SkipsAll old new
 skips_end None new end same = tt
 skips_end (Some text) new end same = (subst IsWithoutFeed (sym end) tt, same ∙ ap Some end)
 
--- reading a byte other than a line feed, and then skipping what follows on the last line, skips the
--- rest of the last line
+-- suppose that a byte was read that isn't a line feed. If the bytes that follow on the last line
+-- were then skipped, the rest of the last line was skipped
 pub skips_before : (old now new : Option (List ℕ)) (b : ℕ) → Reads old (b ∷ []) now → b ≢ 10 → SkipsAll now new → SkipsAll old new
 skips_before None now new b read other line = tt
 skips_before (Some text) None new b read other line = let never : ⊥ = cc in absurd never
@@ -177,8 +178,8 @@ pub record IsSpoiled (line : List ℕ) (b : ℕ) : Type 0 where
   pub other : b ≢ 10
   pub why : (length line ≡ 255) ⊎ (is_printable b ≡ false)
 
--- a line with a byte that makes it bad isn't a line of at most 255 printable bytes, whatever bytes
--- follow
+-- if a byte makes a line bad, the line with this byte isn't a line of at most 255 printable bytes,
+-- whatever bytes follow
 not_text : (line : List ℕ) (b : ℕ) (more : List ℕ) → IsSpoiled line b → ¬ IsLineText (line ++ b ∷ more)
 not_text line b more spoiled text = by spoiled.why
   where

@@ -12,8 +12,9 @@ use Rattle.docker_cmd.specs.OfficeFault.{OfficeFault}
 use Rattle.docker_cmd.specs.OfficeFault.TheVariants as office
 use Rattle.docker_desk.specs.Copying.{IsNoFront, with_other}
 
--- the first `at` bytes of a text, followed by its next n bytes, are its first `at + n` bytes. The
--- next n bytes are given as the first n bytes of a piece
+-- suppose that `taken` is the first `at` bytes of a text, and that the next n bytes of the text are
+-- the first n bytes of a piece. Then `taken`, followed by these n bytes, is the first `at + n`
+-- bytes of the text
 pub goes_on : (text piece taken : List ℕ) (at n : ℕ) → take n (drop at text) ≡ take n piece → take at text ≡ taken → take (at + n) text ≡ taken ++ take n piece
 goes_on text piece taken at n same front = take-add at n text ∙ (λ i. front i ++ same i)
 
@@ -26,7 +27,7 @@ goes_on_as text piece taken None at n none front same = ap Some (goes_on text pi
     rest = ap (λ (many : ℕ). take many (drop at text)) (sym (length-drop at text)) ∙ take-length (drop at text)
 goes_on_as text piece taken (Some byte) at n none front same = let never : ⊥ = cc in absurd never
 
--- a sink that has taken a byte that differs from the text hasn't taken exactly the text
+-- if a sink has taken a byte that differs from the text, it hasn't taken exactly the text
 pub never_whole : (text own front taken : List ℕ) (other : Option ℕ) (test : Bool) → is_some other ≡ true → own ≡ text → with_other front other ≡ taken
     → IfSome other (λ _. IsNoFront (with_other front other) own) → test ≡ false → (IsTrue test → taken ≡ text) × (taken ≡ text → IsTrue test)
 never_whole text own front taken None test some same is none fails = let never : ⊥ = cc in absurd never
@@ -35,8 +36,8 @@ never_whole text own front taken (Some byte) test some same is none fails = (
   λ whole. absurd (none [] (same ∙ sym whole ∙ sym is ∙ sym (append-nil (front ++ byte ∷ [])))),
 )
 
--- if a sink fails only after taking bytes that aren't a prefix of the text, the sink took exactly
--- the text if and only if exactly the text was sent
+-- suppose that the sink fails only if it has taken bytes that aren't a prefix of the text. Then
+-- writing succeeds and the sink has the whole text if and only if the text itself was sent
 pub sent_compares : (text sent before taken own : List ℕ) (bytes : Option (List ℕ)) (failures_before failures : ℕ) (done : Result ⊤ OfficeFault)
     (ok whole : Bool) → before ≡ [] → failures_before ≡ 0 → bytes ≡ Some text → bytes ≡ Some own → OnOk done (Takes (Some before) sent (Some taken))
     → OnErr done (TakesPart (Some before) sent (Some taken)) → CountsFailure (done ≡ Err office.Sink) failures_before failures

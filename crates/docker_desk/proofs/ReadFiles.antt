@@ -1,5 +1,5 @@
--- How a desk's `take`, `merge` and `renew`, and its first reading of a state, end. Each ending
--- follows from how the office's reading ended.
+-- The ways in which a desk's `take`, `merge` and `renew`, and its first reading of a state, can
+-- end. Each ending follows from how the office's reading ended.
 use Rattle.std.proofs.Common.{◌≡◌, ◌≢◌, ◌+◌, ◌∙◌, ℕ, ap, arith, refl, subst, sym, Some, Ok, Err, IsErr, true, false}
 use Rattle.std.specs.Prelude.{Result, ⊤, Bool, List, ◌++◌, Option, None, IfSome, Vec, option_map}
 use Rattle.cif_device.specs.Device.{Reads}
@@ -125,14 +125,15 @@ found_held (Some text) None compared.Same state left held is = let never : ⊥ =
 found_held (Some text) (Some it) compared.Other state left held is = λ same. is (sym held ∙ same)
 found_held (Some text) None compared.Other state left held is = absurd is
 
--- if the source that copies a file was read no further than the result needs, the file was read no
--- further than the result needs
+-- a source keeps a copy of the bytes of a file. If this source was read no further than the result
+-- needs, the file was read no further either
 pub stops_as : (held left seen seen_left : Bytes) → ReadsFewOfState dks_2 seen seen_left → seen ≡ held → left ≡ seen_left
     → StopsInState (reading held left)
 stops_as held left seen seen_left stops same same_left =
     subst (λ (bytes : Bytes). ReadsFewOfState dks_2 bytes left) same (subst (ReadsFewOfState dks_2 seen) (sym same_left) stops)
 
--- if reading the source that copies a file ended with a fault, the comparison ended with this fault
+-- a source keeps a copy of the bytes of a file. If reading this source ended with a fault, the
+-- comparison ended with this fault
 pub refuses_as : (held left seen seen_left : Bytes) (old new : State) (fault : OfficeFault)
     → IsWhyUnread WantsMemory dks_2 most_bytes seen seen_left (why_unread fault) → new ≡ old → seen ≡ held → left ≡ seen_left
     → EndsComparing old new (Err fault) (Some (reading held left))

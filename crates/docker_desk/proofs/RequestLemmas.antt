@@ -57,7 +57,7 @@ no_permanent rest none save_request same has = cc
 
 -- ---- looking up a verb by its name
 
--- looking up a verb's name returns that verb
+-- if a verb's name is looked up, the result is this verb
 named_back : (v : Verb) → verb_named (name_of v) ≡ Some v
 unfolding verb_named
 named_back verb.Print = refl

@@ -30,7 +30,7 @@ abbrev pub ReadsFirst : DeviceBytes → List LineView → DeviceBytes → Type 0
 ReadsFirst None lines left = ⊤
 ReadsFirst (Some text) lines left = (rest : List ℕ) × (AreFirstLines text lines rest × (left ≡ Some rest))
 
--- before any line is read, all bytes of the input are left
+-- if no line has been read, all bytes of the input are left
 pub reads_none : (input : DeviceBytes) → ReadsFirst input [] input
 reads_none None = tt
 reads_none (Some text) = (text, (refl, refl))
@@ -159,8 +159,8 @@ takes_more (Some taken) now new first second one two =
 -- ---- appending steps
 
 module _ (setting : Setting) where
-  -- steps from one point to a second point, followed by steps from the second to a third, are steps
-  -- from the first point to the third
+  -- if some steps lead from one point to a second point, and more steps lead from the second to a
+  -- third, all these steps lead from the first point to the third
   steps_more : (first now last : SessionView) (steps more : List Step) → AreSteps setting first steps now → AreSteps setting now more last
       → AreSteps setting first (steps ++ more) last
   steps_more first now last [] more are then_more = subst (λ m. AreSteps setting m more last) are then_more
@@ -237,8 +237,8 @@ module _ (setting : Setting) where
       so_far_more count first now next input input_now input_next output output_now output_next so_far
       (subst (ServesNext setting now next input_now input_next output_now output_next) none serves)
 
-  -- suppose that a part of a session was served. If a session on the bytes left in the input ends
-  -- in some way, the whole session ends in the same way
+  -- suppose that the first part of a session was served. If the rest of the session, on the bytes
+  -- left in the input, ends in some way, the whole session ends in this way
   ends_more : (ending : Ending) (count : ℕ) (first now : SessionView) (input input_now output output_now output_last : DeviceBytes) (more : List Step)
       → (so_far : IsSoFar count first now input input_now output output_now) → EndsSession ending input_now more output_now output_last
       → EndsSession ending input (so_far.steps ++ more) output output_last
@@ -274,8 +274,8 @@ module _ (setting : Setting) where
       by InputEndless ends = (begins ends.0, (endless_more input input_now (lines_of so_far.steps) so_far.read ends.1.0, gained ends.1.1))
       by OutputFailed ends = (begins ends.0, breaks ends.1)
 
-  -- the answered part of a session up to a point, followed by the rest of the session from that
-  -- point, is a whole session with the same ending
+  -- suppose that a session was served up to a point. If the rest of the session from that point
+  -- ended in some way, the whole session ended in this way
   pub ended_after : (ending : Ending) (count : ℕ) (first now last : SessionView) (input input_now output output_now output_last : DeviceBytes)
       → IsSoFar count first now input input_now output output_now → AnswersLines setting now last input_now output_now output_last ending
       → AnswersLines setting first last input output output_last ending

@@ -93,15 +93,15 @@ asked_files may_write (Some save_request) asks = let first = heads 102 115 _ _ a
 
 -- ---- the bytes of the answer
 
--- an answer that has no text, to a request that succeeded, consists of `0 0 0` and a line feed
+-- if a request succeeded and its answer has no text, the answer consists of `0 0 0` and a line feed
 empty_told : answer_bytes (done_with []) ≡ codes "0 0 0\n"
 empty_told = ap (λ (zero : List ℕ). zero ++ codes " " ++ zero ++ codes " " ++ zero ++ codes "\n" ++ []) zero_told
   where
     zero_told : decimal 0 ≡ 48 ∷ []
     zero_told = decimal_digit 0 (omega arith)
 
--- if the state knows no files, the answer to `files` makes the output list no files or report that
--- memory ran out
+-- if the state knows no files, then after the answer to `files` the output lists no files or
+-- reports that memory ran out
 answered : (output : Bytes) (state : State) (answer : AnswerView) → state ≡ no_state → IsFilesAnswer state answer
     → Takes (Some []) (answer_bytes answer ++ []) output → IsAnswered output
 answered output state (done_with text) same is takes =

@@ -80,7 +80,7 @@ pub record AnswersLines (setting : Setting) (before after : SessionView)
   pub are : AreSteps setting before steps after
   pub ends : EndsSession ending input steps output output_now
 
--- the failure counts of input and output changed as they do in a session that ends in this way
+-- the failure counts of the input and the output changed as in a session that ends in this way
 abbrev pub CountsStreams : Ending → ℕ → ℕ → ℕ → ℕ → Type 0
 CountsStreams Ended input input_now output output_now = (input_now ≡ input) × (output_now ≡ output)
 CountsStreams InputFailed input input_now output output_now =
@@ -107,8 +107,8 @@ ServesNext setting before after input input_now output output_now None =
 ServesNext setting before after input input_now output output_now (Some ending) =
     AnswersLines setting before after input output output_now ending
 
--- the failure counts of input and output changed as they do when one line is answered with this
--- outcome
+-- the failure counts of the input and the output changed as they do when the answering of one line
+-- has this outcome
 abbrev pub CountsNext : Option Ending → ℕ → ℕ → ℕ → ℕ → Type 0
 CountsNext None input input_now output output_now = (input_now ≡ input) × (output_now ≡ output)
 CountsNext (Some ending) input input_now output output_now =

@@ -16,8 +16,8 @@ use Rattle.docker_desk.specs.declared.compared.Compared.{Compared}
 use Rattle.docker_desk.specs.Replies.{AnswerView, done_with, no_request, refused_for, answer_status}
 use Rattle.docker_desk.specs.SessionViews.{SessionView, Setting, Step}
 
--- converts a request's result to the answer, for a request whose answer has no text. The request
--- either succeeded or was refused for a fault
+-- the answer without a text for a request with this result: the request succeeded, or it was
+-- refused for a fault
 abbrev pub answer_of : {A : Type 0} → Result A OfficeFault → AnswerView
 answer_of (Ok done) = done_with []
 answer_of (Err fault) = refused_for fault

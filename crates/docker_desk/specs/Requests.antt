@@ -157,7 +157,7 @@ HasRest (merge_request other) rest = NamesFile rest other
 HasRest (horizon_request day) rest = OfOne (λ date. NamesDay date day) (words_in rest)
 HasRest save_request rest = words_in rest ≡ []
 
--- the line makes this request, and the desk may write if the request requires that
+-- the line makes this request, and the desk may write if the request requires it
 pub record IsRequestOf (may_write : Bool) (line : List ℕ) (request : RequestView) : Type 0 where
   pub name : first_word line ≡ name_of (verb_of request)
   pub rest : HasRest request (after_word line)

@@ -84,7 +84,7 @@ fn answer_request<D: Folder>(
     }
 }
 
-/// Converts a request's result to the answer, for a request whose answer has no text.
+/// Returns the answer without a text for a request with this result.
 fn answer_to<T: Drop>(outcome: Result<T, OfficeFault>) -> Answer
     ensures { answer_meant result ≡ answer_of outcome }
 {

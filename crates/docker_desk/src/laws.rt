@@ -36,7 +36,7 @@ use state_lists::laws::{one_known_text, one_places_text};
 
 /// Suppose that, when a session began, STATE held the text of the summary of some files and a
 /// horizon. Then the first state of the session is that summary. Each later state is the summary of
-/// these files and of all that was taken and received until then, with the greatest horizon.
+/// these files and of all that was taken and received until then, with the latest horizon.
 pub fn known_files_fix_sessions()
     ensures begins { (name : List ℕ) (old : List Event) (first : SessionView) (start : Known)
         (sent : State) → (begins : BeginsAt name old first)

@@ -23,7 +23,8 @@ pub data Event : Type 0 where
   -- a draft for the named file was made. It is based on the look that is the event with this
   -- number, counted from 0
   drafted : (name : Text) (look : ℕ) → Event
-  -- no draft for the named file could be made, based on the look that is the event with this number
+  -- a draft for the named file, based on the look that is the event with this number, couldn't be
+  -- made
   undrafted : (name : Text) (look : ℕ) → Event
   -- a draft replaced the named file. From then on the file holds these bytes
   placed : (name : Text) (bytes : Bytes) → Event

@@ -5,7 +5,7 @@ use Rattle.docker_host.specs.History.{Event, looked, opened, unopened, closed, d
 use Rattle.docker_host.specs.declared.history.Note.{Note}
 use Rattle.docker_host.specs.declared.history.Note.TheVariants as note
 
--- converts a note to the event that it describes
+-- the event that a note describes
 abbrev pub event_of : Note → Event
 event_of (note.Looked name) = looked name.now
 event_of (note.OpenedUnnamed name) = opened name.now None

@@ -67,7 +67,7 @@ impl From<AllocError> for OpenFault {
 pub struct Drafted<'a, K> {
     /// The name of the file.
     pub name: &'a str,
-    /// The new text of the file, while this text is being written.
+    /// The sink that takes the new text of the file.
     pub draft: K,
 }
 
@@ -76,7 +76,7 @@ pub trait Folder {
     /// An opened file.
     type File: Source + Drop;
 
-    /// A new text for a file, while this text is being written.
+    /// A draft: a sink that takes the new text of a file.
     type Draft: Sink + Drop;
 
     /// What a look has found out about a file.

@@ -43,7 +43,8 @@ pub enum Note<'a> {
     ClosedUnnamed,
     /// A draft for a named file was made. It is based on the look at this position of the history.
     Drafted(&'a str, &'a Position),
-    /// No draft for a named file could be made, based on the look at this position of the history.
+    /// A draft for a named file, based on the look at this position of the history, couldn't be
+    /// made.
     Undrafted(&'a str, &'a Position),
     /// A draft replaced a named file. From then on the file holds these bytes.
     Placed(&'a str, &'a [u8]),

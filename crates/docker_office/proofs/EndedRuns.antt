@@ -18,8 +18,8 @@ is_there known state end =
     let low = end.there in
     omega arith
 
--- suppose that an office ends its run with `known` and `state`. A property of the office's
--- knowledge and state at the end is a property of `known` and `state`
+-- suppose that an office ends its run with `known` and `state`. If a property is true of the
+-- office's knowledge and state at the end of the run, it is true of `known` and `state`
 at_end : (P : Known → State → Type 0) (known : Known) (state : State) → (end : EndsWith known state)
     → P (known_at_end end.offices end.events end.exchange end.office) (office_state end.exchange.states end.office) → P known state
 at_end P known state end is = subst (P known) end.has (subst (λ k. P k (office_state end.exchange.states end.office)) end.knows is)

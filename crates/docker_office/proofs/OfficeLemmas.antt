@@ -34,22 +34,22 @@ use Rattle.docker_office.specs.OfficeReads.{CountsTaking, IsTakingOutcome, Stops
 
 -- ---- two results that are both `Ok` or both `Err`
 
--- if two results are both `Ok` or both `Err`, whatever is true if the first is `Ok` is true if the
--- second is `Ok`
+-- suppose that two results are both `Ok` or both `Err`. If something is true when the first is
+-- `Ok`, it is also true when the second is `Ok`
 pub on_ok_with : {A B E F : Type 0} (P : Type 0) (first : Result A E) (second : Result B F) → is_ok second ≡ is_ok first → OnOk first P → OnOk second P
 on_ok_with P (Ok a) (Ok b) same holds = holds
 on_ok_with P (Ok a) (Err f) same holds = tt
 on_ok_with P (Err e) (Err f) same holds = tt
 on_ok_with P (Err e) (Ok b) same holds = let never : ⊥ = cc in absurd never
 
--- if two results are both `Ok` or both `Err`, and the second is `Ok`, whatever is true if the first
--- is `Ok` is true
+-- suppose that two results are both `Ok` or both `Err`, and that the second is `Ok`. If something
+-- is true when the first is `Ok`, it is true
 pub of_ok : {A B E F : Type 0} (P : Type 0) (first : Result A E) (second : Result B F) → is_ok second ≡ is_ok first → OnOk first P → IsOk second → P
 of_ok P (Ok a) second same holds is = holds
 of_ok P (Err e) second same holds is = let never : ⊥ = cc in absurd never
 
--- if two results are both `Ok` or both `Err`, and the second is `Err`, whatever is true if the
--- first is `Err` is true
+-- suppose that two results are both `Ok` or both `Err`, and that the second is `Err`. If something
+-- is true when the first is `Err`, it is true
 pub of_err : {A B E F : Type 0} (P : Type 0) (first : Result A E) (second : Result B F) → is_ok second ≡ is_ok first → OnErr first P → (e : F) → second ≡ Err e
     → P
 of_err P (Err e) second same holds fault is = holds
@@ -103,8 +103,8 @@ taken_whole {A} limit IsMade left left_now failures failures_now read (Err fault
 
 -- ---- states
 
--- if a file was read, the join of the office's state with the file's state is the office's state
--- after the office took the file
+-- if a file was read, and the new state is the join of the office's state and the file's state, the
+-- office has taken the file
 pub takes_file : (limit : ℕ) (left : Option (List ℕ)) (read : FileRead) (old own new : State) → ReadsText limit left read
     → ((file : List (List ℕ)) → IsOfRecords read file → IsSummary (file ∷ []) 0 own) → IsJoin old own new → TakesFile limit left old new
 takes_file limit left read old own new reads summary join = record {
@@ -210,8 +210,8 @@ pub read_unfailed : {A : Type 0} (failures : ℕ) (result : Result A OfficeFault
 read_unfailed failures result counted is =
     let more : failures ≡ failures + 1 = subst (CountsOutcome why_unread failures failures) is counted in absurd (omega arith)
 
--- reading a state can end only with a value, a fault of the text, a failure of the source, or out
--- of memory
+-- reading a state can end only with a value, a fault of the text, a failure of the source, or the
+-- fault `Memory`
 pub read_only : {A : Type 0} (wants : Wanting) (format : Format) (limit : ℕ) (IsMade : A → Type 0) (left left_now : BytesLeft) (result : Result A OfficeFault)
     → IsOutcome wants why_unread format limit IsMade left left_now result → IfErr result IsOfState
 read_only wants format limit IsMade left left_now (Ok made) outcome = tt
@@ -238,8 +238,8 @@ taken_refused limit IsMade left left_now result outcome fault is = subst (IsTaki
 pub taken_unfailed : {A : Type 0} (failures : ℕ) (result : Result A OfficeFault) → CountsTaking failures failures result → result ≢ Err office.Source
 taken_unfailed failures result counted is = let more : failures ≡ failures + 1 = subst (CountsTaking failures failures) is counted in absurd (omega arith)
 
--- taking a file can end only with a value, a fault of the text, a failure of the source, or out of
--- memory
+-- taking a file can end only with a value, a fault of the text, a failure of the source, or the
+-- fault `Memory`
 pub taken_only : {A : Type 0} (limit : ℕ) (IsMade : A → Type 0) (left left_now : BytesLeft) (result : Result A OfficeFault)
     → IsTakingOutcome limit IsMade left left_now result → IfErr result IsOfFile
 taken_only limit IsMade left left_now (Ok made) outcome = tt

@@ -25,7 +25,7 @@ pub record HasRun (offices : ℕ) (events : List RunEvent) (replies : List Reply
   pub holds : AreOf (known_sets offices events (map reply_meant replies)) held
   pub good : All (IsGoodEvent dks_2) events
 
--- before the first event, the run so far is a run without events
+-- if no event has happened yet, the run so far is a run without events
 pub run_at_first : (offices : ℕ) (held : Holdings) → length held.offices.items ≡ offices → All (IsSummary [] 0) held.offices.items
     → held.messages.items ≡ [] → HasRun offices [] [] held
 run_at_first offices held many each none = record {
@@ -37,7 +37,7 @@ run_at_first offices held many each none = record {
   good = All-nil (IsGoodEvent dks_2);
 }
 
--- a run that is followed by one more event and its reply is a run too
+-- if a run is followed by one more event and its reply, the events up to this one are a run too
 pub run_with_one_more : (offices : ℕ) (events : List RunEvent) (replies : List Reply) (held after : Holdings) (event : RunEvent) (reply : Reply)
     → HasRun offices events replies held → IsGoodEvent dks_2 event → ((known : model.KnownSets) → AreOf known held → MeetsEvent known event reply after)
     → HasRun offices (events ++ event ∷ []) (replies ++ reply ∷ []) after

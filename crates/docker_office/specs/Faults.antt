@@ -1,5 +1,5 @@
--- The faults of an office: how each fault of a lower call is converted, and which faults each kind
--- of call can return.
+-- The faults of an office: which fault an office reports if a call that it makes has failed, and
+-- which faults each kind of call can return.
 use Rattle.std.specs.Prelude.{⊤}
 use Rattle.cif_file.specs.declared.fault.ReadFault as files
 use Rattle.cif_file.specs.declared.fault.ReadFault.TheVariants as file_faults
@@ -10,19 +10,19 @@ use Rattle.docker_day.specs.declared.fault.DockerFault.TheVariants as docker_fau
 use Rattle.docker_office.specs.declared.fault.OfficeFault.{OfficeFault}
 use Rattle.docker_office.specs.declared.fault.OfficeFault.TheVariants.{File, State, Lapsed, Source, Sink, Memory}
 
--- converts the fault for which a file couldn't be read to the office's fault
+-- the office's fault if a file couldn't be read because of this fault
 abbrev pub office_fault_of_file : files.ReadFault → OfficeFault
 office_fault_of_file file_faults.Source = Source
 office_fault_of_file (file_faults.File fault) = File fault
 office_fault_of_file file_faults.Memory = Memory
 
--- converts the fault for which a state couldn't be read to the office's fault
+-- the office's fault if a state couldn't be read because of this fault
 abbrev pub office_fault_of_state : states.ReadFault → OfficeFault
 office_fault_of_state state_faults.Source = Source
 office_fault_of_state (state_faults.State fault) = State fault
 office_fault_of_state state_faults.Memory = Memory
 
--- converts the fault for which a docker couldn't be made to the office's fault
+-- the office's fault if a docker couldn't be made because of this fault
 abbrev pub office_fault_of_docker : dockers.DockerFault → OfficeFault
 office_fault_of_docker docker_faults.Lapsed = Lapsed
 office_fault_of_docker docker_faults.Memory = Memory

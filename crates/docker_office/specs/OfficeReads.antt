@@ -14,7 +14,7 @@ use Rattle.docker_office.specs.declared.fault.OfficeFault.TheVariants.{File, Sta
 
 -- ---- how reading a state ends
 
--- converts an office's fault back to the fault for which a state couldn't be read, or to `None` if
+-- the fault for which a state couldn't be read, if an office reports this fault. It is `None` if
 -- the office's fault doesn't come from reading a state
 abbrev pub why_unread : OfficeFault → Option ReadFault
 why_unread (State fault) = Some (states.State fault)

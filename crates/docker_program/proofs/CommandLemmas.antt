@@ -42,7 +42,7 @@ none_some name is = cc
 
 -- ---- what a source held
 
--- reading the text of a state returns that state
+-- if a state was read from the text of `sent`, this state is `sent`
 one_sent : (format : Format) (known : Known) (sent state : State) (text : List ℕ) → IsGoodKnown format known → IsStateOf known sent
     → text ≡ state_text format sent → IsStateText format most_bytes text state → sent ≡ state
 one_sent format known sent state text good is told reads =
@@ -80,7 +80,7 @@ file_held bytes file old new holds takes =
 
 -- ---- what is known after each step
 
--- the join of two states is the summary of everything that is known of either state
+-- the join of two states is the summary of what the two states know together
 pub known_joined : (old heard : Known) (own other after : State) → IsKnown old own → IsKnown heard other → IsJoin own other after
     → IsKnown (united old heard) after
 known_joined old heard own other after first second join = record {
@@ -96,8 +96,8 @@ known_raised old day state is_day known = record {
       (raised_summary old.files old.horizon day state known.is);
 }
 
--- if a state is the summary of one file without a horizon, what is known is this file and no
--- horizon
+-- if a state is the summary of one file with the horizon 0, this file and this horizon are what is
+-- known
 pub known_file : (file : List (List ℕ)) (state : State) → IsFile file → length file ≤ most_records → IsSummary (file ∷ []) 0 state
     → IsKnown (of_file file) state
 known_file file state is few summary = record {

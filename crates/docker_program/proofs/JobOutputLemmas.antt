@@ -118,7 +118,7 @@ ends_unplaced by written prepared name middle empty taken is none gains made put
       kept,
     )
 
--- making a draft and then discarding it adds the events `drafted` and `dropped` to the history
+-- if a draft was made and then discarded, the history gained the events `drafted` and `dropped`
 pub then_dropped : (before middle now : List Event) (name : Text) (look : ℕ) → middle ≡ before ++ drafted name look ∷ []
     → now ≡ middle ++ dropped name ∷ [] → now ≡ before ++ drafted name look ∷ dropped name ∷ []
 then_dropped before middle now name look made given_up =
@@ -126,7 +126,7 @@ then_dropped before middle now name look made given_up =
 
 -- ---- a job that prints
 
--- for a job that prints, writing its output ends with the result of writing to the output device
+-- if a job prints, writing its output ends with the result of writing to the output device
 pub ends_printed : {K : Type 0} (taken : K → Bytes) (failures : K → ℕ) (old new : K) (prepared : PreparedView) (history : List Event)
     (by : Drafting) (result : Result ⊤ OfficeFault) → stored_by prepared.job ≡ None
     → EndsEmitting taken failures (output_of prepared.job.task) prepared.read old new result → (IsRefused prepared → result ≡ Err office.Lapsed)

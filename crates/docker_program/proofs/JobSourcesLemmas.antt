@@ -16,8 +16,7 @@ use Rattle.docker_program.specs.Sources.{AreRead, Asking, FailsToOpen, IsOpened,
 
 -- ---- appending to a history
 
--- appending events to a history, and then one more event, is the same as appending all these events
--- at once
+-- if a history gained `events` and then one more event, it gained the list of all these events
 pub one_more : (old before now events : List Event) (event : Event) → before ≡ old ++ events → now ≡ before ++ event ∷ []
     → now ≡ old ++ (events ++ event ∷ [])
 one_more old before now events event earlier last =
@@ -53,8 +52,8 @@ by_reading asked job (Err office.Memory) read = inr (opened_by asked job (Err of
 by_reading asked job (Err office.Lapsed) read = read.reads.ends
 by_reading asked job (Err office.Sink) read = read.reads.ends
 
--- if a file of a job couldn't be opened, the fault of that call is a result that `ReadsNamed`
--- allows
+-- if a file of a job couldn't be opened, `ReadsNamed` allows the fault of this opening as the
+-- result
 by_cause : (asked : Asking) (job : JobView) (cause : OpenFault) → FailsToOpen (names_of job) asked.before asked.now → asked.left ≡ asked.rest
     → ReadsNamed asked job (Err (one_of office.Source office.Memory cause))
 by_cause asked job opening.Failed fails unread = inl (record { fails = fails; unread = unread })
@@ -66,8 +65,8 @@ by_result asked job result (inl fails) =
     subst (ReadsNamed asked job) (sym fails.is) (by_cause asked job fails.cause fails.fails fails.unread)
 by_result asked job result (inr read) = by_reading asked job result read
 
--- if opening and reading sources ended with a result, and these are the sources of a job, the
--- result is one that `ReadsNamed` allows for the job
+-- suppose that opening and reading the sources in `names` ended with a result. If the words of a
+-- job name these sources, `ReadsNamed` allows this result for the job
 pub reads_named : (names : SourceNames) (asked : Asking) (job : JobView) (result : Result PreparedView OfficeFault) → names ≡ names_of job
     → ReadsBy names asked job result → ReadsNamed asked job result
 reads_named names asked job result is reads =

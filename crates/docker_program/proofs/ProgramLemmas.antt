@@ -142,8 +142,8 @@ ends_still words names_bytes old new faults failures (Office office.Memory) ends
     by (inr has) = inr (read_still old new faults failures _ ends.0.job ends.0.rest has)
 ends_still words names_bytes old new faults failures (Office office.Sink) ends = asked_still words old new faults failures _ ends
 
--- if the program ended with a fault and reported the fault, it did what the contract of `perform`
--- says
+-- if the program ended with a fault and reported the fault, the program did what the contract of
+-- `perform` says
 pub performs_telling : (words : List Text) (names_bytes : Bool) (old shown new : HostView) (faults : Bytes) (failures : ℕ) (fault : Fault) (status : ℕ)
     → shown ≡ new → EndsBy words names_bytes old new (Some fault) → IsCounted (status_of fault) (failures_of old) (failures_of new)
     → new.faults ≡ old.faults → new.faults_failures ≡ old.faults_failures → status ≡ status_of fault

@@ -268,6 +268,6 @@ pub record IsVersion (versions : List Version) (number : ℕ) (text : List ℕ)
   pub text_is : text ≡ slice_index_or (map (λ (version : Version). version.text) versions) number []
   pub known_is : known ≡ known_at (known_after [] versions) number
 
--- the job that these words name: printing the docker at this timing point for this day
+-- the `print` job for this timing point and this day, with these words after the subcommand
 abbrev pub printing : (place : List ℕ) (day : ℕ) (words : List Text) → JobView
 printing place day words = record { task = print_task place day; words = words }

@@ -24,7 +24,7 @@ pub fn commands_store_or_print()
 
 /// Suppose that STATE held the text of the summary of some files and a horizon. Suppose also that
 /// the command took a file, or merged the text of another summary. If the command stores a text,
-/// this is the text of the summary of all these files, with the greatest horizon. If the command
+/// this is the text of the summary of all these files, with the latest horizon. If the command
 /// prints, it prints the docker of that summary, or the list of its files.
 pub fn commands_keep_summaries()
     ensures stored { (run : Run) (job : JobView) (read : SourcesRead) (text : List ℕ)

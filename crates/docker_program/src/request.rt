@@ -1,4 +1,4 @@
-//! Finds the job that the words, or the first line of standard input, name.
+//! Finds the job that is named by the words or by the first line of standard input.
 ghost use Rattle.std.specs.Prelude.{◌≡◌, ◌-◌, ◌^◌, ◌<◌, [], IfOk, Err};
 ghost use Rattle.cif_device.specs.Device.{CountsFailure};
 ghost use Rattle.docker_cmd.specs.Words.{texts};

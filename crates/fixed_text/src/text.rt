@@ -15,7 +15,7 @@ pub fn put<const N: usize>(text: &mut ArrayVec<u8, N>, bytes: &[u8])
     }
 }
 
-/// The bytes of a text that is full.
+/// Returns the bytes of a text that is full.
 pub fn whole<const N: usize>(text: ArrayVec<u8, N>) -> [u8; N]
     requires full { array_vec_len text ≡ N }
     ensures { result ≡ text.entry.items }

@@ -1,5 +1,5 @@
-//! Devices that aren't regular files, such as `/dev/null`. They are written to directly, without a
-//! draft.
+//! Tests of files that aren't regular, such as `/dev/null`. A text is written to such a file
+//! directly, without a draft.
 
 use crate::compare::same;
 use crate::folders::{read, stores};

@@ -57,8 +57,8 @@ fn another_text_that_came_since(rt: HostRuntime) {
     same(&rt, shelf.failures(), 1);
 }
 
-/// Asserts how often a shelf that fails at this call has failed after its file was read. Also
-/// asserts that the file can be read to its end once the shelf no longer fails.
+/// Reads the file of a shelf that fails at this call. Asserts how often the shelf has then failed,
+/// and that the file can be read to its end once the shelf no longer fails.
 fn fails_reading(rt: &impl Abort, alloc: Global, fails: Fails, failures: u64) {
     let mut shelf = shelf_of(rt, alloc);
     shelf.fail(fails);
@@ -68,8 +68,8 @@ fn fails_reading(rt: &impl Abort, alloc: Global, fails: Fails, failures: u64) {
     reads(rt, alloc, &mut shelf, Some(300));
 }
 
-/// Asserts that storing a text on a shelf that fails at this call ends with this fault, after this
-/// many failures. Also asserts that the text is stored once the shelf no longer fails.
+/// Stores a text on a shelf that fails at this call. Asserts the fault and how often the shelf has
+/// then failed, and that the text is stored once the shelf no longer fails.
 fn fails_storing(rt: &impl Abort, alloc: Global, fails: Fails, fault: OpenFault, failures: u64) {
     let mut shelf = shelf_of(rt, alloc);
     shelf.fail(fails);

@@ -17,7 +17,7 @@ NAMES = sorted(extracts.GOOD)
 
 
 def listed(files, horizon=lists.FIRST_DAY):
-    """The expected answers to both requests, for these files under a horizon."""
+    """The expected answers to both requests, for these files and this horizon."""
     files = tuple(files)
     return [Answer(0, text(files, horizon)) for text in (lists.places_text, lists.known_text)]
 

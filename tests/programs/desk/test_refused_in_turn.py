@@ -147,7 +147,7 @@ def ran_out(room):
 def test_small_address_spaces_an_eighth_of_a_megabyte_apart():
     counts, room = [], 4096
     with large_given(8000):
-        # Until eight address spaces in a row were large enough.
+        # The loop ends once eight address spaces in a row were large enough.
         while len(counts) < 8 or any(counts[-8:]):
             counts.append(ran_out(room))
             room += 128

@@ -1,4 +1,4 @@
-"""States under a horizon, and states in the older format."""
+"""States with a horizon, and states in the older format."""
 from given import FILES_LINE, STATE_OF_BOTH, STATE_OF_ONE, STATES
 from outcomes import DAY_REFUSED, DONE, done, keeps, prints, state_refused, stores
 from programs import docker, give, held

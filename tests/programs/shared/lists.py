@@ -95,7 +95,7 @@ def end_of(key, lines):
 
 
 def live_of(files, horizon=FIRST_DAY):
-    """Each live key with its lines, for these files under a horizon."""
+    """Each live key with its lines, for these files and this horizon."""
     floor, latest = newest_full(files), {}
     for text in files:
         for key, put in puts_of(text):
@@ -123,7 +123,7 @@ def counts_of(live):
 
 @functools.cache
 def places_text(files, horizon=FIRST_DAY):
-    """The answer to `places` for these files under a horizon."""
+    """The answer to `places` for these files and this horizon."""
     live = live_of(files, horizon)
     counts = counts_of(live)
     text = ""
@@ -135,7 +135,7 @@ def places_text(files, horizon=FIRST_DAY):
 
 @functools.cache
 def known_text(files, horizon=FIRST_DAY):
-    """The answer to `known` for these files under a horizon."""
+    """The answer to `known` for these files and this horizon."""
     live, full = live_of(files, horizon), newest_full(files)
     ends = [end_of(key, lines) for key, lines in live.items() if key[0] == "3"]
     rows = [("HORIZON", "NONE" if horizon == FIRST_DAY else horizon.isoformat())]

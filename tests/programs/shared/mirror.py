@@ -63,7 +63,7 @@ def empty():
 
 @functools.cache
 def state_of(*names, horizon=""):
-    """The text of the state that knows these good files, under a horizon."""
+    """The text of the state that knows these good files and a horizon."""
     text = empty()
     commands = [("take", given(name)) for name in names]
     for words in commands + ([("horizon", horizon)] if horizon else []):
@@ -105,7 +105,7 @@ def give_large(count):
 class Mirror:
     """What a desk keeps in memory, and its STATE, both worked out by commands on state files.
 
-    The desk starts on a STATE that knows these good files, under this horizon."""
+    The desk starts on a STATE that knows these good files and this horizon."""
 
     def __init__(self, *names, horizon="", may_write=True):
         self.text = self.stored = state_of(*names, horizon=horizon)

@@ -9,8 +9,8 @@ use Rattle.docker_cmd.proofs.grammar.command_of.Goals as goal
 abbrev of_ids : Text → List Text → App
 of_ids name ids = record { top = words_shape name ids; subs = [] }
 
--- adding the argument of id `i` to the subcommand with the arguments before `i` gives the
--- subcommand with the arguments up to and including `i`
+-- if the argument of id `i` is added to the subcommand with the arguments before `i`, the result is
+-- the subcommand with the arguments up to and including `i`
 one_more : (name : Text) (ids : List (Bor Text)) (i : ℕ) (d : Bor Text) → i < length ids
     → with_rule (of_ids name (map (λ id. id.now) (take i ids))) (required_rule (slice_index_or ids i d).now)
     ≡ of_ids name (map (λ id. id.now) (take (i + 1) ids))

@@ -11,8 +11,8 @@ use Rattle.docker_cmd.proofs.grammar.docker.Goals as goal
 abbrev with_all : App → List Subcommand → App
 with_all app ss = fold with_subcommand app (map shape_of ss)
 
--- adding a list of subcommands that ends with `s` equals adding the list without `s`, and then
--- adding `s`
+-- if a list of subcommands is added to the program, and then the subcommand `s`, the result is the
+-- program with the list `ss ++ s ∷ []` added
 with_last : (app : App) (ss : List Subcommand) (s : Subcommand) → with_all app (ss ++ s ∷ []) ≡ with_subcommand (with_all app ss) (shape_of s)
 with_last app [] s = refl
 with_last app (t ∷ ss) s = with_last (with_subcommand app (shape_of t)) ss s
