@@ -33,7 +33,7 @@ unfolding walk_fault walked
 no_later_fault names name seen [] = refl
 no_later_fault names name seen (word ∷ words) = no_later_fault names name (seen ++ word ∷ []) words
 
--- `or_else` with an empty list of other faults leaves the faults unchanged
+-- if the second list of faults is empty, `or_else` returns the first list unchanged
 or_else_none : (kinds : Kinds) → or_else kinds [] ≡ kinds
 or_else_none [] = refl
 or_else_none (k ∷ kinds) = refl

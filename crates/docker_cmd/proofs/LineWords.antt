@@ -6,8 +6,8 @@ use Rattle.std.proofs.lemmas.List.Elements.{All-from_recursion}
 use Rattle.std.proofs.lemmas.List.Splits.{slice_split_first, slice_split_none}
 use Rattle.docker_cmd.specs.JobLine.{is_space, word_or_none, words_in}
 
--- the words in a list of pieces are the first piece, unless that piece is empty, followed by the
--- words in the other pieces
+-- the words in a list of pieces are the first piece, unless that piece is empty, and then the words
+-- in the other pieces
 first_apart : (piece : List ℕ) (pieces : List (List ℕ))
     → filter (λ word. not (length word == 0)) (piece ∷ pieces) ≡ word_or_none piece ++ filter (λ word. not (length word == 0)) pieces
 first_apart piece pieces = by (length piece == 0)
@@ -17,8 +17,8 @@ first_apart piece pieces = by (length piece == 0)
     by true = refl
     by false = refl
 
--- the words of a line with a space are the bytes before the first space, unless there are none,
--- followed by the words of the bytes after that space
+-- if a line has a space, its words are the bytes before the first space, unless there are none, and
+-- then the words of the bytes after this space
 pub words_at_space : (text : List ℕ) → position_or_len is_space text < length text
     → words_in text ≡ word_or_none (before_first is_space text) ++ words_in (after_first is_space text)
 words_at_space text here =
@@ -36,7 +36,7 @@ no_space (b ∷ text) none = by (is_space b) refl none (no_space text)
     by true here at_end rest = absurd (omega arith)
     by false here at_end rest = (here, rest (omega arith))
 
--- a line without a space is one word, or has no word if it is empty
+-- if a line has no space, it is a single word, or has no word if it is empty
 pub words_without_space : (text : List ℕ) → position_or_len is_space text ≡ length text → words_in text ≡ word_or_none text
 words_without_space text none =
     ap (filter (λ word. not (length word == 0))) (slice_split_none is_space text (All-from_recursion _ text (no_space text none)))

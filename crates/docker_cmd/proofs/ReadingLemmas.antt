@@ -1,4 +1,4 @@
--- The result of reading two sources follows from the results of reading each.
+-- The result of reading two sources follows from the results of reading each source.
 use Rattle.std.proofs.Common.{◌≡◌, ◌⊎◌, ℕ, arith, refl, sym, subst, inl, inr, Err}
 use Rattle.docker_model.specs.file.File.{most_records}
 use Rattle.docker_model.specs.state.StateText.{Format, dks_2}

@@ -14,8 +14,8 @@ use Rattle.docker_cmd.specs.Prepared.{DeviceBytes, most_bytes}
 abbrev pub HoldsFile : DeviceBytes → List (List ℕ) → Type 0
 HoldsFile bytes file = (text : List ℕ) × (bytes ≡ Some text) × IsFileText most_records text file
 
--- `earlier` lists the texts of versions of STATE files, and a source held the version with this
--- number
+-- `earlier` has the texts of versions of STATE files, and a source held the text of the version
+-- with this number
 pub record HoldsVersion (earlier : List (List ℕ)) (bytes : DeviceBytes) (number : ℕ) : Type 0 where
   pub there : number < length earlier
   pub held : bytes ≡ Some (slice_index_or earlier number [])
@@ -37,7 +37,7 @@ Gains earlier (version_gained number) old new =
     (held : DeviceBytes) × HoldsVersion earlier held number × JoinsState dks_2 most_bytes held old new
 Gains earlier (horizon_gained day) old new = IsDay day × (new ≡ raise_horizon day old)
 
--- the old state became the new state by gaining all that `gains` lists, in order
+-- the old state became the new state by gaining everything in the list `gains`, in order
 abbrev pub AreGained : List (List ℕ) → List Gain → State → State → Type 0
 AreGained earlier [] old new = new ≡ old
 AreGained earlier (gain ∷ gains) old new =

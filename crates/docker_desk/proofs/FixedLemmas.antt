@@ -53,8 +53,8 @@ plain_dockers known state is distinct =
       ),
     )
 
--- if no two known files have the same moment, the state's list of timing points is the list of the
--- plain table without its lapsed entries
+-- suppose that no two known files have the same moment. Then the state lists the timing points of
+-- the plain table, from which the rows that ended before the horizon are removed
 pub plain_places : (known : Known) (state : State) → IsKnown known state → HaveDistinctMoments known.files
     → (plain : Table) × IsPlainTable known.files plain
     × ((text : List ℕ) → IsPlacesText (live_table state) text → IsPlacesText (lapse_table known.horizon plain) text)

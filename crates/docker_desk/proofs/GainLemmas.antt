@@ -25,7 +25,7 @@ use Rattle.docker_desk.proofs.HeardLemmas.{held_after_look, held_once}
 use Rattle.docker_desk.proofs.KnownLemmas.{day_asked, never_unasked, same_refused, same_saved}
 
 module _ (earlier : List (List ℕ)) where
-  -- if a state is unchanged, it gained an empty list of things
+  -- if a state is unchanged, the list of what it gained is empty
   gained_none : (gains : List Gain) (old new : State) → gains ≡ [] → new ≡ old → AreGained earlier gains old new
   gained_none gains old new none same = subst (λ g. AreGained earlier g old new) (sym none) same
 

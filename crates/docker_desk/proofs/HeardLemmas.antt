@@ -101,7 +101,7 @@ module _ (before after : SessionView) (known : Known) where
 
 -- ---- what a session learns from its steps
 
--- if `take` succeeded, the session learned some file
+-- if `take` succeeded, there is a file that the session learned
 takes_heard : (file : Text) (text : List ℕ) (before after : SessionView) → Joins file StopsInFile EndsTaking before (done_with text) after
     → (heard : Known) × HearsFile file before after heard
 takes_heard file text before after does = by does.result does.opens.read does.told does.opens.asked does.opens.ends

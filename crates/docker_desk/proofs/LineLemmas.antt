@@ -96,8 +96,8 @@ skips_feed None new read = tt
 skips_feed (Some text) None read = let never : ⊥ = cc in absurd never
 skips_feed (Some text) (Some rest) read = record { skipped = []; rest = rest; whole = cc; one = tt; behind = refl }
 
--- suppose that a byte was read that isn't a line feed. If the bytes that follow on its line were
--- then skipped, the rest of the line was skipped
+-- suppose that a byte was read that isn't a line feed, and that the bytes after it on its line were
+-- skipped. Then the rest of the line was skipped, beginning with this byte
 pub skips_byte : (old now new : Option (List ℕ)) (b : ℕ) → Reads old (b ∷ []) now → b ≢ 10 → SkipsLine now new → SkipsLine old new
 skips_byte None now new b read other line = tt
 skips_byte (Some text) None new b read other line = let never : ⊥ = cc in absurd never
@@ -113,13 +113,13 @@ skips_byte (Some text) (Some left) new b read other line =
     behind : (text left : List ℕ) (b : ℕ) (skipped rest : List ℕ) → text ≡ b ∷ left → left ≡ skipped ++ 10 ∷ rest → text ≡ b ∷ skipped ++ 10 ∷ rest
     behind text left b skipped rest first second = cc
 
--- if a source is at its end and nothing is read, the rest of the last line was skipped
+-- if a source is at its end and nothing was read, the rest of the last line was skipped
 pub skips_end : (old new : Option (List ℕ)) → IsEnd old → new ≡ old → SkipsAll old new
 skips_end None new end same = tt
 skips_end (Some text) new end same = (subst IsWithoutFeed (sym end) tt, same ∙ ap Some end)
 
--- suppose that a byte was read that isn't a line feed. If the bytes that follow on the last line
--- were then skipped, the rest of the last line was skipped
+-- suppose that a byte was read that isn't a line feed, and that the bytes after it on the last line
+-- were skipped. Then the rest of the last line was skipped, beginning with this byte
 pub skips_before : (old now new : Option (List ℕ)) (b : ℕ) → Reads old (b ∷ []) now → b ≢ 10 → SkipsAll now new → SkipsAll old new
 skips_before None now new b read other line = tt
 skips_before (Some text) None new b read other line = let never : ⊥ = cc in absurd never

@@ -14,14 +14,14 @@ use Rattle.docker_desk.specs.Desk.{IsDockerRefused, IsPermanentAnswer, TellsDock
 use Rattle.docker_desk.specs.Replies.{AnswerView, done_with, no_request, refused_for}
 use Rattle.docker_desk.specs.Learning.{IsKnown, KeepsAs}
 
--- if a text was written on an empty page, the page has exactly this text
+-- if a text was written to a sink that had taken nothing, the sink has taken exactly this text
 pub written_whole : (own text new : List ℕ) → own ≡ [] → ◌≡◌ {A = Option (List ℕ)} (Some new) (Some (own ++ text)) → new ≡ text
 written_whole own text new none whole =
     let same : ◌≡◌ {A = Option (List ℕ)} (Some new) (Some text) =
     subst (λ (front : List ℕ). ◌≡◌ {A = Option (List ℕ)} (Some new) (Some (front ++ text))) none whole in cc
 
--- if a day isn't refused, an answer that has the permanent docker for this day, or that reports
--- that memory ran out, is an answer to `permanent`
+-- suppose that a day isn't refused. If an answer has the permanent docker for this day, or reports
+-- that memory ran out, it is an answer to `permanent`
 pub told_docker : (state : State) (place : List ℕ) (day : ℕ) (answer : AnswerView) → ¬ IsDayRefused state.horizon day
     → TellsDocker (permanent_table (live_table state)) place day answer → IsPermanentAnswer state place day answer
 told_docker state place day (done_with text) allowed told = (told, allowed)

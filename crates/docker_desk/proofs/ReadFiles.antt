@@ -114,7 +114,8 @@ reading_counted before after (Err fault) counted = fault_counted before after fa
 
 -- ---- comparing a file with a state
 
--- the result of comparing the copy is also the result of comparing the bytes that the source held
+-- suppose that comparing the copy with the text of a state has a result. Then comparing the bytes
+-- that the source held with this text has the same result
 found_held : (bytes : Bytes) (copy : Option Text) (found : Compared) (state : State) (left : Bytes) → IfSome copy (IsText bytes)
     → ComparesCopy found copy (state_text dks_2 state) → IsFound found state (reading bytes left)
 found_held None copy compared.Same state left held is = tt
@@ -144,7 +145,8 @@ refuses_as held left seen seen_left old new fault why kept same same_left = (
   kept,
 )
 
--- if the bytes in a copy's vector are the text, the list of these bytes is the text
+-- a copy is a vector of bytes. If the items of the vector are the text, the copy as a list is the
+-- text too
 copied : {Z : Type 0} (bytes : Bytes) (copy : Option (Vec ℕ Z)) → IfSome copy (λ it. IsText bytes it.items)
     → IfSome (option_map (λ (it : Vec ℕ Z). it.items) copy) (IsText bytes)
 copied bytes None held = tt

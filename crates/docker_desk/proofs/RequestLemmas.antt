@@ -97,7 +97,7 @@ no_verb may_write line word first none = λ request is.
     cc
 
 module _ (may_write : Bool) (line : List ℕ) (word : Text) (v : Verb) (first : word ≡ first_word line) (found : Some v ≡ verb_named word) where
-  -- each request of the line has the verb that the line's first word names
+  -- the request of a line has the verb that the line's first word names
   of_request : (request : RequestView) → IsRequestOf may_write line request → verb_of request ≡ v
   of_request request is =
       let one : Some v ≡ Some (verb_of request) = found ∙ ap verb_named (first ∙ is.name) ∙ named_back (verb_of request) in

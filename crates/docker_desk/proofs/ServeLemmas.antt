@@ -14,7 +14,7 @@ use Rattle.docker_desk.specs.SessionViews.{SessionView, session_view, setting}
 use Rattle.docker_desk.specs.Serving.{BeginsAt, EndsOpening, EndsWithStatus, NamesSession, Serves}
 use Rattle.docker_desk.proofs.WritingLemmas.{both_taken, part_of_back, part_of_front}
 
--- writing two texts one after the other writes their concatenation
+-- if a text was written and then a second text, their concatenation was written
 pub tells_both : (first second piece behind : List ℕ) (old middle new : FaultsView) → piece ≡ first → behind ≡ second → middle.failures ≡ old.failures
     → Takes old.taken piece middle.taken → TellsText behind middle new → TellsText (first ++ second) old new
 tells_both first second piece behind old middle new one two sound whole tells = by (subst (λ text. TellsText text middle new) two tells)

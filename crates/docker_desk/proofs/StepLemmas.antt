@@ -105,7 +105,7 @@ module _ (old now : DeviceBytes) (lines : List LineView) where
           let some = first_lines_some text lines first.0 first.1.0 in
           omega (arith, there, some)
 
-  -- an input from which 2 ^ 64 - 1 lines were read is endless
+  -- if 2 ^ 64 - 1 lines were read from an input, the input is endless
   pub endless_lines : ReadsFirst old lines now → length lines ≡ 2 ^ 64 - 1 → IsEndless old
   endless_lines = by old
     where
@@ -129,7 +129,7 @@ next_read old new read line is ends = subst (λ (met : Option LineView). ReadsAs
 pub next_endless : (old new : DeviceBytes) (fault : InputFault) → fault ≡ Endless → EndsLine old (Err fault) new → ReadsMany (2 ^ 64 - 1) old new
 next_endless old new fault is ends = subst (λ (f : InputFault). EndsLine old (Err f) new) is ends
 
--- an input from which at least 2 ^ 64 - 1 bytes were read is endless
+-- if at least 2 ^ 64 - 1 bytes were read from an input, the input is endless
 pub endless_line : (old new : DeviceBytes) → ReadsMany (2 ^ 64 - 1) old new → IsEndless old
 endless_line None new many = tt
 endless_line (Some text) new many = by new many.read
@@ -150,7 +150,7 @@ pub takes_none : (output : DeviceBytes) → Takes output [] output
 takes_none None = refl
 takes_none (Some taken) = ap Some (sym (append-nil taken))
 
--- writing one piece and then another writes their concatenation
+-- if a piece was written and then a second piece, their concatenation was written
 pub takes_more : (old now new : DeviceBytes) (first second : List ℕ) → Takes old first now → Takes now second new → Takes old (first ++ second) new
 takes_more None now new first second one two = two ∙ ap (option_map (λ taken. taken ++ second)) one
 takes_more (Some taken) now new first second one two =

@@ -11,8 +11,8 @@ use Rattle.docker_desk.specs.Requests.{after_word, first_word, without_spaces}
 
 -- ---- the words of pieces
 
--- the words in a list of pieces are the first piece, unless that piece is empty, followed by the
--- words in the other pieces
+-- the words in a list of pieces are the first piece, unless that piece is empty, and then the words
+-- in the other pieces
 first_apart : (piece : List ℕ) (pieces : List (List ℕ))
     → filter (λ word. not (length word == 0)) (piece ∷ pieces) ≡ word_or_none piece ++ filter (λ word. not (length word == 0)) pieces
 first_apart piece pieces = by (length piece == 0)
@@ -30,8 +30,8 @@ some_word piece some = by (length piece == 0) refl
     by false is = refl
     by true is = let none : length piece ≡ 0 = search (rules, tests) in absurd (omega (arith, some, none))
 
--- the words of a text with a space are the bytes before the first space, unless there are none,
--- followed by the words of the bytes after that space
+-- if a text has a space, its words are the bytes before the first space, unless there are none, and
+-- then the words of the bytes after this space
 at_space : (text : List ℕ) → position_or_len is_space text < length text
     → words_in text ≡ word_or_none (before_first is_space text) ++ words_in (after_first is_space text)
 at_space text here =
@@ -49,7 +49,7 @@ no_space (b ∷ text) none = by (is_space b) refl none (no_space text)
     by true here at_end rest = absurd (omega arith)
     by false here at_end rest = (here, rest (omega arith))
 
--- a text without a space is one word, or has no word if it is empty
+-- if a text has no space, it is a single word, or has no word if it is empty
 without_space : (text : List ℕ) → position_or_len is_space text ≡ length text → words_in text ≡ word_or_none text
 without_space text none =
     ap (filter (λ word. not (length word == 0))) (slice_split_none is_space text (All-from_recursion _ text (no_space text none)))

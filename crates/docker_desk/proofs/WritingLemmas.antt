@@ -6,22 +6,22 @@ use Rattle.std.proofs.lemmas.List.{take-append-le}
 use Rattle.std.proofs.Math.Seq.{take-add, take-append-add, take-length}
 use Rattle.cif_device.specs.Device.{Takes, TakesPart}
 
--- writing two parts one after the other writes their concatenation
+-- if a part was written and then a second part, their concatenation was written
 pub both_taken : (first second third : Option (List ℕ)) (front back : List ℕ) → Takes first front second → Takes second back third
     → Takes first (front ++ back) third
 both_taken None second third front back one two = two ∙ ap (option_map (λ taken. taken ++ back)) one
 both_taken (Some taken) second third front back one two =
     two ∙ ap (option_map (λ out. out ++ back)) one ∙ ap Some (append_assoc taken front back)
 
--- a proper prefix of the first part is a proper prefix of the concatenation
+-- if a sink took a proper prefix of the first part, it took a proper prefix of the concatenation
 pub part_of_front : (first second : Option (List ℕ)) (front back : List ℕ) → TakesPart first front second → TakesPart first (front ++ back) second
 part_of_front first second front back (n, short, taken) =
     let long = length-append front back in
     let same : take n (front ++ back) ≡ take n front = take-append-le n front back (omega arith) in
     (n, omega arith, subst (λ bytes. Takes first bytes second) (sym same) taken)
 
--- the first part, followed by a proper prefix of the second, is a proper prefix of the
--- concatenation
+-- if a sink took the first part and then a proper prefix of the second part, it took a proper
+-- prefix of the concatenation
 pub part_of_back : (first second third : Option (List ℕ)) (front back : List ℕ) → Takes first front second → TakesPart second back third
     → TakesPart first (front ++ back) third
 part_of_back first second third front back one (n, short, taken) =

@@ -43,8 +43,8 @@ abbrev pub AreLines : List ℕ → List LineView → Type 0
 AreLines text [] = text ≡ []
 AreLines text (line ∷ lines) = (rest : List ℕ) × (IsNextLine text line rest × AreLines rest lines)
 
--- if the line is whole, it has at most 255 bytes, and all are printable. Contracts know this of
--- each line that was read, even if they don't know which bytes the source held
+-- if the line is whole, it has at most 255 bytes, and all are printable. Contracts know these facts
+-- about each line that was read, even if they don't know which bytes the source held
 abbrev pub IsSomeLine : LineView → Type 0
 IsSomeLine (whole_line line) = IsLineText line
 IsSomeLine bad_line = ⊤

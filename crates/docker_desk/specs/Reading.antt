@@ -13,7 +13,7 @@ pub record Reading : Type 0 where
 abbrev pub reading : Bytes → Bytes → Reading
 reading held left = record { held = held; left = left }
 
--- the events when the named file is read: its opening and its closing
+-- the events of reading the named file: its opening and its closing
 abbrev pub events_of : Text → Reading → List Event
 events_of name read = opened name read.held ∷ closed read.left ∷ []
 

@@ -60,8 +60,8 @@ impl Ahead {
         Some(byte)
     }
 
-    /// Reads from the source once if there are no bytes. If there are still none after that, the
-    /// source is at its end.
+    /// If there are no bytes, reads from the source once. If there are still none, the source is at
+    /// its end.
     fn make_ready<S: Source>(&mut self, source: &mut S) -> Result<(), Failed>
         requires { S.failures source.old < 2 ^ 64 - 1 }
         ensures same { with_ahead self.new (S.left source.new)

@@ -84,7 +84,8 @@ fn answer_request<D: Folder>(
     }
 }
 
-/// Returns the answer without a text for a request with this result.
+/// Returns the answer to a request with this result. If the request succeeded, the answer has no
+/// text.
 fn answer_to<T: Drop>(outcome: Result<T, OfficeFault>) -> Answer
     ensures { answer_meant result ≡ answer_of outcome }
 {

@@ -111,8 +111,8 @@ pub fn each_point_is_a_last_one()
         × AreSteps setting first earlier between × AreSteps setting between later last }
 {}
 
-/// At the end of a run, the state of an office is the summary of what the office knows. So laws
-/// that require this of the state of a desk also apply to the state of an office.
+/// At the end of a run, the state of an office is the summary of what the office knows. So the laws
+/// that assume that a desk's state is such a summary also apply to an office's state.
 pub fn offices_know_as_desks()
     ensures { (known : Known) (state : State) → EndsWith known state → IsKnown known state }
 {}

@@ -1,4 +1,4 @@
--- What a command stored or printed follows from how it ended.
+-- What a command stored or printed follows from how the command ended.
 use Rattle.std.proofs.Common.{◌≡◌, ◌≢◌, ℕ, List, [], ◌∷◌, ◌++◌, Option, None, Some, length, refl}
 use Rattle.std.proofs.Common.{sym, ◌∙◌, ap, subst, arith, inl, inr, append-nil, append_assoc}
 use Rattle.docker_host.specs.Asked.{IsStored, IsUnplaced}

@@ -1,4 +1,4 @@
--- How writing a job's output ends.
+-- The ways in which the writing of a job's output can end.
 use Rattle.std.proofs.Common.{◌≡◌, ◌≢◌, ◌+◌, arith, refl, sym, ◌∙◌, ap, subst, Some, None, Ok, Err, inl, inr, append_assoc}
 use Rattle.std.specs.Prelude.{ℕ, Bool, true, false, List, [], ◌∷◌, ◌++◌, Option, Result, ⊤}
 use Rattle.cif_device.specs.Device.{Takes}
@@ -49,13 +49,14 @@ fails_alone taken failures old new prepared name office.Source is ends = elim en
 
 -- ---- a job that writes a file
 
--- if no draft was made because a device failed, the output wasn't written, as `WritesPart` says
+-- if no draft could be made because a device failed, the output wasn't written, as `WritesPart`
+-- says
 pub ends_unmade : (by : Drafting) (written : Written) (prepared : PreparedView) (name : Text) → stored_by prepared.job ≡ Some name
     → IsUndrafted name by.look written.before written.now → written.output_now ≡ written.output → WritesPart by written prepared
 ends_unmade by written prepared name is none kept =
     subst (λ (stored : Option Text). WritesPartTo stored by written prepared) (sym is) (inl none, kept)
 
--- if no draft was made because memory ran out, writing the output ends with the fault `Memory`
+-- if no draft could be made because memory ran out, writing the output ends with the fault `Memory`
 pub ends_wanting : (by : Drafting) (written : Written) (prepared : PreparedView) (name : Text) → stored_by prepared.job ≡ Some name
     → IsUndrafted name by.look written.before written.now → written.output_now ≡ written.output → EndsWriting by written prepared (Err office.Memory)
 ends_wanting by written prepared name is none kept =
@@ -100,7 +101,7 @@ ends_stored by written prepared name middle empty taken is none gains made put k
       kept,
     )
 
--- if the complete draft failed to replace the file, the output may not have been stored, as
+-- if the complete draft failed to replace the file, the file may or may not hold the output, as
 -- `WritesPart` says
 pub ends_unplaced : (by : Drafting) (written : Written) (prepared : PreparedView) (name : Text) (middle : List Event) (empty taken : Bytes)
     → stored_by prepared.job ≡ Some name → empty ≡ named_if by.names_bytes [] → GainsOutput prepared empty taken

@@ -34,8 +34,7 @@ opened_by asked job result read = record {
   second_few = read.reads.second_few;
 }
 
--- if the sources of a job were opened and read with a result, this result is one that `ReadsNamed`
--- allows
+-- if the sources of a job were opened and read with a result, `ReadsNamed` allows this result
 by_reading : (asked : Asking) (job : JobView) (result : Result PreparedView OfficeFault) → AreRead (names_of job) asked job result
     → ReadsNamed asked job result
 unfolding opened_by
@@ -134,8 +133,8 @@ counted_together (Err office.Memory) one one_now two two_now counts = none_faile
 counted_together (Err office.Lapsed) one one_now two two_now counts = elim counts [ ]
 counted_together (Err office.Sink) one one_now two two_now counts = elim counts [ ]
 
--- if a failure count agrees with the status (`IsCounted`), it still agrees after the same number is
--- added to the counts before and after
+-- suppose that a failure count agrees with the status (`IsCounted`). If the same number is added to
+-- the old count and to the new count, they still agree with the status
 pub counted_beside : (status before after more all all_now : ℕ) → IsCounted status before after → all ≡ before + more → all_now ≡ after + more →
     IsCounted status all all_now
 counted_beside status before after more all all_now counts is is_now = (

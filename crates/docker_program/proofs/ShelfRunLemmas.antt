@@ -89,7 +89,7 @@ counted extract first (file_read file) text same reads is =
     is.1 ∙ (λ i. count_line ((reads.1.of_text.of_records.count_is ∙ ap length (sym lines)) i)
     ((reads.1.of_text.of_records.changes_are ∙ ap (λ (ls : List (List ℕ)). length (changes ls)) (sym lines)) i))
 
--- a `check` that ends with status 0 on a shelf prints the counts of the file
+-- if `check` runs on a shelf and ends with status 0, it prints the counts of the file
 pub check_printed : (extract : List ℕ) (old new : HostView) → old.history ≡ placed file_name (Some extract) ∷ [] → old.output ≡ Some []
     → IsShelfHistory new.history → Performs (codes "check" ∷ file_name ∷ []) true old new 0
     → new.output ≡ Some (count_line (length (lines_of extract)) (length (changes (lines_of extract))))
@@ -156,8 +156,8 @@ end_known extract first second left held (inr few) end =
     let rest = rest_known extract (few.1.before ++ few.1.piece) left read in
     end_some left rest.0 rest.1 end
 
--- on a shelf with a STATE file and an extract, a `take` that ends with status 0 reads both files,
--- and stores a text in STATE, as `IsTaken` says
+-- suppose that a shelf has a STATE file and an extract. If `take` ends with status 0, it has read
+-- both files and stored a text in STATE, as `IsTaken` says
 pub take_left : (state extract : List ℕ) (old new : HostView) → old.history ≡ both_put state extract
     → IsShelfHistory new.history → Performs (codes "take" ∷ state_name ∷ file_name ∷ []) true old new 0
     → IsTaken state extract new.history

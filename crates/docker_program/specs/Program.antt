@@ -71,8 +71,8 @@ EndsReading old new Holds job rest = Holds (reading old new job rest new.history
 abbrev pub from_first_look : Bool → HostView → Drafting
 from_first_look names_bytes old = drafting (length old.history) names_bytes
 
--- the changes to the output device since the program was started, and the changes to the folder
--- since the history `before`
+-- the changes to the output device since the program was started, and the events that the folder
+-- gained after the history `before`
 abbrev pub writing : HostView → HostView → List Event → Written
 writing old new before = written old.output new.output before new.history
 

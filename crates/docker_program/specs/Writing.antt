@@ -84,8 +84,8 @@ WantsToWriteTo (Some name) by written prepared =
 abbrev pub Writes : Drafting → Written → PreparedView → Type 0
 Writes by written prepared = WritesTo (stored_by prepared.job) by written prepared
 
--- the job's output, to the output device or to the file that the job writes, wasn't written whole
--- because a device failed
+-- the job's output wasn't written whole, because a device failed. The output goes to the output
+-- device, or to the file that the job writes
 abbrev pub WritesPart : Drafting → Written → PreparedView → Type 0
 WritesPart by written prepared = WritesPartTo (stored_by prepared.job) by written prepared
 
