@@ -59,7 +59,8 @@ pub(crate) const DEVICE: &str = "docker: device failed\n";
 /// The line that reports unsaved changes at the end of a session.
 pub(crate) const UNSAVED: &str = "desk: changes not saved\n";
 
-/// The lines that report a failed input or output and unsaved changes.
+/// The two lines that report that the input or the output failed, and that there are unsaved
+/// changes.
 pub(crate) const DEVICE_UNSAVED: &str = "docker: device failed\ndesk: changes not saved\n";
 
 /// A desk's answer to `files` if it knows the morning train.

@@ -10,7 +10,7 @@ pub(crate) type Parts = &'static [&'static [u8]];
 /// A file with one train, the morning train from Ashfeld to Brayton.
 pub(crate) const MORNING: Parts = &[HD, BS, LO, LT, ZZ];
 
-/// A file of 10 June that revises the morning train to leave five minutes later.
+/// A file of 10 June that revises the morning train, so that it leaves five minutes later.
 pub(crate) const REVISION: Parts = &[HD_10B, BS_REVISED, LO_0905, LT, ZZ];
 
 /// The file `REVISION`, without its trailer.

@@ -30,8 +30,9 @@ pub(crate) fn shelf_of(rt: &impl Abort, alloc: Global, state: Parts) -> Shelf
     shelf_with(rt, alloc, "S", text.as_slice())
 }
 
-/// Returns the shelf of most sessions. Its four files hold the state of the morning train, the
-/// revision of the morning train, this revision without its trailer, and the state of the revision.
+/// Returns the shelf on which most sessions run. Its four files hold the state of the morning
+/// train, the revision of the morning train, this revision without its trailer, and the state of
+/// the revision.
 pub(crate) fn shelf_of_morning(rt: &impl Abort, alloc: Global) -> Shelf
     ensures { result.failures ≡ 0 }
 {

@@ -43,7 +43,8 @@ found_name word s (t ∷ ss) found = by (bytes_eq (name_of t) word) refl found (
         sym ((bytes_eq-Decides (name_of t) word).0 same) ∙ ap name_of this
     by false differ found rest = rest found
 
--- if looking up a word in the table returns a subcommand, the word is that subcommand's name
+-- if a word is looked up in the table of subcommands and a subcommand is found, the word is that
+-- subcommand's name
 pub name_back : (word : Text) (s : Subcommand) → subcommand_named word ≡ Some s → word ≡ name_of s
 unfolding subcommand_named
 name_back word s found = found_name word s subcommands found

@@ -5,21 +5,21 @@ use Rattle.docker_host.specs.Shelf.{Texts, no_texts, with_text, after_event, aft
 use Rattle.docker_host.specs.Places.{texts_of, IsKept}
 use Rattle.docker_host.specs.declared.shelf.Place.{Place}
 
--- the files after a list of events and one more event are the files after the list, changed by this
--- event
+-- the files after a list of events and then one more event are the files after the list, changed by
+-- this event
 pub after_events-append : (texts : Texts) (events : List Event) (event : Event)
     → after_events texts (events ++ event ∷ []) ≡ after_event (after_events texts events) event
 after_events-append texts [] event = refl
 after_events-append texts (first ∷ events) event = after_events-append (after_event texts first) events event
 
--- suppose that each file that a list of events opens has the text last placed under its name. This
--- is still true after one more event, if it is also true of this event
+-- suppose that each file that the events in a list open has the text last placed under its name. If
+-- this is also true of one more event, it is true of the longer list
 pub AreMet-append : (texts : Texts) (events : List Event) (event : Event)
     → AreMet texts events → IsMet (after_events texts events) event → AreMet texts (events ++ event ∷ [])
 AreMet-append texts [] event met last = (last, tt)
 AreMet-append texts (first ∷ events) event met last = (met.0, AreMet-append (after_event texts first) events event met.1 last)
 
--- an event that changes no file preserves the shelf's invariant `IsKept`
+-- if an event that changes no file is appended, the shelf's invariant `IsKept` still holds
 pub kept_still : (places : List Place) (events : List Event) (event : Event) → IsKept places events
     → ((texts : Texts) → after_event texts event ≡ texts) → IsMet (after_events no_texts events) event
     → IsKept places (events ++ event ∷ [])
@@ -29,8 +29,8 @@ kept_still places events event kept still met = record {
       ∙ sym (ap (λ (texts : Texts). texts name) (after_events-append no_texts events event ∙ still (after_events no_texts events)));
 }
 
--- writing a text to a file, and appending the event `placed`, preserves the shelf's invariant
--- `IsKept`
+-- if a text is written to a file and the event `placed` is appended, the shelf's invariant `IsKept`
+-- still holds
 pub kept_placed : (place : Place) (places : List Place) (events : List Event) (name text : Text) → IsKept places events
     → string_bytes place.name ≡ name → place.text.items ≡ text
     → IsKept (place ∷ places) (events ++ placed name (Some text) ∷ [])
@@ -47,7 +47,8 @@ kept_placed place places events name text kept named held = record {
         → with_text name text texts other ≡ with_text name text texts' other
     with_same name text other texts texts' same = rw same refl
 
--- opening a file, and appending the event `opened`, preserves the shelf's invariant `IsKept`
+-- if a file is opened and the event `opened` is appended, the shelf's invariant `IsKept` still
+-- holds
 pub kept_opened : (places : List Place) (events : List Event) (name text : Text) → IsKept places events
     → text_under events name ≡ Some text → IsKept places (events ++ opened name (Some text) ∷ [])
 kept_opened places events name text kept found =

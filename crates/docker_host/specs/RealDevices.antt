@@ -1,4 +1,4 @@
--- The view of real devices in contracts. Contracts don't know the bytes of real devices.
+-- What contracts see of real devices. Contracts don't know the bytes of real devices.
 use Rattle.std.specs.Prelude.{ℕ, Bool}
 
 -- a source, such as an opened file: its failure count, whether it has reported its end, and whether

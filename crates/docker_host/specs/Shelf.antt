@@ -30,7 +30,7 @@ no_texts name = None
 abbrev pub with_text : Text → Text → Texts → Texts
 with_text name text texts other = if bytes_eq name other then Some text else texts other
 
--- these files after an event. Only placing a text changes a file
+-- these files after an event. Only the event `placed` changes a file
 abbrev pub after_event : Texts → Event → Texts
 after_event texts (placed name (Some text)) = with_text name text texts
 after_event texts (placed name None) = texts

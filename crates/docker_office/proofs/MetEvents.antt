@@ -35,8 +35,8 @@ use Rattle.docker_office.specs.declared.steps.Holdings.{Holdings}
 use Rattle.docker_office.specs.RunMeaning.{IsMissing, IsTextCause, refusal_of_file, reply_for, texts_of}
 use Rattle.docker_office.specs.RunSteps.{AreOf, MeetsEvent}
 
--- if the bytes of a source are this text, the text has the fault that the reader of the source
--- returns
+-- suppose that a source holds this text. If the reader of the source returns a fault, the text has
+-- this fault
 pub refused_text : (limit : ℕ) (left text : List ℕ) (answer : Result Unit OfficeFault) → left ≡ text
     → ((fault : StateFault) → answer ≡ Err (why.State fault) → RefusesState dks_2 limit (Some left) fault)
     → (fault : StateFault) → answer ≡ Err (why.State fault) → RefusesState dks_2 limit (Some text) fault
@@ -179,8 +179,8 @@ module _ (known : KnownSets) (held : Holdings) (holds : AreOf known held) where
       holds = unchanged office now after is same;
     }
 
-    -- whatever the office returns for a `Take`, the definitions allow the reply that is made from
-    -- it
+    -- whatever result the office returns for a `Take`, the definitions allow the reply that is made
+    -- from this result
     pub take_met : (answer : Result Unit OfficeFault) (reply : Reply) → reply ≡ reply_for answer → limit ≤ 4_294_967_294
         → (IsOk answer → TakesFile limit (Some text) (get_or held.offices.items office no_state) now)
         → (IsErr answer → now ≡ get_or held.offices.items office no_state)
@@ -218,7 +218,8 @@ module _ (known : KnownSets) (held : Holdings) (holds : AreOf known held) where
         (after_send dks_2 known held.offices.items (texts_of held.messages.items) holds office (is_office office there)));
   }
 
-  -- if memory runs out for a `Send` and no message is appended, out of memory is an allowed reply
+  -- if memory runs out for a `Send` and no message is appended, the definitions allow the reply
+  -- that memory ran out
   pub send_without_memory : (office : ℕ) → office < length held.offices.items → MeetsEvent known (send_state office) (Refused (Office why.Memory)) held
   send_without_memory office there = record {
     told = tt;
@@ -297,8 +298,8 @@ module _ (known : KnownSets) (held : Holdings) (holds : AreOf known held) where
       reload_without_memory : now ≡ get_or held.offices.items office no_state → MeetsEvent known (reload office message) (Refused (Office why.Memory)) after
       reload_without_memory same = record { told = tt; may = no_memory_there; holds = unchanged office now after is same }
 
-      -- whatever the office returns for a `Deliver`, the definitions allow the reply that is made
-      -- from it
+      -- whatever result the office returns for a `Deliver`, the definitions allow the reply that is
+      -- made from this result
       pub delivery_met : (answer : Result Unit OfficeFault) (reply : Reply) → reply ≡ reply_for answer
           → (IsOk answer → JoinsState dks_2 (length text) (Some text) (get_or held.offices.items office no_state) now)
           → (IsErr answer → now ≡ get_or held.offices.items office no_state)
@@ -319,8 +320,8 @@ module _ (known : KnownSets) (held : Holdings) (holds : AreOf known held) where
           by (Err why.Lapsed) ok stays state source only = absurd only
           by (Err why.Sink) ok stays state source only = absurd only
 
-      -- whatever the office returns for a `Reload`, the definitions allow the reply that is made
-      -- from it
+      -- whatever result the office returns for a `Reload`, the definitions allow the reply that is
+      -- made from this result
       pub reload_met : (answer : Result Unit OfficeFault) (reply : Reply) → reply ≡ reply_for answer
           → (IsOk answer → ReadsState dks_2 (length text) (Some text) now) → (IsErr answer → now ≡ get_or held.offices.items office no_state)
           → ((fault : StateFault) → answer ≡ Err (why.State fault) → RefusesState dks_2 (length text) (Some text) fault) → ¬ (answer ≡ Err why.Source)

@@ -10,7 +10,7 @@ use Rattle.docker_laws.proofs.runs.RunEnd.{run_holds}
 use Rattle.docker_laws.proofs.runs.RunSteps.{sizes, office_is, message_is}
 use Rattle.docker_office.specs.RunEnds.{LeavesRun, IsReplyAt, HasSummary, TellsSummary, event_at, reply_at}
 
--- the definitions allow each reply for its event, whatever was known before the first event
+-- for each event, the definitions allow its reply, whatever was known at the start of the run
 reply_there : (known : KnownSets) (events : List RunEvent) (replies : List Reply) → AreReplies known events replies → (place : ℕ) → place < length events
     → IsReply (fold after_reply known (zip (take place events) (take place replies))) (event_at events place) (reply_at replies place)
 reply_there known [] replies are place low = absurd (omega arith)
@@ -31,7 +31,7 @@ module _ (offices : ℕ) (events : List RunEvent) (exchange : Exchange) (leaves 
   pub one_each : length exchange.replies ≡ length events
   one_each = sym (replies_long (none_known offices) events exchange.replies leaves.run.replies)
 
-  -- the definitions allow each reply of a run for its event
+  -- for each event of a run, the definitions allow its reply
   pub each_reply : (place : ℕ) → place < length events → IsReplyAt offices events exchange.replies place
   each_reply place low = reply_there (none_known offices) events exchange.replies leaves.run.replies place low
 

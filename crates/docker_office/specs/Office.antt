@@ -14,14 +14,14 @@ use Rattle.cif_file.specs.SourceRead.{Held, WantsMemory}
 abbrev pub no_state : State
 no_state = record { horizon = 0; ledger = []; entries = [] }
 
--- says that the source held the text of a file, of at most `limit` records
+-- says that the source held the text of a file with at most `limit` records
 pub record HoldsFile (limit : ℕ) (left : Option (List ℕ)) : Type 0 where
   pub text : List ℕ
   pub held : Held left text
   pub file : List (List ℕ)
   pub is_text : IsFileText limit text file
 
--- says that the source held the text of a file, of at most `limit` records, and that `new` is the
+-- says that the source held the text of a file with at most `limit` records, and that `new` is the
 -- join of `old` with the file's summary
 pub record TakesFile (limit : ℕ) (left : Option (List ℕ)) (old new : State) : Type 0 where
   pub text : List ℕ
@@ -55,7 +55,7 @@ pub record HoldsState (format : Format) (limit : ℕ) (left : Option (List ℕ))
 
 -- says that joining preserves summaries. Suppose that `old` is the summary of a set of files, and
 -- that the source held the text of the summary of another set. Then `new` is the summary of the
--- files in both sets, with the greater horizon
+-- files in both sets, with the later horizon
 abbrev pub JoinsSummaries : ℕ → Option (List ℕ) → State → State → Type 0
 JoinsSummaries limit left old new =
     (files others : List (List (List ℕ))) (g h : ℕ) (sent : State) → IsSummary files g old → IsSummary others h sent → HoldsState dks_2 limit left sent

@@ -1,4 +1,4 @@
--- How reading a state or a file ends for an office.
+-- The ways in which reading a state or a file can end for an office.
 use Rattle.std.specs.Prelude.{◌≡◌, ℕ, ◌+◌, Option, Some, None, Result, Ok, Err, ⊤}
 use Rattle.cif_file.specs.SourceRead.{ReadsNoFurther, RefusesText}
 use Rattle.cif_device.specs.Device.{IsEnd}

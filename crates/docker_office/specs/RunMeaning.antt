@@ -27,13 +27,13 @@ abbrev pub events_meant : List Event → List model.RunEvent
 events_meant = map event_meant
 
 -- converts a file's fault to the `Refusal` of the definitions. `number` is the number of the record
--- at fault. The cause `None` means out of memory
+-- at fault. The cause `None` means that memory ran out
 abbrev pub refusal_of_file : ℕ → Option files.FileCause → model.Refusal
 refusal_of_file number None = no_memory
 refusal_of_file number (Some cause) = bad_file (record { number = number; cause = cause })
 
 -- converts the fault of an office in a run to the `Refusal` of the definitions. In a run, the fault
--- is a file's fault or out of memory
+-- is a file's fault or `Memory`
 abbrev pub refusal_meant : OfficeFault → model.Refusal
 refusal_meant (fault.File why) = refusal_of_file why.number (cause_meant why.cause)
 refusal_meant _ = no_memory
@@ -45,13 +45,14 @@ reply_meant (Refused NoOffice) = refused no_office
 reply_meant (Refused NoMessage) = refused no_message
 reply_meant (Refused (Office why)) = refused (refusal_meant why)
 
--- says that a text's fault can have this cause. Every cause except out of memory is possible
+-- says that a text's fault can have this cause. Only `None` isn't possible, because it means that
+-- memory ran out
 abbrev pub IsTextCause : Option files.FileCause → Type 0
 IsTextCause None = ⊥
 IsTextCause (Some cause) = ⊤
 
--- says that an office's fault can occur in a run: it is a file's fault with a cause other than out
--- of memory, or it is out of memory
+-- says that an office's fault can occur in a run: it is `Memory`, or it is a file's fault with a
+-- cause that a text's fault can have
 abbrev pub IsRunRefusal : OfficeFault → Type 0
 IsRunRefusal (fault.File why) = IsTextCause (cause_meant why.cause)
 IsRunRefusal fault.Memory = ⊤

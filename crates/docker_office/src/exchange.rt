@@ -64,7 +64,7 @@ impl Exchange {
     }
 
     /// Returns the replies, one for each event, in the order of the events. The only office faults
-    /// among the replies are a file's fault and out of memory.
+    /// among the replies are `File` and `Memory`.
     pub fn replies(&self) -> &[Reply]
         ensures meant { map reply_meant result.now ≡ self.now.replies }
         ensures each { All IsRunReply result.now }

@@ -8,11 +8,11 @@ use thiserror::Error;
 #[derive(Clone, Copy, PartialEq, Eq, Debug, Error)]
 pub enum OfficeFault {
     /// The source doesn't hold a file. The fault is at the first bad record, and its cause is never
-    /// out of memory.
+    /// that memory ran out.
     #[error("file refused: {0}")]
     File(FileFault),
     /// The source doesn't hold a state. The fault is at the first bad part, and its cause is never
-    /// out of memory.
+    /// that memory ran out.
     #[error("state refused: {0}")]
     State(StateFault),
     /// The state has a horizon, and the day is before the third day after the horizon.

@@ -29,8 +29,8 @@ pub(crate) fn write_files<K: Sink>(items: &[LedgerItem], sink: &mut K) -> Result
     Ok(())
 }
 
-/// Returns the line of a ledger item, with a line feed: day, minute, reference, update indicator
-/// and last reference.
+/// Returns the line of a ledger item, with a line feed: the day, the minute, the reference, the
+/// update indicator and the last reference.
 fn line_of(item: &LedgerItem) -> [u8; WIDTH]
     requires { item.now.minute < 1440 }
     ensures { result ≡ ended (file_text (item_meant item.now)) }
