@@ -14,7 +14,7 @@ use docker_host::{Fails, Host};
 use std::alloc::Global;
 use std::process::Abort;
 
-/// Asserts that an output with room for this many bytes gains exactly these first bytes of the
+/// Asserts that an output with room for `bytes` bytes gains exactly the first `bytes` bytes of the
 /// answers to two requests, and that the session then reads nothing more.
 fn output_has_room_for(rt: &impl Abort, alloc: Global, bytes: usize) {
     let mut host = Host {

@@ -9,8 +9,8 @@ use docker_desk::Desk;
 use std::alloc::Global;
 use std::process::Abort;
 
-/// The answer for the morning train on 10 June. This schedule begins with the second record of the
-/// update of 9 June.
+/// The answer that shows the morning train on 10 June. The train's schedule begins with the second
+/// record of the update of 9 June.
 const RUNS: &str = "\
 0 5 405
 TRAIN  C10001  2024-06-10 P RUNS      2024-06-09 2100 DFROC1A          2        
@@ -20,8 +20,8 @@ LTBRAYTON 0930 09322  FL
 END                                                                             
 ";
 
-/// The answer for the revision of the morning train. This schedule begins with the second record of
-/// the update of 10 June.
+/// The answer that shows the revision of the morning train. The revised schedule begins with the
+/// second record of the update of 10 June.
 const REVISED: &str = "\
 0 5 405
 TRAIN  C10001  2024-06-10 P RUNS      2024-06-10 2100 DFROC1B          2        

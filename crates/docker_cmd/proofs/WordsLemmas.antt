@@ -18,7 +18,7 @@ use Rattle.docker_cmd.specs.Job.{NameNoSubcommand, NamesSubcommand}
 use Rattle.docker_cmd.specs.Grammar.{docker_app, found_in, pair_of}
 use Rattle.docker_cmd.proofs.JobWords.{judged}
 
--- all words are plain if and only if the texts of all words are plain
+-- all words are plain if and only if all texts in the list of their texts are plain
 pub plain_texts : (words : List (Bor Text)) (b : Bool) → b ≡ list_all (λ word. is_plain_word word.now) words → list_all is_plain_word (texts words) ≡ b
 plain_texts words b is = list_all-map is_plain_word (λ (word : Bor Text). word.now) words ∙ sym is
 

@@ -74,7 +74,7 @@ no_line (whole_line line) rest next = no_split [] line rest tt next.whole
 no_line bad_line rest next = no_split [] next.line rest tt next.whole
 no_line cut_line rest next = next.0.some refl
 
--- a text has at most one list of lines
+-- a text can be divided into lines in only one way
 pub one_reading : (text : List ℕ) (lines others : List LineView) → AreLines text lines → AreLines text others → lines ≡ others
 one_reading text [] [] first second = refl
 one_reading text [] (other ∷ others) first second = absurd (no_line other second.0 (subst (λ t. IsNextLine t other second.0) first second.1.0))

@@ -39,9 +39,9 @@ with_files_read (two_files name other) read history =
     history ++ opened name read.first ∷ opened other read.second
     ∷ closed read.first_left ∷ closed read.second_left ∷ []
 
--- the bytes of the sources that aren't files. If standard input is a source, it held `rest`, and
--- `left` is left in it; otherwise standard input is unchanged. A source that the job doesn't have
--- counts as empty
+-- the bytes of the sources that aren't files. If standard input is a source, it held the bytes
+-- `rest`, and the bytes `left` remain in it; otherwise standard input is unchanged. A source that
+-- the job doesn't have counts as empty
 abbrev pub AreOthers : SourceNames → SourcesRead → (rest left : Bytes) → Type 0
 AreOthers no_source read rest left =
     (read.first ≡ Some []) × (read.second ≡ Some []) × (left ≡ rest)
