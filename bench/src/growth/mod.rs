@@ -13,8 +13,8 @@ use std::io::{Error, Result};
 /// The greatest ratio that passes.
 const RATIO: f64 = 2.6;
 
-/// The processor seconds that the smaller number of rows should take, and the seconds below which no
-/// ratio is printed.
+/// The processor seconds that the smaller number of rows should take, and the seconds below which
+/// no ratio is printed.
 const WANTED: f64 = 0.03;
 const FLOOR: f64 = 0.02;
 

@@ -120,7 +120,7 @@ abbrev pub StopsAtEnd : Option Ending → Bool → Bool → Bool → Bool → Ty
 StopsAtEnd result ended ended_now passed passed_now =
     ended ≡ false → (passed_now ≡ passed) × (result ≡ None → ended_now ≡ false)
 
--- writing an answer to the output ended with this result. Either the answer was written, and the
+-- this is the result of writing an answer on the output. Either the answer was written, and the
 -- result is `next`. Or the output failed after a proper prefix of the answer, and the result is
 -- `OutputFailed`
 abbrev pub TellsAnswer : List ℕ → Option Ending → DeviceBytes → DeviceBytes → ℕ → ℕ → Option Ending

@@ -1,5 +1,5 @@
--- What storing a text in a file adds to the folder's history. The number of a look is the number of
--- its event, counted from 0.
+-- The events that a folder's history gains when a text is stored in a file. The number of a look is
+-- the number of its event, counted from 0.
 use Rattle.std.specs.Prelude.{◌≡◌, ℕ, Bool, ⊤, ◌⊎◌, List, [], ◌∷◌, ◌++◌, Result, Ok, Err}
 use Rattle.docker_host.specs.History.{Text, Event, drafted, undrafted, placed, unplaced, dropped, named_if}
 use Rattle.docker_host.specs.declared.folder.OpenFault.{OpenFault}

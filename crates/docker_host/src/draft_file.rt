@@ -1,6 +1,6 @@
 //! Drafts of real files. The new text of a regular file is written to a draft in the same folder.
 //! The draft is then renamed over the file. So the file is complete at any time: it has the old
-//! text or the new text. A pipe or a device is written directly.
+//! text or the new text. A pipe or a device is written to directly, without a draft.
 ghost use Rattle.std.specs.Prelude.{◌≡◌, None, IfOk};
 
 use crate::draft_place::DraftPlace;

@@ -39,8 +39,8 @@ def is_as(text):
 
 
 class Tried:
-    """A command that is run once for each of its calls. That call fails, or the command is killed at
-    it. The fields are STATE before and after the command, and how the command ends if no call
+    """A command that is run once for each of its calls. That call fails, or the command is killed
+    at it. The fields are STATE before and after the command, and how the command ends if no call
     fails."""
 
     def __init__(self, words, before, after, wanted):
