@@ -8,7 +8,7 @@ desk: usage: [--write] STATE, and then a line for each request: print TIPLOC DAT
 | with --write take FILE | merge OTHER | horizon DATE | save
 ";
 
-/// The docker of Ashfeld on 10 June that a desk prints if it knows the morning train.
+/// The answer with the docker of Ashfeld on 10 June, from a desk that knows the morning train.
 pub(crate) const ANSWER_0900: &str = "\
 0 3 171
 DOCKER ASHFELD 2024-06-10                               
@@ -16,8 +16,8 @@ DOCKER ASHFELD 2024-06-10
 END                                                     
 ";
 
-/// The docker of Ashfeld on 10 June that a desk prints if it knows the morning train and its
-/// overlay.
+/// The answer with the docker of Ashfeld on 10 June, from a desk that knows the morning train and
+/// its overlay.
 pub(crate) const ANSWER_OVERLAID: &str = "\
 0 3 171
 DOCKER ASHFELD 2024-06-10                               
@@ -25,8 +25,8 @@ DOCKER ASHFELD 2024-06-10
 END                                                     
 ";
 
-/// The docker of Ashfeld on 10 June that a desk prints if it knows the revision of the morning
-/// train.
+/// The answer with the docker of Ashfeld on 10 June, from a desk that knows the revision of the
+/// morning train.
 pub(crate) const ANSWER_0905: &str = "\
 0 3 171
 DOCKER ASHFELD 2024-06-10                               
@@ -34,7 +34,7 @@ DOCKER ASHFELD 2024-06-10
 END                                                     
 ";
 
-/// The docker of Ashfeld on 18 June, a day on which no train calls at Ashfeld.
+/// The answer with the docker of Ashfeld on 18 June, a day on which no train calls there.
 pub(crate) const ANSWER_18_JUNE: &str = "\
 0 2 114
 DOCKER ASHFELD 2024-06-18                               

@@ -159,8 +159,8 @@ takes_more (Some taken) now new first second one two =
 -- ---- appending steps
 
 module _ (setting : Setting) where
-  -- if some steps lead from one point to a second, and more steps lead from the second to a third,
-  -- all these steps lead from the first point to the third
+  -- if some steps lead from one point to a second, and more steps lead from there to a third, all
+  -- these steps lead from the first point to the third
   steps_more : (first now last : SessionView) (steps more : List Step) → AreSteps setting first steps now → AreSteps setting now more last
       → AreSteps setting first (steps ++ more) last
   steps_more first now last [] more are then_more = subst (λ m. AreSteps setting m more last) are then_more

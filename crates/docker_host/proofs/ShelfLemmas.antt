@@ -12,8 +12,8 @@ pub after_events-append : (texts : Texts) (events : List Event) (event : Event)
 after_events-append texts [] event = refl
 after_events-append texts (first ∷ events) event = after_events-append (after_event texts first) events event
 
--- suppose that each file that the events in a list open has the text last placed under its name. If
--- this is also true of one more event, it is true of the longer list
+-- if `AreMet` holds for a list of events, and `IsMet` holds for one more event, `AreMet` holds for
+-- the list with this event appended
 pub AreMet-append : (texts : Texts) (events : List Event) (event : Event)
     → AreMet texts events → IsMet (after_events texts events) event → AreMet texts (events ++ event ∷ [])
 AreMet-append texts [] event met last = (last, tt)
