@@ -14,7 +14,7 @@ pub record FaultsView : Type 0 where
 abbrev pub faults_view : Bytes → ℕ → FaultsView
 faults_view taken failures = record { taken = taken; failures = failures }
 
--- the view of the sink of faults that a program with this host has
+-- the sink of faults of a program with this host
 abbrev pub faults_of : HostView → FaultsView
 faults_of host = faults_view host.faults host.faults_failures
 

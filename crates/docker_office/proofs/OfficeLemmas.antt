@@ -34,22 +34,22 @@ use Rattle.docker_office.specs.OfficeReads.{CountsTaking, IsTakingOutcome, Stops
 
 -- ---- two results that are both `Ok` or both `Err`
 
--- suppose that two results are both `Ok` or both `Err`. If something is true when the first is
--- `Ok`, it is also true when the second is `Ok`
+-- if two results are both `Ok` or both `Err`, and `P` holds if the first is `Ok`, then `P` also
+-- holds if the second is `Ok`
 pub on_ok_with : {A B E F : Type 0} (P : Type 0) (first : Result A E) (second : Result B F) → is_ok second ≡ is_ok first → OnOk first P → OnOk second P
 on_ok_with P (Ok a) (Ok b) same holds = holds
 on_ok_with P (Ok a) (Err f) same holds = tt
 on_ok_with P (Err e) (Err f) same holds = tt
 on_ok_with P (Err e) (Ok b) same holds = let never : ⊥ = cc in absurd never
 
--- suppose that two results are both `Ok` or both `Err`, and that the second is `Ok`. If something
--- is true when the first is `Ok`, it is true
+-- if two results are both `Ok` or both `Err`, and the second is `Ok`, then the first is `Ok` too.
+-- So `P`, which holds if the first is `Ok`, holds
 pub of_ok : {A B E F : Type 0} (P : Type 0) (first : Result A E) (second : Result B F) → is_ok second ≡ is_ok first → OnOk first P → IsOk second → P
 of_ok P (Ok a) second same holds is = holds
 of_ok P (Err e) second same holds is = let never : ⊥ = cc in absurd never
 
--- suppose that two results are both `Ok` or both `Err`, and that the second is `Err`. If something
--- is true when the first is `Err`, it is true
+-- if two results are both `Ok` or both `Err`, and the second is `Err`, then the first is `Err` too.
+-- So `P`, which holds if the first is `Err`, holds
 pub of_err : {A B E F : Type 0} (P : Type 0) (first : Result A E) (second : Result B F) → is_ok second ≡ is_ok first → OnErr first P → (e : F) → second ≡ Err e
     → P
 of_err P (Err e) second same holds fault is = holds
