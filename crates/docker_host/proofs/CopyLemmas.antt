@@ -1,4 +1,4 @@
--- Searching the files on a shelf for the text of a name.
+-- Searching a shelf for the text of the file with a given name.
 use Rattle.std.proofs.Common.{◌≡◌, ℕ, ◌+◌, ◌<◌, ◌≤◌, List, ◌∷◌, Some, None, true, false, length, drop, refl, ap, sym, ◌∙◌, string_bytes, add-one}
 use Rattle.std.proofs.Math.Seq.{drop-cons}
 use Rattle.std.proofs.Math.ListN.{drop_of_length-le, get_or}
@@ -12,23 +12,22 @@ drop_next : (i : ℕ) (places : List Place) (place : Place) → i < length place
     → drop i places ≡ place ∷ drop (i + 1) places
 drop_next i places place below at = drop-cons places i place below ∙ (λ j. sym at j ∷ drop (sym (add-one i) j) places)
 
--- if the file at index `i` has another name, the search for the text of a name can go on with the
--- files from index `i + 1` on
+-- if the file at index `i` has another name, the search can go on with the files from index `i + 1`
+-- on
 pub next_place : (i : ℕ) (places : List Place) (place : Place) (name : Text) → i < length places → place ≡ get_or places i place
     → texts_of places name ≡ texts_of (drop i places) name → bytes_eq (string_bytes place.name) name ≡ false
     → texts_of places name ≡ texts_of (drop (i + 1) places) name
 next_place i places place name below at so_far other =
     so_far ∙ ap (λ (ps : List Place). texts_of ps name) (drop_next i places place below at) ∙ rw other refl
 
--- if the file at index `i` is the first file with the name, the text of the name is the text of
--- this file
+-- if the file at index `i` is the first file with the name, the search finds the text of this file
 pub this_place : (i : ℕ) (places : List Place) (place : Place) (name text : Text) → i < length places → place ≡ get_or places i place
     → texts_of places name ≡ texts_of (drop i places) name → bytes_eq (string_bytes place.name) name ≡ true
     → text ≡ place.text.items → texts_of places name ≡ Some text
 this_place i places place name text below at so_far this same =
     so_far ∙ ap (λ (ps : List Place). texts_of ps name) (drop_next i places place below at) ∙ rw (this, same) refl
 
--- if no file has the name, the name has no text
+-- if no file has the name, the search finds no text
 pub no_place : (i : ℕ) (places : List Place) (name : Text) → length places ≤ i → texts_of places name ≡ texts_of (drop i places) name
     → texts_of places name ≡ None
 no_place i places name past so_far = so_far ∙ ap (λ (ps : List Place). texts_of ps name) (drop_of_length-le places past)
