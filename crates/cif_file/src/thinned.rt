@@ -5,7 +5,7 @@ ghost use Rattle.docker_model.specs.file.Change.{delete};
 ghost use Rattle.docker_laws.specs.Thinning.{may_matter, thin_act, thin_change};
 ghost use Rattle.cif_change.specs.Meaning.{change_meant, key_meant};
 ghost use Rattle.cif_file.specs.SingleChanges.{AreNeverThin, IsNeverThin, listed};
-ghost use Rattle.cif_file.specs.ThinKept.{HasThinned, Thins, ThinsAll, ThinsOpened};
+ghost use Rattle.cif_file.specs.ThinKept.{has_key, HasThinned, Thins, ThinsAll, ThinsOpened};
 
 use crate::calling::{lines_for, may_matter};
 use crate::made::Made;
@@ -46,6 +46,20 @@ impl Thinned {
         ensures { result ≡ self.now.day }
     {
         self.day
+    }
+
+    /// Whether a change to this key was kept. Extracts are nearly in the order of keys, so the key is
+    /// first compared with the greatest kept key, for which no search is needed.
+    fn has_kept(&self, key: &Key) -> bool
+        ensures { result ≡ has_key self.now.keys key.now }
+    {
+        let Some(greatest) = self.keys.last() else {
+            return false;
+        };
+        if *greatest < *key {
+            return false;
+        }
+        self.keys.contains(key)
     }
 
     /// Appends a change that is to be kept, and adds its key to the set. The change already has
@@ -98,7 +112,7 @@ impl Thinned {
             → may_matter place whole.key ≡ true → thin_act place day whole.act ≡ delete
             → Thins place day self.old whole self.new) }
     {
-        if !self.keys.contains(&key) {
+        if !self.has_kept(&key) {
             return Ok(());
         }
         self.keep(Change {

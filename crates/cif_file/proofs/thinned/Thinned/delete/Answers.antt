@@ -4,9 +4,9 @@ use Rattle.cif_file.proofs.FrontLemmas.{on_ok_one}
 use Rattle.cif_file.proofs.ThinLemmas.{deletion_dropped, deletion_kept}
 use Rattle.cif_file.proofs.thinned.Thinned.delete.Goals as goal
 
-pub returns-then-not-contains : goal.returns-then-not-contains
-returns-then-not-contains c = λ place day whole numbered named matters deletes.
-    deletion_dropped place day c.args.self.now _ whole c.args.key refl (sym c.contains.ensures ∙ c.if-not-contains.true) named deletes
+pub returns-then-not-has_kept : goal.returns-then-not-has_kept
+returns-then-not-has_kept c = λ place day whole numbered named matters deletes.
+    deletion_dropped place day c.args.self.now _ whole c.args.key refl (sym c.has_kept.ensures ∙ c.if-not-has_kept.true) named deletes
 
 pub returns : goal.returns
 returns c =
