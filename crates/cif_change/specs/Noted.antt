@@ -16,7 +16,7 @@ Item = Key × Op
 abbrev pub items_of : List (Key × Entry) → List Item
 items_of rows = map (λ (row : Key × Entry). (row.0, row.1.op)) rows
 
--- the key of each change in a list, with the op that the change leaves at this key
+-- the key of each change in a list, with the op that the change leaves under this key
 abbrev pub items_put : List model.Change → List Item
 items_put changes = map (λ (change : model.Change). (change.key, op_of change.act)) changes
 

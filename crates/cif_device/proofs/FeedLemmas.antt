@@ -1,4 +1,4 @@
--- How feeding a taker from a source continues with each read.
+-- What a taker has been fed after each read of the source that feeds it.
 use Rattle.std.proofs.Common.{◌≡◌, ℕ, ◌+◌, ◌<◌, ◌≤◌, List, [], ◌∷◌, ◌++◌, length, take, drop, Some, None, refl, sym, ◌∙◌}
 use Rattle.std.proofs.Common.{ap, subst, arith, append_assoc, append-nil, length-append, ◌^◌, Err, Result, Fits, w64, Ok}
 use Rattle.std.specs.Prelude.{Option, option_map, Bool, true, false}

@@ -6,8 +6,8 @@ use crate::device::{Failed, Source};
 use std::marker::Model;
 
 /// A source that returns the bytes of one text, and then the bytes of another text over and over.
-/// It never ends and never fails. The bytes left in it have no end, so for contracts they are
-/// `None`.
+/// It never ends and never fails. Contracts can't refer to the bytes left in it, because these have
+/// no end.
 #[derive(Clone, Debug, Drop)]
 pub struct Endless<'a> {
     rest: &'a [u8],
@@ -73,7 +73,8 @@ impl Source for Endless<'_> {
         ensures within { IfOk result (λ n. n ≤ length into.new) }
         ensures ending { IfOk result (λ n. Ends n (length into.new) false false false false) }
 
-        // Every source promises the clauses above. Only this source promises the clauses below.
+        // The contract of every source has the clauses above. Only the contract of this source has
+        // the clauses below.
         ensures count { result ≡ Ok (min self.old.step (length into.old)) }
         ensures goes { IfOk result (λ n. Goes self.old (take n into.new) self.new) }
     {

@@ -21,7 +21,7 @@ pub enum FeedFault<F> {
     Refused(F),
 }
 
-/// Takes a text piece by piece, up to the first piece that it refuses.
+/// A taker, which takes a text piece by piece until it refuses a piece.
 pub trait Taker {
     /// The reason why the taker refuses a piece.
     type Fault: Drop;

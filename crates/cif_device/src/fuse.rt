@@ -84,7 +84,8 @@ impl Source for Fuse<Bytes<'_>> {
         ensures still { OnErr result ((self.new.device.ended ≡ self.old.device.ended)
             × (self.new.device.passed ≡ self.old.device.passed)) }
 
-        // Every source promises the clauses above. Only this source promises the clauses below.
+        // The contract of every source has the clauses above. Only the contract of this source has
+        // the clauses below.
         ensures count { IfOk result (λ n.
             n ≡ min (min 1 (length into.old)) (length self.old.device.left)) }
         ensures blows { IsErr result ↔ (self.old.calls ≡ 1) }
@@ -119,7 +120,8 @@ impl Sink for Fuse<Kept> {
         ensures counted { OnErr result (self.new.failures ≡ self.old.failures + 1) }
         ensures unmoved { OnErr result (self.new.device.taken ≡ self.old.device.taken) }
 
-        // Every sink promises the clauses above. Only this sink promises the clauses below.
+        // The contract of every sink has the clauses above. Only the contract of this sink has the
+        // clauses below.
         ensures count { IfOk result (λ n. n ≡ 1) }
         ensures fails { IsErr result ↔ ((self.old.calls ≡ 1) ⊎ (room_left self.old.device ≡ 0)) }
         ensures calls { self.new.calls ≡ self.old.calls - 1 }

@@ -73,7 +73,8 @@ impl Source for Bytes<'_> {
         ensures ending { IfOk result (λ n. Ends n (length into.new)
             self.old.ended self.new.ended self.old.passed self.new.passed) }
 
-        // Every source promises the clauses above. Only this source promises the clauses below.
+        // The contract of every source has the clauses above. Only the contract of this source has
+        // the clauses below.
         ensures count { result ≡ Ok (read_count self.old (length into.old)) }
         ensures step { self.new.step ≡ self.old.step }
     {
@@ -171,7 +172,8 @@ impl Sink for Kept {
         ensures counted { OnErr result (self.new.failures ≡ self.old.failures + 1) }
         ensures unmoved { OnErr result (self.new.taken ≡ self.old.taken) }
 
-        // Every sink promises the clauses above. Only this sink promises the clauses below.
+        // The contract of every sink has the clauses above. Only the contract of this sink has the
+        // clauses below.
         ensures count { IfOk result (λ n. n ≡ min (length piece.now) (room_left self.old)) }
         ensures full { IsErr result ↔ (room_left self.old ≡ 0) }
         ensures room { self.new.room ≡ self.old.room }

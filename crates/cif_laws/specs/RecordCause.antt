@@ -1,4 +1,4 @@
--- The cause of a record at fault, given the reader's `Place` in the file before the record. The
+-- The cause of the fault at a record, given the reader's `Place` in the file before the record. The
 -- causes are tested in the order of their ranks.
 use Rattle.std.specs.Prelude.{Bool, true, false, ℕ, Some, None, List, length, Option, is_none, ◌==◌, nat_le}
 use Rattle.std.proofs.Common.{cond}
@@ -45,13 +45,13 @@ length_cause place line = cond (length line == 80) (byte_cause place line) bad_l
 abbrev pub end_cause : Place → List ℕ → FileCause
 end_cause place line = cond (is_after_end place) after_trailer (length_cause place line)
 
--- the cause of a record at fault after `count` records: `too_many` if `count` has reached the
--- limit, and otherwise `end_cause`
+-- the cause of the fault at a record that follows `count` records: `too_many` if `count` has
+-- reached the limit, and otherwise `end_cause`
 abbrev pub cause_of : ℕ → ℕ → Place → List ℕ → FileCause
 cause_of limit count place line = cond (nat_le limit count) too_many (end_cause place line)
 
--- the cause of a line that doesn't have 80 bytes, after `count` records. The cause doesn't depend
--- on the bytes of the line
+-- the cause of the fault at a line that doesn't have 80 bytes and follows `count` records. The
+-- cause doesn't depend on the bytes of the line
 abbrev pub cause_of_long : ℕ → ℕ → Place → FileCause
 cause_of_long limit count place = cond (nat_le limit count) too_many (cond (is_after_end place) after_trailer bad_length)
 

@@ -1,5 +1,5 @@
--- The fault of a record that can't continue a schedule. The causes have the same ranks as in a
--- file. The bytes are known to be a record, so `bad_length` and `bad_byte` don't occur.
+-- The fault at a record that can't continue a schedule. The causes have the same ranks as for a
+-- record of a file. The bytes are known to be a record, so `bad_length` and `bad_byte` don't occur.
 use Rattle.std.specs.Prelude.{◌≡◌, ℕ, ◌<◌, ◌≤◌, List, [], ◌∷◌, ◌++◌, None, Some}
 use Rattle.docker_model.specs.records.Record.{kind_of}
 use Rattle.docker_model.specs.records.Field.{leftmost_bad_field}
@@ -20,8 +20,9 @@ HoldsInSchedule earlier line (bad_field at) = leftmost_bad_field line ≡ Some a
 HoldsInSchedule earlier line third_midnight = (midnights earlier ≤ 2) × (2 < midnights (earlier ++ line ∷ []))
 HoldsInSchedule earlier line _ = ⊥
 
--- `cause` is the cause of a record that can't continue the schedule: with the record appended, the
--- records no longer begin a schedule. Of the causes that apply, `cause` has the lowest rank
+-- `cause` is the cause of the fault at a record that can't continue the schedule: with the record
+-- appended, the records no longer begin a schedule. Of the causes that apply, `cause` has the
+-- lowest rank
 pub record IsScheduleFault (earlier : List (List ℕ)) (line : List ℕ) (cause : FileCause) : Type 0 where
   pub earlier_begin : BeginsSchedule earlier
   pub here : ¬ BeginsSchedule (earlier ++ line ∷ [])

@@ -46,7 +46,7 @@ pub fn schedule_body_is_schedule()
 {}
 
 /// The changes of a file are the changes of its units, in order. A change has the number of the
-/// first record of its unit, which is 2 for the first unit. A schedule has exactly one change,
+/// first record of its unit, which is 2 for the first unit. A schedule makes exactly one change,
 /// which deletes its key or puts all its records.
 pub fn changes_by_units()
     ensures units { (file : List (List ℕ)) (is : IsFile file)
@@ -77,7 +77,7 @@ pub fn begins_or_not()
 {}
 
 /// After records that begin a schedule, one more record either continues the schedule or is at
-/// fault, never both. A record at fault has exactly one cause.
+/// fault, never both. The fault at a record has exactly one cause.
 pub fn schedule_goes_on_or_fault()
     ensures either { (earlier : List (List ℕ)) (line : List ℕ)
         → BeginsSchedule earlier → IsRecord line → BeginsSchedule (earlier ++ line ∷ [])

@@ -43,8 +43,8 @@ above b = (b + 65488) % 65536
 abbrev spells : ℕ → ℕ → ℕ
 spells a b = ((above a * 10) % 65536 + above b) % 65536
 
--- whether five bytes are a time, tested as a lane does it: four digits, an hour below 24, a minute
--- below 60, then `H` or a space
+-- whether five bytes are a time, by the test that a lane computes: four digits, an hour below 24, a
+-- minute below 60, then `H` or a space
 abbrev time_test : ℕ → ℕ → ℕ → ℕ → ℕ → Bool
 time_test a b c d e =
     (((((nat_le (above a) 9 && nat_le (above b) 9) && nat_le (above c) 9) && nat_le (above d) 9) && nat_lt (spells a b) 24) && nat_lt (spells c d) 60)
@@ -199,7 +199,7 @@ module _ (a b c d e : ℕ) (la : a < 256) (lb : b < 256) (lc : c < 256) (ld : d 
       summed hour minute true lh lm = omega arith
       summed hour minute false lh lm = omega arith
 
-  -- a lane reads the half minutes of its field, or 65535 if the field has no time
+  -- a lane computes the half minutes of its field, or 65535 if the field has no time
   pub lane_told : cond (top 15 (time_mask a b c d e)) (lane_half_minutes a b c d e) 65535 ≡ half_minutes_or_none (a ∷ b ∷ c ∷ d ∷ e ∷ [])
   lane_told =
       (λ i. cond ((ap (top 15) (time_masked a b c d e) ∙ mask_set (time_test a b c d e) ∙ time_is) i) (lane_half_minutes a b c d e) 65535)
@@ -296,8 +296,8 @@ picked line k = get_or (chunk 10 16 line ++ chunk 25 16 line) k 0
 abbrev pub end_picked : List ℕ → ℕ → ℕ
 end_picked line k = get_or (chunk 10 16 line ++ replicate 16 32) k 0
 
--- the half minutes that a lane reads from the loaded bytes at five indexes, or 65535 if these bytes
--- aren't a time
+-- the half minutes that a lane computes from the loaded bytes at five indexes, or 65535 if these
+-- bytes aren't a time
 abbrev pub tells : List ℕ → ℕ → ℕ → ℕ → ℕ → ℕ → ℕ
 tells line a b c d e =
     cond (top 15 (time_mask (picked line a) (picked line b) (picked line c) (picked line d) (end_picked line e)))

@@ -60,7 +60,7 @@ passes_if_none : (line : List ℕ) (fields : List CheckedField) (test : Bool) �
     → test ≡ true ↔ (first_bad_of line fields ≡ None)
 passes_if_none line fields test is = (λ pass. (none_if_joined line true fields (sym is ∙ pass)).1, λ none. is ∙ joined_if_none line true fields none refl)
 
--- whether all five times of an intermediate location are good, joined by AND from the left
+-- the tests of all five times of an intermediate location, joined by AND from the left
 abbrev pub times_joined : List ℕ → Bool
 times_joined line =
     (((is_scheduled_time (columns 11 15 line) && is_scheduled_time (columns 16 20 line)) && is_scheduled_time (columns 21 25 line))

@@ -33,9 +33,9 @@ agree_all : (f g : ℕ → Bool) → agree_below f g 256 ≡ true → (xs : List
 agree_all f g agree [] fits = refl
 agree_all f g agree (x ∷ xs) fits = λ i. agree_below_at f g 256 x agree fits.0.fits i && agree_all f g agree xs fits.1 i
 
--- Suppose that two operations, each with a constant, make a lane from its byte. Suppose also that
--- the lane is clear if and only if the byte passes a test. Then no lane is set if and only if all
--- bytes pass the test.
+-- Suppose that two operations, each with a constant, compute the value of a lane from the lane's
+-- byte. Suppose also that the lane is clear if and only if the byte passes a test. Then no lane is
+-- set if and only if all bytes pass the test.
 pub no_lane_set : (q : ℕ → Bool) (bytes : List ℕ) (n : ℕ) (f g : ℕ → ℕ → ℕ) (a b : ℕ) → length bytes ≡ n → n ≤ 64 → Each1 (Fits w8) bytes
     → agree_below (λ x. not (top 7 (f a (g x b)))) q 256 ≡ true
     → nat_eq (mask_l (map (top 7) (zip2 f (replicate n a) (zip2 g bytes (replicate n b)))) % 2 ^ 64) 0 ≡ list_all q bytes

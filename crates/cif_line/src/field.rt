@@ -1,5 +1,5 @@
-//! Readers of fields that several kinds of record share. Each needs a line that is known to have a
-//! good field in the columns to be read.
+//! Readers of fields that several kinds of record share. Each reader must be called only on a line
+//! whose field is known to be good.
 ghost use Rattle.std.specs.Prelude.{◌≡◌, ◌<◌, ◌≤◌, [], ◌∷◌, true, false};
 ghost use Rattle.docker_model.specs.records.Record.{column};
 ghost use Rattle.docker_model.specs.records.Date.{is_date, date_number, is_end_date, end_number, is_days};

@@ -76,7 +76,8 @@ impl Transaction {
 
 /// The STP (short term plan) indicator of a basic schedule (BS) or an association (AA). Indicators
 /// are ordered by letter. If several schedules of a train run on a day, the schedule whose
-/// indicator comes first is chosen. The same is true of associations between two trains.
+/// indicator comes first is chosen. Among several associations of one group, the choice is the
+/// same.
 #[derive(Clone, Copy, PartialEq, Eq, PartialOrd, Ord, Debug)]
 pub enum Stp {
     /// C, a cancellation.

@@ -5,7 +5,7 @@ ghost use Rattle.docker_model.specs.records.Date.{is_end_date, end_number, is_no
 use crate::date::{date_number, is_date};
 use std::marker::Model;
 
-/// The end number of an end date that means no end. It is greater than the number of any day.
+/// The end number that stands for no end. It is greater than every day number.
 pub const NO_END: u16 = 65535;
 
 /// An end date, as its end number: the day number of the last day, or 65535 for no end. In the

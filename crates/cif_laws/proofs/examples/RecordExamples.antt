@@ -91,7 +91,8 @@ half_minute = refl
 public_times : map public_time (codes "0000" ∷ codes "    " ∷ codes "0932" ∷ []) ≡ None ∷ None ∷ Some 572 ∷ []
 public_times = refl
 
--- the times 23:55, 00:00½ twice, 00:10 and 00:20 pass midnight once
+-- the times of `night_schedule` are 23:55, 00:00½ twice, 00:10 and 00:20. So the schedule passes
+-- midnight once
 night_times : times_along night_schedule ≡ 2870 ∷ 1 ∷ 1 ∷ 20 ∷ 40 ∷ []
 night_times = refl
 
@@ -116,7 +117,8 @@ changes_of_rename : changes rename
     ∷ record { number = 2; key = tiploc_key (codes "ASHFLDN"); act = put (tiploc_body (columns 10 72 rename_amend)) } ∷ []
 changes_of_rename = refl
 
--- a TIPLOC amendment whose new code equals the old code has only one change, the put of this code
+-- a TIPLOC amendment whose new code equals the old code makes only one change, which puts a body
+-- under this code
 changes_of_same_code : changes (f2_header ∷ ta (codes "ASHFELD") (codes "ASHFIELD CENTRAL") (codes "ASHFELD") ∷ zz ∷ [])
     ≡ record {
       number = 2;
@@ -134,13 +136,13 @@ numbers_of_units = refl
 units_of_f2 : changes_of_units 2 (f2_schedule ∷ []) ≡ changes f2
 units_of_f2 = refl
 
--- a deletion with a journey has only one change
+-- a deletion with a journey makes only one change
 change_of_deletion : changes_of_unit 2 (bs (codes "D") (codes "C10001") (codes "240610") no_text no_text no_text (codes "P") ∷ f2_origin ∷ f2_terminus ∷ [])
     ≡ record { number = 2; key = schedule_named f2_basic; act = delete } ∷ []
 change_of_deletion = refl
 
--- a schedule with this last arrival. It passes midnight a third time if the last arrival is at
--- 00:01, but not if the last arrival is at 00:06
+-- a schedule whose last arrival is at this time. The schedule passes midnight a third time if the
+-- last arrival is at 00:01, but not if the last arrival is at 00:06
 abbrev late_schedule : List ℕ → List (List ℕ)
 late_schedule arrives =
     bs (codes "N") (codes "C20001") (codes "240610") (codes "240610") (codes "1000000") (codes "2B20") (codes "P")

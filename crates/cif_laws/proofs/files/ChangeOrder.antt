@@ -11,7 +11,8 @@ use Rattle.docker_model.specs.file.Change.{keeps_code, acts_by_kind, changes_of_
 use Rattle.cif_laws.proofs.lists.Later.{AllLater, later_append_all, later_weaker_always, pairs_from_later}
 use Rattle.cif_laws.proofs.lists.AllOf.{all_append, all_weaker}
 
--- the second change belongs to a later record than the first, or has another key
+-- the second change belongs to a later record than the first change, or the two changes have
+-- different keys
 abbrev pub Apart : Change → Change → Type 0
 Apart first second = (first.number < second.number) ⊎ ¬ (first.key ≡ second.key)
 
@@ -67,7 +68,8 @@ acts_apart n kind line following =
     later_weaker_always KeysDiffer Apart (λ first second differ. inr differ)
     (changes_of_acts n (acts_by_kind kind line following)) (acts_differ n kind line following)
 
--- of two changes of these records, the later change has another key or belongs to a later record
+-- for any two changes of these records, the second change belongs to a later record than the first,
+-- or the two changes have different keys
 pub changes_apart : (n : ℕ) (lines : List (List ℕ)) → AllLater Apart (changes_from n lines)
 changes_apart n [] = tt
 changes_apart n (line ∷ lines) =

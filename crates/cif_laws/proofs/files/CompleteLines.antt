@@ -163,7 +163,7 @@ open_line_cut text front rest plain =
     ∙ last_of_append (but_last (pieces_of text)) (open_line text ++ front) (pieces_of rest)
     ∙ last_rest (open_line text ++ front) (pieces_of rest) (some_pieces (λ b. b == 10) rest)
 
--- like `complete_lines_cut`, for bytes that end with a line feed
+-- like `complete_lines_cut`, for bytes whose only line feed is the last byte
 pub complete_lines_ended : (text front : List ℕ) → HasNoFeed front → complete_lines (text ++ (front ++ 10 ∷ [])) ≡ complete_lines text ++ strip_carriage_return
     (open_line text ++ front) ∷ []
 complete_lines_ended text front plain = complete_lines_cut text front [] plain

@@ -1,5 +1,5 @@
--- The cause of a record at fault, computed from how far a reader has come in the file before the
--- record. A text that isn't the text of a file has a fault.
+-- The cause of the fault at a record, computed from how far a reader has come in the file before
+-- the record. A text that isn't the text of a file has a fault.
 use Rattle.std.proofs.Common.{◌≡◌, refl, true, [], ◌∷◌, Some, None, ℕ, ◌+◌, List, ◌++◌, sym, ◌∙◌, Bool, false, cond, ◌⊎◌, inl, inr}
 use Rattle.std.proofs.Common.{Contains, ap, subst, ◌<◌, ◌≤◌, length, arith, eqb-true, append_assoc, append-nil, length-append}
 use Rattle.std.specs.Prelude.{Any, Option, is_some, ◌&&◌, ◌||◌, nat_le, is_none, ◌==◌}
@@ -170,13 +170,14 @@ third_fall stage lines records line within fields test = (lines, ends_in_schedul
         subst (λ n. n ≤ 2) (sym (ap midnights front.whole ∙ midnights_of_journey front.basic front.extra front.journey front.kind
         (details_of stage front.extra front.journey front.shape))) good.falls
 
--- ---- `cause_of` is the cause of a record at fault
+-- ---- `cause_of` is the cause of the fault at a record
 
 module _ (limit : ℕ) (earlier : Lines) (place : Place) (line : List ℕ) (found : IsPlaceOf earlier place) where
   at : IsAt place earlier
   at = at_of_place earlier place found
 
-  -- if the condition of each cause of a lower rank is false, no cause of a lower rank applies
+  -- if the conditions of all causes with a rank below `rank` are false, none of these causes
+  -- applies
   none_below : (rank : ℕ) → rank ≤ 7 → (0 < rank → ¬ (limit ≤ length earlier)) → (1 < rank → ¬ Any (HasKind trailer) earlier) → (2 < rank → length line ≡ 80)
       → (3 < rank → leftmost_bad_byte line ≡ None) → (4 < rank → ¬ (kind_of line ≡ None)) → (5 < rank → ¬ IsOutOfPlace earlier line)
       → (6 < rank → leftmost_bad_field line ≡ None)
@@ -241,8 +242,8 @@ module _ (limit : ℕ) (earlier : Lines) (place : Place) (line : List ℕ) (foun
       by _ here test = let bad : true ≡ false = sym good ∙ test in cc
 
   -- suppose that neither the limit, the trailer, the record's bytes nor its kind is the reason why
-  -- a record can't follow. Then its cause is `field_cause`. The lemmas below treat the other
-  -- causes, from the last to the first
+  -- a record can't follow. Then the cause of the fault is `field_cause`. The lemmas below treat the
+  -- other causes, from the highest rank to the lowest
   field_is : ¬ (limit ≤ length earlier) → ¬ Any (HasKind trailer) earlier → length line ≡ 80 → leftmost_bad_byte line ≡ None → ¬ (kind_of line ≡ None)
       → (next : Place) → place_by_kind place (kind_of line) line ≡ Some next → next_place place line ≡ None → IsCause limit earlier line (field_cause line)
   field_is r0 r1 r2 r3 r4 next told nowhere = by (leftmost_bad_field line) refl
@@ -323,7 +324,7 @@ module _ (limit : ℕ) (earlier : Lines) (place : Place) (line : List ℕ) (foun
           let reached = trailer_leads earlier before_header place any.1 found (any.0, any.2, any.3) any.4 in
           let bad : true ≡ false = sym (ap is_after_end reached) ∙ h in cc) nowhere
 
-  -- the cause computed from the reader's `Place` is the cause of the record
+  -- the cause computed from the reader's `Place` is the cause of the fault at the record
   pub cause_is : (limit ≤ length earlier) ⊎ (next_place place line ≡ None) → IsCause limit earlier line (cause_of limit (length earlier) place line)
   cause_is here = by (nat_le limit (length earlier)) refl here
     where

@@ -359,7 +359,7 @@ stage_stops in_journey (Some terminating_location) h = cc
 stage_stops _ _ h = refl
 
 -- suppose that the schedule may end at this stage. Then a record that can't follow a basic schedule
--- leads the reader to the same next `Place` as between two units
+-- leads the reader to the same next `Place` as if the reader were between two units
 pub next_behind : (stage : Stage) (lines : Lines) (line : List ℕ) → may_end stage lines ≡ true → follows_basic (kind_of line) ≡ false
     → next_place (in_schedule stage lines) line ≡ next_place between_units line
 next_behind stage lines line may anew =

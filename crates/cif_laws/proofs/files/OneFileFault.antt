@@ -52,8 +52,8 @@ not_within limit records fault is more begins within = by is.here
     by (inl over) = let size = length-append is.earlier (is.line ∷ more) in omega arith
     by (inr none) = none (begins_front (is.earlier ++ is.line ∷ []) more (subst BeginsFile (sym (append_assoc is.earlier (is.line ∷ []) more)) begins))
 
--- the column of a cause, or 0 for a cause without a column. The rank and the column determine the
--- cause
+-- the column that a cause names, or 0 if the cause names no column. The rank and the column
+-- determine the cause
 unfoldable pub column_of : FileCause → ℕ
 column_of (bad_byte at) = at
 column_of (bad_field at) = at
@@ -81,7 +81,8 @@ cause_again no_end = refl
 pub same_cause : (first second : FileCause) → cause_rank first ≡ cause_rank second → column_of first ≡ column_of second → first ≡ second
 same_cause first second same columns = sym (cause_again first) ∙ (λ i. cause_at (same i) (columns i)) ∙ cause_again second
 
--- the column in the cause of a line, computed from the rank of the cause and from the line
+-- the column that the cause of the fault at a line names, computed from the rank of the cause and
+-- from the line
 unfoldable pub column_told : ℕ → List ℕ → ℕ
 column_told rank line = if rank == 3 then unwrap_or (leftmost_bad_byte line) 0 else (if rank == 6 then unwrap_or (leftmost_bad_field line) 0 else 0)
 
@@ -98,7 +99,7 @@ column_is limit earlier line (bad_field at) holds = ap (λ o. unwrap_or o 0) hol
 column_is limit earlier line third_midnight holds = refl
 column_is limit earlier line no_end holds = refl
 
--- a record at fault has at most one cause
+-- the fault at a record has at most one cause
 pub one_cause : (limit : ℕ) (earlier : Lines) (line : List ℕ) (first second : FileCause) → IsCause limit earlier line first → IsCause limit earlier line second
     → first ≡ second
 one_cause limit earlier line first second is_first is_second = by (cases_order (cause_rank first) (cause_rank second))
@@ -111,7 +112,7 @@ one_cause limit earlier line first second is_first is_second = by (cases_order (
     by (inr (inl below)) = absurd (is_second.first first below is_first.holds)
     by (inr (inr above)) = absurd (is_first.first second above is_second.holds)
 
--- a list of records has at most one record fault
+-- in a list of records, at most one fault is the fault of the first record at fault
 record_fault_unique : (limit : ℕ) (records : Lines) (first second : FileFault) → IsRecordFault limit records first → IsRecordFault limit records second
     → first ≡ second
 record_fault_unique limit records first second one two =

@@ -82,7 +82,8 @@ behind_front (first ∷ front) last (second ∷ earlier) line later e same =
 
 -- ---- a fault that the first bytes of a text determine stays when more bytes are appended
 
--- after the same earlier records, two lines that don't have 80 bytes have the same cause
+-- after the same earlier records, the faults at two lines that don't have 80 bytes have the same
+-- cause
 cause_stays : (limit : ℕ) (earlier : Lines) (line other : List ℕ) (cause : FileCause) → length line ≢ 80 → length other ≢ 80 → IsCause limit earlier line cause
     → IsCause limit earlier other cause
 cause_stays limit earlier line other cause one two is = by cause is
@@ -112,7 +113,7 @@ cause_stays limit earlier line other cause one two is = by cause is
     by third_midnight told = absurd (above third_midnight told (omega arith))
     by no_end told = absurd told.holds
 
--- the record fault of a prefix of records is the record fault of all records
+-- if one of the records of a prefix is at fault, the prefix and the whole list have the same fault
 fault_in_front : (limit : ℕ) (front records more : Lines) (fault : FileFault) → records ≡ front ++ more → IsRecordFault limit front fault
     → IsRecordFault limit records fault
 fault_in_front limit front records more fault whole is = record {
@@ -312,7 +313,8 @@ passes_no_fault limit text fault passes told = by told.is.here
 
 -- ---- which fault a reader reports while it reads a text in pieces
 
--- if a line doesn't have 80 bytes, the cause of the line doesn't depend on the line's bytes
+-- if a line doesn't have 80 bytes, the cause of the fault at the line doesn't depend on the line's
+-- bytes
 pub cause_of_length : (limit count : ℕ) (place : Place) (line : List ℕ) → length line ≢ 80 → cause_of limit count place line ≡ cause_of_long limit count place
 cause_of_length limit count place line apart =
     λ i. cond (nat_le limit count) too_many

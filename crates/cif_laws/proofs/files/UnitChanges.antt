@@ -40,9 +40,9 @@ basic_alike : (n : ℕ) (basic : List ℕ) (following others : List (List ℕ)) 
 basic_alike n basic following others is run =
     (λ i. map (change_of_act n) (acts_by_kind (is i) basic following)) ∙ ap (λ lines. change_of_schedule n basic lines ∷ []) run
 
--- ---- the records after a basic schedule have no changes
+-- ---- the records after a basic schedule make no changes
 
--- a record that can follow a basic schedule has no changes
+-- a record that can follow a basic schedule makes no changes
 follower_changes_nothing : (kind : Option Kind) (line : List ℕ) (following : List (List ℕ)) → follows_basic kind ≡ true → acts_by_kind kind line following ≡ []
 follower_changes_nothing (Some extra_details) line following h = refl
 follower_changes_nothing (Some origin_location) line following h = refl
@@ -79,7 +79,7 @@ is_basic basic others is = subst (HasKind basic_schedule) (sym (ap head is.whole
     head [] = []
     head (line ∷ lines) = line
 
--- a schedule has exactly one change, `change_of_schedule`
+-- a schedule makes exactly one change, `change_of_schedule`
 pub schedule_change : (n : ℕ) (basic : List ℕ) (others : List (List ℕ)) → IsSchedule (basic ∷ others)
     → changes_of_unit n (basic ∷ others) ≡ change_of_schedule n basic others ∷ []
 schedule_change n basic others is =

@@ -6,7 +6,7 @@ use Rattle.std.specs.List.{list_all, filter_map, cons_option}
 use Rattle.cif_laws.proofs.lists.Membership.{Contains-cons, cons-Contains, cons-Contains-first, nil-Contains}
 use Rattle.cif_laws.proofs.lists.BoolsAndOptions.{both, none_some}
 
--- the members of a filtered list are the members that pass the test
+-- the members of a filtered list are the members of the list that pass the test
 module _ {A : Type 0} (test : A → Bool) where
   -- a member of the filtered list is a member of the list and passes the test
   pub filter_back : (xs : List A) (z : A) → Contains (filter test xs) z → Contains xs z × (test z ≡ true)

@@ -47,7 +47,7 @@ Contains-single x y among = only x y among.0 among.1 among.2
 pub single-Contains : {A : Type 0} (x y : A) → x ≡ y → Contains (x ∷ []) y
 single-Contains x y same = (0, lit< tt, same)
 
--- a member of the mapped list is the image of a member
+-- each member of a mapped list is the image of a member of the original list
 pub Contains-map : {A B : Type 0} (f : A → B) (xs : List A) (y : B) → Contains (map f xs) y → (x : A) × Contains xs x × (f x ≡ y)
 Contains-map f [] y among = absurd (nil-Contains y among)
 Contains-map f (x ∷ xs) y among = by (Contains-map f xs y) (Contains-cons (f x) (map f xs) y among)
@@ -56,7 +56,7 @@ Contains-map f (x ∷ xs) y among = by (Contains-map f xs y) (Contains-cons (f x
     by rest (inl same) = (x, cons-Contains-first x xs, same)
     by rest (inr inside) = let found = rest inside in (found.0, cons-Contains x xs found.0 found.1, found.2)
 
--- the image of a member is in the mapped list
+-- the image of each member of a list is a member of the mapped list
 pub map-Contains : {A B : Type 0} (f : A → B) (xs : List A) (x : A) → Contains xs x → Contains (map f xs) (f x)
 map-Contains f [] x among = absurd (nil-Contains x among)
 map-Contains f (z ∷ xs) x among = by (map-Contains f xs x) (Contains-cons z xs x among)

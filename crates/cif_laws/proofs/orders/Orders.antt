@@ -1,5 +1,6 @@
 -- All orders that `docker_model` defines are total. Each distinguishes different values, with three
--- exceptions: the orders of bodies, ops and entries do so only for values whose lines are records.
+-- exceptions. The orders of bodies, ops and entries do so only if all lines in the bodies are
+-- records.
 use mathlib.Core.Path.{fun_ext}
 use Rattle.std.proofs.Common.{◌≡◌, subst, sym, refl, ℕ, List, [], ap, true, false}
 use Rattle.std.specs.declared.cmp.Ordering.{Ordering}
@@ -137,7 +138,7 @@ schedule_in _ = record { uid = []; runs_from = 0; indicator = 0 }
 abbrev by_parts : Key → Key → Ordering
 by_parts = then_cmp (on key_tag nat_cmp) (then_cmp (on code_in bytes_cmp) (then_cmp (on association_in association_key_cmp) (on schedule_in schedule_key_cmp)))
 
--- a comparison followed by `Equal` is that comparison
+-- `ordering_then a Equal` is `a`
 pub then_equal_right : (a : Ordering) → ordering_then a Equal ≡ a
 then_equal_right Less = refl
 then_equal_right Equal = refl
@@ -173,8 +174,8 @@ exact_key (schedule_key a) (tiploc_key b) e = cc
 exact_key (schedule_key a) (association_key b) e = cc
 exact_key (schedule_key a) (schedule_key b) e = ap schedule_key (exact_schedule_key a b e)
 
--- the order of bodies is total. This order can't distinguish two schedules whose different lines
--- have the same concatenation
+-- the order of bodies is total. Two schedules with different lines may compare as equal if the
+-- concatenations of their lines are equal
 pub body_total : IsTotalOrder body_cmp
 body_total = then_total (on_total body_end nat_cmp_total) (then_total (on_total body_bytes nat_list_cmp_total) (on_total body_tag nat_cmp_total))
 

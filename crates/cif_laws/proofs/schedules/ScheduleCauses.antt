@@ -1,5 +1,5 @@
--- The cause of a record that can't continue a schedule, given the reader's stage before the record.
--- The cause is the same when the schedule is read as part of a file.
+-- The cause of the fault at a record that can't continue a schedule, given the reader's stage
+-- before the record. The cause is the same when the schedule is read as part of a file.
 use Rattle.std.proofs.Common.{◌≡◌, ℕ, List, refl, ap, ◌<◌, ◌⊎◌, inl, inr, sym, ◌∙◌, ◌≤◌, None}
 use Rattle.std.proofs.Common.{arith, [], ◌∷◌, Bool, true, false, cond, Some, ◌++◌, subst, length}
 use Rattle.std.specs.Prelude.{unwrap_or, Option, is_none, is_some, option_map, ◌&&◌, ◌==◌}
@@ -25,7 +25,7 @@ use Rattle.cif_laws.proofs.schedules.ScheduleStages.{IsSound, IsFront, details_o
 use Rattle.cif_laws.proofs.schedules.ScheduleStages.{schedule_out_of_place, schedule_in_place, IsNoNextLine, no_next_line}
 use Rattle.cif_laws.proofs.files.FileStages.{stage_stops, tracked_place}
 
--- ---- a record that can't continue a schedule has at most one cause
+-- ---- the fault at a record that can't continue a schedule has at most one cause
 
 column_in : (earlier : Lines) (line : List ℕ) (cause : FileCause) → HoldsInSchedule earlier line cause → column_told (cause_rank cause) line ≡ column_of cause
 unfolding column_of column_told
@@ -39,7 +39,7 @@ column_in earlier line (bad_field at) holds = ap (λ o. unwrap_or o 0) holds
 column_in earlier line third_midnight holds = refl
 column_in earlier line no_end holds = refl
 
--- a line that can't continue a schedule has at most one cause
+-- the fault at a line that can't continue a schedule has at most one cause
 pub one_schedule_cause : (earlier : Lines) (line : List ℕ) (first second : FileCause) → IsScheduleFault earlier line first → IsScheduleFault earlier line second
     → first ≡ second
 one_schedule_cause earlier line first second is_first is_second = by (cases_order (cause_rank first) (cause_rank second))
@@ -51,9 +51,10 @@ one_schedule_cause earlier line first second is_first is_second = by (cases_orde
     by (inr (inl below)) = absurd (is_second.first first below is_first.holds)
     by (inr (inr above)) = absurd (is_first.first second above is_second.holds)
 
--- ---- a record that can't be the first record of a schedule has the cause `first_line_cause`
+-- ---- if a record can't be the first record of a schedule, the cause of its fault is
+-- `first_line_cause`
 
--- if the condition of each cause of a lower rank is false, no cause of a lower rank applies
+-- if the conditions of all causes with a rank below `rank` are false, none of these causes applies
 none_below : (earlier : Lines) (line : List ℕ) (rank : ℕ) → rank ≤ 7 → (4 < rank → ¬ (kind_of line ≡ None)) → (5 < rank → ¬ IsOutOfSchedule earlier line)
     → (6 < rank → leftmost_bad_field line ≡ None)
     → (other : FileCause) → cause_rank other < rank → ¬ HoldsInSchedule earlier line other
@@ -90,7 +91,7 @@ witness_begins = front_begins after_basic (witness basic_schedule ∷ []) (front
 kind_is_known : (line : List ℕ) (kind : Kind) → kind_of line ≡ Some kind → ¬ (kind_of line ≡ None)
 kind_is_known line kind is none = let bad : None ≡ Some kind = sym none ∙ is in cc
 
--- if a record can't be the first record of a schedule, its cause is `first_line_cause`
+-- if a record can't be the first record of a schedule, the cause of its fault is `first_line_cause`
 pub first_line_fault : (line : List ℕ) → IsRecord line → is_first_line line ≡ false → IsScheduleFault [] line (first_line_cause line)
 first_line_fault line is test = by (kind_of line) refl
   where
@@ -137,7 +138,7 @@ first_line_fault line is test = by (kind_of line) refl
     }
     by (Some kind) h = placed kind h (is_basic_kind (Some kind)) refl
 
--- ---- a later record that can't continue the schedule has the cause `schedule_cause`
+-- ---- if a later record can't continue the schedule, the cause of its fault is `schedule_cause`
 
 -- if a record leads to a next stage, the records up to and including this record begin a schedule
 pub begins_next_stage : (lines : Lines) (stage : Stage) (line : List ℕ) (next : Stage) → stage_of lines ≡ Some stage → next_stage stage lines line ≡ Some next
@@ -156,7 +157,7 @@ no_next_stage lines stage line at here = by (next_stage stage lines line) refl
     by None h = h
     by (Some next) h = absurd (here (begins_next_stage lines stage line next at h))
 
--- if a record leads to no next stage, its cause is `schedule_cause`
+-- if a record leads to no next stage, the cause of its fault is `schedule_cause`
 pub schedule_fault : (earlier : Lines) (stage : Stage) (line : List ℕ) → stage_of earlier ≡ Some stage → IsRecord line → next_stage stage earlier line ≡ None
     → IsScheduleFault earlier line (schedule_cause stage line)
 schedule_fault [] stage line at is nowhere = cc
@@ -240,7 +241,8 @@ goes_on_or_fault (basic ∷ rest) line begins is = by ((begins_iff_stage basic r
         staged None h = inr (schedule_cause at.0 line, schedule_fault (basic ∷ rest) at.0 line at.1 is h)
         staged (Some next) h = inl (begins_next_stage (basic ∷ rest) at.0 line next at.1 h)
 
--- ---- a record of a schedule is at fault for the same cause when the schedule is read in a file
+-- ---- a fault at a record of a schedule has the same cause whether the record is judged as part of
+-- the schedule or as part of a file
 
 -- a record that can follow a basic schedule begins no unit
 pub no_unit_by_kind : (kind : Option Kind) (line : List ℕ) → follows_basic kind ≡ true → unit_by_kind kind line ≡ None
@@ -291,7 +293,8 @@ next_place_of_stage stage lines line of =
     by None = none (is_record line && has_good_fields line) (is_record line && is_sound_next lines line)
     by (Some next) = tested (is_record line && is_sound_next lines line) next
 
--- if a record is within the limit and isn't after the trailer, its cause is `kind_cause`
+-- for a record that is within the limit and isn't after the trailer, `cause_of` returns
+-- `kind_cause`
 pub cause_of_record : (limit count : ℕ) (place : Place) (line : List ℕ) → count < limit → is_after_end place ≡ false → IsRecord line
     → cause_of limit count place line ≡ kind_cause place line
 cause_of_record limit count place line under open_end is =
@@ -300,7 +303,8 @@ cause_of_record limit count place line under open_end is =
     ∙ (λ i. cond (ap (λ n. n == 80) is.0 i) (byte_cause place line) bad_length)
     ∙ (λ i. with_column bad_byte (no_bad_byte line is.1 i) (kind_cause place line))
 
--- a record that can only belong to the schedule has the same cause in the file as in the schedule
+-- if a record can only belong to the schedule, a fault at this record has the same cause whether
+-- the record is judged as part of the file or as part of the schedule
 pub cause_in_schedule : (limit count : ℕ) (stage : Stage) (lines : Lines) (line : List ℕ) → count < limit → IsRecord line → IsOfSchedule stage lines line
     → cause_of limit count (in_schedule stage lines) line ≡ schedule_cause stage line
 cause_in_schedule limit count stage lines line under is of =
@@ -313,8 +317,8 @@ cause_in_schedule limit count stage lines line under is of =
     by None = refl
     by (Some next) = refl
 
--- if a schedule may end, a record that can't follow a basic schedule has the same cause after this
--- schedule as between units
+-- suppose that a schedule may end, and that a record can't follow a basic schedule. Then a fault at
+-- this record has the same cause whether the record follows this schedule or another unit
 pub cause_behind_schedule : (limit count : ℕ) (stage : Stage) (lines : Lines) (line : List ℕ) → count < limit → IsRecord line → may_end stage lines ≡ true
     → follows_basic (kind_of line) ≡ false
     → cause_of limit count (in_schedule stage lines) line ≡ cause_of limit count between_units line
@@ -326,7 +330,8 @@ cause_behind_schedule limit count stage lines line under is may anew =
     (field_cause line)))
     ∙ sym (cause_of_record limit count between_units line under refl is)
 
--- a record that is at fault in the schedule is at fault in the file, for the same cause
+-- if a record is at fault as part of the schedule, it is at fault as part of the file, for the same
+-- cause
 pub fault_of_schedule : (limit : ℕ) (earlier : Lines) (stage : Stage) (lines : Lines) (line : List ℕ) (cause : FileCause)
     → IsPlaceOf earlier (in_schedule stage lines) → length earlier < limit → IsRecord line
     → IsOfSchedule stage lines line → IsScheduleFault lines line cause

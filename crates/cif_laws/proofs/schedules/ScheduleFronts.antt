@@ -108,7 +108,7 @@ journey_here_decided [] = inr (λ h. h)
 journey_here_decided (first ∷ lines) = both_decided (has_kind_decided origin_location first) (whole_calls_decided lines)
 
 -- the records after the extra details are sound: the schedule is a deletion, or the records have
--- good fields and pass midnight at most twice
+-- good fields and the schedule passes midnight at most twice
 abbrev SoundHere : List ℕ → Lines → Type 0
 SoundHere basic lines = IsTrue (is_deletion basic) ⊎ (AllByRecursion HasGoodFields lines × (midnights lines ≤ 2))
 

@@ -1,6 +1,6 @@
--- The association lines of a docker. Each says that two trains join or divide at a place, or that
--- one train becomes the other's next working. These definitions accept any number as a day, but
--- dockers are made only for days 0 to 36524.
+-- The association lines of a docker. Each line says that two trains join at a place, that one
+-- divides from the other, or that one becomes the other. These definitions accept any number as a
+-- day, but dockers are made only for days 0 to 36524.
 use Rattle.std.specs.Prelude.{◌≡◌, ℕ, ◌+◌, ◌-◌, Bool, ◌||◌, ◌⊎◌, ◌==◌, nat_lt, if◌then◌else◌, IsTrue, List, Option, Some, None, codes}
 use Rattle.std.specs.Str.{bytes_eq}
 use Rattle.docker_model.specs.records.Record.{columns, column}
@@ -13,9 +13,9 @@ use Rattle.docker_model.specs.docker.Event.{Event, event_day, first_event_at}
 use Rattle.docker_model.specs.docker.Choice.{TrainRuns, IsChosenAssociation, IsCancellation, group_of}
 use Rattle.docker_model.specs.docker.DockerLine.{DockerLine, line_of_association}
 
--- converts an association's category, a field of two bytes, to its occasion. `JJ` is a join, `VV` a
--- division and `NP` a next working. Any other category has no occasion, and an association with
--- such a category has no docker line
+-- converts the category of an association, a field of two bytes, to the occasion of its docker
+-- line. `JJ` is a join, `VV` a division and `NP` a next working. Any other category has no
+-- occasion, and an association with such a category has no docker line
 abbrev pub category_occasion : List ℕ → Option Occasion
 category_occasion category =
     if bytes_eq category (codes "JJ") then Some joining

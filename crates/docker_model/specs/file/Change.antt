@@ -1,4 +1,4 @@
--- The changes of a file: a change puts a body at a key or deletes a key.
+-- The changes of a file: a change puts a body under a key or deletes a key.
 use Rattle.std.specs.Prelude.{ℕ, List, Bool, ◌||◌, take_while, if◌then◌else◌, [], ◌∷◌, Option, Some, map, ◌+◌, ◌++◌}
 use Rattle.std.specs.Str.{bytes_eq}
 use Rattle.docker_model.specs.records.Record.{columns, column, kind_of, Kind, tiploc_insert, tiploc_amend, tiploc_delete, association, basic_schedule}
@@ -31,15 +31,15 @@ pub data Key : Type 0 where
   association_key : (key : AssociationKey) → Key
   schedule_key : (key : ScheduleKey) → Key
 
--- a body: the value that a put stores at its key. The body of a TIPLOC consists of columns 10 to 72
--- of its record. The body of an association is its whole record. The body of a schedule consists of
--- all its records
+-- a body: the value that a put stores under its key. The body of a TIPLOC consists of columns 10 to
+-- 72 of its record. The body of an association is its whole record. The body of a schedule consists
+-- of all its records
 pub data Body : Type 0 where
   tiploc_body : (bytes : List ℕ) → Body
   association_body : (line : List ℕ) → Body
   schedule_body : (lines : List (List ℕ)) → Body
 
--- the act of a change: a deletion of its key, or a put of a body at its key
+-- the act of a change: a deletion of its key, or a put of a body under its key
 pub data Act : Type 0 where
   delete : Act
   put : (body : Body) → Act
@@ -92,9 +92,9 @@ schedule_rest following = take_while (λ line. follows_basic (kind_of line)) fol
 
 -- the acts of a record of this kind: a list of keys, each with its act. The last argument contains
 -- the records that follow this record in the file. A TIPLOC amendment with a new code has two acts:
--- a deletion of the old code, and a put of the new code. A basic schedule puts the whole schedule,
--- and the records after it in the schedule have no acts. A schedule or an association is put with
--- its transaction set to N. So a new record and a revision put the same body
+-- a deletion of the old code, and a put of the new code. The act of a basic schedule puts the whole
+-- schedule, and the records after it in the schedule have no acts. Before a schedule or an
+-- association is put, its transaction is set to N. So a new record puts the same body as a revision
 abbrev pub acts_by_kind : Option Kind → List ℕ → List (List ℕ) → List (Key × Act)
 acts_by_kind (Some tiploc_insert) line following = (tiploc_named line, put (tiploc_details line)) ∷ []
 acts_by_kind (Some tiploc_amend) line following =

@@ -1,5 +1,5 @@
 -- Times of day. A scheduled time is counted in half minutes, a public time in minutes. Each
--- definition says how wide its field is. A byte past the end of a shorter field counts as 0.
+-- definition says how wide its field is. If a field is shorter, each missing byte counts as 0.
 use Rattle.std.specs.Prelude.{ℕ, ◌+◌, ◌*◌, Bool, ◌&&◌, ◌||◌, ◌==◌, nat_lt, if◌then◌else◌, List, take, slice_index, Option, Some, None, codes}
 use Rattle.std.specs.List.{list_all}
 use Rattle.std.specs.Char.{is_ascii_digit}

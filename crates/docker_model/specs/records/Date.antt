@@ -1,6 +1,6 @@
 -- Dates and day numbers. Day 0 is 1 January 1960. The definitions use the calendar of the crate
--- `jiff`. Each definition says how wide its field is. A byte past the end of a shorter field counts
--- as 0.
+-- `jiff`. Each definition says how wide its field is. If a field is shorter, each missing byte
+-- counts as 0.
 use Rattle.std.specs.Prelude.{ℕ, ◌+◌, ◌-◌, ◌*◌, List, slice_index, nat_le, if◌then◌else◌, Bool, ◌&&◌}
 use Rattle.std.specs.Prelude.{pos, ◌+ℤ◌, unsigned_abs, ◌≤◌, codes, ◌||◌, ◌==◌, ◌%◌, count_by}
 use Rattle.std.specs.List.{list_all, range_with_len}

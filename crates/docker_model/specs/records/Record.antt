@@ -26,7 +26,7 @@ leftmost_bad_byte bytes = option_map (λ i. i + 1) (position (λ b. not (is_prin
 abbrev pub columns : ℕ → ℕ → List ℕ → List ℕ
 columns first last line = slice_range line (first - 1) last
 
--- the byte in column `n`, or 0 past the end of a shorter line
+-- the byte in column `n`, or 0 if the line ends before this column
 abbrev pub column : ℕ → List ℕ → ℕ
 column n line = slice_index line (n - 1)
 

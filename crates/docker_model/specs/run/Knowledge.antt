@@ -26,8 +26,8 @@ AreFiles files = All IsFile files × All (λ file. length file ≤ most_records)
 abbrev pub IsGoodKnown : Format → Known → Type 0
 IsGoodKnown format known = AreFiles known.files × IsHorizonOf format known.horizon
 
--- this event may be part of a run. If the event takes a file, the limit is at most 4,294,967,294
--- records. If the event sets a horizon, the format allows that horizon
+-- this event may be part of a run. If an office takes a file, the limit is at most 4,294,967,294
+-- records. If an office sets a horizon, the format allows that horizon
 abbrev pub IsGoodEvent : Format → RunEvent → Type 0
 IsGoodEvent format (take_file office text limit) = limit ≤ most_records
 IsGoodEvent format (horizon_event office day) = IsHorizonOf format day
@@ -56,7 +56,7 @@ message_text messages message = slice_index_or messages message []
 abbrev pub sets_of : ℕ → List RunEvent → Exchange → KnownSets
 sets_of offices events exchange = known_sets offices events exchange.replies
 
--- whether the event sends a state as a message
+-- whether in this event an office sends its state as a message
 abbrev pub is_sending : RunEvent → Bool
 is_sending (take_file office text limit) = false
 is_sending (send_state office) = true
@@ -64,10 +64,10 @@ is_sending (deliver office message) = false
 is_sending (reload office message) = false
 is_sending (horizon_event office day) = false
 
--- whether this event sends a state and its reply is `done`
+-- whether in this event an office sends its state, and the reply is `done`
 abbrev pub is_sent : RunEvent × Reply → Bool
 is_sent happened = elim happened.1 [ done ↦ is_sending happened.0 | refused why ↦ false ]
 
--- the number of messages after a run: one for each event that sent a state
+-- the number of messages after a run: one for each event in which an office sent its state
 abbrev pub sent_count : List RunEvent → List Reply → ℕ
 sent_count events replies = length (filter is_sent (zip events replies))

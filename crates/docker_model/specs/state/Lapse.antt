@@ -41,7 +41,8 @@ unlapsed horizon body = if nat_lt (body_end body) horizon then None else Some bo
 abbrev pub lapse_table : ℕ → Table → Table
 lapse_table horizon table key = option_and_then (unlapsed horizon) (table key)
 
--- with this horizon, the program refuses dockers for the day: there is a horizon, and the day is
--- before the third day after it. For example, with the horizon 100 the first allowed day is 103
+-- with this horizon, the program refuses to make a docker for the day: there is a horizon, and the
+-- day is before the third day after it. For example, with the horizon 100 the first allowed day is
+-- 103
 abbrev pub IsDayRefused : ℕ → ℕ → Type 0
 IsDayRefused horizon day = (0 < horizon) × (day < horizon + 3)

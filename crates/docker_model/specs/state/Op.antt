@@ -72,8 +72,8 @@ body_end (tiploc_body bytes) = no_end_number
 body_end (association_body line) = readable_end (columns 22 27 line)
 body_end (schedule_body lines) = readable_end (columns 16 21 (first_record lines))
 
--- the order of bodies: by end number, then bytes, then tag. Two bodies whose lines are records
--- compare as equal only if the bodies are the same
+-- the order of bodies: by end number, then bytes, then tag. If all lines of two bodies are records,
+-- the bodies compare as equal only if they are the same
 abbrev pub body_cmp : Body → Body → Ordering
 body_cmp a b =
     ordering_then (nat_cmp (body_end a) (body_end b))
@@ -97,8 +97,8 @@ body_of deleted = None
 body_of lapsed = None
 body_of (put_with body) = Some body
 
--- the order of ops: `deleted`, then `lapsed`, then puts in the order of their bodies. Two ops whose
--- lines are records compare as equal only if the ops are the same
+-- the order of ops: `deleted`, then `lapsed`, then puts in the order of their bodies. If all lines
+-- of the bodies in two ops are records, the ops compare as equal only if they are the same
 abbrev pub op_cmp : Op → Op → Ordering
 op_cmp deleted deleted = Equal
 op_cmp deleted lapsed = Less
@@ -111,12 +111,12 @@ op_cmp (put_with a) lapsed = Greater
 op_cmp (put_with a) (put_with b) = body_cmp a b
 
 -- an entry of a state: the op of a key, with the stamp of the change that set the op. Of two
--- entries of one key, a join keeps the greater entry
+-- entries for one key, a join keeps the greater entry
 pub record Entry : Type 0 where
   pub stamp : Stamp
   pub op : Op
 
--- the order of entries: by stamp, then by op. Two entries whose lines are records compare as equal
--- only if the entries are the same
+-- the order of entries: by stamp, then by op. If all lines of the bodies in two entries are
+-- records, the entries compare as equal only if they are the same
 abbrev pub entry_cmp : Entry → Entry → Ordering
 entry_cmp a b = ordering_then (stamp_cmp a.stamp b.stamp) (op_cmp a.op b.op)

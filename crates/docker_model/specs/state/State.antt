@@ -127,7 +127,7 @@ pub record IsValid (state : State) : Type 0 where
 abbrev pub entry_at : State → Key → Option Entry
 entry_at state key = option_and_then (λ (entry : Key × Entry). Some entry.1) (find (λ entry. is_eq (key_cmp entry.0 key)) state.entries)
 
--- the live table of a state: the body at each key whose entry is a put. A key has no body if its
+-- the live table of a state: the body under each key whose entry is a put. A key has no body if its
 -- entry is a deletion or a lapse, or if it has no entry
 abbrev pub live_table : State → Key → Option Body
 live_table state key = option_and_then (λ (entry : Entry). body_of entry.op) (entry_at state key)

@@ -18,7 +18,7 @@ pub record IsKeptFile (files : List (List (List ℕ))) (floor : Option FileStamp
   pub among : Contains files file
   pub kept : IsKept floor (file_stamp_of file)
 
--- converts a change in a file to the entry that the change leaves at its key. The entry has the
+-- converts a change in a file to the entry that the change leaves under its key. The entry has the
 -- file's stamp, the number of the record, and the op
 abbrev pub entry_of : List (List ℕ) → Change → Entry
 entry_of file change = record { stamp = record { file = file_stamp_of file; number = change.number }; op = op_of change.act }

@@ -8,7 +8,7 @@ use Rattle.docker_model.specs.state.Order.{IsStrictlyAscending}
 use Rattle.docker_model.specs.state.Stamp.{ledger_item_of, moment_of, moment_cmp}
 use Rattle.docker_model.specs.state.Op.{op_of, body_of, key_cmp}
 
--- a table: the body at each key, or `None` if there is no body
+-- a table: the body under each key, or `None` if there is no body under the key
 abbrev pub Table : Type 0
 Table = Key → Option Body
 
@@ -16,8 +16,8 @@ Table = Key → Option Body
 abbrev pub empty_table : Table
 empty_table key = None
 
--- the table after a change. The change puts a body at its key or removes the body of its key. All
--- other keys are unchanged
+-- the table after a change. The change puts a body under its key or removes the body under its key.
+-- All other keys are unchanged
 abbrev pub after_change : Table → Change → Table
 after_change table change key = if is_eq (key_cmp change.key key) then body_of (op_of change.act) else table key
 
