@@ -49,7 +49,7 @@ whole_iff lines stage at = (
   λ may. (schedule_iff_stage lines).1 (stage, record { found = at; may = may }),
 )
 
--- whether a schedule may end can be decided from the stage and the flag that the reader remembers
+-- the stage and the flag `lacking` that the reader remembers determine whether the schedule may end
 may_end_same : (stage : Stage) (lines : Lines) (lacking : Bool) → lacking ≡ may_lack (first_record lines)
     → may_end_by (Some stage) lacking ≡ may_end stage lines
 may_end_same after_basic lines lacking same = same
@@ -68,7 +68,8 @@ complete_iff journey lines has = by journey.stage refl
         let same = may_end_same stage lines journey.lacking has.lacking_is in
         (λ test. iff.1 (sym same ∙ test), λ is. same ∙ iff.0 is)
 
--- the test of the remembered stage and flag passes if and only if the lines taken are a whole schedule
+-- the test `may_end_by` passes for the stage and the flag that the reader remembers if and only if
+-- the lines that it has taken are a whole schedule
 pub complete_by : (journey : JourneyState) (lines : Lines) (result : Bool) → result ≡ may_end_by journey.stage journey.lacking → HasLines journey lines
     → IsTrue result ↔ IsSchedule lines
 complete_by journey lines result told has =
@@ -137,8 +138,8 @@ judged_ok answer journey lines line has is iff = (
     from (Some next) h begins = iff.1 (λ i. is_some (h i))
 
 -- suppose a result is `Ok` if and only if there is a stage after the line, and that otherwise its
--- error is the cause that `cause_by` gives. Then this error is the cause for which no schedule
--- begins with the lines taken followed by this line
+-- error is the cause that `cause_by` gives. Then this error is the cause for which the line is
+-- refused after the lines that were taken
 pub judged_err : {A : Type 0} (answer : Result A FileCause) (journey : JourneyState) (lines : Lines) (line : List ℕ) (told : fault.FileCause)
     → HasLines journey lines → IsRecord line
     → IsOk answer ↔ (is_some (next_by journey.stage lines line) ≡ true) → told ≡ cause_by journey.stage line
@@ -152,7 +153,8 @@ judged_err (Err cause) journey lines line told has is iff same err =
     by None h = fault_by journey lines line has is h
     by (Some next) h = let bad = iff.1 (λ i. is_some (h i)) in absurd cc
 
--- before any line is taken, there is a stage after a line if and only if the line is a basic schedule with good fields
+-- if no line has been taken yet, a line leads to a stage if and only if the line is a basic
+-- schedule with good fields
 pub first_test : (journey : JourneyState) (lines : Lines) (line : List ℕ) → journey.stage ≡ None
     → is_some (next_by journey.stage lines line) ≡ is_first_line line
 first_test journey lines line at = (λ i. is_some (next_by (at i) lines line)) ∙ by (is_first_line line)
@@ -246,7 +248,8 @@ out_of_place journey lines line stage kind has is at known none =
 
 -- ---- the times of the next line
 
--- Counting midnights can be split after an optional first time: the total is the count up to the first time plus the count from the first time on.
+-- The midnights passed at a list of times can be counted in two steps: first up to the optional
+-- first time, and then from the first time on.
 pub falls_in_turn : (last first : Option ℕ) (rest : List ℕ) → falls_after last (time_list first ++ rest) ≡ falls_after last (time_list first) + falls_after
     (later_or first last) rest
 falls_in_turn None None rest = omega arith
@@ -254,7 +257,8 @@ falls_in_turn (Some last) None rest = omega arith
 falls_in_turn None (Some time) rest = omega arith
 falls_in_turn (Some last) (Some time) rest = omega arith
 
--- after three optional times, the last time is the last of the times that are present, or the earlier last time if none is present
+-- after three optional times, the last time is the last of the times that are present. If none is
+-- present, the last time stays the same
 pub last_in_turn : (last first second third : Option ℕ) → later_or third (later_or second (later_or first last)) ≡ later_or
     (last_of (time_list first ++ time_list second ++ time_list third)) last
 last_in_turn last None None None = refl
@@ -266,7 +270,8 @@ last_in_turn last (Some a) None (Some c) = refl
 last_in_turn last None (Some b) (Some c) = refl
 last_in_turn last (Some a) (Some b) (Some c) = refl
 
--- counting from 0, or from the last time if there is one, counts the same midnights, since no time is below 0
+-- if there is no last time yet, the midnights can be counted as if the last time were 0, since no
+-- time is below 0
 falls_from_zero : (last : Option ℕ) (times : List ℕ) → falls_after (later_or last (Some 0)) times ≡ falls_after last times
 falls_from_zero (Some last) times = refl
 falls_from_zero None [] = refl
@@ -276,7 +281,8 @@ falls_from_zero None (time ∷ times) =
     by : (count : ℕ) → 0 + count ≡ count
     by count = omega arith
 
--- the last of three lists of times can be found in either order
+-- `later_or` is associative: the last time of three lists of times doesn't depend on which two
+-- lists are combined first
 later_in_turn : (third second first : Option ℕ) → later_or third (later_or second first) ≡ later_or (later_or third second) first
 later_in_turn None second first = refl
 later_in_turn (Some third) second first = refl
@@ -286,7 +292,7 @@ one_line line = ap (map (λ (time : Occasion × ℕ). time.1)) (append-nil (time
 
 -- ---- what the reader remembers after the next line
 
--- taking another line doesn't change which line was the first
+-- taking another line doesn't change the first line
 first_stays : (lines : Lines) (stage : Stage) (line : List ℕ) → stage_of lines ≡ Some stage → first_record (lines ++ line ∷ []) ≡ first_record lines
 first_stays [] stage line at = cc
 first_stays (basic ∷ rest) stage line at = refl
@@ -319,7 +325,8 @@ deletion_goes_on journey lines line stage next has is at deletion after =
     deletion_sound : is_deletion (first_record lines) ≡ true → is_sound_next lines line ≡ true
     deletion_sound told = λ i. told i || (has_good_fields line && nat_le (midnights (lines ++ line ∷ [])) 2)
 
--- the midnights that the next line adds can be counted from the time that the reader remembers
+-- the midnights that the schedule passes at the next line can be counted from the last time that
+-- the reader remembers
 falls_so_far : (journey : JourneyState) (lines : Lines) (line : List ℕ) → HasLines journey lines → journey.deletion ≡ false
     → falls_after (last_of (times_along lines)) (times_along (line ∷ [])) ≡ falls_after (Some journey.last) (times_along (line ∷ []))
 falls_so_far journey lines line has kept =
@@ -335,7 +342,8 @@ sound_by_falls journey lines line more has kept falls =
     (sym (has.falls_are kept) i + falls_so_far journey lines line has kept i) 2))
     ∙ (λ i. has_good_fields line && nat_le (sym falls i) 2)
 
--- unless the schedule is a deletion, there is a next stage after a sound line, with the new count of midnights and the new last time
+-- unless the schedule is a deletion, the reader can take a sound line. It then remembers the next
+-- stage, the new count of midnights and the new last time
 pub sound_goes_on : (journey : JourneyState) (lines : Lines) (line : List ℕ) (stage next : Stage) (more later : ℕ) → HasLines journey lines
     → IsRecord line → journey.stage ≡ Some stage
     → journey.deletion ≡ false → stage_after stage (kind_of line) ≡ Some next → HasGoodFields line
@@ -361,7 +369,8 @@ sound_goes_on journey lines line stage next more later has is at kept after fiel
           ∙ (λ i. later_or (sym (last_time_step lines line) i) (Some 0));
     }
 
--- the number of midnights passed by three optional times is the sum of the counts for each time in turn
+-- the number of midnights passed up to the last of three optional times is the sum of the counts
+-- for each time in turn
 pub falls_of_three : (falls : ℕ) (last first second third : Option ℕ)
     → ((falls + falls_after last (time_list first)) + falls_after (later_or first last) (time_list second)) + falls_after
     (later_or second (later_or first last)) (time_list third)

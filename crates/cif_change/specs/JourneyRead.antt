@@ -106,8 +106,8 @@ Advances old line new =
 abbrev pub JudgesLine : JourneyState → List ℕ → Type 0 → Type 0
 JudgesLine journey line holds = (lines : List (List ℕ)) → HasLines journey lines → holds ↔ BeginsSchedule (lines ++ line ∷ [])
 
--- Says that this is the cause for which no schedule begins with the lines already taken and then
--- this line.
+-- Says that this is the cause for which the line is refused: no schedule begins with the lines
+-- already taken and then this line.
 abbrev pub FaultsLine : JourneyState → List ℕ → FileCause → Type 0
 FaultsLine journey line cause = (lines : List (List ℕ)) → HasLines journey lines → IsScheduleCause lines line (cause_meant cause)
 

@@ -1,4 +1,4 @@
-//! The causes for which the reader of an extract refuses the extract.
+//! The reasons why the reader of an extract refuses the extract.
 ghost use Rattle.std.specs.Prelude.{◌≡◌, ◌≤◌, Some, length};
 ghost use Rattle.cif_change.specs.declared.cause.FileCause.TheVariants.{Field, Memory};
 ghost use Rattle.cif_change.specs.Cause.{cause_column, cause_name, cause_text};
@@ -8,7 +8,7 @@ use std::alloc::AllocError;
 use std::error::Error;
 use std::fmt;
 
-/// The reason why the reader of an extract refuses a record, or the end of the text.
+/// The reason why the reader of an extract refuses the text, at a record or at the end.
 #[derive(Clone, Copy, PartialEq, Eq, Debug)]
 pub enum FileCause {
     /// The line doesn't have 80 bytes.

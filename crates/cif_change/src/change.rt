@@ -46,8 +46,8 @@ impl Body {
         }
     }
 
-    /// A number for the kind of body, which is also the tag of its keys: 1 for a TIPLOC, 2 for an
-    /// association, 3 for a schedule.
+    /// A number for the kind of body: 1 for a TIPLOC, 2 for an association, 3 for a schedule. A key
+    /// of the same kind has this number as its tag.
     fn tag(&self) -> u8
         ensures { result ≡ body_tag (body_meant self.now) }
     {

@@ -10,8 +10,8 @@ ghost use Rattle.cif_change.specs.JourneyRead.{time_list, times_list, AreTimesOf
 
 use cif_line::{FieldFault, Kind, Line, Time, call, origin, terminus};
 
-/// How many half minutes a day has. A time is below this number. A number that is this or more
-/// stands for no time.
+/// How many half minutes a day has. A time is below this number. This number and all greater
+/// numbers stand for no time.
 const HALF_MINUTES: u16 = 2880;
 
 /// What a reader remembers of the times read so far: how often the journey has passed midnight
@@ -99,8 +99,8 @@ impl LineTimes {
     }
 }
 
-/// The scheduled times of any line after the basic schedule. The error has the column of the line's
-/// leftmost bad field.
+/// The scheduled times of any line after the basic schedule. The error is the first column of the
+/// line's leftmost bad field.
 pub(crate) fn times_at(kind: Kind, line: &Line) -> Result<LineTimes, FieldFault>
     requires kind { HasKind (meaning kind) line.now }
     requires follows { follows_basic (Some (meaning kind)) ≡ true }
@@ -116,7 +116,7 @@ pub(crate) fn times_at(kind: Kind, line: &Line) -> Result<LineTimes, FieldFault>
     }
 }
 
-/// The time of an origin: its departure. The error has the column of the leftmost bad field.
+/// The time of an origin: its departure. The error is the first column of the leftmost bad field.
 fn origin_times(line: &Line) -> Result<LineTimes, FieldFault>
     requires kind { HasKind origin_location line.now }
     ensures ok { IsOk result ↔ HasGoodFields line.now }
@@ -128,7 +128,7 @@ fn origin_times(line: &Line) -> Result<LineTimes, FieldFault>
 }
 
 /// The times of an intermediate location: its arrival, pass and departure. The number of a blank
-/// field stands for no time. The error has the column of the leftmost bad field.
+/// field stands for no time. The error is the first column of the leftmost bad field.
 fn call_times(line: &Line) -> Result<LineTimes, FieldFault>
     requires kind { HasKind intermediate_location line.now }
     ensures ok { IsOk result ↔ HasGoodFields line.now }
@@ -143,7 +143,7 @@ fn call_times(line: &Line) -> Result<LineTimes, FieldFault>
     })
 }
 
-/// The time of a terminus: its arrival. The error has the column of the leftmost bad field.
+/// The time of a terminus: its arrival. The error is the first column of the leftmost bad field.
 fn terminus_times(line: &Line) -> Result<LineTimes, FieldFault>
     requires kind { HasKind terminating_location line.now }
     ensures ok { IsOk result ↔ HasGoodFields line.now }

@@ -7,7 +7,8 @@ ghost use Rattle.cif_change.specs.JourneyRead.{stage_meant, may_end_by, is_over_
 
 use cif_line::Kind;
 
-/// The record of a schedule that was read last. It determines which kinds of record may come next.
+/// Which record of a schedule the reader has read last. This record determines which kinds of
+/// record may come next.
 #[derive(Clone, Copy, PartialEq, Eq, Debug)]
 pub(crate) enum ScheduleStage {
     /// The basic schedule (BS).

@@ -17,7 +17,7 @@ use Rattle.cif_file.specs.SourceRead.{ReadsText, CountsText, ReadsEnded}
 use Rattle.cif_file.specs.declared.parser.FileReading.{FileReading}
 use Rattle.cif_file.proofs.ParserLemmas.{reading_at_none}
 
--- ---- how many changes a file has
+-- ---- how many changes the records of a file make
 
 few_acts : (kind : Option Kind) (line : List ℕ) (following : List (List ℕ)) → length (acts_by_kind kind line following) ≤ 2
 few_acts (Some tiploc_insert) line following = omega arith

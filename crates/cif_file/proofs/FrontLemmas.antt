@@ -1,5 +1,5 @@
--- Lemmas on what the reader of a file's records knows after taking a record, and why it refuses a
--- record.
+-- Lemmas on what the reader of a file's records remembers after taking a record, and why it refuses
+-- a record.
 use Rattle.std.proofs.Common.{◌≡◌, ℕ, ◌+◌, ◌<◌, inl, inr, Bool, true, false, cond, List, [], ◌∷◌, ◌++◌, length, map, subst}
 use Rattle.std.proofs.Common.{refl, ap, sym, ◌∙◌, Some, None, arith, append-nil, append_assoc, length-append, take}
 use Rattle.std.specs.Prelude.{Option, IsTrue, ◌↔◌, ◌&&◌, is_some, is_none, option_map, slice_index_or, OnOk, Result, Ok, Err}
@@ -141,9 +141,9 @@ changes_closed opened (basic ∷ others) before has number named is =
     kind : HasKind basic_schedule basic
     kind = subst (HasKind basic_schedule) (sym (ap first_record is.whole)) is.kind
 
--- ---- what a keeper has
+-- ---- what a keeper holds
 
--- a keeper that is equal to another has the same lines and changes
+-- two equal keepers hold the same lines and changes
 same_keeper : {K : Type 0} (keeps : Keeps K) (old new : K) (lines : Lines) (made more : List Change) → new ≡ old → made ≡ more → keeps old lines made
     → keeps new lines more
 same_keeper keeps old new lines made more same equal kept =
@@ -358,7 +358,8 @@ header_followed keeps front opened line records before =
     let size = ap (λ (l : Lines). length l) before.whole ∙ length-append before.before before.lines in
     before.header_is ∙ sym (header_stays records (line ∷ []) (omega arith))
 
--- if a keeper that has received lines of a schedule adds one more line, it then has these lines followed by the new line
+-- if a keeper that has received lines of a schedule adds one more line, it then holds these lines
+-- followed by the new line
 pub added_to : {K : Type 0} (keeps : Keeps K) (old new : K) (lines : Lines) (line : List ℕ) (made : List Change) → 0 < length lines
     → AddsLine keeps old line new → keeps old lines made → keeps new (lines ++ line ∷ []) made
 added_to keeps old new [] line made some added kept = absurd (omega arith)
@@ -509,7 +510,8 @@ none_of : (b : Bool) (o : Option Place) → o ≡ None → cond b o None ≡ Non
 none_of true o h = h
 none_of false o h = refl
 
--- if a record is within the limit and isn't after the trailer, its cause is the result of `kind_cause`
+-- for a record that is within the limit and isn't after the trailer, `cause_of` returns the result
+-- of `kind_cause`
 told_cause : (records : Lines) (line : List ℕ) (place : Place) (cause : fault.FileCause) → IsRecord line → is_after_end place ≡ false
     → kind_cause place line ≡ cause
     → (limit : ℕ) → length records < limit → cause_of limit (length records) place line ≡ cause

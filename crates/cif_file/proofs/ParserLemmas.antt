@@ -118,7 +118,7 @@ some_cause true ended first second third = refl
 some_cause false true first second third = refl
 some_cause false false first second third = refl
 
--- if the code refuses a line that isn't a record, the fault that it returns is a fault of that line
+-- if the code refuses a line that isn't a record, the fault that it returns is a fault at this line
 pub refused_line : (wants : Type 0) (limit : ℕ) (records : Lines) (line : List ℕ) (cause : Option model.FileCause) (fault : FileFault)
     → IsRefusedNext limit records cause fault → ¬ IsRecord line
     → ((place : Place) → cause ≡ Some (length_cause place line)) → IsFaultNext wants limit records line fault
@@ -131,7 +131,8 @@ refused_line wants limit records line cause fault next bad told = record {
       (record { place = next.place; at = next.at; here = inr (no_next next.place line bad); is = refl });
 }
 
--- if a line is refused because of its length, the fault that is returned is the fault of a line of more than 81 bytes
+-- if a line is refused because of its length, the fault that is returned is the fault at a line of
+-- more than 81 bytes
 pub refused_long : (limit : ℕ) (records : Lines) (fault : FileFault) → IsRefusedNext limit records (Some bad_length) fault → IsLongNext limit records fault
 refused_long limit records fault next = record {
   number = next.number;
@@ -162,7 +163,7 @@ ended_read keeps old new limit text front reading plain counted none = record {
   short = let size = ap (λ (l : List ℕ). length l) (open_line_ended text front plain) in omega arith;
 }
 
--- a fault of the line that ends at a line feed is a fault of the text up to this line feed
+-- a fault at the line that ends at a line feed is a fault of the text up to this line feed
 pub ended_fault : {K : Type 0} (keeps : Keeps K) (wants : Type 0) (old : FileReading K) (limit : ℕ) (text front : List ℕ) (fault : FileFault)
     → IsReading keeps old limit text → HasNoFeed front
     → IsFaultNext wants limit (complete_lines text) (strip_carriage_return (open_line text ++ front)) fault
@@ -178,7 +179,8 @@ ended_fault keeps wants old limit text front fault reading plain next = by (caus
         subst (λ f. IsFaultSoFar limit (text ++ (front ++ 10 ∷ [])) f) (λ i. record { number = sym next.number i; cause = told.is i })
         (fault_at_feed limit text front [] told.place plain told.at reading.counted.within told.here)
 
--- if a line of more than 81 bytes ends at a line feed, the text has the fault of a line that is too long
+-- if a line of more than 81 bytes ends at a line feed, the text is refused at this line, which is
+-- too long
 pub ended_long : {K : Type 0} (keeps : Keeps K) (old : FileReading K) (limit : ℕ) (text front : List ℕ) (fault : FileFault) → IsReading keeps old limit text
     → HasNoFeed front
     → 82 ≤ length (open_line text ++ front)
@@ -210,7 +212,8 @@ kept_read keeps old new limit text more reading plain few records kept = record 
       let same = ap (λ (l : List ℕ). length l) reading.partial_is in omega arith;
 }
 
--- if more than 81 bytes of a line have been read, the text has the fault of a line that is too long, even without a line feed
+-- if more than 81 bytes of a line have been read, the text is refused at this line, which is too
+-- long even without a line feed
 pub kept_long : {K : Type 0} (keeps : Keeps K) (old : FileReading K) (limit : ℕ) (text more : List ℕ) (fault : FileFault) → IsReading keeps old limit text
     → HasNoFeed more
     → ¬ (length old.partial.items + length more ≤ 81)
@@ -255,7 +258,7 @@ pub counted_ended : {K : Type 0} (keeps : Keeps K) (reading : FileReading K) (li
 counted_ended keeps reading limit text is none =
     subst (HasCounted keeps reading.records limit) (sym (lines_of_ended text (sym is.partial_is ∙ none))) is.counted
 
--- a fault of the unfinished line at the end is a fault of the text
+-- a fault at the unfinished line at the end is a fault of the text
 pub end_fault : {K : Type 0} (keeps : Keeps K) (wants : Type 0) (reading : FileReading K) (limit : ℕ) (text : List ℕ) (fault : FileFault)
     → IsReading keeps reading limit text → 0 < length (open_line text)
     → IsFaultNext wants limit (complete_lines text) (strip_carriage_return (open_line text)) fault → IsRefused limit text fault
@@ -277,7 +280,7 @@ file_at_end keeps records limit text ended counted told =
     let is = told limit (lines_of text) counted in
     record { records = lines_of text; is_text = record { lines = refl; is = is.0; within = counted.within }; of_records = is.1 }
 
--- if all lines of a text were taken and aren't a file, the missing trailer is the text's fault
+-- if all lines of a text were taken and aren't a file, the fault of the text is the missing trailer
 pub no_end_at_end : {K : Type 0} (keeps : Keeps K) (records : Records K) (limit : ℕ) (text : List ℕ) (fault : FileFault)
     → HasCounted keeps records limit (lines_of text) → EndsUnended keeps records fault
     → IsRefused limit text fault
@@ -378,7 +381,7 @@ pub ended_ok : {K : Type 0} (keeps : Keeps K) (old new : FileReading K) (limit :
 ended_ok keeps old new limit text front line reading plain same counted none =
     ended_read keeps old new limit text front reading plain (subst (λ l. HasCounted keeps new.records limit (complete_lines text ++ l ∷ [])) same counted) none
 
--- a fault of the line that was refused is a fault of the text up to the line feed
+-- a fault at the line that was refused is a fault of the text up to the line feed
 pub ended_err : {K : Type 0} (keeps : Keeps K) (wants : Type 0) (old : FileReading K) (limit : ℕ) (text front line : List ℕ) (fault : FileFault)
     → IsReading keeps old limit text → HasNoFeed front
     → line ≡ strip_carriage_return (open_line text ++ front) → FaultsNext keeps wants old.records line fault
@@ -581,34 +584,34 @@ wants_of wants limit records line fault next memory = (subst (λ cause. IsCauseA
 no_want : (wants : Type 0) (fault : FileFault) (cause : model.FileCause) → cause_meant fault.cause ≡ Some cause → fault.cause ≡ Memory → wants
 no_want wants fault cause told memory = let bad : ◌≡◌ {A = Option model.FileCause} None (Some cause) = sym (ap cause_meant memory) ∙ told in absurd cc
 
--- a fault of the next line comes after all complete lines of the text
+-- a fault at the next line is after all complete lines of the text
 pub later_next : {K : Type 0} (keeps : Keeps K) (wants : Type 0) (reading : FileReading K) (line : List ℕ) (fault : FileFault)
     → FaultsNext keeps wants reading.records line fault → IsLater keeps wants reading fault
 later_next keeps wants reading line fault told = λ limit text is.
     let next = told limit (complete_lines text) is.counted in
     (later_than keeps reading limit text fault is next.number, wants_of wants limit (complete_lines text) line fault next)
 
--- the fault of a line that is too long comes after all complete lines of the text
+-- a fault at a line that is too long is after all complete lines of the text
 pub later_long : {K : Type 0} (keeps : Keeps K) (wants : Type 0) (reading : FileReading K) (fault : FileFault)
     → ((limit : ℕ) (text : List ℕ) → IsReading keeps reading limit text → IsLongNext limit (complete_lines text) fault) → IsLater keeps wants reading fault
 later_long keeps wants reading fault told = λ limit text is.
     let next = told limit text is in
     (later_than keeps reading limit text fault is next.number, no_want wants fault (cause_of_long limit (length (complete_lines text)) next.place) next.cause)
 
--- a fault after all complete lines of a text also comes after all complete lines of each prefix of
--- the text
+-- if a fault is after all complete lines of a text, it is also after all complete lines of each
+-- prefix of the text
 later_front : (text more : List ℕ) (fault : FileFault) → sure_lines (text ++ more) < fault.number → sure_lines text < fault.number
 later_front text more fault later = let grown = sure_lines_grow text more in omega arith
 
--- suppose that a fault comes after all complete lines that were read up to the end of a piece. Then it also comes after all complete lines that were read
--- before this piece
+-- if a fault is after all complete lines that were read up to the end of a piece, it is also after
+-- all complete lines that were read before this piece
 pub later_piece : {K : Type 0} (keeps : Keeps K) (wants : Type 0) (old new : FileReading K) (front : List ℕ) (fault : FileFault)
     → GoesOn (IsReading keeps old) front (IsReading keeps new) → IsLater keeps wants new fault
     → IsLater keeps wants old fault
 later_piece keeps wants old new front fault read later = λ limit text is.
     let behind = later limit (text ++ front) (read limit text is) in (later_front text front fault behind.0, behind.1)
 
--- the fault of a missing trailer comes after all complete lines of the text
+-- the fault of a missing trailer is after all complete lines of the text
 pub later_end : {K : Type 0} (keeps : Keeps K) (wants : Type 0) (reading : FileReading K) (fault : FileFault)
     → ((limit : ℕ) (text : List ℕ) → IsReading keeps reading limit text → IsNoEndOf (lines_of text) fault)
     → IsLater keeps wants reading fault
@@ -632,7 +635,8 @@ pub last_open : {K : Type 0} (keeps : Keeps K) (wants : Type 0) (reading : FileR
 last_open keeps wants reading line fault some told =
     λ _ limit text is. (told limit (complete_lines text) is.counted).number ∙ sym (length_at_end text (some_is_open keeps reading limit text is some))
 
--- if a fault comes after all complete lines that the parser has read, it comes after all complete lines that the parser was fed
+-- if a fault is after all complete lines that the parser has read, it is after all complete lines
+-- that the parser was fed
 pub names_later : (parser : ParserState) (reading : FileReading FileSoFar) (fault : FileFault) → parser.fault ≡ None → parser.reading ≡ reading
     → IsLater KeepsAll ⊤ reading fault
     → NamesLater parser fault
@@ -659,7 +663,7 @@ record_read keeps before old new text rest front line behind up_to begins same i
     (taken_is keeps old limit told at.front at.front line reading (ap (λ l. l ++ at.front) (sym none)) (same ∙ at.line_is))
     (taken limit (complete_lines told) reading.counted) after)
 
--- a fault of the record at the start of the rest is a fault of the rest
+-- a fault at the record at the start of the rest is a fault of the rest
 pub record_fault : {K : Type 0} (keeps : Keeps K) (wants : Type 0) (old : FileReading K) (rest front line behind : List ℕ) (fault : FileFault)
     → BeginsWithEighty rest front behind → line ≡ front → IsRecord front → old.partial.items ≡ []
     → FaultsNext keeps wants old.records line fault

@@ -15,7 +15,8 @@ use Rattle.cif_file.specs.ThinKept.{KeepsThin}
 use Rattle.cif_file.specs.ThinRead.{AreThinParts}
 
 module _ {P : Type 0} (place : List ℕ) (day : ℕ) where
-  -- the thin file has the header, the number of records and the changes of the records that were read
+  -- the header, the number of records and the changes in the thin file are correct for the records
+  -- that were read
   file_of : (records : List (List ℕ)) (ended : Ended (ThinSoFar P)) → IsEnded (KeepsThin place day) records ended
       → IsOfRecords (thin_ended ended).file records
   file_of records ended is = record { header_is = is.header_is; count_is = is.count_is; changes_are = is.kept.so_far }

@@ -11,8 +11,8 @@ use Rattle.cif_file.specs.MadeChanges.{file_of_parts}
 use Rattle.cif_file.specs.FileRead.{FileRead, FileCounted}
 use Rattle.cif_file.specs.ThinRead.{ThinRead, thin_of_parts}
 
--- Says that the result has the header and the number of these records, and that the keeper has
--- received all changes of these records.
+-- Says that the header and the number of records in the result are correct for these records, and
+-- that the keeper has received all their changes.
 pub record IsEnded {K : Type 0} (keeps : Keeps K) (records : List (List ℕ)) (ended : Ended K) : Type 0 where
   pub header_is : ended.header ≡ slice_index_or records 0 []
   pub count_is : ended.records ≡ length records

@@ -10,7 +10,8 @@ pub record FileRead : Type 0 where
   pub record_count : ℕ
   pub changes_made : List Change
 
--- Says that a file has the header, the number of records and the changes of these records.
+-- Says that the header, the number of records and the changes of a file are correct for these
+-- records.
 pub record IsOfRecords (file : FileRead) (records : List (List ℕ)) : Type 0 where
   pub header_is : file.header_line ≡ slice_index_or records 0 []
   pub count_is : file.record_count ≡ length records

@@ -57,11 +57,11 @@ abbrev pub AddsSingle : {K : Type 0} → Keeps K → K → ℕ → List ℕ → 
 AddsSingle keeps old number line new =
     (lines : Lines) (made : List Change) → keeps old lines made → keeps new lines (made ++ changes_of_record number line [])
 
--- Says that a `FileSoFar` has exactly these lines, with the transaction of the first set to N, and exactly these changes. If there are notes, they are correct
--- for the changes.
+-- Says that a `FileSoFar` holds exactly these lines, with the transaction of the first set to N,
+-- and exactly these changes. If there are notes, they are correct for the changes.
 abbrev pub KeepsAll : FileSoFar → Lines → List Change → Type 0
 KeepsAll kept lines changes = (kept.lines.items ≡ with_new_first lines) × HasMade kept.made changes
 
--- Says that a `Tally` has the number of these changes, if this number fits in 64 bits.
+-- Says that a `Tally` has counted exactly these changes, if their number fits in 64 bits.
 abbrev pub CountsChanges : Tally → Lines → List Change → Type 0
 CountsChanges tally lines made = length made < 18_446_744_073_709_551_616 → tally.changes ≡ length made

@@ -49,25 +49,26 @@ abbrev pub IsCauseAfter : Type 0 → ℕ → Lines → List ℕ → Option model
 IsCauseAfter wants limit records line None = wants × (length records < limit) × GoesOnWith records line
 IsCauseAfter wants limit records line (Some cause) = IsCauseNext limit records line cause
 
--- Says that this is a fault of the line that follows these records: it gives the line's number and a correct cause.
+-- Says that this is a fault at the line that follows these records: it gives the line's number and
+-- a correct cause.
 pub record IsFaultNext (wants : Type 0) (limit : ℕ) (records : Lines) (line : List ℕ) (fault : FileFault) : Type 0 where
   pub number : fault.number ≡ length records + 1
   pub cause : IsCauseAfter wants limit records line (cause_meant fault.cause)
 
--- Says that this is the fault of a line of more than 81 bytes that follows these records.
+-- Says that this is the fault at a line of more than 81 bytes that follows these records.
 pub record IsLongNext (limit : ℕ) (records : Lines) (fault : FileFault) : Type 0 where
   pub number : fault.number ≡ length records + 1
   pub place : law.Place
   pub at : IsPlaceOf records place
   pub cause : cause_meant fault.cause ≡ Some (cause_of_long limit (length records) place)
 
--- the cause for a line that isn't a record. If the line is beyond the limit, the cause is
--- `too_many`. Otherwise, if the line comes after the trailer, the cause is `after_trailer`.
--- Otherwise `cause` says why the line isn't a record
+-- the cause for which a line that isn't a record is refused. If the line is beyond the limit, the
+-- cause is `too_many`. Otherwise, if the line comes after the trailer, the cause is
+-- `after_trailer`. Otherwise `cause` says why the line isn't a record
 abbrev pub refusal : ℕ → ℕ → law.Place → Option model.FileCause → Option model.FileCause
 refusal limit count place cause = cond (nat_le limit count) (Some too_many) (cond (is_after_end place) (Some after_trailer) cause)
 
--- Says that this is the fault of the line that follows these records. The line isn't a record, and
+-- Says that this is the fault at the line that follows these records. The line isn't a record, and
 -- `cause` says why.
 pub record IsRefusedNext (limit : ℕ) (records : Lines) (cause : Option model.FileCause) (fault : FileFault) : Type 0 where
   pub number : fault.number ≡ length records + 1
@@ -88,7 +89,7 @@ RefusesWithin keeps wants front line cause =
 abbrev pub CountsNext : {K : Type 0} → Keeps K → Records K → List ℕ → Records K → Type 0
 CountsNext keeps old line new = (limit : ℕ) (records : Lines) → HasCounted keeps old limit records → HasCounted keeps new limit (records ++ line ∷ [])
 
--- Says that this is a fault of the line, after any records that the reader may have taken.
+-- Says that this is a fault at the line, after any records that the reader may have taken.
 abbrev pub FaultsNext : {K : Type 0} → Keeps K → Type 0 → Records K → List ℕ → FileFault → Type 0
 FaultsNext keeps wants state line fault = (limit : ℕ) (records : Lines) → HasCounted keeps state limit records → IsFaultNext wants limit records line fault
 
@@ -148,7 +149,7 @@ IsCauseOf limit text number (Some cause) = IsFileFault limit text (record { numb
 abbrev pub IsRefused : ℕ → List ℕ → FileFault → Type 0
 IsRefused limit text fault = IsCauseOf limit text fault.number (cause_meant fault.cause)
 
--- the value of a parser in clauses: what it has taken, and the fault that it has returned, if any
+-- the model of a parser: what the parser has taken, and the fault that it has returned, if any
 pub record ParserState : Type 0 where
   pub reading : FileReading FileSoFar
   pub fault : Option FileFault

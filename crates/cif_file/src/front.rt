@@ -66,7 +66,8 @@ impl FileStage {
     }
 }
 
-/// What the reader knows after some records: the stage, the header, and what the keeper has kept.
+/// What the reader remembers of the records that it has taken: the stage, the header, and what the
+/// keeper has kept.
 #[derive(Debug, Drop)]
 pub(crate) struct Front<K> {
     header: Option<HeaderLine>,
@@ -248,7 +249,7 @@ impl<K: Keeper> Front<K> {
         }
     }
 
-    /// Ends a schedule whose lines are complete: the keeper makes its change.
+    /// Ends a schedule whose lines are complete: the keeper makes the schedule's change.
     fn close(&mut self, opened: Opened) -> Result<(), AllocError>
         ensures kept { OnOk result (Closes K.keeps self.old.keeper opened self.new.keeper) }
         ensures wants { OnErr result K.wants }

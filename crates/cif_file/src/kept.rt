@@ -9,8 +9,8 @@ use crate::single::{Single, changes_of};
 use cif_line::{Basic, Line};
 use std::alloc::{AllocError, Global};
 
-/// Keeps all changes that the records have made until now, and the lines of the schedule that is
-/// being read.
+/// A keeper of all changes that the records have made until now. It also keeps the lines of the
+/// schedule that is being read.
 #[derive(Debug, Drop)]
 pub(crate) struct FileSoFar {
     alloc: Global,

@@ -1,5 +1,5 @@
 //! The reader of CIF files. It reads the whole grammar, from a source or in pieces of any length.
-//! For any text that isn't a CIF file it returns the text's one fault. The crate re-exports
+//! If the text isn't a CIF file, the reader returns the fault of the text. The crate re-exports
 //! `cif_change`.
 #![tactic(auto)]
 

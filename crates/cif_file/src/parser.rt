@@ -174,10 +174,11 @@ impl FileParser {
         }
     }
 
-    /// Takes the next piece of the file. Returns the fault of a bad record once its line feed or
-    /// its 82nd byte has arrived. If memory runs out, returns `Memory` at the record that needed
-    /// it, and no record up to this one is at fault. In both cases the earlier pieces don't contain
-    /// the whole record. After a fault, each later call returns the same fault and takes nothing.
+    /// Takes the next piece of the file. Returns the fault at a bad record once the record's line
+    /// feed or its 82nd byte has arrived. If memory runs out, returns `Memory` at the record that
+    /// needed it, and no record up to this one is at fault. In both cases the earlier pieces don't
+    /// contain the whole record. After a fault, each later call returns the same fault and takes
+    /// nothing.
     pub fn feed(&mut self, piece: &[u8]) -> Result<(), FileFault>
         ensures read { GoesOn (HasRead self.old) piece.now (HasRead self.new) }
         ensures ok { OnOk result (TellsNoFault (HasRead self.old) piece.now) }
@@ -200,9 +201,9 @@ impl FileParser {
         }
     }
 
-    /// Ends the input. Returns the file that the pieces form, or their fault. If no record is at
-    /// fault, memory may still run out at the last record. A fault that `feed` has returned is
-    /// returned again.
+    /// Ends the input. Returns the file that the pieces form, or the fault of their text. If no
+    /// record is at fault, memory may still run out at the last record. A fault that `feed` has
+    /// returned is returned again.
     pub fn finish(self) -> Result<CifFile, FileFault>
         ensures ok { IfOk result (EndsAs (HasRead self)) }
         ensures err { IfErr result (EndsInFault (HasRead self)) }

@@ -4,8 +4,8 @@ ghost use Rattle.std.specs.Prelude.{ℕ, List};
 use std::marker::Brand;
 
 /// A place and a day as a type, for proofs only. The keeper `ThinSoFar` has a type of this trait as
-/// a parameter. The reader of records must work for any keeper, so it doesn't know the place and
-/// the day.
+/// a parameter. The reader of records must work for any keeper, so its contracts can't mention a
+/// place or a day.
 pub trait PlaceDay {
     // The TIPLOC of the place.
     ghost place: { List ℕ };

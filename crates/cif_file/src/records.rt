@@ -73,7 +73,7 @@ impl<K: Keeper> Records<K> {
         }
     }
 
-    /// The fault of the next line, if it has more than 81 bytes.
+    /// The fault at the next line if this line has more than 81 bytes.
     pub(crate) fn too_long(&self) -> FileFault
         ensures { (limit : ℕ) (records : List (List ℕ)) →
             HasCounted K.keeps self.now limit records →
@@ -82,7 +82,7 @@ impl<K: Keeper> Records<K> {
         self.refused(FileCause::Length)
     }
 
-    /// The fault of the next line, which isn't a record. `cause` says why. If the number of the
+    /// The fault at the next line, which isn't a record. `cause` says why. If the number of the
     /// line is above the limit, the cause of the fault is `TooMany` instead. If the line comes
     /// after the trailer, the cause is `After`.
     fn refused(&self, cause: FileCause) -> FileFault

@@ -61,7 +61,7 @@ fn by_itself(change: Change) -> SingleChanges
 }
 
 /// The changes of a TIPLOC amendment. If the amendment gives the TIPLOC another code, the first
-/// change deletes the old code, and the last change puts the new code.
+/// change deletes the old code, and the last change puts the TIPLOC's details under the new code.
 fn changes_amended(number: u32, view: &TiplocRecord<'_>) -> SingleChanges
     requires { HasKind tiploc_amend view.now }
     ensures changes { listed result ≡ changes_of_record number view.now [] }

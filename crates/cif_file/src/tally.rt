@@ -8,8 +8,8 @@ use crate::single::{Single, count_changes};
 use cif_line::{Basic, Line};
 use std::alloc::AllocError;
 
-/// Counts the changes that the records have made until now. A record makes at most two changes, so
-/// the 64-bit count never overflows.
+/// A keeper that only counts the changes that the records have made until now. A record makes at
+/// most two changes, so the 64-bit count never overflows.
 #[derive(Debug, Drop)]
 pub(crate) struct Tally {
     changes: u64,

@@ -13,9 +13,9 @@ use cif_line::{Basic, Day, Line, Tiploc};
 use std::alloc::{AllocError, Global};
 use std::marker::PhantomData;
 
-/// Keeps only those changes of the records that the docker of one place on one day needs. The
-/// keeper also holds the lines of the schedule that is being read, and whether this schedule runs
-/// near the day. The type `P` gives the place and the day.
+/// A keeper of only those changes that the docker of one place on one day needs. The keeper also
+/// holds the lines of the schedule that is being read, and whether this schedule runs near the day.
+/// The type `P` gives the place and the day.
 #[derive(Debug, Drop)]
 pub(crate) struct ThinSoFar<P> {
     open: OpenLines,

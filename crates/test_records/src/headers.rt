@@ -40,7 +40,7 @@ pub const HD_7B: &[u8] =
 pub const HD_X: &[u8] =
     b"HDTPS.UDFROC1.PD2406090906242100DFROC1ADFROC1ZXA                                ";
 
-/// A note record (LN). The reader of files doesn't know this record identity.
+/// A note record (LN). No kind of record has this record identity.
 pub const LN: &[u8] =
     b"LN                                                                              ";
 

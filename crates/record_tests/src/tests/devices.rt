@@ -1,13 +1,13 @@
-//! Tests of the devices in memory, and of a sink that fails once and can't show what was written to
-//! it.
+//! Tests of the devices in memory, and of a sink that fails once. Contracts can't refer to the
+//! bytes that this sink has taken.
 ghost use Rattle.std.specs.Prelude.{◌-◌, ◌^◌, ◌<◌, ◌≡◌, None};
 
 use super::compare::{prints, same};
 use cif_line::{Bytes, Endless, Failed, Fuse, Kept, Memory, Sink, Source, write_all};
 use std::process::Abort;
 
-// Asserts that a device has failed this many times. The clause is there for the device's next call,
-// whose contract requires that one more failure can be counted.
+// Asserts that a device has failed this many times. The next call of the device needs the clause,
+// because its contract requires that one more failure can be counted.
 fn failures_are(rt: &impl Abort, failures: u64, wanted: u64)
     ensures { failures ≡ wanted }
 {
@@ -124,8 +124,8 @@ fn gives_a_text_again_and_again(rt: HostRuntime) {
     failures_are(&rt, slow.failures(), 0);
 }
 
-// A sink that can't show what was written to it. It takes one byte per write, and only its third
-// write fails.
+// A sink that takes one byte per write, and whose third write fails. Contracts can't refer to the
+// bytes that it has taken.
 #[derive(Drop)]
 struct FailsOnce {
     writes: u8,
