@@ -423,7 +423,8 @@ call_times line first second third is one two three =
 pub first_line_is : (line : List ℕ) → IsRecord line → HasKind basic_schedule line → HasGoodFields line → is_first_line line ≡ true
 first_line_is line is kind fields = (first_line_iff_test line).0 (record { is = is; kind = kind; fields = fields })
 
--- after a basic schedule, the reader remembers the stage, the flags of the record, no midnight and no last time
+-- after a basic schedule, the reader remembers the stage, whether the schedule is a deletion, and
+-- whether it may end without a journey. It remembers no midnight and no last time
 pub basic_read : (line : List ℕ) (journey : JourneyState) → is_first_line line ≡ true → journey.stage ≡ Some after_basic
     → journey.deletion ≡ is_deletion line → journey.lacking ≡ may_lack line
     → journey.falls ≡ 0 → journey.last ≡ 0 → HasLines journey (line ∷ [])

@@ -34,9 +34,9 @@ pub record JourneyState : Type 0 where
   pub falls : ℕ
   pub last : ℕ
 
--- Says that the reader has taken exactly these lines, and that the stage, the flags, the count of
--- midnights and the last time that it remembers are right. In a deletion the count and the time
--- don't matter.
+-- Says that the reader has taken exactly these lines, and that everything that it remembers is
+-- right: the stage, whether the schedule is a deletion, whether it may end without a journey, the
+-- count of midnights, and the last time. In a deletion the count and the time don't matter.
 pub record HasLines (journey : JourneyState) (lines : List (List ℕ)) : Type 0 where
   pub stage_is : journey.stage ≡ stage_of lines
   pub fresh : journey.stage ≡ None → lines ≡ []
@@ -71,7 +71,7 @@ abbrev pub stage_then : Option place.Stage → Option Kind → Option place.Stag
 stage_then None kind = None
 stage_then (Some stage) kind = stage_after stage kind
 
--- whether a schedule may end at this stage. The flag says whether the schedule may end without a
+-- whether a schedule may end at this stage. `lacking` says whether the schedule may end without a
 -- journey. Before the first line a schedule can't end.
 abbrev pub may_end_by : Option place.Stage → Bool → Bool
 may_end_by (Some after_journey) lacking = true

@@ -7,8 +7,8 @@ ghost use Rattle.cif_change.specs.Noted.{numbers_of};
 /// association's row has the number of the one place where the association links two trains.
 #[derive(Clone, Copy, Debug, PartialEq, Eq, PartialOrd, Ord)]
 pub struct Piece {
-    /// Whether the row is an association. The number of an association's row is called a link, and
-    /// the numbers of a schedule's row are called calls.
+    /// Whether the row is an association, whose number stands for a link. The numbers of a
+    /// schedule's row stand for calls.
     pub is_link: bool,
     /// The index of the row's first number.
     pub from: u32,

@@ -418,7 +418,7 @@ counted_last keeps old records limit text raw line reading some same strip count
 
 -- ---- cutting bytes at a line feed
 
--- `position` and `position_or_len` find the same first line feed
+-- `position` and `position_or_len` find the same line feed
 feed_place : (text : List ℕ) (end : ℕ) → position (λ b. b == 10) text ≡ Some end → position_or_len (λ b. b == 10) text ≡ end
 feed_place text end found =
     let at = position-Some (λ b. b == 10) text end 0 found in

@@ -2,8 +2,8 @@
 use Rattle.std.specs.Prelude.{◌≡◌, ℕ, ◌-◌, ◌⊎◌, List, ◌∷◌, ◌++◌, length, take}
 use Rattle.cif_laws.specs.CompleteLines.{HasNoFeed}
 
--- Says that a text consists of the bytes `front`, which have no line feed, a line feed, and the
--- bytes `rest`.
+-- Says that a text consists of the bytes `front`, a line feed, and the bytes `rest`. The bytes
+-- `front` contain no line feed.
 pub record IsCut (text front rest : List ℕ) : Type 0 where
   pub whole : text ≡ front ++ 10 ∷ rest
   pub plain : HasNoFeed front

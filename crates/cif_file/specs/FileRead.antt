@@ -25,8 +25,7 @@ pub record IsRead (file : FileRead) : Type 0 where
   pub is_file : IsFile records
   pub few : length records ≤ most_records
 
--- a CIF file that was counted: the line of its header, and the numbers of its records and of its
--- changes
+-- a CIF file whose records and changes were counted: the line of its header, and the two counts
 pub record FileCounted : Type 0 where
   pub header_line : List ℕ
   pub record_count : ℕ

@@ -59,8 +59,8 @@ pub record RefusesText (limit : ℕ) (left : Option (List ℕ)) (fault : FileFau
   pub held : Held left text
   pub is : IsFaultOf limit text fault
 
--- Says that no piece was read after a fault. The text before the last piece has no fault, and the
--- last piece has at most `most` bytes.
+-- Says that no piece was read after a fault was found. The text before the last piece has no fault,
+-- and the last piece has at most `most` bytes.
 pub record ReadsNoFurther (most limit : ℕ) (old new : Option (List ℕ)) : Type 0 where
   pub before : List ℕ
   pub piece : List ℕ

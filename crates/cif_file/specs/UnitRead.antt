@@ -28,13 +28,13 @@ IsUnitByKind line (unit.Single single) = (line_of_single single ≡ line) × Has
 IsUnitByKind line (unit.Schedule view) = (view ≡ line) × HasKind basic_schedule line
 IsUnitByKind line unit.Trailer = HasKind trailer line
 
--- Says that the line is a record with good checked fields, and begins this unit.
+-- Says that the line is a record whose checked fields are good, and that it begins this unit.
 pub record IsUnitOf (line : List ℕ) (unit : Unit) : Type 0 where
   pub is : IsRecord line
   pub good_fields : HasGoodFields line
   pub by_kind : IsUnitByKind line unit
 
--- Says that some line is a record with good checked fields, and begins this unit.
+-- Says that some line is a record whose checked fields are good, and that it begins this unit.
 pub record IsOfSome (unit : Unit) : Type 0 where
   pub line : List ℕ
   pub of : IsUnitOf line unit

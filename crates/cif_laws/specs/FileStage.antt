@@ -1,5 +1,5 @@
--- The type `Place` says how far a reader has come in a file, such as between two units. The records
--- of a file, read one by one, lead the reader from one `Place` to the next. The `Place` determines
+-- The type `Place` says where a reader is in a file, for example between two units. The records of
+-- a file, read one by one, lead the reader from one `Place` to the next. The `Place` determines
 -- which records may follow, and whether the records are a file. A `Place` isn't a timing point.
 use Rattle.std.specs.Prelude.{ℕ, List, [], ◌∷◌, Some, None, Bool, true, false, ◌++◌, ◌≡◌, Option, is_some, ◌&&◌, option_and_then}
 use Rattle.std.proofs.Common.{cond}

@@ -17,8 +17,8 @@ pub data Stage : Type 0 where
   in_journey : Stage
   after_journey : Stage
 
--- the stage after one more record, judged only by its kind, or `None` if no record of this kind
--- continues the schedule
+-- the stage after one more record, judged only by the record's kind, or `None` if no record of this
+-- kind continues the schedule
 abbrev pub stage_after : Stage → Option Kind → Option Stage
 stage_after after_basic (Some extra_details) = Some after_details
 stage_after after_basic (Some origin_location) = Some in_journey

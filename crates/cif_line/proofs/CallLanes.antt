@@ -1,5 +1,5 @@
--- The five times of an intermediate location, each computed in its own lane of a vector. The lemmas
--- show that each lane is tested and read as the definitions say.
+-- The five times of an intermediate location, each read in its own lane of a vector. The lemmas
+-- show that each lane tests and reads its field as the definitions say.
 use Rattle.std.proofs.Common.{◌≡◌, ℕ, zero, suc, ◌+◌, ◌-◌, ◌*◌, ◌%◌, ◌^◌, ◌<◌, ◌≤◌, nat_eq, nat_lt, Bool, true, false, cond, ◌&&◌, List}
 use Rattle.std.proofs.Common.{[], ◌∷◌, ◌++◌, length, get_or, replicate, bit_and, bit_or, Fits, w8, refl, sym, ap, subst, ◌∙◌, arith}
 use Rattle.std.specs.Prelude.{◌==◌, ◌||◌, nat_le}
@@ -230,7 +230,7 @@ public_lane a b c d = by (a == 32) (b == 32) (c == 32) (d == 32) (is_clock (a �
 -- ---- eight lanes at once
 
 -- the top bits of all eight lanes are set if and only if the five tests pass, since the last three
--- lanes repeat the first
+-- lanes repeat the first lane
 pub eight : (a d p m n : Bool) → nat_eq (mask_l (a ∷ d ∷ p ∷ m ∷ n ∷ a ∷ a ∷ a ∷ []) % 2 ^ 64) 255 ≡ ((((a && d) && p) && m) && n)
 eight true true true true true = refl
 eight true true true true false = refl

@@ -14,7 +14,8 @@ use Rattle.docker_model.specs.records.Date.{day_number, last_day}
 use Rattle.docker_model.specs.records.PrintedTime.{day_text, date_text}
 use Rattle.cif_laws.proofs.records.Dates.{day_number-day_count, day_text-day_number}
 
--- a date in the years 1960 to 2059, with the number of days from 1 January 1960 to this date
+-- `number` is the number of days from 1 January 1960 to this date, which is in the years 1960 to
+-- 2059
 pub record IsDayOf (number year month day : ℕ) : Type 0 where
   pub low : 1960 ≤ year
   pub high : year ≤ 2059
@@ -37,7 +38,7 @@ number_is number year month day h =
     let there = day_number-day_count year month day h.low (omega (arith, h.high)) h.is_civil.1.0 h.is_civil.2.0 in
     omega (arith, h.count)
 
--- the text of a date's day number is the text of the date
+-- the day number of a date is printed like the date
 pub text_is : (number year month day : ℕ) → IsDayOf number year month day → day_text number ≡ date_text year month day
 text_is number year month day h =
     subst (λ n. day_text n ≡ date_text year month day) (number_is number year month day h) (day_text-day_number year month day h.low h.high h.is_civil)

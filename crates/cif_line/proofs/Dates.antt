@@ -92,7 +92,7 @@ start_of_2060 : day_count (pos 2060) 1 1 ≡ 4_404_825
 unfolding day_count days_of_years days_of_months
 start_of_2060 = refl
 
--- a day of the years 1960 to 2059, with the number of years from 1960 to its year
+-- a day in the years 1960 to 2059. The number of years from 1960 to its year is `years`
 module _ (years y month day : ℕ) (since : years + 1960 ≡ y) (high : y ≤ 2059) (good : is_calendar_day y month day ≡ true) where
   its_parts : IsCivilDate (pos y) month day
   its_parts =

@@ -1,4 +1,4 @@
-//! An association between two trains: a record AA.
+//! An association between two trains: an AA record.
 ghost use Rattle.std.specs.Prelude.{◌≡◌};
 ghost use Rattle.docker_model.specs.records.Record.{association, columns, column, IsTextOfLength};
 ghost use Rattle.docker_model.specs.records.Date.{date_number, end_number};

@@ -1,4 +1,4 @@
-//! A basic schedule: a record BS, the first of a schedule's records.
+//! A basic schedule: a BS record, the first record of a schedule.
 ghost use Rattle.std.specs.Prelude.{◌≡◌};
 ghost use Rattle.docker_model.specs.records.Record.{basic_schedule, columns, column, IsTextOfLength};
 ghost use Rattle.docker_model.specs.records.Date.{date_number, end_number};

@@ -1,4 +1,4 @@
-//! A change en route: a record CR of a schedule.
+//! A change en route: a CR record of a schedule.
 ghost use Rattle.std.specs.Prelude.{◌≡◌};
 ghost use Rattle.docker_model.specs.records.Record.{change_en_route, columns, IsTextOfLength};
 ghost use Rattle.cif_line.specs.View.{IsGood};

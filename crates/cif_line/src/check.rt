@@ -1,5 +1,5 @@
 //! Tests of update indicators, transactions, STP indicators and TIPLOCs. This file also defines
-//! `FieldFault`, which has the column of the leftmost bad field.
+//! `FieldFault`, which gives the first column of the leftmost bad field.
 ghost use Rattle.std.specs.Prelude.{◌≡◌};
 ghost use Rattle.docker_model.specs.records.Clock.{is_blank};
 ghost use Rattle.docker_model.specs.records.Field.{is_tiploc, is_new_tiploc, is_update_indicator, is_transaction, is_stp_indicator};

@@ -184,7 +184,7 @@ impl fmt::Display for Day {
     }
 }
 
-/// A digit below 10, in ASCII.
+/// The ASCII digit for a number below 10.
 fn digit(n: u16) -> u8
     requires { n < 10 }
     ensures value { result ≡ 48 + n }

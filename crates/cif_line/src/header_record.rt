@@ -1,4 +1,4 @@
-//! The header of an extract: a record HD.
+//! The header of an extract: an HD record.
 ghost use Rattle.std.specs.Prelude.{◌≡◌, ◌<◌};
 ghost use Rattle.docker_model.specs.records.Record.{header, columns, column, IsTextOfLength};
 ghost use Rattle.docker_model.specs.records.Date.{date_number_day_first};

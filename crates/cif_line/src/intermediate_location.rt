@@ -1,4 +1,4 @@
-//! An intermediate location of a schedule: a record LI.
+//! An intermediate location of a schedule: an LI record.
 ghost use Rattle.std.specs.Prelude.{◌≡◌};
 ghost use Rattle.docker_model.specs.records.Record.{intermediate_location, columns, column, IsTextOfLength};
 ghost use Rattle.docker_model.specs.records.Clock.{scheduled_time};

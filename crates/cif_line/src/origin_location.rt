@@ -1,4 +1,4 @@
-//! The origin of a schedule: a record LO.
+//! The origin of a schedule: an LO record.
 ghost use Rattle.std.specs.Prelude.{◌≡◌};
 ghost use Rattle.docker_model.specs.records.Record.{origin_location, columns, column, IsTextOfLength};
 ghost use Rattle.docker_model.specs.records.Clock.{half_minutes};

@@ -1,4 +1,4 @@
-//! The terminus of a schedule: a record LT.
+//! The terminus of a schedule: an LT record.
 ghost use Rattle.std.specs.Prelude.{◌≡◌};
 ghost use Rattle.docker_model.specs.records.Record.{terminating_location, columns, column, IsTextOfLength};
 ghost use Rattle.docker_model.specs.records.Clock.{half_minutes};

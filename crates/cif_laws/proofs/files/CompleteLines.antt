@@ -13,7 +13,7 @@ use Rattle.docker_model.specs.file.Text.{last_piece, without_empty_last, lines_o
 use Rattle.docker_model.specs.file.FaultSoFar.{last_of, sure_lines}
 use Rattle.cif_laws.specs.CompleteLines.{but_last, open_line, complete_lines, pieces_of, line_left, feeds, HasNoFeed}
 
--- ---- how the split of a text changes when bytes are appended
+-- ---- how the pieces of a text change when bytes are appended
 
 some_pieces : (p : ℕ → Bool) (text : List ℕ) → 0 < length (slice_split p text)
 some_pieces p text = let size = length-slice_split p text in omega arith

@@ -141,8 +141,8 @@ ends_in_schedule stage lines records within = record {
       (shape_follows stage within.front.extra within.front.journey within.front.shape)));
 }
 
--- if a record has good fields but fails `is_sound_next`, its schedule passes midnight for the third
--- time at this record
+-- if a record has good fields but fails the test `is_sound_next`, its schedule passes midnight for
+-- the third time at this record
 third_fall : (stage : Stage) (lines records : Lines) (line : List ℕ) → IsWithin stage lines records → HasGoodFields line → is_sound_next lines line ≡ false
     → HasThirdFall records line
 third_fall stage lines records line within fields test = (lines, ends_in_schedule stage lines records within, few within.front.sound, third)

@@ -77,13 +77,13 @@ all_decided P test (x ∷ xs) = both_decided (test x) (all_decided P test xs)
 pub All_decided : {A : Type 0} (P : A → Type 0) → ((x : A) → Decided (P x)) → (xs : List A) → Decided (All P xs)
 All_decided P test xs = decided_along (All-from_recursion P xs) (recursion_from_All P xs) (all_decided P test xs)
 
--- it is decidable whether a comparison is `Less`
+-- it is decidable whether the result of a comparison is `Less`
 pub less_decided : (o : Ordering) → Decided (o ≡ Less)
 less_decided Less = inl refl
 less_decided Equal = inr (λ e. cc)
 less_decided Greater = inr (λ e. cc)
 
--- it is decidable whether a comparison is `Equal`
+-- it is decidable whether the result of a comparison is `Equal`
 pub equal_decided : (o : Ordering) → Decided (o ≡ Equal)
 equal_decided Less = inr (λ e. cc)
 equal_decided Equal = inl refl

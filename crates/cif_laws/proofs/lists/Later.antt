@@ -90,7 +90,8 @@ later_flat_map R S f (x ∷ xs) later each across =
     let found = Contains-flat_map f xs b in_b in
     across x found.0 (cons-Contains-first x xs) (cons-Contains x xs found.0 found.1) (below_by_recursion (S x) xs found.0 later.0 found.1) a b in_a found.2)
 
--- like `later_append`, with the relation between the two lists defined by recursion
+-- like `later_append`, but `AllByRecursion` says that each member of the first list is related to
+-- each member of the second
 pub later_append_all : {A : Type 0} (R : A → A → Type 0) (xs ys : List A) → AllLater R xs → AllLater R ys → AllByRecursion (λ x. AllByRecursion (R x) ys) xs
     → AllLater R (xs ++ ys)
 later_append_all R [] ys left right across = right

@@ -1,4 +1,4 @@
--- Well-formed keys and well-formed ledger items are in the same order as their bytes.
+-- Two well-formed keys compare like their bytes, and so do two well-formed ledger items.
 use Rattle.std.proofs.Common.{◌≡◌, ℕ, ◌<◌, ◌^◌, ◌/◌, ◌%◌, List, [], ◌∷◌, ◌++◌, length, refl, ap, sym, ◌∙◌, arith, append_assoc, length-append}
 use Rattle.std.specs.Int.{w16, to_be_bytes}
 use Rattle.std.specs.declared.cmp.Ordering.{Ordering}
@@ -56,7 +56,7 @@ day_first : (m n : ℕ) (more others : List ℕ) (behind : Ordering) → m < 2 ^
 day_first m n more others behind few least is =
     fronts_first (to_be_bytes w16 m) (to_be_bytes w16 n) more others behind refl is ∙ ap (λ o. ordering_then o behind) (two_bytes_cmp m n few least)
 
--- well-formed ledger items are in the same order as their 19 bytes
+-- two well-formed ledger items compare like their 19 bytes
 pub item_order : (first second : LedgerItem) → IsGoodItem first → IsGoodItem second → ledger_item_cmp first second ≡ bytes_cmp (item_bytes first)
     (item_bytes second)
 item_order first second good other =
@@ -132,8 +132,7 @@ schedule_order a b good other =
     let right = of_three b.uid (to_be_bytes w16 b.runs_from) (b.indicator ∷ []) in
     sym ((λ i. bytes_cmp (left i) (right i)) ∙ whole)
 
--- well-formed keys are in the same order as their bytes, if the tag of each key is put before its
--- bytes
+-- two well-formed keys compare like their bytes, if the tag of each key is put before its bytes
 pub key_order : (first second : Key) → IsGoodKey first → IsGoodKey second
     → key_cmp first second ≡ bytes_cmp (key_tag first ∷ key_bytes first) (key_tag second ∷ key_bytes second)
 key_order (tiploc_key a) (tiploc_key b) good other = refl

@@ -1,4 +1,4 @@
--- The least of the members of a list that pass a test. There is such a member if any member passes
+-- The least of the members of a list that pass a test. There is a least member if any member passes
 -- the test.
 use Rattle.std.proofs.Common.{◌≡◌, List, [], ◌∷◌, refl, ap, sym, ◌∙◌, subst, inl, inr, ◌⊎◌, Some, None, Bool, true, false, Contains}
 use Rattle.std.specs.Prelude.{find, ◌&&◌, not}
@@ -92,7 +92,8 @@ module _ {A : Type 0} {cmp : A → A → Ordering} (total : IsTotalOrder cmp) (t
           pick z passes (inl e) = absurd (let bad : false ≡ true = sym h ∙ ap test e ∙ passes in cc)
           pick z passes (inr inside) = best.first z inside passes
 
-  -- the result of the search is the least of the members that pass the test
+  -- if the search for the least member finds a member, it is the least of the members that pass the
+  -- test
   pub found_least : (xs : List A) (x : A) → find (is_least xs) xs ≡ Some x → IsLeast xs x
   found_least xs x found =
       let told = find_some (is_least xs) xs x found in
@@ -104,7 +105,7 @@ module _ {A : Type 0} {cmp : A → A → Ordering} (total : IsTotalOrder cmp) (t
             not_behind x z (all_of (λ other. not (test other && is_gt (cmp x other))) xs z parts.1 among) passes;
       }
 
-  -- if the result of the search is `None`, no member passes the test
+  -- if the search for the least member returns `None`, no member passes the test
   pub none_passes : (xs : List A) → find (is_least xs) xs ≡ None → (z : A) → Contains xs z → test z ≡ false
   none_passes xs none = by (least_in xs)
     where

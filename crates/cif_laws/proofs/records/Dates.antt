@@ -12,7 +12,7 @@ use Rattle.docker_model.specs.records.Date.{is_calendar_day, day_number, year_of
 use Rattle.docker_model.specs.records.PrintedTime.{day_text, date_text}
 use Rattle.cif_laws.proofs.lists.BoolsAndOptions.{and_true as and_both, both}
 
--- a year, a month and a day pass the test `is_calendar_day` if and only if they are a date of the
+-- a year, a month and a day pass the test `is_calendar_day` if and only if they are a date in the
 -- calendar of `jiff`
 pub is_calendar_day-IsDate : (year month day : ℕ) → year ≤ 9999 → (is_calendar_day year month day ≡ true) ↔ IsDate (pos year) (pos month) (pos day)
 is_calendar_day-IsDate year month day low = (

@@ -42,7 +42,7 @@ bad_byte_by : (bytes : List ℕ) (t : Bool) → nat_lt (printable_front bytes) (
     (cond t (Some (printable_front bytes)) None)
 bad_byte_by bytes t h = λ i. option_map (λ (k : ℕ). k + 1) (cond (h i) (Some (printable_front bytes)) None)
 
--- printable bytes have no bad byte
+-- if all bytes are printable, none of them is bad
 pub no_bad_byte : (bytes : List ℕ) → AllPass is_printable bytes → leftmost_bad_byte bytes ≡ None
 no_bad_byte bytes all = by (nat_lt (printable_front bytes) (length bytes)) refl
   where
@@ -52,7 +52,7 @@ no_bad_byte bytes all = by (nat_lt (printable_front bytes) (length bytes)) refl
         (length bytes) h in absurd (omega arith)
     by false h = bad_byte_by bytes false h
 
--- bytes without a bad byte are printable
+-- if no byte is bad, all bytes are printable
 pub printable_by_none : (bytes : List ℕ) → leftmost_bad_byte bytes ≡ None → AllPass is_printable bytes
 printable_by_none bytes none = by (nat_lt (printable_front bytes) (length bytes)) refl
   where

@@ -510,7 +510,8 @@ stage_from_append (line ∷ front) stage done middle more found =
     ∙ stage_from_append front step.0 (done ++ line ∷ []) middle more step.2
     ∙ (λ i. stage_from middle (append_assoc done (line ∷ []) front i) more)
 
--- the stage after a concatenation of records can be computed from the stage after the first list
+-- the stage after two concatenated lists of records can be computed from the stage after the first
+-- list
 pub stage_of_append : (front : Lines) (stage : Stage) (more : Lines) → stage_of front ≡ Some stage → stage_of (front ++ more) ≡ stage_from stage front more
 stage_of_append [] stage more found = cc
 stage_of_append (basic ∷ rest) stage more found = by (is_first_line basic) refl found
@@ -728,7 +729,7 @@ schedule_or_not lines = by (stage_of lines) refl
 -- ---- which kinds of record are allowed at a stage
 
 -- if the kind of a record leads to no next stage, the record is out of place. No schedule has a
--- record of this kind after the earlier records
+-- record of this kind after the records read so far
 pub schedule_out_of_place : (basic : List ℕ) (rest : Lines) (stage : Stage) (line : List ℕ) → stage_of (basic ∷ rest) ≡ Some stage
     → stage_after stage (kind_of line) ≡ None
     → (next : List ℕ) → kind_of next ≡ kind_of line → ¬ BeginsSchedule (basic ∷ rest ++ next ∷ [])
@@ -736,7 +737,8 @@ schedule_out_of_place basic rest stage line at none next same begins =
     let told = (begins_more_iff basic rest stage next at).0 begins in
     let bad : None ≡ Some told.0 = sym none ∙ ap (stage_after stage) (sym same) ∙ told.1.stage_is in cc
 
--- if a kind leads to a next stage, the earlier records followed by `witness kind` begin a schedule
+-- if the kind of a record leads the reader to a next stage, the records read so far, followed by
+-- `witness kind`, begin a schedule
 pub schedule_in_place : (basic : List ℕ) (rest : Lines) (stage : Stage) (kind : Kind) (next : Stage) → stage_of (basic ∷ rest) ≡ Some stage
     → stage_after stage (Some kind) ≡ Some next
     → BeginsSchedule (basic ∷ rest ++ witness kind ∷ [])

@@ -10,8 +10,8 @@ use Rattle.docker_model.specs.docker.Choice.{TrainRuns}
 use Rattle.docker_model.specs.docker.DockerLine.{DockerLine, line_of_event, docker_line_cmp}
 use Rattle.docker_model.specs.docker.Association.{IsAssociationLine}
 
--- `line` is the docker line of an event. The event belongs to a train that runs, and is at the
--- place on the day
+-- `line` is the docker line of an event of a train. The train runs, and the event is at the place
+-- on the day
 pub record IsEventLine (live : Table) (place : List ℕ) (day : ℕ) (line : DockerLine) : Type 0 where
   pub start : ℕ
   pub key : ScheduleKey

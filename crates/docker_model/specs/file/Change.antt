@@ -24,8 +24,7 @@ pub record ScheduleKey : Type 0 where
   pub runs_from : ℕ
   pub indicator : ℕ
 
--- a key, which identifies an entry of a state: a TIPLOC's code, or the key of an association or a
--- schedule
+-- a key, which identifies an entry of a state: a TIPLOC, or the key of an association or a schedule
 pub data Key : Type 0 where
   tiploc_key : (code : List ℕ) → Key
   association_key : (key : AssociationKey) → Key

@@ -26,7 +26,7 @@ is_update_indicator field = (slice_index field 0 == 70) || (slice_index field 0 
 abbrev pub is_tiploc : List ℕ → Bool
 is_tiploc field = not (slice_index field 0 == 32)
 
--- these bytes are a TIPLOC's code: seven printable bytes, the first of which isn't a space
+-- these bytes are a TIPLOC: seven printable bytes, the first of which isn't a space
 abbrev pub IsTiploc : List ℕ → Type 0
 IsTiploc code = IsTextOfLength 7 code × ¬ (slice_index code 0 ≡ 32)
 

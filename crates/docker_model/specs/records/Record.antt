@@ -45,8 +45,8 @@ pub data Kind : Type 0 where
   change_en_route : Kind
   trailer : Kind
 
--- the table of record identities, each with its kind. The identity is the first two columns of a
--- record
+-- the table of record identities, each with its kind of record. The identity is the first two
+-- columns of a record
 abbrev pub identities : List (List ℕ × Kind)
 identities =
     (codes "HD", header) ∷ (codes "TI", tiploc_insert) ∷ (codes "TA", tiploc_amend) ∷ (codes "TD", tiploc_delete)

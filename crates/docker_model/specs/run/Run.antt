@@ -105,7 +105,7 @@ abbrev pub IsMessage : KnownSets → ℕ → Type 0
 IsMessage known message = message < length known.messages
 
 -- this reply is allowed when an office takes a file. The reply is `done` if the text is a file, and
--- the text's fault if the text isn't a file. In either case the reply may instead be `refused
+-- gives the text's fault if the text isn't a file. In either case the reply may instead be `refused
 -- no_memory`
 abbrev pub IsFileReply : ℕ → List ℕ → Reply → Type 0
 IsFileReply limit text done = IsFileText limit text (lines_of text)

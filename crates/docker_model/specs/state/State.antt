@@ -73,7 +73,7 @@ IsBodyOf (association_key key) (association_body line) = IsAssociationOf key lin
 IsBodyOf (schedule_key key) (schedule_body lines) = IsScheduleOf key lines
 IsBodyOf _ _ = ⊥
 
--- an entry with this key may have this op: if the op is a put, its body is well formed and belongs
+-- an entry for this key may have this op: if the op is a put, its body is well formed and belongs
 -- to the key
 abbrev pub IsOpOf : Key → Op → Type 0
 IsOpOf key deleted = ⊤
@@ -123,7 +123,7 @@ pub record IsValid (state : State) : Type 0 where
   pub entries : AreEntries state.ledger state.entries
   pub have_lapsed : HaveLapsed state.horizon state.entries
 
--- the entry of a key in a state, or `None` if the state has no entry for the key
+-- the entry for a key in a state, or `None` if the state has no entry for the key
 abbrev pub entry_at : State → Key → Option Entry
 entry_at state key = option_and_then (λ (entry : Key × Entry). Some entry.1) (find (λ entry. is_eq (key_cmp entry.0 key)) state.entries)
 

@@ -35,7 +35,7 @@ pub record StateFault : Type 0 where
   pub at : ℕ
   pub cause : StateCause
 
--- the ledger item that follows these good items is bad for this cause. The bad item isn't well
+-- this cause says why the ledger item that follows these good items is bad. The bad item isn't well
 -- formed, isn't above the items before it, or raises the floor above the first item of the ledger
 abbrev pub IsBadItem : List LedgerItem → LedgerItem → StateCause → Type 0
 IsBadItem ledger item bad_item = ¬ IsGoodItem item
@@ -43,14 +43,14 @@ IsBadItem ledger item bad_order = IsGoodItem item × ¬ IsAboveItems ledger item
 IsBadItem ledger item bad_floor = IsGoodItem item × IsAboveItems ledger item × RaisesFloor ledger item
 IsBadItem ledger item _ = ⊥
 
--- the key that follows the entries of this state is bad for this cause: the key isn't well formed,
--- or isn't above the keys before it
+-- this cause says why the key that follows the entries of this state is bad: the key isn't well
+-- formed, or isn't above the keys before it
 abbrev pub IsBadKey : State → Key → StateCause → Type 0
 IsBadKey state key bad_body = ¬ IsGoodKey key
 IsBadKey state key bad_order = IsGoodKey key × ¬ IsAboveEntries state key
 IsBadKey state key _ = ⊥
 
--- the bytes are good as the body of an entry with this key. For a schedule they are only the number
+-- the bytes are good as the body of an entry for this key. For a schedule they are only the number
 -- of its lines, since each line is a separate part. An association must not have ended before the
 -- state's horizon
 abbrev pub IsBodyPart : State → Key → List ℕ → Type 0
@@ -58,7 +58,7 @@ IsBodyPart state (tiploc_key code) bytes = IsTextOfLength 63 bytes
 IsBodyPart state (association_key key) bytes = IsAssociationOf key bytes × (state.horizon ≤ body_end (association_body bytes))
 IsBodyPart state (schedule_key key) bytes = IsLineCount (from_be_bytes w32 bytes)
 
--- the next part of an entry is bad for this cause. The state has all earlier entries, and the
+-- this cause says why the next part of an entry is bad. The state has all earlier entries, and the
 -- earlier parts of the entry are good
 abbrev pub IsBadEntryPart : Format → State → EntryPart → List ℕ → StateCause → Type 0
 IsBadEntryPart format state before_tag bytes cause = (cause ≡ bad_tag) × ¬ IsTag (slice_index bytes 0)
@@ -69,7 +69,7 @@ IsBadEntryPart format state (before_body key stamp) bytes cause = (cause ≡ bad
 IsBadEntryPart format state (before_line key stamp count lines) bytes cause =
     (cause ≡ bad_body) × ¬ (AreLinesUpTo key count (lines ++ bytes ∷ []) × HaveNotToLapse state (lines ++ bytes ∷ []))
 
--- the part that follows these good parts is bad for this cause. A count by itself is never bad
+-- this cause says why the part that follows these good parts is bad. A count by itself is never bad
 abbrev pub IsBadPart : Format → Before → List ℕ → StateCause → Type 0
 IsBadPart format before_mark bytes cause = (cause ≡ bad_mark) × (bytes ≢ mark format)
 IsBadPart format before_horizon bytes cause = (cause ≡ bad_horizon) × ¬ IsDay (from_be_bytes w16 bytes)
@@ -79,7 +79,7 @@ IsBadPart format (before_entry_count horizon ledger) bytes cause = ⊥
 IsBadPart format (in_entry count state part) bytes cause = IsBadEntryPart format state part bytes cause
 IsBadPart format (at_end state) bytes cause = ⊥
 
--- `fault` is the fault of a bad part that ends within the limit. The fault's offset is the
+-- `fault` is the fault at a bad part that ends within the limit. The fault's offset is the
 -- beginning of the item to which the bad part belongs
 pub record HasBadPart (format : Format) (limit : ℕ) (text : List ℕ) (fault : StateFault) : Type 0 where
   pub before : Before

@@ -74,7 +74,7 @@ text_before format before = items_before format before ++ parts_before before
 abbrev pub key_width : ℕ → ℕ
 key_width tag = if tag == 1 then 7 else (if tag == 2 then 23 else 9)
 
--- the number of bytes of a body with this key. For a schedule the result is 4, since the number of
+-- the number of bytes of a body under this key. For a schedule the result is 4, since the number of
 -- its lines has four bytes
 abbrev pub body_width : Key → ℕ
 body_width (tiploc_key code) = 63
@@ -116,8 +116,8 @@ IsAboveEntries state key = All (λ entry. IsBelow key_cmp entry.0 key) state.ent
 abbrev pub IsAboveItems : List LedgerItem → LedgerItem → Type 0
 IsAboveItems ledger item = All (λ earlier. IsBelow ledger_item_cmp earlier item) ledger
 
--- the item is for a full extract newer than the first item of the ledger. The newer item would
--- raise the floor above the first item, so a ledger can't contain both
+-- the item is for a full extract newer than the first item of the ledger. The item would raise the
+-- floor above the first item, so a ledger can't contain both items
 abbrev pub RaisesFloor : List LedgerItem → LedgerItem → Type 0
 RaisesFloor [] item = ⊥
 RaisesFloor (first ∷ ledger) item = IsFull item × IsBelow file_stamp_cmp first.stamp item.stamp

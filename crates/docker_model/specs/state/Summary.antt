@@ -40,9 +40,9 @@ pub record IsGreatestEntryOf (files : List (List (List ℕ))) (floor : Option Fi
   pub greatest : (other : Entry) → IsEntryOf files floor key other → IsAtMost entry_cmp other entry
 
 -- `state` is the summary of the files with a horizon, where 0 means none. Only files that aren't
--- older than the floor count. The ledger has an item for each of these files. Each key has the
--- greatest entry that a change in these files leaves. This entry has lapsed if its body ended
--- before the horizon
+-- older than the floor count. The ledger has an item for each of these files. For each key the
+-- state has the greatest entry that a change in these files leaves. This entry has lapsed if its
+-- body ended before the horizon
 pub record IsSummary (files : List (List (List ℕ))) (horizon : ℕ) (state : State) : Type 0 where
   pub horizon_is : state.horizon ≡ horizon
   pub floor : Option FileStamp

@@ -5,7 +5,8 @@ use Rattle.docker_model.specs.records.Record.{is_printable}
 use Rattle.cif_line.proofs.Lanes.{no_lane_set}
 use Rattle.cif_line.proofs.printable.is_printable_block.Goals as goal
 
--- the lane of a byte `x`: all bits set if the byte is above the limit, and otherwise 0
+-- the lane of a byte `x`: all bits of the lane are set if the byte is above the limit, and
+-- otherwise the lane is 0
 above : ℕ → ℕ → ℕ
 above limit x = cond (nat_lt limit x) 255 0
 

@@ -1,4 +1,4 @@
--- A line without the identity of a kind of record can't come next.
+-- A line that doesn't begin with the identity of a kind of record can't come next.
 use Rattle.std.proofs.Common.{ap, sym, ◌∙◌}
 use Rattle.std.specs.Prelude.{option_map}
 use Rattle.std.proofs.lemmas.Bool.{false≢true}

@@ -4,7 +4,7 @@ use Rattle.std.specs.List.{AllPass}
 use Rattle.cif_laws.proofs.records.RecordTests.{no_bad_byte}
 use Rattle.cif_line.proofs.line.Line.new.Goals as goal
 
--- if the fast test succeeds, all bytes are printable
+-- if the test `is_printable_line` passes, all bytes are printable
 good : (c : goal.Then-is_printable_line) → AllPass is_printable c.args.bytes.now
 good c = subst (AllPass is_printable) c.in-Ok.ensures.1.same (c.is_printable_line.ensures.0 c.if-is_printable_line.true)
 
