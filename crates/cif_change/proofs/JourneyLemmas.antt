@@ -49,7 +49,8 @@ whole_iff lines stage at = (
   λ may. (schedule_iff_stage lines).1 (stage, record { found = at; may = may }),
 )
 
--- the stage and the flag `lacking` that the reader remembers determine whether the schedule may end
+-- whether the schedule may end is determined by the stage and by `lacking`, which the reader
+-- remembers
 may_end_same : (stage : Stage) (lines : Lines) (lacking : Bool) → lacking ≡ may_lack (first_record lines)
     → may_end_by (Some stage) lacking ≡ may_end stage lines
 may_end_same after_basic lines lacking same = same
@@ -68,8 +69,8 @@ complete_iff journey lines has = by journey.stage refl
         let same = may_end_same stage lines journey.lacking has.lacking_is in
         (λ test. iff.1 (sym same ∙ test), λ is. same ∙ iff.0 is)
 
--- the test `may_end_by` passes for the stage and the flag that the reader remembers if and only if
--- the lines that it has taken are a whole schedule
+-- the test `may_end_by` passes for the stage and for `lacking`, as the reader remembers them, if
+-- and only if the lines taken are a whole schedule
 pub complete_by : (journey : JourneyState) (lines : Lines) (result : Bool) → result ≡ may_end_by journey.stage journey.lacking → HasLines journey lines
     → IsTrue result ↔ IsSchedule lines
 complete_by journey lines result told has =
@@ -248,8 +249,8 @@ out_of_place journey lines line stage kind has is at known none =
 
 -- ---- the times of the next line
 
--- The midnights passed at a list of times can be counted in two steps: first up to the optional
--- first time, and then from the first time on.
+-- The midnights that are passed at an optional time and at the times after it can be counted in two
+-- steps: first at the optional time, and then at the times after it.
 pub falls_in_turn : (last first : Option ℕ) (rest : List ℕ) → falls_after last (time_list first ++ rest) ≡ falls_after last (time_list first) + falls_after
     (later_or first last) rest
 falls_in_turn None None rest = omega arith

@@ -242,7 +242,8 @@ keeps_front (x ∷ xs) (y ∷ ys) keeps =
     let rest = keeps_front xs ys (λ i z is. keeps (suc i) z is) in
     λ i. same i ∷ rest i
 
--- the numbers added in two steps, one after the other, are all the added numbers
+-- the numbers added in two consecutive steps are all the numbers that were added since the first
+-- step began
 came_since : (first old new more : List ℕ) → Keeps first old → Keeps old new
     → drop (length first) old ++ (drop (length old) new ++ more) ≡ drop (length first) new ++ more
 came_since first old new more one two =
@@ -301,7 +302,7 @@ no_lines (line ∷ rest) none = absurd (omega arith)
 
 -- ---- noting one row after another
 
--- the elements of a list that come before a given suffix
+-- the elements of the first list that come before its suffix, the second list
 abbrev pub front_of : List Item → List Item → List Item
 front_of all rest = take (length all - length rest) all
 
@@ -362,8 +363,8 @@ piece_at names numbers (first ∷ items) (piece ∷ pieces) are zero item is =
     subst (λ (i : Item). IsNoted names numbers i piece) (some_is first item is) are.0
 piece_at names numbers (first ∷ items) (piece ∷ pieces) are (suc n) item is = piece_at names numbers items pieces are.1 n item is
 
--- if each row is noted in the `Piece` at its index, the rows at the given indexes are noted in the
--- pieces at these indexes
+-- if each row is noted in the `Piece` at its index, the rows that are picked by their indexes are
+-- noted in the pieces at the same indexes
 pub picked_noted : (names : List (List ℕ)) (numbers : List ℕ) (items : List Item) (pieces : List Piece) → AreNoted names numbers items pieces → (order : List ℕ)
     (picked : List Item) → ArePicked items order picked → AreNoted names numbers picked (map (λ n. get_or pieces n no_piece) order)
 picked_noted names numbers items pieces are [] [] is = tt

@@ -24,16 +24,16 @@ items_put changes = map (λ (change : model.Change). (change.key, op_of change.a
 abbrev pub Keeps : {A : Type 0} → List A → List A → Type 0
 Keeps {A} old new = (i : ℕ) (x : A) → slice_get old i ≡ Some x → slice_get new i ≡ Some x
 
--- the numbers if they are of the wanted kind, and otherwise no numbers. The first argument says
--- whether links are wanted, and the second says whether the numbers are links.
+-- the numbers if they are of the kind that is asked for, and otherwise no numbers. The first
+-- argument says whether links are asked for, and the second says whether the numbers are links.
 abbrev pub if_asked : Bool → Bool → List ℕ → List ℕ
 if_asked true true numbers = numbers
 if_asked true false numbers = []
 if_asked false true numbers = []
 if_asked false false numbers = numbers
 
--- the numbers that a `Piece` gives if they are of the wanted kind, and otherwise no numbers. The
--- kind is links for `true` and calls for `false`
+-- the numbers that a `Piece` gives if they are of the kind that is asked for, and otherwise no
+-- numbers. The first argument is `true` for links and `false` for calls
 abbrev pub numbers_of : Bool → List ℕ → Piece → List ℕ
 numbers_of links numbers piece = if_asked piece.is_link links (take piece.count (drop piece.from numbers))
 

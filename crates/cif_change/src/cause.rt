@@ -13,16 +13,16 @@ use std::fmt;
 pub enum FileCause {
     /// The line doesn't have 80 bytes.
     Length,
-    /// A byte of the line isn't printable. The number is the column of the leftmost such byte.
+    /// A byte of the line isn't printable. The number is the column of the leftmost bad byte.
     /// Columns count from 1.
     Byte(u8),
     /// The line doesn't begin with the identity of a kind of record.
     Kind,
-    /// A record of this kind can't come next: no extract begins with the earlier records and then a
-    /// record of this kind.
+    /// A record of this kind can't come next: no extract begins with the records before it and then
+    /// a record of this kind.
     Place,
-    /// A checked field of the record isn't good. The number is the first column of the leftmost
-    /// such field. Columns count from 1.
+    /// A checked field of the record isn't good. The number is the first column of the leftmost bad
+    /// field. Columns count from 1.
     Field(u8),
     /// At this record the schedule passes midnight for the third time. At most two midnights are
     /// allowed.

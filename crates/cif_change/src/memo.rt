@@ -11,10 +11,10 @@ const SLOTS: usize = 65_536;
 /// The number of consecutive slots in which the index of a place may be.
 const NEAR: usize = 8;
 
-/// Remembers the index at which each place was last found in a list. A memo is only a shortcut and
-/// may forget a place. A hash of a place's bytes determines the first slot of the place. That slot
-/// may have the index of another place. So the place at a remembered index is always compared with
-/// the place that is looked up.
+/// A memo, which remembers the index at which each place was last found in a list. It is only a
+/// shortcut and may forget a place. A hash of a place's bytes determines the first slot of the
+/// place. That slot may hold the index of a different place. So the place at a remembered index is
+/// always compared with the place that is looked up.
 #[derive(Debug, Drop)]
 pub(crate) struct Memo {
     slots: Vec<u32>,

@@ -1,4 +1,4 @@
-//! A device in memory that fails at one given call.
+//! A device in memory that fails at one chosen call.
 ghost use Rattle.std.specs.Prelude.{◌≡◌, ◌⊎◌, ◌+◌, ◌-◌, ◌^◌, ◌<◌, ◌≤◌, ◌↔◌, min, [], ◌++◌, length, take, Some, IsTrue, IfOk, IsErr, OnOk, OnErr};
 ghost use Rattle.cif_device.specs.Device.{Ends, room_left};
 
@@ -6,7 +6,7 @@ use crate::device::{Failed, Sink, Source};
 use crate::memory::{Bytes, Kept};
 use std::marker::Model;
 
-/// A device in memory that transfers at most one byte per call, and fails at one given call.
+/// A device in memory that transfers at most one byte per call, and fails at one chosen call.
 #[derive(Debug, Drop)]
 pub struct Fuse<D> {
     device: D,

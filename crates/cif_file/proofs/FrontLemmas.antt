@@ -188,7 +188,8 @@ trailer_added keeps old new records line over is kind fields same_header place m
   );
 }
 
--- if all units read so far are whole, the reader can take a record that is a unit by itself. It then makes the record's changes
+-- if all units read so far are whole, the reader can take a record that is a unit by itself. The
+-- keeper then makes the record's changes
 pub single_added : {K : Type 0} (keeps : Keeps K) (old new : Front K) (records : Lines) (line : List ℕ) (number : ℕ) → IsOver keeps old records
     → IsRecord line → HasGoodFields line
     → unit_by_kind (kind_of line) line ≡ Some between_units
@@ -395,7 +396,8 @@ line_added keeps old new opened line records before inside same_header place add
           });
     }
 
--- the reader can take a line that ends the schedule, and then makes the schedule's change
+-- the reader can take a line that ends the schedule, and the keeper then makes the schedule's
+-- change
 pub line_closed : {K : Type 0} (keeps : Keeps K) (old new : Front K) (opened : Opened) (line : List ℕ) (records : Lines)
     → StandsBefore keeps old opened line records
     → is_over_by (progress_meant opened.progress).stage ≡ true

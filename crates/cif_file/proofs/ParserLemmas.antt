@@ -575,7 +575,8 @@ later_than : {K : Type 0} (keeps : Keeps K) (reading : FileReading K) (limit : �
     → sure_lines text < fault.number
 later_than keeps reading limit text fault is number = let same = sure_lines_short text is.short in omega arith
 
--- a fault has the cause `Memory` only if `wants` holds, which says that the keeper may run out of memory
+-- a fault has the cause `Memory` only if `wants` holds, that is, if the keeper may run out of
+-- memory
 wants_of : (wants : Type 0) (limit : ℕ) (records : Lines) (line : List ℕ) (fault : FileFault) → IsFaultNext wants limit records line fault
     → fault.cause ≡ Memory → wants
 wants_of wants limit records line fault next memory = (subst (λ cause. IsCauseAfter wants limit records line (cause_meant cause)) memory next.cause).0

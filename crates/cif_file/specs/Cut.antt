@@ -20,6 +20,6 @@ pub record BeginsWithEighty (text line rest : List ℕ) : Type 0 where
   pub whole : text ≡ line ++ after
   pub ended : BeginsWithEnd after rest
 
--- the bytes of a text that come before a given suffix
+-- the bytes of `text` that come before its suffix `rest`
 abbrev pub before_rest : List ℕ → List ℕ → List ℕ
 before_rest text rest = take (length text - length rest) text

@@ -28,8 +28,8 @@ taken_is_bounded keeps reading limit text has =
     omega (arith, most, few)
 
 -- Says that this is the fault of a text followed by a piece, at a record that is complete only with
--- the piece. Also says that the cause is `Memory` only if `wants` holds, which says that the keeper
--- may run out of memory.
+-- the piece. Also says that the cause is `Memory` only if `wants` holds, that is, if the keeper may
+-- run out of memory.
 pub record RefusesPiece (wants : Type 0) (limit : ℕ) (text piece : List ℕ) (fault : FileFault) : Type 0 where
   pub told : IsFaultReported limit (text ++ piece) fault
   pub later : sure_lines text < fault.number

@@ -43,8 +43,8 @@ pub record IsCauseNext (limit : ℕ) (records : Lines) (line : List ℕ) (cause 
   pub is : cause_of limit (length records) place line ≡ cause
 
 -- Says why the reader refused the line that follows these records. `None` means that memory ran
--- out. In that case `wants` holds, which says that the keeper may run out of memory. Some file
--- within the limit then begins with these records and the line.
+-- out. In that case `wants` holds: the keeper may run out of memory. Some file within the limit
+-- then begins with these records and the line.
 abbrev pub IsCauseAfter : Type 0 → ℕ → Lines → List ℕ → Option model.FileCause → Type 0
 IsCauseAfter wants limit records line None = wants × (length records < limit) × GoesOnWith records line
 IsCauseAfter wants limit records line (Some cause) = IsCauseNext limit records line cause
@@ -192,8 +192,8 @@ abbrev pub HasNotFailed : ParserState → Type 0
 HasNotFailed parser = (fault : FileFault) → ¬ HasFailed parser fault
 
 -- Says that the record at fault isn't complete in any text that the parser may have taken before.
--- Also says that the cause is `Memory` only if `wants` holds, which says that the keeper may run
--- out of memory.
+-- Also says that the cause is `Memory` only if `wants` holds, that is, if the keeper may run out of
+-- memory.
 abbrev pub IsLater : {K : Type 0} → Keeps K → Type 0 → FileReading K → FileFault → Type 0
 IsLater keeps wants reading fault =
     (limit : ℕ) (text : List ℕ) → IsReading keeps reading limit text → (sure_lines text < fault.number) × (fault.cause ≡ Memory → wants)

@@ -78,8 +78,8 @@ abbrev pub GoesOnWith : Lines → List ℕ → Type 0
 GoesOnWith records line = (next : law.Place) × IsPlaceOf (records ++ line ∷ []) next
 
 -- Says why the line that follows these records was refused. `None` means that memory ran out. In
--- that case `wants` holds, which says that the keeper may run out of memory. Some file then begins
--- with the records and the line. A cause says why no file begins with them.
+-- that case `wants` holds: the keeper may run out of memory. Some file then begins with the records
+-- and the line. A cause says why no file begins with them.
 abbrev pub IsNoNextCause : Type 0 → Lines → List ℕ → Option fault.FileCause → Type 0
 IsNoNextCause wants records line None = wants × GoesOnWith records line
 IsNoNextCause wants records line (Some cause) = IsNoNext records line cause

@@ -8,8 +8,8 @@ use cif_line::{Day, Header, Tiploc};
 use std::marker::Model;
 
 /// What was kept of a CIF file for the docker of one place on one day: the header, and those
-/// changes that this docker needs. A thin file must not be used for any other docker. For proofs,
-/// its value also includes all changes of the file.
+/// changes that this docker needs. A thin file must not be used for any other docker. In proofs,
+/// its model also includes all changes of the file.
 #[derive(Debug, Drop)]
 pub struct ThinFile {
     place: Tiploc,

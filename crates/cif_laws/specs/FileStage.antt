@@ -7,8 +7,8 @@ use Rattle.docker_model.specs.records.Record.{Lines, Kind, tiploc_insert, tiploc
 use Rattle.cif_laws.specs.RecordTest.{has_good_fields, is_record}
 use Rattle.cif_laws.specs.ScheduleStage.{Stage, after_basic, after_journey, stage_after, may_end, is_sound_next}
 
--- how far a reader has come in a file: before the header; after the header or a complete unit;
--- after these records of a schedule; or after the trailer
+-- where a reader is in a file: before the header; after the header or a complete unit; after these
+-- records of a schedule; or after the trailer
 pub data Place : Type 0 where
   before_header : Place
   between_units : Place

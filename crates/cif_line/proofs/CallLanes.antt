@@ -303,7 +303,7 @@ tells line a b c d e =
     cond (top 15 (time_mask (picked line a) (picked line b) (picked line c) (picked line d) (end_picked line e)))
     (lane_half_minutes (picked line a) (picked line b) (picked line c) (picked line d) (end_picked line e)) 65535
 
--- whether a lane is set: the loaded bytes at the five given indexes are blank or a time
+-- whether a lane is set: the loaded bytes at these five indexes are blank or a time
 abbrev pub set_lane : List ℕ → ℕ → ℕ → ℕ → ℕ → ℕ → Bool
 set_lane line a b c d e =
     top 15

@@ -6,8 +6,7 @@ use Rattle.docker_model.specs.records.Clock.{public_time}
 use Rattle.docker_model.specs.records.Field.{is_deletion}
 use Rattle.docker_model.specs.records.PrintedTime.{spaces, time_text}
 
--- the columns of a line that begin at a given column, with a given width: `field_at 4 6` gives
--- columns 4 to 9
+-- the `width` columns of a line that begin at column `first`: `field_at 4 6` gives columns 4 to 9
 abbrev pub field_at : ℕ → ℕ → List ℕ → List ℕ
 field_at first width line = columns first (first - 1 + width) line
 

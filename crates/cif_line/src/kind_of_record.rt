@@ -7,9 +7,9 @@ pub enum Kind {
     Header,
     /// TI, a TIPLOC insert.
     TiplocInsert,
-    /// TA, a TIPLOC amend.
+    /// TA, a TIPLOC amendment.
     TiplocAmend,
-    /// TD, a TIPLOC delete.
+    /// TD, a TIPLOC deletion.
     TiplocDelete,
     /// AA, an association.
     Association,

@@ -3,7 +3,7 @@ ghost use Rattle.std.specs.Prelude.{◌≡◌, ◌↔◌, IsSome, IfSome, IsTrue
 ghost use Rattle.docker_model.specs.records.Field.{is_update_indicator, is_transaction, is_stp_letter};
 ghost use Rattle.cif_line.specs.Letter.{extract_letter, transaction_letter, stp_letter};
 
-/// What an extract contains, given by the update indicator of its header (HD).
+/// What an extract contains, as the update indicator in its header (HD) says.
 #[derive(Clone, Copy, PartialEq, Eq, Debug)]
 pub enum Extract {
     /// F, a full extract: everything.

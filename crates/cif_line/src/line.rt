@@ -34,7 +34,7 @@ pub enum LineFault {
     /// The number of bytes isn't 80.
     #[error("Length")]
     Length,
-    /// A byte isn't printable. The number is the column of the leftmost such byte. Columns count
+    /// A byte isn't printable. The number is the column of the leftmost bad byte. Columns count
     /// from 1.
     #[error("Byte {0}")]
     Byte(u8),

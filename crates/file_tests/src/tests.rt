@@ -436,7 +436,7 @@ fn a_journey(rt: HostRuntime) {
     same(&rt, journey.complete(), true);
 }
 
-/// The fault that each further call of a parser must return. If an earlier call returned the fault
+/// The fault that each later call of a parser must return. If an earlier call returned the fault
 /// `wanting`, because memory ran out, the result is `wanting`. Otherwise, if `fed` is a fault, the
 /// result says that memory ran out at the record with this number.
 fn memory_fault_from(

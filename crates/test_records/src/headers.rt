@@ -16,7 +16,7 @@ pub const HD_10B: &[u8] =
 pub const HD_10B_0605: &[u8] =
     b"HDTPS.UDFROC1.PD2406101006240605DFROC1BDFROC1AUA                                ";
 
-/// The header of an update of 9 June that follows another file.
+/// The header of an update of 9 June that follows the file with the reference DFROC1A.
 pub const HD_9B: &[u8] =
     b"HDTPS.UDFROC1.PD2406090906242100DFROC1BDFROC1AUA                                ";
 

@@ -200,7 +200,7 @@ fault_stays limit text more fault told =
 pub fault_in_the_end : (limit : ℕ) (text more : List ℕ) (fault : FileFault) → IsFaultSoFar limit text fault → IsFileFault limit (text ++ more) fault
 fault_in_the_end limit text more fault told = inl (fault_stays limit text more fault told).is
 
--- bytes determine at most one fault
+-- the first bytes of a text determine at most one fault
 pub one_fault_so_far : (limit : ℕ) (text : List ℕ) (first second : FileFault) → IsFaultSoFar limit text first → IsFaultSoFar limit text second → first ≡ second
 one_fault_so_far limit text first second one two = one_fault limit text first second (inl one.is) (inl two.is)
 

@@ -318,7 +318,7 @@ cause_in_schedule limit count stage lines line under is of =
     by (Some next) = refl
 
 -- suppose that a schedule may end, and that a record can't follow a basic schedule. Then a fault at
--- this record has the same cause whether the record follows this schedule or another unit
+-- this record has the same cause whether the record follows this schedule or any other unit
 pub cause_behind_schedule : (limit count : ℕ) (stage : Stage) (lines : Lines) (line : List ℕ) → count < limit → IsRecord line → may_end stage lines ≡ true
     → follows_basic (kind_of line) ≡ false
     → cause_of limit count (in_schedule stage lines) line ≡ cause_of limit count between_units line

@@ -42,8 +42,8 @@ abbrev pub IsCancellation : ℕ → Type 0
 IsCancellation indicator = indicator ≡ 67
 
 -- the order of choice between two schedules or two associations, each given by its STP indicator
--- and its first date. The indicators are compared first, in the order C, N, O, P. If both
--- indicators are equal, the schedule or association with the later first date is chosen
+-- and its first date. The indicators are compared first, in the order C, N, O, P. If the indicators
+-- are equal, the schedule or association with the later first date is chosen
 abbrev pub choice_cmp : ℕ → ℕ → ℕ → ℕ → Ordering
 choice_cmp indicator first other_indicator other_first = ordering_then (nat_cmp indicator other_indicator) (nat_cmp other_first first)
 

@@ -58,8 +58,8 @@ IsBodyPart state (tiploc_key code) bytes = IsTextOfLength 63 bytes
 IsBodyPart state (association_key key) bytes = IsAssociationOf key bytes × (state.horizon ≤ body_end (association_body bytes))
 IsBodyPart state (schedule_key key) bytes = IsLineCount (from_be_bytes w32 bytes)
 
--- this cause says why the next part of an entry is bad. The state has all earlier entries, and the
--- earlier parts of the entry are good
+-- this cause says why the next part of an entry is bad. The state has all entries before this
+-- entry, and the parts before the bad part are good
 abbrev pub IsBadEntryPart : Format → State → EntryPart → List ℕ → StateCause → Type 0
 IsBadEntryPart format state before_tag bytes cause = (cause ≡ bad_tag) × ¬ IsTag (slice_index bytes 0)
 IsBadEntryPart format state (before_key tag) bytes cause = IsBadKey state (key_in tag bytes) cause

@@ -1,5 +1,5 @@
--- If the schedule can't continue with the line, no file continues with the line, for the same
--- cause.
+-- If the schedule can't continue with the line, no file continues with it either, and the cause is
+-- the same.
 use Rattle.std.proofs.Common.{ap, ◌∙◌, refl}
 use Rattle.std.specs.Prelude.{is_ok}
 use Rattle.docker_model.specs.file.File.{follows_basic}
