@@ -153,7 +153,8 @@ module _ (place : List ℕ) (day : ℕ) (opened : Opened) (near : Bool) where
           ap (thin_act place day) (act_put basic others is h)
           ∙ act_far place day (renewed basic others is) (near_renewed basic others is (sym read.deletion_is ∙ h) ∙ far)
 
-  -- if a schedule isn't a deletion and runs near the day, the thin form of its change puts only the lines that the place needs
+  -- if a schedule isn't a deletion and runs near the day, the thin form of its change puts only the
+  -- lines that the docker of the place needs
   pub opened_puts : (lines : Lines) → HasLines (progress_meant opened.progress) lines → IsSchedule lines → IsNearBy day lines near
       → (progress_meant opened.progress).deletion ≡ false → near ≡ true
       → thin_act place day (change_opened opened lines).act ≡ put (schedule_body (lines_for place (with_new_first lines)))

@@ -1,5 +1,6 @@
 -- The fault at a record that can't continue a schedule. The causes have the same ranks as for a
--- record of a file. The bytes are known to be a record, so `bad_length` and `bad_byte` don't occur.
+-- record of a file. The line at fault is known to be a record, so `bad_length` and `bad_byte` don't
+-- occur.
 use Rattle.std.specs.Prelude.{◌≡◌, ℕ, ◌<◌, ◌≤◌, List, [], ◌∷◌, ◌++◌, None, Some}
 use Rattle.docker_model.specs.records.Record.{kind_of}
 use Rattle.docker_model.specs.records.Field.{leftmost_bad_field}

@@ -89,8 +89,8 @@ pub fn schedule_goes_on_or_fault()
         → BeginsSchedule (earlier ++ line ∷ []) → ¬ IsScheduleFault earlier line cause }
 {}
 
-/// A fault that the first bytes of a text determine is the fault of the whole text. Bytes determine
-/// at most one fault.
+/// A fault that the first bytes of a text determine is the fault of the whole text. These bytes
+/// determine at most one fault.
 pub fn reported_fault_stays()
     ensures so_far { (limit : ℕ) (text more : List ℕ) (fault : FileFault)
         → IsFaultSoFar limit text fault → IsFaultSoFar limit (text ++ more) fault }
@@ -100,9 +100,9 @@ pub fn reported_fault_stays()
         → IsFaultSoFar limit text first → IsFaultSoFar limit text second → first ≡ second }
 {}
 
-/// Bytes either determine a fault or satisfy `BeginsWithin`, never both. `BeginsWithin` says that
-/// the complete lines begin some file and are within the limit, and that at most 81 bytes follow
-/// the last line feed.
+/// The first bytes of a text either determine a fault or satisfy `BeginsWithin`, never both.
+/// `BeginsWithin` says that the complete lines begin some file and are within the limit, and that
+/// at most 81 bytes follow the last line feed.
 pub fn no_fault_in_complete_lines()
     ensures either { (limit : ℕ) (text : List ℕ)
         → ((fault : FileFault) × IsFaultSoFar limit text fault) ⊎ BeginsWithin limit text }
@@ -110,8 +110,8 @@ pub fn no_fault_in_complete_lines()
         → BeginsWithin limit text → ¬ IsFaultSoFar limit text fault }
 {}
 
-/// If bytes determine no fault, their number is at most `82 * limit + 81`. Here `limit` is the
-/// greatest number of records that a file may have.
+/// If the first bytes of a text determine no fault, their number is at most `82 * limit + 81`. Here
+/// `limit` is the greatest number of records that a file may have.
 pub fn text_without_fault_is_bounded()
     ensures { (limit : ℕ) (text : List ℕ) → ((fault : FileFault) → ¬ IsFaultSoFar limit text fault)
         → length text ≤ 82 * limit + 81 }

@@ -13,7 +13,7 @@ pub enum Extract {
 }
 
 impl Extract {
-    /// The kind of extract that `F` or `U` means. Returns `None` for any other byte.
+    /// The kind of extract for which `F` or `U` stands. Returns `None` for any other byte.
     pub fn from_letter(letter: u8) -> Option<Extract>
         ensures some { IsSome result ↔ IsTrue (is_update_indicator (letter ∷ [])) }
         ensures value { IfSome result (λ extract. extract_letter extract ≡ letter) }
@@ -49,7 +49,7 @@ pub enum Transaction {
 }
 
 impl Transaction {
-    /// The transaction that `N`, `D` or `R` means. Returns `None` for any other byte.
+    /// The transaction for which `N`, `D` or `R` stands. Returns `None` for any other byte.
     pub fn from_letter(letter: u8) -> Option<Transaction>
         ensures some { IsSome result ↔ IsTrue (is_transaction (letter ∷ [])) }
         ensures value { IfSome result (λ transaction. transaction_letter transaction ≡ letter) }
@@ -91,7 +91,7 @@ pub enum Stp {
 }
 
 impl Stp {
-    /// The STP indicator that `C`, `N`, `O` or `P` means. Returns `None` for any other byte.
+    /// The STP indicator for which `C`, `N`, `O` or `P` stands. Returns `None` for any other byte.
     pub fn from_letter(letter: u8) -> Option<Stp>
         ensures some { IsSome result ↔ IsTrue (is_stp_letter letter) }
         ensures value { IfSome result (λ stp. stp_letter stp ≡ letter) }

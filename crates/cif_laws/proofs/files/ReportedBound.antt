@@ -81,7 +81,7 @@ bound_of_none limit text none =
     let short = none.short in
     omega arith
 
--- if bytes determine no fault, their number is at most `82 * limit + 81`
+-- if the first bytes of a text determine no fault, their number is at most `82 * limit + 81`
 pub text_without_fault_is_bounded : (limit : ℕ) (text : List ℕ) → ((fault : FileFault) → ¬ IsFaultSoFar limit text fault) → length text ≤ 82 * limit + 81
 text_without_fault_is_bounded limit text never = by (fault_so_far_or_none limit text)
   where

@@ -134,7 +134,8 @@ first_left [] [] some = absurd (omega arith)
 first_left (b ∷ bytes) [] some = ([], refl)
 first_left piece (next ∷ pieces) some = (without_empty_last (next ∷ pieces), refl)
 
--- a fault that bytes determine is still determined after more bytes are appended
+-- a fault that the first bytes of a text determine is still determined after more bytes are
+-- appended
 pub fault_stays : (limit : ℕ) (text more : List ℕ) (fault : FileFault) → IsFaultSoFar limit text fault → IsFaultSoFar limit (text ++ more) fault
 fault_stays limit text more fault told =
     record {
@@ -196,7 +197,7 @@ fault_stays limit text more fault told =
           cause = cause_stays limit told.is.earlier told.is.line (strip_carriage_return (open_line text ++ on.first)) fault.cause short longer told.is.cause;
         }
 
--- a fault that bytes determine is the fault of each text that begins with these bytes
+-- a fault that some bytes determine is the fault of each text that begins with these bytes
 pub fault_in_the_end : (limit : ℕ) (text more : List ℕ) (fault : FileFault) → IsFaultSoFar limit text fault → IsFileFault limit (text ++ more) fault
 fault_in_the_end limit text more fault told = inl (fault_stays limit text more fault told).is
 
@@ -204,7 +205,7 @@ fault_in_the_end limit text more fault told = inl (fault_stays limit text more f
 pub one_fault_so_far : (limit : ℕ) (text : List ℕ) (first second : FileFault) → IsFaultSoFar limit text first → IsFaultSoFar limit text second → first ≡ second
 one_fault_so_far limit text first second one two = one_fault limit text first second (inl one.is) (inl two.is)
 
--- ---- bytes determine a fault, or their complete lines begin a file
+-- ---- the first bytes of a text determine a fault, or their complete lines begin a file
 
 -- if the incomplete line has at most 81 bytes, `sure_lines` is the number of complete lines
 pub sure_lines_short : (text : List ℕ) → length (open_line text) ≤ 81 → sure_lines text ≡ length (complete_lines text)
@@ -233,8 +234,8 @@ pub record TellsNoFault (limit : ℕ) (text : List ℕ) : Type 0 where
 number_within : (limit : ℕ) (records : Lines) (fault : FileFault) → IsRecordFault limit records fault → fault.number ≤ length records
 number_within limit records fault is = let size = ap length is.whole ∙ length-append is.earlier (is.line ∷ is.later) in let number = is.number in omega arith
 
--- either bytes determine a fault, or their complete lines begin some file within the limit and
--- their incomplete line has at most 81 bytes
+-- either the first bytes of a text determine a fault, or their complete lines begin some file
+-- within the limit and their incomplete line has at most 81 bytes
 pub fault_so_far_or_none : (limit : ℕ) (text : List ℕ) → ((fault : FileFault) × IsFaultSoFar limit text fault) ⊎ TellsNoFault limit text
 fault_so_far_or_none limit text = by (cases_lt (length (open_line text)) 82)
   where
@@ -289,8 +290,8 @@ fault_so_far_or_passes limit text = by (fault_so_far_or_none limit text)
     by (inl fault) = inl fault
     by (inr none) = inr (passes_so_far limit text none)
 
--- suppose that the complete lines of bytes begin some file within the limit. If the incomplete line
--- has at most 81 bytes, the bytes determine no fault
+-- suppose that the complete lines in the first bytes of a text begin some file within the limit. If
+-- the incomplete line has at most 81 bytes, these bytes determine no fault
 pub passes_no_fault : (limit : ℕ) (text : List ℕ) (fault : FileFault) → PassesSoFar limit text → ¬ IsFaultSoFar limit text fault
 passes_no_fault limit text fault passes told = by told.is.here
   where

@@ -1,4 +1,4 @@
--- A read never fails, so the promises of a source about failures hold.
+-- A read never fails, so the clauses on failures hold, which every source must satisfy.
 use Rattle.std.proofs.Common.{Some, ap, refl}
 use Rattle.cif_device.proofs.memory.BytesSource.TheImpl.Goals as goal
 
