@@ -249,8 +249,8 @@ out_of_place journey lines line stage kind has is at known none =
 
 -- ---- the times of the next line
 
--- The midnights that are passed at an optional time and at the times after it can be counted in two
--- steps: first at the optional time, and then at the times after it.
+-- The midnights passed at an optional time and at the times after it can be counted in two steps.
+-- First count at the optional time, and then at the times after it.
 pub falls_in_turn : (last first : Option ℕ) (rest : List ℕ) → falls_after last (time_list first ++ rest) ≡ falls_after last (time_list first) + falls_after
     (later_or first last) rest
 falls_in_turn None None rest = omega arith

@@ -34,9 +34,9 @@ pub record JourneyState : Type 0 where
   pub falls : ℕ
   pub last : ℕ
 
--- Says that the reader has taken exactly these lines, and that everything that it remembers is
--- right: the stage, whether the schedule is a deletion, whether it may end without a journey, the
--- count of midnights, and the last time. In a deletion the count and the time don't matter.
+-- Says that the reader has taken exactly these lines, and that what it remembers is right. It
+-- remembers the stage, whether the schedule is a deletion, whether it may end without a journey,
+-- the count of midnights, and the last time. In a deletion the count and the time don't matter.
 pub record HasLines (journey : JourneyState) (lines : List (List ℕ)) : Type 0 where
   pub stage_is : journey.stage ≡ stage_of lines
   pub fresh : journey.stage ≡ None → lines ≡ []

@@ -7,8 +7,9 @@ use crate::memo::Memo;
 use cif_line::Memory;
 use std::alloc::Global;
 
-/// Places, in the order in which they were first named. If the memo has forgotten a place, the
-/// place is listed again. The place then has several numbers: each of its indexes in the list.
+/// Places, in the order in which they were first named. If the memo, which finds the number of a
+/// place, has forgotten a place, the place is listed again. The place then has several numbers:
+/// each of its indexes in the list.
 #[derive(Debug, Drop)]
 pub struct PlaceNames {
     /// The places. The index of a place is its number.

@@ -85,7 +85,8 @@ unfolding one_more
 refused_behind takes refuses fed terms text initial now next before after piece fault at more few refused =
     record { more = one_more takes fed terms text initial now next before piece at more few; refused = refused }
 
--- if the text, the fed bytes and the next piece have fewer than 2^64 bytes in total, the number of fed bytes plus the length of the piece fits in 64 bits
+-- suppose that the text, the fed bytes and the next piece have fewer than 2^64 bytes in total. Then
+-- the number of fed bytes plus the length of the piece fits in 64 bits
 pub fits_still : (fed n : ℕ) (text bytes piece : List ℕ) → length bytes ≡ fed → length piece ≡ n → length ((text ++ bytes) ++ piece) < 2 ^ 64
     → Fits w64 (fed + n)
 fits_still fed n text bytes piece size long below =

@@ -60,7 +60,8 @@ above most n many = by (nat_le n most) refl
 
 -- ---- out of memory
 
--- memory may run out at a line that is within the limit if some file begins with the earlier records and this line
+-- memory may run out at a line that is within the limit if some file begins with the records before
+-- the line, followed by the line
 memory_answer : (limit : ℕ) (records : Lines) (line : List ℕ) (number : ℕ) (all : Lines) → length records < limit → GoesOnWith records line
     → number ≡ length records + 1 → all ≡ records ++ line ∷ []
     → WantsMemoryAt limit all number
@@ -604,8 +605,8 @@ later_long keeps wants reading fault told = λ limit text is.
 later_front : (text more : List ℕ) (fault : FileFault) → sure_lines (text ++ more) < fault.number → sure_lines text < fault.number
 later_front text more fault later = let grown = sure_lines_grow text more in omega arith
 
--- if a fault is after all complete lines that were read up to the end of a piece, it is also after
--- all complete lines that were read before this piece
+-- suppose that a fault is after all complete lines that were read up to the end of a piece. Then it
+-- is also after all complete lines that were read before this piece
 pub later_piece : {K : Type 0} (keeps : Keeps K) (wants : Type 0) (old new : FileReading K) (front : List ℕ) (fault : FileFault)
     → GoesOn (IsReading keeps old) front (IsReading keeps new) → IsLater keeps wants new fault
     → IsLater keeps wants old fault
@@ -652,7 +653,8 @@ names_last parser reading fault none same told =
 
 -- ---- a record at the start of a text
 
--- if the record at the start of the rest was taken, only the bytes after its line end are still to be taken
+-- if the record at the start of the rest of a text was taken, only the bytes after this record's
+-- line end are still to be taken
 pub record_read : {K : Type 0} (keeps : Keeps K) (before : Told) (old new : FileReading K) (text rest front line behind : List ℕ)
     → TakesUpTo before text rest (IsReading keeps old) → BeginsWithEighty rest front behind → line ≡ front → IsRecord front
     → old.partial.items ≡ [] → CountsNext keeps old.records line new.records → new.partial.items ≡ []

@@ -43,7 +43,7 @@ pub text_is : (number year month day : ℕ) → IsDayOf number year month day �
 text_is number year month day h =
     subst (λ n. day_text n ≡ date_text year month day) (number_is number year month day h) (day_text-day_number year month day h.low h.high h.is_civil)
 
--- if the day count of a date is from the day count of 1 January 1960 to the day count of 31
+-- if the day count of a date isn't below the count of 1 January 1960 or above the count of 31
 -- December 2059, the year is from 1960 to 2059
 years_between : (year : ℤ) (month day : ℕ) → IsCivilDate year month day → 4_368_300 ≤ day_count year month day → day_count year month day ≤ 4_404_824
     → IsBetween (pos 1960) (pos 2059) year

@@ -102,8 +102,9 @@ module _ (years y month day : ℕ) (since : years + 1960 ≡ y) (high : y ≤ 20
         (omega (arith, signed_arith, date.2), omega (arith, signed_arith, date.2)),
       )
 
-  -- the day number plus 1 is a sum: the number of days from 1960 to the beginning of the year, the
-  -- number of days in the year before the month, and the day of the month
+  -- the day number plus 1 is the sum of three numbers. They are the number of days from 1960 to the
+  -- beginning of the year, the number of days in the year before the month, and the day of the
+  -- month
   pub numbered : (leap : Bool) → leap ≡ is_leap_year (pos y)
       → 365 * years + ((years + 3) / 4 + leap_before leap month) + days_before month + day ≡ day_number y month day + 1
   numbered leap is =

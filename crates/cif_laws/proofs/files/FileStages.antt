@@ -447,7 +447,7 @@ pub place_of_more : (records : Lines) (place : Place) (line : List ℕ) → IsPl
 place_of_more records place line found = place_from_append records before_header place (line ∷ []) found ∙ some_then (next_place place line)
 
 -- suppose that records lead the reader to a `Place`. With one more record they begin a file if and
--- only if this record leads from that `Place` to a next `Place`
+-- only if this record leads the reader from that `Place` to a next `Place`
 pub begins_next_iff : (records : Lines) (place : Place) (line : List ℕ) → IsPlaceOf records place → BeginsFile (records ++ line ∷ [])
     ↔ ((next : Place) × IsNext place line next)
 begins_next_iff records place line found = (

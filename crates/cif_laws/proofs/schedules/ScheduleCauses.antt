@@ -303,8 +303,8 @@ cause_of_record limit count place line under open_end is =
     ∙ (λ i. cond (ap (λ n. n == 80) is.0 i) (byte_cause place line) bad_length)
     ∙ (λ i. with_column bad_byte (no_bad_byte line is.1 i) (kind_cause place line))
 
--- if a record can only belong to the schedule, a fault at this record has the same cause whether
--- the record is judged as part of the file or as part of the schedule
+-- suppose that a record can only belong to the schedule. Then a fault at this record has the same
+-- cause whether the record is judged as part of the file or as part of the schedule
 pub cause_in_schedule : (limit count : ℕ) (stage : Stage) (lines : Lines) (line : List ℕ) → count < limit → IsRecord line → IsOfSchedule stage lines line
     → cause_of limit count (in_schedule stage lines) line ≡ schedule_cause stage line
 cause_in_schedule limit count stage lines line under is of =
