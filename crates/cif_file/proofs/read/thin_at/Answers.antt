@@ -1,4 +1,4 @@
--- The result is a thin file of the file that was read.
+-- The result is a thin file made from the file that was read.
 use Rattle.std.proofs.Common.{sym, subst}
 use Rattle.std.specs.Prelude.{⊤}
 use Rattle.cif_file.specs.SourceRead.{ReadsThin}
