@@ -148,7 +148,7 @@ fn a_full_sink_has_a_beginning(rt: HostRuntime) {
     same(&rt, kept.bytes(), front);
 }
 
-/// A fault at this offset.
+/// The fault with this offset and this cause.
 fn at(at: u64, cause: StateCause) -> StateFault {
     StateFault { at, cause }
 }

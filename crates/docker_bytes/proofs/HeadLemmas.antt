@@ -26,7 +26,7 @@ module _ {K : Type 0} (old : StateReading K) (count : ℕ) (is : IsReading old) 
   pub valid_so_far : IsValid old.parts
   valid_so_far = good.0.valid
 
-  -- if the parts of a head are good, a reading that takes the head at once has read the text up to the head's end
+  -- if the parts of a head are good, a reading that takes the whole head at once has read the text up to the head's end
   pub head_read : (new : StateReading K) (bytes : List ℕ) (part : EntryPart) → AreParts old.parts bytes part
       → stage_meant new.stage old.parts [] ≡ in_entry count old.parts part → IsFresh new.stage old.parts → old.reached + length bytes ≤ old.limit
       → new.parts ≡ old.parts → new.lines ≡ [] → new.partial.items ≡ old.partial.items → new.reached ≡ old.reached + length bytes

@@ -94,8 +94,7 @@ told_as_state format limit text piece rest found told result so_far memory state
     let same = not_memory found told result memory state is in
     subst (IsFaultOf format limit ((text ++ piece) ++ rest)) same.0 (told_so_far format limit text piece rest found.at found.cause same.1 so_far)
 
--- the read fault for a parser's fault at the end of a text is a fault of the text. After a complete
--- text, it is `Memory`
+-- at the end of a text, a parser's fault becomes a fault of the text or, if the text is complete, the read fault `Memory`
 pub ended_for : {A : Type 0} (format : Format) (limit : ℕ) (text : List ℕ) (IsMade : A → Type 0) (found : StateFault) (result : ReadFault)
     → IsUnended format limit text found → (found.cause ≡ cause.Memory → result ≡ fault.Memory)
     → (found.cause ≢ cause.Memory → result ≡ fault.State found)
@@ -120,7 +119,7 @@ is_memory found result state is = by (memory_or_not found.cause)
     by (inl wanting) = wanting
     by (inr other) = absurd (let from = state other in cc)
 
--- if `Memory` is returned for a piece, memory ran out for a part that ends in the piece
+-- if `Memory` is returned for a piece, there was no memory for a part that ends in the piece
 pub told_as_memory : {A : Type 0} (format : Format) (limit : ℕ) (text piece : List ℕ) (found : StateFault) (result : ReadFault)
     → IsFaultReported format limit text piece found
     → (found.cause ≢ cause.Memory → result ≡ fault.State found) → ◌≡◌ {A = Result A ReadFault} (Err result) (Err fault.Memory)
@@ -250,8 +249,7 @@ loses_few terms initial next more = record {
   sound = sound_text more.taker terms.format terms.limit more.bytes more.taken.read;
 }
 
--- if a parser refuses a piece because memory ran out, memory ran out for a part that ends in the
--- piece
+-- if a parser refuses a piece because memory ran out, there was no memory for a part that ends in the piece
 wants_part : {K : Type 0} (terms : StateTerms) (initial next : Option (List ℕ)) (parser : ParserState K)
     → HasRefused TakesState RefusesPart 65536 terms [] initial next parser fault.Memory → WantsSoFar terms.format 65536 terms.limit initial next
 wants_part terms initial next parser has =

@@ -186,7 +186,7 @@ part_read old new bytes is none wide some small fits leads empty reached same ke
         ∙ ap length (sym (items_stay (format_of old) (before_of old) bytes (ap begins_item (sym leads.is) ∙ within.0))
         ∙ ap (items_before (format_of old)) (sym leads.is) ∙ ap (λ f. items_before f (before_of new)) (sym kept))
 
--- if a part that ends with these bytes is bad, or memory ran out for this part, a fault with this
+-- if a part that ends with these bytes is bad, or if there was no memory for it, a fault with this
 -- cause and offset is correct
 pub part_refused : {K : Type 0} (old : StateReading K) (front bytes : List ℕ) (at : ℕ) (cause : Option StateCause) → IsReading old
     → bytes ≡ old.partial.items ++ front → length bytes ≡ width (before_of old)

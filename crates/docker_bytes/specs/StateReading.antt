@@ -46,13 +46,12 @@ pub record ReadsOn {K : Type 0} (old new : StateReading K) (bytes : List ℕ) : 
   pub limit : new.limit ≡ old.limit
   pub format : format_of new ≡ format_of old
 
--- says that the next part is bad, or that memory ran out for it. The fault's offset is the
--- beginning of the part's item
+-- says that the next part is bad, or that there was no memory for it. The fault's offset is the beginning of the part's item
 abbrev pub IsPartRefused : {K : Type 0} → StateReading K → List ℕ → StateFault → Type 0
 IsPartRefused reading bytes fault = (fault.at ≡ reading.item_at) × IsBadHere (format_of reading) (before_of reading) bytes (cause_meant fault.cause)
 
--- says that memory ran out for a part of `text ++ piece` whose last byte is in `piece`. No part up
--- to and including this part is bad, and `at` is the beginning of the part's item
+-- says that there was no memory for a part of `text ++ piece` whose last byte is in `piece`. No part up to and including this part is bad, and `at` is the
+-- beginning of the part's item
 pub record IsWanting (format : Format) (limit : ℕ) (text piece : List ℕ) (at : ℕ) : Type 0 where
   pub before : Before
   pub good : AreGood format before

@@ -35,7 +35,7 @@ taken_is_bounded parser terms text has =
     omega (arith, same, sum, reached, within, limit, small)
 
 -- says what a parser's fault for a piece after a text means. A fault of the text is the fault of every text that begins with this text and this piece. `Memory`
--- means that memory ran out for a part that ends in the piece
+-- means that there was no memory for a part that ends in the piece
 pub record RefusesPart {K : Type 0} (parser : ParserState K) (terms : StateTerms) (text piece : List ℕ) (told : ReadFault) : Type 0 where
   pub state : (found : StateFault) → told ≡ fault.State found → (rest : List ℕ) → IsFaultOf terms.format terms.limit ((text ++ piece) ++ rest) found
   pub memory : told ≡ fault.Memory → (at : ℕ) × IsWanting terms.format terms.limit text piece at

@@ -1,5 +1,5 @@
 //! Readers of a state's text. Each state has exactly one text, and the readers accept no other text
-//! for it. Re-exports from other crates the functions that write a text, and the causes for which a
+//! for it. The crate also re-exports the functions that write a text, and the causes for which a
 //! text is refused.
 #![tactic(auto)]
 

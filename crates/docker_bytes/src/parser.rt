@@ -48,7 +48,7 @@ impl<K: Keeper> Parser<K> {
     /// that all of these bytes were used, and that the state needs more bytes. `Done` means that
     /// the bytes up to the state's last byte were used, and that later calls use no bytes. Returns
     /// a fault once a part is bad, or once the state goes past the limit. Also returns a fault if
-    /// memory runs out for a part that ends in this piece. The offset of this fault is the
+    /// there is no memory for a part that ends in this piece. The offset of this fault is the
     /// beginning of the part's item, and no part up to and including this part is bad. After a
     /// fault, each later call returns the same fault.
     pub(crate) fn feed(&mut self, piece: &[u8]) -> Result<(usize, Step), StateFault>

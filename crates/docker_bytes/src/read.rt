@@ -170,8 +170,8 @@ fn finish<K: Maker>(parser: Parser<K>) -> Result<K::Made, ReadFault>
     }
 }
 
-/// The fault of a byte that follows the state. Its offset is the number of bytes that the parser
-/// has read.
+/// The fault of a text in which a byte follows the state. Its offset is the number of bytes that
+/// the parser has read.
 fn tail<K: Keeper>(parser: &Parser<K>) -> StateFault
     requires { parser.now.fault ≡ None }
     ensures at { (format : formats.Format) (limit : ℕ) (text : List ℕ) →

@@ -20,7 +20,8 @@ use Rattle.docker_excerpt.specs.Values.{Excerpt, with_entries, StandsAt, IsExcer
 plain_state : (state : State) → state.horizon ≡ 0 → state ≡ under 0 state
 plain_state state none = λ i. record { horizon = none i; ledger = state.ledger; entries = state.entries }
 
--- setting the horizon leaves all entries unchanged, because no entry ended before this horizon
+-- setting the horizon leaves all entries unchanged, because no entry has a body that ended before
+-- this horizon
 pub horizon_set : (state raised : State) (horizon : Option ℕ) (day : ℕ) → state.horizon ≡ 0 → horizon ≡ Some day
     → IsValid (under (horizon_meant horizon) state) → raised ≡ raise_horizon day state → raised ≡ under (horizon_meant horizon) state
 horizon_set state raised horizon day plain read valid set =
@@ -47,8 +48,8 @@ module _ (place : List ℕ) (day horizon : ℕ) (told : State) (valid : IsValid 
   kept_entries rows is =
       subst (λ (all : List (Key × Entry)). AreEntries told.ledger all) (sym is) (excerpt_on_valid place day (under horizon told) valid).entries
 
-  -- if a state has this ledger and the entries that the excerpt keeps, it is valid with the horizon
-  -- in place of its own
+  -- if a state has this ledger and the entries that the excerpt keeps, it is valid with `horizon`
+  -- in place of its own horizon
   pub kept_valid : (state : State) (rows : List (Key × Entry)) → rows ≡ (excerpt_on place day told).entries → state.ledger ≡ told.ledger → state.entries ≡ rows
       → IsValid (under horizon state)
   kept_valid state rows is same entries =

@@ -20,12 +20,12 @@ use std::alloc::Global;
 use std::fmt;
 use std::marker::Model;
 
-/// Makes the excerpt of a state for a place and a day. The calls take the state's parts in the same
-/// order as the calls of `Parts`. Only the entries from which the docker is made are kept: the
-/// place's TIPLOC, the associations at the place, and schedules. All schedules of a UID are kept if
-/// one of them calls at the place. They are also kept if the UID's train is the associated train of
-/// a live association at the place. If a schedule doesn't run on any start day from three days
-/// before the day to the day after, it is skipped: it is neither kept nor searched for calls.
+/// Makes the excerpt of a state for a place and a day. Its methods take the state's parts in the
+/// same order as the methods of `Parts`. Only the entries from which the docker is made are kept:
+/// the place's TIPLOC, the associations at the place, and schedules. All schedules of a UID are
+/// kept if one of them calls at the place. They are also kept if the UID's train is the associated
+/// train of a live association at the place. If a schedule doesn't run on any start day from three
+/// days before the day to the day after, it is skipped: it is neither kept nor searched for calls.
 #[derive(Drop)]
 pub struct Excerpting {
     ledger: Ledger,
@@ -145,7 +145,7 @@ impl Excerpting {
     }
 }
 
-/// Adds these rows, in the same order, as entries to a state that is being built.
+/// Adds these rows as entries, in their order, to a state that is being built.
 fn with_rows(mut parts: Parts, rows: Vec<(Key, Entry)>) -> Result<Parts, Memory>
     requires plain { parts.horizon ≡ 0 }
     requires none { parts.entries ≡ [] }
@@ -158,8 +158,8 @@ fn with_rows(mut parts: Parts, rows: Vec<(Key, Entry)>) -> Result<Parts, Memory>
     Ok(parts)
 }
 
-/// Sets the horizon of a state, unless `horizon` is `None`. No entry of the state ended before this
-/// horizon.
+/// Sets the horizon of a state, unless `horizon` is `None`. No entry of the state may have a body
+/// that ended before this horizon.
 fn under_horizon(mut state: State, horizon: Option<Day>) -> State
     requires plain { state.horizon ≡ 0 }
     requires valid { IsValid (under (horizon_meant horizon) state) }

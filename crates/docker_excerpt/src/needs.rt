@@ -32,7 +32,7 @@ pub(crate) fn name_in(key: &Key, op: &Op) -> Option<Uid>
     }
 }
 
-/// Whether the schedules in `run`, which are all of one UID, are of this UID. Returns false if
+/// Whether the schedules in `run`, which all have the same UID, have this UID. Returns false if
 /// `run` is empty.
 pub(crate) fn goes_on(run: &[(Key, Entry)], uid: &Uid) -> bool
     ensures { result ≡ goes_on (map row_meant run.now) uid.now }

@@ -18,11 +18,12 @@ use Rattle.docker_join.proofs.MeantOrder.{ascending_meant, meant_ascending}
 abbrev Row : Type 0
 Row = Key × Entry
 
--- the final rows while entries lapse one by one: the first `i` rows, which are done, followed by the results of `lapse_entries` for the other rows
+-- the rows that result from letting all entries lapse, once the first `i` rows are done: the first `i` rows, followed by the results of `lapse_entries` for the
+-- other rows
 abbrev pub lapsed_from : ℕ → ℕ → List (Key × Entry) → List (model.Key × ops.Entry)
 lapsed_from horizon i rows = map row_meant (take i rows) ++ lapse_entries horizon (map row_meant (drop i rows))
 
--- letting the entry of row `i` lapse doesn't change the final rows
+-- letting the entry of row `i` lapse doesn't change the rows that result from letting all entries lapse
 pub one_more : (horizon : ℕ) (all : List (model.Key × ops.Entry)) (rows : List Row) (i : ℕ) (d : Row) (after : Entry) → i < length rows
     → entry_meant after ≡ lapse_entry horizon (entry_meant (get_or rows i d).1)
     → lapsed_from horizon i rows ≡ all → lapsed_from horizon (i + 1) (set rows i ((get_or rows i d).0, after)) ≡ all
@@ -37,7 +38,7 @@ one_more horizon all rows i d after within is same =
     ∙ sym (ap (λ xs. map row_meant (take i rows) ++ lapse_entries horizon (map row_meant xs)) (drop_more rows i d within))
     ∙ same
 
--- if `i` is past the last row, all rows are final
+-- if `i` is past the last row, the rows are already the rows that result from letting all entries lapse
 pub all_lapsed : (horizon : ℕ) (all : List (model.Key × ops.Entry)) (rows : List Row) (i : ℕ) → length rows ≤ i → lapsed_from horizon i rows ≡ all
     → map row_meant rows ≡ all
 all_lapsed horizon all rows i over same =

@@ -35,8 +35,8 @@ module _ {E : Type 0} where
   below_at (row ∷ rows) zero (suc j) d up before within = above_at row rows j d up.0 (omega arith)
   below_at (row ∷ rows) (suc i) (suc j) d up before within = below_at rows i j d up.1 (omega arith) (omega arith)
 
-  -- the comparison with a key is monotone. If a row is below a second row, comparing the row with
-  -- the key doesn't give a greater result than comparing the second row with the key
+  -- the comparison with a key is monotone. If a row is below a second row, comparing the first row
+  -- with the key doesn't give a greater result than comparing the second row with the key
   rises : (key : model.Key) (x y : Key × E) → row_cmp x y ≡ Less → ordering_index (by_key key x) ≤ ordering_index (by_key key y)
   rises key x y below = by (by_key key x) refl (by_key key y) refl
     where

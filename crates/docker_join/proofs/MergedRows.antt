@@ -86,7 +86,8 @@ module _ {E : Type 0} (picked : E → E → E) where
   abbrev Both : List (Key × E) → List (Key × E) → model.Key → Option E
   Both xs ys key = picked_value picked (value_at xs key) (value_at ys key)
 
-  -- if only the first table has the key of its first row, this row, followed by the rest of the join, has the joined value at each key
+  -- suppose that only the first table has the key of its first row. Then prepending this row to the rest of the join gives rows that have the joined value at
+  -- each key
   first_out : (x : Key × E) (xs ys tail : List (Key × E)) (key : model.Key) → Above x ys → value_at tail key ≡ Both xs ys key
       → value_at (x ∷ tail) key ≡ Both (x ∷ xs) ys key
   first_out x xs ys tail key above later = by (key_cmp (key_meant x.0) key) refl
@@ -101,7 +102,8 @@ module _ {E : Type 0} (picked : E → E → E) where
           let none : value_at ys key ≡ None = subst (λ k. value_at ys k ≡ None) (exact_key (key_meant x.0) key is) (value_above (key_meant x.0) ys above) in
           value_here x tail key is ∙ sym (λ i. picked_value picked (value_here x xs key is i) (none i))
 
-  -- if only the second table has the key of its first row, this row, followed by the rest of the join, has the joined value at each key
+  -- suppose that only the second table has the key of its first row. Then prepending this row to the rest of the join gives rows that have the joined value at
+  -- each key
   second_out : (y : Key × E) (xs ys tail : List (Key × E)) (key : model.Key) → Above y xs → value_at tail key ≡ Both xs ys key
       → value_at (y ∷ tail) key ≡ Both xs (y ∷ ys) key
   second_out y xs ys tail key above later = by (key_cmp (key_meant y.0) key) refl
@@ -116,8 +118,8 @@ module _ {E : Type 0} (picked : E → E → E) where
           let none : value_at xs key ≡ None = subst (λ k. value_at xs k ≡ None) (exact_key (key_meant y.0) key is) (value_above (key_meant y.0) xs above) in
           value_here y tail key is ∙ sym (λ i. picked_value picked (none i) (value_here y ys key is i))
 
-  -- suppose that the first rows of both tables have the same key. Then the join of these two rows,
-  -- followed by the rest of the join, has the joined value at each key
+  -- suppose that the first rows of both tables have the same key. Then prepending the join of these two rows to the rest of the join gives rows that have the
+  -- joined value at each key
   both_out : (x y : Key × E) (xs ys tail : List (Key × E)) (key : model.Key) → row_cmp x y ≡ Equal → value_at tail key ≡ Both xs ys key
       → value_at ((x.0, picked x.1 y.1) ∷ tail) key ≡ Both (x ∷ xs) (y ∷ ys) key
   both_out x y xs ys tail key level later = by (key_cmp (key_meant x.0) key) refl

@@ -134,14 +134,14 @@ module _ {E : Type 0} (picked : E → E → E) where
   walk_row : (rows : List (Key × E)) (row : Key × E) → Above row rows → walk picked rows (row ∷ []) ≡ row ∷ rows
   walk_row rows row above = lower_first picked rows (row ∷ []) [] (above, tt) ∙ ap (λ rest. row ∷ rest) (walk_none picked rows)
 
-  -- if the first table doesn't have the key of the second table's last row, the walk returns this row just before the greater rows
+  -- if the first table doesn't have the key of the second table's last row, the walk returns this row just before the rows that are above it
   none_out : (a r rest : List (Key × E)) (row : Key × E) → AllBelow a (row ∷ []) → Above row r → AllBelow rest (row ∷ [])
       → walk picked (a ++ r) (rest ++ row ∷ []) ≡ walk picked a rest ++ (row ∷ r)
   none_out a r rest row below above rest_below =
       walk_split picked a r rest (row ∷ []) below (below_higher rest r row rest_below above)
       ∙ ap (λ out. walk picked a rest ++ out) (walk_row r row above)
 
-  -- if the first table has the key of the second table's last row, the walk returns the join of the two rows just before the greater rows
+  -- if the first table has the key of the second table's last row, the walk returns the join of the two rows just before the rows that are above them
   level_out : (b r rest : List (Key × E)) (own row : Key × E) → row_cmp own row ≡ Equal → AllBelow b (own ∷ []) → Above own r → AllBelow rest (row ∷ [])
       → walk picked (b ++ (own ∷ r)) (rest ++ row ∷ []) ≡ walk picked b rest ++ ((own.0, picked own.1 row.1) ∷ r)
   level_out b r rest own row level below above rest_below =

@@ -18,8 +18,8 @@ use cif_change::Body;
 use std::alloc::Global;
 use std::cmp::Ordering;
 
-/// What a state remembers of the newest change to a key. In the order of ops a deletion comes
-/// first, then a lapsed op, then all puts. Puts are ordered by their bodies.
+/// What a state keeps of the newest change to a key. In the order of ops a deletion comes first,
+/// then a lapsed op, then all puts. Puts are ordered by their bodies.
 #[derive(Debug, Drop)]
 pub enum Op {
     /// The key is deleted.
@@ -105,8 +105,8 @@ impl Ord for Op {
     }
 }
 
-/// What a state remembers of the newest change to a key: its op and its stamp. Entries are ordered
-/// by stamp, and then by op. Of two entries of one key, the greater counts.
+/// What a state keeps of the newest change to a key: its op and its stamp. Entries are ordered by
+/// stamp, and then by op. Of two entries for the same key, the greater counts.
 #[derive(Debug, Drop)]
 pub struct Entry {
     /// The stamp of the change that the entry comes from.
@@ -117,7 +117,8 @@ pub struct Entry {
 
 impl Entry {
     /// Lets the op lapse if its body ended before the horizon. The stamp is unchanged, so that no
-    /// older entry counts instead of this entry. Returns whether the op has lapsed in this call.
+    /// entry with a lower stamp counts instead of this entry. Returns whether the op has lapsed in
+    /// this call.
     pub fn lapse(&mut self, horizon: u16) -> bool
         ensures lapsed { entry_meant self.new ≡ lapse_entry horizon (entry_meant self.old) }
         ensures same { result ≡ false → self.new ≡ self.old }

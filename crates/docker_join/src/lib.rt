@@ -1,5 +1,5 @@
-//! Stamps, ops and entries with their orders, the lapse of entries that ended before a horizon, and
-//! the join of two tables of entries.
+//! Stamps, ops and entries with their orders, the lapse of entries whose bodies ended before a
+//! horizon, and the join of two tables of entries.
 #![tactic(auto)]
 
 mod entry;

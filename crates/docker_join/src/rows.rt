@@ -49,9 +49,9 @@ pub fn join_rows<E: Pick>(first: Vec<(Key, E)>, mut second: Vec<(Key, E)>) -> Ve
 
 /// Places a row of the second table. Returns how many rows of the first table are still to be
 /// placed. `rows` is a ring buffer: its first rows are the placed rows, and its last `left` rows
-/// are still to be placed. First places the rows of the first table that have greater keys, and
-/// then this row. If the first table has a row with the same key, the join of both rows is placed
-/// instead.
+/// are still to be placed. First places the rows of the first table whose keys are greater than the
+/// row's key, and then the row itself. If the first table has a row with the same key, the join of
+/// both rows is placed instead.
 fn place<E: Pick>(rows: &mut VecDeque<(Key, E)>, left: usize, row: (Key, E)) -> usize
     requires left { left ≤ deque_len rows.old }
     requires room { deque_len rows.old < deque_capacity rows.old }
@@ -114,8 +114,8 @@ fn is_above<E>(rows: &VecDeque<(Key, E)>, back: usize, key: &Key) -> bool
 }
 
 /// How many of the last `left` rows have keys greater than this key. Reads the last row first, and
-/// then each time a row twice as far from the end. Once a row's key isn't greater, a binary search
-/// finds the number.
+/// then each time a row twice as far from the end. Once a row's key isn't greater than this key, a
+/// binary search finds the number.
 fn run_above<E>(rows: &VecDeque<(Key, E)>, left: usize, key: &Key) -> usize
     requires { left ≤ deque_len rows.now }
     ensures { IsRunAbove (key_meant key.now) rows.now.items (deque_len rows.now) left result }
@@ -130,7 +130,7 @@ fn run_above<E>(rows: &VecDeque<(Key, E)>, left: usize, key: &Key) -> usize
 }
 
 /// How many of the last `high` rows have keys greater than this key, found by binary search. The
-/// last `low` rows are known to have greater keys.
+/// last `low` rows are known to have keys greater than this key.
 fn run_between<E>(rows: &VecDeque<(Key, E)>, key: &Key, mut low: usize, mut high: usize) -> usize
     requires order { low ≤ high }
     requires within { high ≤ deque_len rows.now }

@@ -141,9 +141,9 @@ impl<E: Pick> Merge for Table<E> {
     ghost idempotent = { joins_itself E.is_valid E.picked
         (pick_laws E.is_valid E.is_join E.picked E.closed E.one E.commutative E.associative E.idempotent E.joins) };
 
-    /// Joins two tables. A key that both tables have gets the join of its two values, and any other
-    /// key keeps its value. If memory runs out, returns both tables unchanged, and no row has
-    /// moved.
+    /// Joins two tables. A key that both tables have gets the join of its two values, and a key
+    /// that only one table has keeps its value. If memory runs out, returns both tables unchanged,
+    /// and no row has moved.
     fn join(self, _alloc: Global, other: Table<E>) -> Result<Table<E>, (Table<E>, Table<E>)> {
         match self.with_room(other.len()) {
             Ok(rows) => Ok(Table::from_rows(join_rows(rows, other.into_rows()))),

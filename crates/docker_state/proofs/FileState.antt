@@ -205,7 +205,7 @@ valid_of_made item all lines item_is all_is is_file few state is =
     (subst (λ (i : stamps.LedgerItem). IsMadeState i (changes lines) state) item_is (subst (λ (a : List model.Change). IsMadeState item a state) all_is is))
     is_file few
 
--- the state made from a file's ledger item and the kept changes of the file satisfies `IsStateOfChanges`, which `State::of_thin` promises
+-- the state made from a file's ledger item and the kept changes of the file satisfies `IsStateOfChanges`, as the contract of `State::of_thin` states
 pub kept_state : (item : stamps.LedgerItem) (kept : List model.Change) (lines : List (List ℕ)) (state : State) → item ≡ ledger_item_of lines
     → IsMadeState item kept state → IsStateOfChanges lines kept state
 kept_state item kept lines state item_is is =
@@ -220,7 +220,7 @@ valid_of_kept place day item all kept lines item_is is_file few all_are thinning
     thin_valid place day lines is_file few kept (subst (λ (a : List model.Change). IsThinning place day a kept) all_are thinning) state
     (kept_state item kept lines state item_is is)
 
--- each row with the greatest entry of its key is a row that some change makes
+-- each row with the greatest entry for its key is a row that some change makes
 pub rows_made_by : (file : FileStamp) (all : List model.Change) (made rows : List (Key × Entry)) → map row_meant made ≡ map (made_by file) all
     → ((key : model.Key) (entry : ops.Entry) → Contains (map row_meant rows) (key, entry) ↔ IsGreatestAmong (map row_meant made) key entry)
     → AreMadeBy all (map row_meant rows)

@@ -1,4 +1,4 @@
--- If rows are sorted by key and then by entry, the last row of each key has the greatest entry of the key.
+-- If rows are sorted by key and then by entry, the last row for each key has the greatest entry for the key.
 use Rattle.std.proofs.Common.{◌≡◌, List, [], ◌∷◌, map, refl, ap, sym, ◌∙◌, subst, inl, inr, ◌⊎◌, Contains, Bool, true, false, cond}
 use Rattle.std.specs.declared.cmp.Ordering.{Ordering}
 use Rattle.std.specs.declared.cmp.Ordering.TheVariants.{Less, Equal, Greater}
@@ -30,8 +30,7 @@ pub not_under : (a b : Key × Entry) → is_lt (by_entry b a) ≡ false → IsAt
 not_under a b h above = let turned : by_entry b a ≡ Less = by_entry_total.antisymm b a ∙ ap ordering_reverse above in
     let bad : true ≡ false = sym (ap is_lt turned) ∙ h in cc
 
--- Says that `last_rows rows` has a row with the key of `w`. `last_rows` keeps only the last row
--- of each key.
+-- Says that `last_rows rows` has a row with the key of `w`. `last_rows` keeps only the last row for each key.
 abbrev LastOf : List (Key × Entry) → Key × Entry → Type 0
 LastOf rows w = (m : Key × Entry) × Contains (last_rows rows) m × (row_cmp w m ≡ Equal)
 
@@ -62,7 +61,7 @@ last_of (row ∷ next ∷ rows) w among = by (is_eq (row_cmp next row)) refl (λ
     by false h rest (inr inside) = let m = rest w inside in (m.0, cons-Contains row (last_rows (next ∷ rows)) m.0 m.1, m.2)
 
 module _ (rows : List (Key × Entry)) (sorted : AreSorted rows) (records : (row : Key × Entry) → Contains rows row → HasRecords (op_meant row.1.op)) where
-  -- each row of `last_rows rows` has the greatest entry of its key
+  -- each row of `last_rows rows` has the greatest entry for its key
   pub last_is_greatest : (key : model.Key) (entry : ops.Entry) → Contains (map row_meant (last_rows rows)) (key, entry)
       → IsGreatestAmong (map row_meant rows) key entry
   last_is_greatest key entry last =
@@ -77,7 +76,7 @@ module _ (rows : List (Key × Entry)) (sorted : AreSorted rows) (records : (row 
             (subst (λ e. IsAtMost entry_cmp e (entry_meant z.0.1)) (λ i. (w.2 i).1) (lasts_top rows sorted z.0 z.1 w.0 w.1 tied));
       }
 
-  -- for each key in `rows`, `last_rows rows` has the row with the greatest entry of the key
+  -- for each key in `rows`, `last_rows rows` has the row with the greatest entry for the key
   pub greatest_is_last : (key : model.Key) (entry : ops.Entry) → IsGreatestAmong (map row_meant rows) key entry
       → Contains (map row_meant (last_rows rows)) (key, entry)
   greatest_is_last key entry best =

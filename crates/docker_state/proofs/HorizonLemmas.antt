@@ -1,5 +1,5 @@
--- Lemmas on setting a horizon on a state. If the new horizon is after the old horizon, each entry
--- lapses that ended before the new horizon. Otherwise nothing changes.
+-- Lemmas on setting a horizon on a state. If the new horizon is after the old horizon, each entry whose body ended before the new horizon lapses. Otherwise
+-- nothing changes.
 use Rattle.std.proofs.Common.{◌≡◌, ℕ, ◌≤◌, List, map, ap, sym, ◌∙◌, subst}
 use Rattle.std.proofs.Math.Nat.{max-eq_left, max-eq_right}
 use Rattle.docker_model.specs.state.Lapse.{HasNotToLapse, lapse_entries}
@@ -20,7 +20,8 @@ use Rattle.docker_state.specs.Meaning.{item_meant, row_meant, state_meant}
 
 module _ (own day : ℕ) (low : own ≤ day) (ledger : List LedgerItem) (rows after : List (Key × Entry))
     (lapsed : map row_meant after ≡ lapse_entries day (map row_meant rows)) where
-  -- raising the horizon of a state to `day` gives the state with the horizon `day` and the rows `after`, in which entries that ended before `day` have lapsed
+  -- raising the horizon of a state to `day` gives the state with the horizon `day` and the rows `after`, in which entries whose bodies ended before `day` have
+  -- lapsed
   pub rows_raised : state_meant day ledger after ≡ raise_horizon day (state_meant own ledger rows)
   rows_raised =
       (λ i. record { horizon = day; ledger = map item_meant ledger; entries = lapsed i })
@@ -30,7 +31,7 @@ module _ (own day : ℕ) (low : own ≤ day) (ledger : List LedgerItem) (rows af
   pub raised_valid : IsDay day → IsValid (state_meant own ledger rows) → IsValid (state_meant day ledger after)
   raised_valid within valid = subst IsValid (sym rows_raised) (raised_is_valid day (state_meant own ledger rows) within valid)
 
--- if entries that ended before a horizon have already lapsed, nothing changes when entries lapse again with the same or an earlier horizon
+-- if entries whose bodies ended before a horizon have already lapsed, nothing changes when entries lapse again with the same horizon or an earlier one
 pub under_own : (own day : ℕ) → day ≤ own → (rows : List (Key × Entry)) → HaveLapsed own (map row_meant rows)
     → map row_meant rows ≡ lapse_entries (max own day) (map row_meant rows)
 under_own own day low rows have =

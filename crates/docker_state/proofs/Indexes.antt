@@ -8,8 +8,8 @@ use Rattle.state_index.specs.Notes.{Notes}
 use Rattle.state_index.specs.Noted.{ArePicked, items_of, items_put}
 use Rattle.docker_state.specs.Indexed.{ArePickedNotes}
 
--- suppose that the rows are the changes at the indexes `order`, and that the notes are the notes of
--- the changes. Then the rows are at these indexes among the rows whose places were noted
+-- suppose that the changes at the indexes `order` made the rows, and that the notes are the notes
+-- of the changes. Then the rows are at these indexes among the rows whose places were noted
 pub picked_of_changes : (changes : List model.Change) (notes : Option Notes) (order : List ℕ) (rows : List (model.Key × ops.Entry))
     → AreNotesOf changes notes → ArePicked (items_put changes) order (items_of rows) → ArePickedNotes order rows notes
 picked_of_changes changes None order rows noted picked = tt

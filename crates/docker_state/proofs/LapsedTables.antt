@@ -68,7 +68,7 @@ module _ (horizon : ℕ) (first second left right : List (Key × Entry)) (up_fir
       (subst (λ (xs : List Keyed). IsGreatestAmong xs key (lapse_entry horizon entry)) (sym all_lapsed)
       (greatest_lapses horizon Before key entry (joined_greatest first second whole up_first up_second whole_is key entry among)))
 
-  -- the join has at most one entry of each key
+  -- the join has at most one entry for each key
   one_there : (key : model.Key) (a b : ops.Entry) → Contains (map row_meant joined) (key, a) → Contains (map row_meant joined) (key, b) → a ≡ b
   one_there key a b first_in second_in =
       let one = value_in joined joined_is.ascends key a first_in in

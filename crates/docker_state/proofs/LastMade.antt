@@ -1,4 +1,4 @@
--- Sorted rows with their numbers, and the last row of each key among them.
+-- Sorted rows with their numbers, and the last row for each key among them.
 use Rattle.std.proofs.Common.{◌≡◌, ℕ, zero, suc, ◌<◌, ◌≤◌, List, [], ◌∷◌, ◌++◌, map, length, get_or}
 use Rattle.std.proofs.Common.{refl, ap, sym, ◌∙◌, subst, inl, inr, ◌⊎◌, Contains, Bool, true, false, cond, Some, None, arith}
 use Rattle.std.specs.Prelude.{slice_get}
@@ -57,7 +57,7 @@ pub sorted_made : (xs : List Made) → IsSorted by_made xs → AreSorted (rows_i
 sorted_made xs up = from_far xs
     (λ i j d before within. sorted_far (λ x y. is_lt (by_made x y)) (ranks_by by_made_total (λ m. m)) xs up i j d (omega arith) within)
 
--- the last numbered row of each key, without its number, is the last row of the key
+-- the last numbered row for each key, without its number, is the last row for the key
 pub last_is : (made : List Made) → rows_in (last_made made) ≡ last_rows (rows_in made)
 last_is [] = refl
 last_is (m ∷ []) = refl
@@ -83,7 +83,7 @@ last_among (m ∷ next ∷ more) z last = by (is_made_of_key (Some next) (key_me
     by true rest inside = cons-Contains m (next ∷ more) z (rest inside)
     by false rest inside = cases rest (Contains-cons m (last_made (next ∷ more)) z inside)
 
--- `last_made` keeps at most as many numbered rows as there are
+-- `last_made` keeps at most as many numbered rows as the list has
 pub last_len : (made : List Made) → length (numbers_in (last_made made)) ≤ length made
 last_len made = let one = length-map (last_made made) (λ (m : Made). m.1) in let two = fewer made in omega arith
   where
@@ -123,7 +123,7 @@ item_last : (items : List Item) (item : Item) → slice_get (items ++ item ∷ [
 item_last [] item = refl
 item_last (first ∷ items) item = item_last items item
 
--- adding a change appends its row to the rows of the earlier changes
+-- adding a change appends its row to the rows of the changes before it
 pub row_more : (file : FileStamp) (changes : List model.Change) (change : model.Change) (made after : List Made) (m : Made)
     → after ≡ made ++ m ∷ [] → row_meant m.0 ≡ made_by file change → map row_meant (rows_in made) ≡ map (made_by file) changes
     → map row_meant (rows_in after) ≡ map (made_by file) (changes ++ change ∷ [])
@@ -134,7 +134,7 @@ row_more file changes change made after m pushed made_is before =
     ∙ (λ i. before i ++ made_is i ∷ [])
     ∙ sym (map-append (made_by file) changes (change ∷ []))
 
--- the number of the next change's row is the number of earlier changes
+-- the number of the next change's row is the number of changes before it
 pub numbered_more : (file : FileStamp) (changes : List model.Change) (change : model.Change) (made after : List Made) (m : Made)
     → after ≡ made ++ m ∷ [] → row_meant m.0 ≡ made_by file change → m.1 ≡ length (items_put changes)
     → AreNumbered (items_put changes) made → AreNumbered (items_put (changes ++ change ∷ [])) after

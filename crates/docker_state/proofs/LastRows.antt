@@ -1,4 +1,4 @@
--- Sorted rows, and the last row of each key among them.
+-- Sorted rows, and the last row for each key among them.
 use Rattle.std.proofs.Common.{◌≡◌, List, [], ◌∷◌, inl, inr, ◌⊎◌, refl, ap, sym, ◌∙◌, Bool, true, false, cond, subst, Contains}
 use Rattle.std.specs.List.{AllByRecursion}
 use Rattle.std.specs.declared.cmp.Ordering.{Ordering}
@@ -29,7 +29,7 @@ AreSorted rows = AllLater (IsAtMost by_entry) rows
 abbrev LaterKey : Key × Entry → Key × Entry → Type 0
 LaterKey a b = (row_cmp a b ≡ Less) ⊎ ((row_cmp a b ≡ Equal) × IsAtMost entry_cmp (entry_meant a.1) (entry_meant b.1))
 
--- of two sorted rows, the later row has a greater key, or the same key and an entry that isn't less
+-- of two sorted rows, the later row has the greater key, or both have the same key and the later row's entry isn't less than the earlier row's
 pub later_key : (a b : Key × Entry) → IsAtMost by_entry a b → LaterKey a b
 later_key a b = by (row_cmp a b) refl
   where
@@ -38,7 +38,7 @@ later_key a b = by (row_cmp a b) refl
     by Equal is low = inr (is, low)
     by Greater is low = absurd (low refl)
 
--- if all rows have a property, so has the last row of each key
+-- if all rows have a property, so does the last row for each key
 pub lasts_all : (P : Key × Entry → Type 0) (rows : List (Key × Entry)) → AllByRecursion P rows → AllByRecursion P (last_rows rows)
 lasts_all P [] all = tt
 lasts_all P (row ∷ []) all = (all.0, tt)
@@ -83,7 +83,7 @@ lasts_ascend (row ∷ next ∷ rows) sorted = by (row_cmp next row) refl (lasts_
     by Less is rest = in_front (λ tied. cc) rest
     by Greater is rest = in_front (λ tied. cc) rest
 
--- if two neighbouring rows of a sorted list have different keys, the key of the first row is lower
+-- if two neighbouring rows of a sorted list have different keys, the key of the first row is the lower one
 front_below : (row next : Key × Entry) → ¬ (row_cmp next row ≡ Equal) → LaterKey row next → row_cmp row next ≡ Less
 front_below row next apart (inl below) = below
 front_below row next apart (inr same) = absurd (apart (key_total.antisymm (key_meant next.0) (key_meant row.0) ∙ ap ordering_reverse same.0))
@@ -96,7 +96,7 @@ alone x v inside = by (Contains-cons x [] v inside)
     by (inl same) = same
     by (inr none) = absurd (nil-Contains v none)
 
--- of two sorted rows with the same key, the later row's entry isn't less
+-- of two sorted rows with the same key, the later row's entry isn't less than the earlier row's
 of_one_key : (a b : Key × Entry) → IsAtMost by_entry a b → row_cmp a b ≡ Equal → IsAtMost entry_cmp (entry_meant a.1) (entry_meant b.1)
 of_one_key a b low tied = by (later_key a b low)
   where

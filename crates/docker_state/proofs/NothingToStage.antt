@@ -1,4 +1,4 @@
--- Lemmas on a state that already has everything that another state would bring.
+-- Lemmas on a state to which joining another state would add nothing.
 use Rattle.std.proofs.Common.{◌≡◌, Bool, true, false, List, [], ◌∷◌, ◌++◌, map, length, refl, ap, sym, ◌∙◌, subst, inl, inr, ◌⊎◌, Contains, arith}
 use Rattle.std.specs.Prelude.{Option, ◌↔◌, IsTrue}
 use Rattle.std.specs.Ordering.{ordering_reverse}

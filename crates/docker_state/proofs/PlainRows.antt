@@ -1,4 +1,4 @@
--- Rows that changes make, without numbers, and the last row of each key among them.
+-- Rows that changes make, without numbers, and the last row for each key among them.
 use Rattle.std.proofs.Common.{◌≡◌, ℕ, suc, ◌<◌, List, [], ◌∷◌, ◌++◌, map, length, get_or}
 use Rattle.std.proofs.Common.{refl, ap, sym, ◌∙◌, subst, Contains, All, Bool, false, cond, Some, arith}
 use Rattle.std.specs.Prelude.{slice_get, ◌↔◌}
@@ -24,15 +24,14 @@ use Rattle.docker_state.specs.Rows.{is_of_key, last_rows, made_by}
 use Rattle.docker_state.proofs.LastRows.{by_entry, AreSorted, lasts_ascend}
 use Rattle.docker_state.proofs.GreatestRows.{by_entry_total, not_under, last_is_greatest, greatest_is_last}
 
--- adding a change appends its row to the rows of the earlier changes
+-- adding a change appends its row to the rows of the changes before it
 pub one_row_more : (file : FileStamp) (changes : List model.Change) (change : model.Change) (rows after : List (Key × Entry)) (row : Key × Entry)
     → after ≡ rows ++ row ∷ [] → row_meant row ≡ made_by file change → map row_meant rows ≡ map (made_by file) changes
     → map row_meant after ≡ map (made_by file) (changes ++ change ∷ [])
 one_row_more file changes change rows after row pushed same before =
     ap (map row_meant) pushed ∙ map-append row_meant rows (row ∷ []) ∙ (λ i. before i ++ same i ∷ []) ∙ sym (map-append (made_by file) changes (change ∷ []))
 
--- suppose that the first two rows have different keys, and that each row after the first is the
--- last row of its key. Then each row is the last row of its key
+-- suppose that the first two rows have different keys, and that each row after the first is the last row for its key. Then each row is the last row for its key
 pub one_apart_more : (row : Key × Entry) (behind : List (Key × Entry)) → is_of_key (slice_get behind 0) (key_meant row.0) ≡ false
     → last_rows behind ≡ behind → last_rows (row ∷ behind) ≡ row ∷ behind
 one_apart_more row [] apart rest = refl
@@ -56,7 +55,7 @@ pub rows_sorted : (xs : List (Key × Entry)) → IsSorted by_entry xs → AreSor
 rows_sorted xs up = from_far xs
     (λ i j d before within. sorted_far (λ x y. is_lt (by_entry x y)) (ranks_by by_entry_total (λ m. m)) xs up i j d (omega arith) within)
 
--- the greatest entry of a key among some rows is the key's greatest entry in any list with the same rows
+-- the greatest entry for a key among some rows is the key's greatest entry in any list with the same rows
 along : (xs ys : List (model.Key × ops.Entry)) → ((pair : model.Key × ops.Entry) → Contains xs pair → Contains ys pair)
     → ((pair : model.Key × ops.Entry) → Contains ys pair → Contains xs pair)
     → (key : model.Key) (entry : ops.Entry) → IsGreatestAmong xs key entry → IsGreatestAmong ys key entry
@@ -67,8 +66,7 @@ module _ (old new out : List (Key × Entry)) (sorted : IsSorted by_entry new) (m
   pub lasts_in_order : AreAscending out
   lasts_in_order = subst (λ (rows : List (Key × Entry)). AreAscending rows) (sym last) (lasts_ascend new (rows_sorted new sorted))
 
-  -- `out`, the list of the last rows of the keys in the sorted list, has exactly the rows with the
-  -- greatest entry of their key
+  -- `out`, the list of the last rows of the keys in the sorted list, has exactly the rows with the greatest entry for their key
   pub lasts_are_greatest : All (λ (row : Key × Entry). HasRecords (op_meant row.1.op)) old → (key : model.Key) (entry : ops.Entry)
       → Contains (map row_meant out) (key, entry) ↔ IsGreatestAmong (map row_meant old) key entry
   lasts_are_greatest have key entry = (

@@ -112,7 +112,7 @@ pub entry_here : (items : List LedgerItem) (staged : List (model.Key × ops.Entr
 entry_here items staged key entry above good =
     ((good.key, all_members (λ (e : model.Key × ops.Entry). IsBelow key_cmp e.0 key) staged above), good.stamp)
 
--- whether a received entry has to be staged depends only on the floor and on our entry of its key, if we have one
+-- whether a received entry has to be staged depends only on the floor and on our entry for the same key, if we have one
 pub to_stage_tells : (own : State) → IsValid own → (floor : Option FileStamp) (key : model.Key) (entry : ops.Entry) (mine : Option ops.Entry)
     → mine ≡ entry_at own key
     → (b : Bool) → IsTrue b ↔ (IsKept floor entry.stamp.file × IsGreaterThan mine entry) → IsTrue b ↔ IsToStage own floor key entry
@@ -122,8 +122,8 @@ to_stage_tells own valid floor key entry mine is b tells =
       λ to. tells.1 (subst (λ (o : Option ops.Entry). IsKept floor entry.stamp.file × IsGreaterThan o entry) (sym is) (told.0 to)),
     )
 
--- suppose that a received entry isn't below the floor. Then the entry has to be staged if and only
--- if our entry of its key is less
+-- suppose that a received entry isn't below the floor. Then the entry has to be staged if and only if our entry for the same key is less than the received
+-- entry
 pub below_tells : (Kept : Type 0) → Kept → (to : Ordering) (b : Bool) → b ≡ is_lt to → IsTrue b ↔ (Kept × (to ≡ Less))
 below_tells Kept kept Less b same = (λ _. (kept, refl), λ _. same)
 below_tells Kept kept Equal b same =

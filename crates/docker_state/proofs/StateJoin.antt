@@ -64,8 +64,8 @@ module _ (g h : ℕ) (items others : List LedgerItem) (first second : List (Key 
   up_second : AreAscending second
   up_second = meant_ascending row_meant (λ (a b : model.Key × ops.Entry). key_cmp a.0 b.0) second two.entries.1
 
-  -- Unite the ledgers, join the rows, and lapse each entry that ended before the horizon. Then the
-  -- items and rows that aren't below the floor are the join of the two states.
+  -- Unite the ledgers, join the rows, and lapse each entry whose body ended before the horizon. Then the items and rows that aren't below the floor are the
+  -- join of the two states.
   pub states_joined : (floor : Option stamps.FileStamp) → IsFloor (map item_meant items ++ map item_meant others) floor
       → (union ledger : List LedgerItem) → HasUnion union items others
       → IsStrictlyAscending ledger_item_cmp (map item_meant ledger)
@@ -118,8 +118,8 @@ module _ (g h : ℕ) (items others : List LedgerItem) (first second : List (Key 
           joined_lapses (max g h) first second left right up_first up_second left_is
           (right_is ∙ ap (λ n. lapse_entries n (map row_meant second)) (max_comm h g)) entry_records whole joined whole_is is
 
-  -- the rows of the join result from joining the two tables, removing the entries below the floor,
-  -- and lapsing the entries that ended before the horizon
+  -- the rows of the join result from joining the two tables, removing the entries below the floor, and lapsing the entries whose bodies ended before the
+  -- horizon
   pub rows_joined : (floor : Option stamps.FileStamp) → IsFloor (map item_meant items ++ map item_meant others) floor → (horizon : ℕ) → horizon ≡ max g h
       → (joined : State) → IsJoin (state_meant g items first) (state_meant h others second) joined → AreJoined first second floor horizon joined.entries
   rows_joined floor is_floor horizon horizon_is joined is = record {

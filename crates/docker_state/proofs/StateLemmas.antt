@@ -18,7 +18,7 @@ use Rattle.docker_join.specs.Rows.{value_at}
 use Rattle.docker_state.specs.declared.item.LedgerItem as item
 use Rattle.docker_state.specs.Meaning.{item_meant, row_meant, state_meant}
 
--- the value of a key in the rows is the state's entry of this key
+-- the value of a key in the rows is the state's entry for this key
 pub entry_of_rows : (horizon : ℕ) (ledger : List item.LedgerItem) (rows : List (Key × Entry)) (key : model.Key)
     → option_map entry_meant (value_at rows key) ≡ entry_at (state_meant horizon ledger rows) key
 entry_of_rows horizon ledger [] key = refl

@@ -101,11 +101,11 @@ module _ (uid : List ℕ) (rows : List (Key × Entry)) (up : AreAscending rows) 
       by false is = is
       by true is = absurd (let bad : true ≡ false = sym (parted_before uid rows up first k d low high is) ∙ here d in cc)
 
-  -- if the walk back ends at index 0, the UID's schedules begin at index 0
+  -- if the backward walk ends at index 0, the UID's schedules begin at index 0
   pub begins_at_front : first ≡ 0 → IsBeginning uid rows first
   begins_at_front zero_is = (λ k d low high. absurd (let none : k < 0 = subst (λ n. k < n) zero_is high in omega arith), rest_behind)
 
-  -- if the walk back ends after a row that is before the UID's schedules, the schedules begin at the next row
+  -- if the backward walk ends after a row that is before the UID's schedules, the schedules begin at the next row
   pub begins_after : (0 < first) → ((d : Key × Entry) → is_before uid (get_or rows (first - 1) d) ≡ true) → IsBeginning uid rows first
   begins_after above before = (λ k d low high. parted_before uid rows up k (first - 1) d (omega arith) (omega arith) (before d), rest_behind)
 

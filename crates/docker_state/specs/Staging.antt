@@ -36,8 +36,8 @@ with_staged staging key entry = record {
   staged = staging.staged ++ (key, entry) ∷ [];
 }
 
--- Says what offering an entry does: an entry that has to be staged is staged, and for any other
--- entry nothing changes.
+-- Says what offering an entry for staging does: an entry that has to be staged is staged, and for
+-- any other entry nothing changes.
 abbrev pub IsOffered : State → Staging → model.Key → ops.Entry → Staging → Type 0
 IsOffered own before key entry after =
     (IsToStage own before.floor key entry × (after ≡ with_staged before key entry))

@@ -1,5 +1,5 @@
-//! Finds out whether a state already has everything that another state would bring. If it has, the
-//! join of the two states is this state with the greater of the two horizons.
+//! Finds out whether joining another state would add any item or entry to a state. If it wouldn't,
+//! the join of the two states is the first state with the greater of the two horizons.
 ghost use Rattle.std.specs.Prelude.{map, IsTrue, Contains};
 ghost use Rattle.docker_model.specs.state.Stamp.{ledger_item_cmp, IsKept};
 ghost use Rattle.docker_model.specs.state.Order.{IsStrictlyAscending};
@@ -27,8 +27,8 @@ fn are_below(ledger: &[LedgerItem], floor: &Option<FileStamp>) -> bool
 }
 
 /// Whether these entries add nothing to a state. An entry adds nothing if it is below the floor, or
-/// if the state has the same or a greater entry of its key. If the keys of the rows ascend, each
-/// lookup begins near the previous lookup.
+/// if the state has an equal or greater entry for the same key. If the keys of the rows ascend,
+/// each lookup begins near the previous lookup.
 fn none_to_stage(own: &State, rows: &[(Key, Entry)], floor: &Option<FileStamp>) -> bool
     ensures { IsTrue result
         → HasNoneToStage own.now (floor_meant floor.now) (map row_meant rows.now) }
@@ -55,8 +55,8 @@ fn brings_none(own: &State, other: &State, floor: &Option<FileStamp>) -> bool
 impl State {
     /// Whether the join with another state is this state with the greater of the two horizons. True
     /// only if this state has each ledger item of the other state and, for each entry of the other
-    /// state, the same or a greater entry. Items and entries below the common floor of the two
-    /// states don't count.
+    /// state, an equal or greater entry for the same key. Items and entries below the common floor
+    /// of the two states don't count.
     pub(crate) fn covers(&self, other: &State) -> bool
         ensures { IsTrue result
             → IsJoin self.now other.now (raise_horizon other.now.horizon self.now) }

@@ -1,5 +1,5 @@
-//! The floor: the file stamp of the newest full extract that a state knows. Ledger items and
-//! entries with a lower file stamp are dropped.
+//! The floor: the file stamp of the newest full extract in a state's ledger. Ledger items and
+//! entries whose file stamp is below the floor are dropped.
 ghost use Rattle.std.specs.Prelude.{◌≡◌, ◌==◌, ◌↔◌, ◌++◌, map, find, IsTrue};
 ghost use Rattle.std.specs.Option.{option_copied};
 ghost use Rattle.docker_model.specs.state.Stamp.{IsFloor, IsKept};

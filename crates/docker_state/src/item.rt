@@ -1,4 +1,4 @@
-//! Ledger items: what a state remembers from each file's header.
+//! Ledger items: what a state keeps of each file's header.
 ghost use Rattle.std.specs.Prelude.{◌≡◌, ◌==◌};
 ghost use Rattle.std.specs.Ordering.{on, as_partial_cmp, eq_by_cmp};
 ghost use Rattle.std.specs.Cmp.{partial_equiv_from_equiv, on_equiv, on_total, eq_by_cmp_equiv, partial_order_from_total};
@@ -13,8 +13,8 @@ use cif_line::{Day, Extract, Header};
 use docker_join::FileStamp;
 use std::cmp::Ordering;
 
-/// What a state remembers from a file's header. Ledger items are ordered by file stamp, then by
-/// update indicator, then by last file reference.
+/// What a state keeps of a file's header. Ledger items are ordered by file stamp, then by update
+/// indicator, then by last file reference.
 #[derive(Clone, Copy, Debug)]
 pub struct LedgerItem {
     /// The date of extract.

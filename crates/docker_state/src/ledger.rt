@@ -1,5 +1,5 @@
-//! Ledgers, the sorted lists of a state's known files: their union, and the removal of the items
-//! below a floor.
+//! Ledgers, the sorted lists of the files that count in a state: their union, and the removal of
+//! the items below a floor.
 ghost use Rattle.std.specs.Prelude.{◌≡◌, ◌+◌, ◌≤◌, ◌↔◌, ◌++◌, [], length, map, vec_len, vec_capacity, IfSome, IsTrue, Contains};
 ghost use Rattle.docker_model.specs.state.Stamp.{file_stamp_cmp, ledger_item_cmp, IsKept};
 ghost use Rattle.docker_model.specs.state.Order.{IsBelow, IsStrictlyAscending};

@@ -1,6 +1,6 @@
 //! The state that follows from a set of files and a horizon: the list of the files that count, and
-//! the greatest entry of each key. Entries that ended before the horizon have lapsed. States can be
-//! joined in any order, any number of times.
+//! the greatest entry for each key. Entries whose bodies ended before the horizon have lapsed.
+//! States can be joined in any order, any number of times.
 #![tactic(auto)]
 
 mod covers;

@@ -1,5 +1,5 @@
-//! Looks up the entry of a key: first in the rows where the key is likely to be, and then by binary
-//! search.
+//! Looks up the entry for a key: first in the rows where the key is likely to be, and then by
+//! binary search.
 ghost use Rattle.std.specs.Prelude.{◌≡◌, IsTrue};
 ghost use Rattle.std.specs.Option.{option_copied};
 ghost use Rattle.cif_change.specs.Meaning.{key_meant};
@@ -9,7 +9,7 @@ ghost use Rattle.docker_state.specs.Near.{IsAboveBefore, IsBelowAt};
 use cif_file::Key;
 use docker_join::Entry;
 
-/// The entry of a key. Returns `None` if no row has the key. First reads the row at index `near`
+/// The entry for a key. Returns `None` if no row has the key. First reads the row at index `near`
 /// and the row before it. If neither has the key, and the key doesn't lie between the two rows, a
 /// binary search follows. At the end `near` is the index of the first row after the key. If keys
 /// are looked up in order, the next key is likely to be there.

@@ -100,9 +100,9 @@ impl Staging {
         self.staged.is_empty()
     }
 
-    /// Offers the next entry of the state being received. The entry is staged if it isn't below the
-    /// floor and the state has no equal or greater entry of the same key. If memory runs out, the
-    /// entry isn't staged and nothing changes.
+    /// Offers `state` the next entry of the state being received. The entry is staged if it isn't
+    /// below the floor and `state` has no equal or greater entry for the same key. If memory runs
+    /// out, the entry isn't staged and nothing changes.
     pub fn offer(&mut self, state: &State, key: Key, entry: Entry) -> Result<(), Memory>
         requires floor { IsFloor (state.now.ledger ++ self.old.items) self.old.floor }
         requires above { IsAboveStaged self.old.staged (key_meant key) }
@@ -133,7 +133,7 @@ impl Staging {
 }
 
 /// Whether an entry has to be staged: it isn't below the floor, and the state has no equal or
-/// greater entry of the same key. The state's entry is first looked for at index `near`.
+/// greater entry for the same key. The state's entry is first looked for at index `near`.
 pub(crate) fn is_to_stage(
     state: &State,
     floor: &Option<FileStamp>,
@@ -144,8 +144,8 @@ pub(crate) fn is_to_stage(
     ensures { IsTrue result
         ↔ IsToStage state.now (floor_meant floor.now) (key_meant key.now) (entry_meant entry.now) }
 {
-    // If the entry's file is newer than every known file, the entry is greater than any of our
-    // entries. Then our entry of its key doesn't have to be looked up.
+    // If the entry's file is newer than every file in our ledger, the entry is greater than any of
+    // our entries. Then our entry for the same key doesn't have to be looked up.
     if is_above_all(state.ledger(), &entry.stamp.file) {
         return is_kept(floor, &entry.stamp.file);
     }
@@ -158,11 +158,11 @@ pub(crate) fn is_to_stage(
 impl State {
     /// Joins the state with the received ledger items and entries. The ledger becomes the union of
     /// both ledgers, and each staged entry is written at its key. Entries and items below the floor
-    /// of both ledgers are dropped, and each entry lapses that ended before this state's horizon.
-    /// The entries may have been offered to another state with the same floor: a greater entry of
-    /// this state then stays, and the result is still the join. If nothing is staged and no item is
-    /// new, nothing is done. If memory runs out, the state is unchanged, and what was received is
-    /// dropped.
+    /// of both ledgers are dropped, and each entry whose body ended before this state's horizon
+    /// lapses. If the entries were offered to another state with the same floor, this state may
+    /// have a greater entry for the key of a staged entry. This state's entry then stays, and the
+    /// result is still the join. If nothing is staged and no item is new, nothing is done. If
+    /// memory runs out, the state is unchanged, and what was received is dropped.
     pub fn commit(&mut self, staging: Staging) -> Result<(), Memory>
         requires floor { IsFloor (self.old.ledger ++ staging.items) staging.floor }
         ensures join { IsOk result

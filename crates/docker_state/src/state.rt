@@ -42,9 +42,9 @@ use state_index::{Index, Moves};
 use std::alloc::Global;
 use std::marker::Model;
 
-/// The state of a set of files, from the newest full extract on: the ledger of the known files, and
-/// the greatest entry of each key. A state is always valid. Its rows may have an index by place.
-/// Without an index, the rows at a place are found by a walk over all rows.
+/// The state of a set of files, from the newest full extract on: the ledger of the files that
+/// count, and the greatest entry for each key. A state is always valid. Its rows may have an index
+/// by place. Without an index, the rows at a place are found by a walk over all rows.
 #[derive(Debug, Drop)]
 pub struct State {
     horizon: u16,
@@ -137,8 +137,8 @@ impl State {
     }
 
     /// The state that the thin changes of a file make, for the docker of one place on one day. For
-    /// that place and day, this state has the same docker as the state of the whole file. The state
-    /// must not be used for anything else. If memory runs out, the thin changes are dropped.
+    /// that place and day, the docker of this state is the docker of the whole file's state. The
+    /// state must not be used for anything else. If memory runs out, the thin changes are dropped.
     pub fn of_thin(alloc: Global, file: ThinFile) -> Result<State, Memory>
         ensures { (records : List (List ℕ)) → IsOfRecords file.file records
             → IfOk result (IsStateOfChanges records file.kept) }
@@ -241,8 +241,8 @@ impl State {
         Ok(State::of_rows(0, ledger, rows, index))
     }
 
-    /// The horizon: a day number, counted from 0 for 1960-01-01. No live entry ends before that
-    /// day. Returns 0 if no horizon was set.
+    /// The horizon: a day number, counted from 0 for 1960-01-01. No live entry has a body that
+    /// ended before that day. Returns 0 if no horizon was set.
     pub fn horizon(&self) -> u16
         ensures horizon { result ≡ self.now.horizon }
         ensures day { IsDay result }
@@ -250,10 +250,10 @@ impl State {
         self.horizon
     }
 
-    /// Sets a horizon: each live entry that ends before this day lapses. A lapsed entry loses its
-    /// body and keeps its stamp, so that no older file can put a body under its key again. A day
-    /// that isn't after the present horizon changes nothing. The call may allocate one byte per row
-    /// while it runs. If the allocator refuses, the call only takes longer.
+    /// Sets a horizon: each live entry whose body ends before this day lapses. A lapsed entry loses
+    /// its body and keeps its stamp, so that no older file can put a body under its key again. A
+    /// day that isn't after the present horizon changes nothing. The call may allocate one byte per
+    /// row while it runs. If the allocator refuses, the call only takes longer.
     pub fn set_horizon(&mut self, day: Day)
         ensures raised { self.new ≡ raise_horizon day self.old }
         ensures summary { (files : List (List (List ℕ))) (horizon : ℕ)
@@ -300,7 +300,7 @@ impl State {
         self.entries.as_slice()
     }
 
-    /// The entry of a key. Returns `None` if the state doesn't have the key. The key is found by
+    /// The entry for a key. Returns `None` if the state doesn't have the key. The key is found by
     /// binary search.
     pub fn get(&self, key: &Key) -> Option<&Entry>
         ensures entry { option_map entry_meant (option_copied result)
@@ -518,8 +518,8 @@ impl State {
         })
     }
 
-    /// The file stamp of the newest full extract among the known files. Returns `None` if no full
-    /// extract is known.
+    /// The file stamp of the newest full extract in the state's ledger. Returns `None` if the
+    /// ledger has no full extract.
     pub fn floor(&self) -> Option<FileStamp>
         ensures { IsFloor self.now.ledger (option_map file_stamp_meant result) }
     {
@@ -553,15 +553,15 @@ impl Merge for State {
 
     ghost idempotent = { join_idempotent };
 
-    /// The join of two states: the union of their ledgers, and for each key the greater entry.
-    /// Items and entries below the greater of the two floors are left out, and each entry lapses
-    /// that ended before the greater of the two horizons. If one state has all that the other would
-    /// bring, the join is that state with the greater horizon, and the memory of the other state is
-    /// freed. For example, one state may be made from a full extract that is newer than all files
-    /// of the other state. Then no row of the other state is read. If memory runs out, both states
-    /// are returned unchanged. The join has an index if both states have one. In this case both
-    /// states are also returned if together they have more than 4,294,967,295 rows or places, which
-    /// are numbered in 32 bits.
+    /// The join of two states: the union of their ledgers, and for each key the greater of their
+    /// entries. Items and entries below the greater of the two floors are left out, and each entry
+    /// whose body ended before the greater of the two horizons lapses. If one state would gain
+    /// nothing from the other but a horizon, the join is that state with the greater of the two
+    /// horizons. The memory of the other state is then freed. For example, one state may be made
+    /// from a full extract that is newer than all files of the other state. Then no row of the
+    /// other state is read. If memory runs out, both states are returned unchanged. The join has an
+    /// index if both states have one. In this case both states are also returned if together they
+    /// have more than 4,294,967,295 rows or places, which are numbered in 32 bits.
     fn join(self, alloc: Global, other: State) -> Result<State, (State, State)>
         ensures ok { IfOk result (IsJoin self other) }
         ensures err { IfErr result (λ both. (both.0 ≡ self) × (both.1 ≡ other)) }
@@ -588,9 +588,9 @@ struct OpenedState {
     rows: Vec<(Key, Entry)>,
 }
 
-/// Lets each entry lapse that ended before the horizon `other`. Entries that ended before the
-/// horizon `own` have lapsed already, so if `other` isn't greater, no row is read. The spare memory
-/// after the rows is kept.
+/// Lets each entry lapse whose body ended before the horizon `other`. Entries whose bodies ended
+/// before the horizon `own` have lapsed already, so if `other` isn't greater than `own`, no row is
+/// read. The spare memory after the rows is kept.
 fn lapsed_under(mut rows: Vec<(Key, Entry)>, own: u16, other: u16) -> Vec<(Key, Entry)>
     requires lapsed { HaveLapsed own (map row_meant rows.items) }
     requires ascending { AreAscending rows.items }

@@ -68,8 +68,7 @@ counted_there state up spots of place piece is =
               ∙ ap (λ op. option_and_then {U = Row} (λ (b : model.Body). Some (stands.0.0, b)) (body_of op)) calls.3,
         )
 
--- if `spots_in` keeps each posting, as many live schedules call at a place as there are postings of
--- calls there
+-- if `spots_in` makes a spot of each posting, as many live schedules call at a place as there are postings of calls there
 pub calling_counted : (state : State) → AreAscending state.entries → (spots slice : List Spot) → slice ≡ spots
     → AreSpotsOf call_places state.entries spots → (place field : List ℕ) → field ≡ place → (names : List (List ℕ)) (piece : List Posting)
     → IsPieceAt field slice (spots_in names piece) → length (spots_in names piece) ≡ length piece → (count : ℕ) → count ≡ length piece

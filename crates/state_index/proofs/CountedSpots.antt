@@ -20,7 +20,7 @@ use Rattle.state_index.proofs.Positions.{Keyed}
 abbrev pub Pair : Type 0
 Pair = Key × Op
 
--- the sum of a count over a list of keys with their ops. For example, the count is the number of places of a key and its op
+-- the sum of a count over a list of keys with their ops. For example, the count may be the number of places of a key and its op
 abbrev pub total : (Key → Op → ℕ) → List Pair → ℕ
 total count [] = 0
 total count (pair ∷ pairs) = count pair.0 pair.1 + total count pairs
@@ -118,7 +118,7 @@ links_of_rows rows =
     let three = length-map {B = Pair} rows (λ (row : Keyed). (row.0, row.1.op)) in
     omega arith
 
--- the rows that changes make have at most as many calls, in total, as the changes
+-- the rows that changes make have at most as many calls, in total, as the changes have
 pub places_of_changes : (rows : List Keyed) (changes : List model.Change) → AreAscending rows → AreMadeBy changes rows
     → length (spots_of call_places rows) ≤ total (λ key op. length (call_places key op)) (changed changes)
 places_of_changes rows changes up made =

@@ -74,8 +74,7 @@ keyed_total : IsTotalOrder (on (λ (row : Keyed). row.0) key_cmp)
 keyed_total = on_total (λ (row : Keyed). row.0) key_total
 
 module _ (floor : Option FileStamp) (horizon : ℕ) where
-  -- `kept_lapsed` has exactly the entries that aren't below the floor. Each of these entries has
-  -- lapsed if it ended before the horizon
+  -- `kept_lapsed` has exactly the entries that aren't below the floor. Each of these entries has lapsed if its body ended before the horizon
   members_are : (entries : List Keyed) (key : model.Key) (entry : ops.Entry) → Contains (kept_lapsed floor horizon entries) (key, entry)
       ↔ LapsesTo entries floor horizon key entry
   members_are entries key entry = (
@@ -89,8 +88,8 @@ module _ (floor : Option FileStamp) (horizon : ℕ) where
         (filter_forth (keeps floor) entries (key, told.0) told.1 (is_keeps floor told.0.stamp.file told.2))),
   )
 
-  -- take the row with the greater entry of each key, remove the rows below the floor, and lapse
-  -- each entry that ended before the horizon. The result is the rows of the join
+  -- take the row with the greater entry for each key, remove the rows below the floor, and lapse each entry whose body ended before the horizon. The result is
+  -- the rows of the join
   pub joined_is : (first second : List Row) (joined : List Keyed) → AreAscending first → AreAscending second → AreJoined first second floor horizon joined
       → joined ≡ kept_lapsed floor horizon (map row_meant (map winner (turns_of first second)))
   joined_is first second joined up_first up_second is =

@@ -158,7 +158,7 @@ links_walk names sorted ranks numbers are count rows pieces count_is noted walk 
 
 -- ---- the memory for an index
 
--- memory that is enough for many postings is enough for fewer postings
+-- memory that is enough for a number of postings is enough for any smaller number of postings
 less_slots : (places few many : ℕ) (slots : Slots) → few ≤ many → HasSlots places many slots → HasSlots places few slots
 less_slots places few many slots less has = record {
   none = has.none;

@@ -1,4 +1,4 @@
--- The elements of a list by index, and the rows that spots name. A spot is a TIPLOC with the index of a row there.
+-- Lemmas on the elements of a list at given indexes, and on the rows that spots name. A spot is a TIPLOC with the index of a row there.
 use Rattle.std.proofs.Common.{◌≡◌, ℕ, zero, suc, ◌+◌, ◌<◌, List, [], ◌∷◌, map, refl, ap, sym, ◌∙◌, subst, inl, inr, ◌⊎◌, Some, None, Contains, arith}
 use Rattle.std.specs.Prelude.{Option, slice_get}
 use Rattle.std.specs.List.{AllByRecursion, filter_map, cons_option}

@@ -26,7 +26,7 @@ Row = Key × Entry
 abbrev pub picked : Entry → Entry → Entry
 picked = ord_max (on entry_meant entry_cmp)
 
--- the row that the join takes at one step of the walk over two tables: the row with the greater entry of its key
+-- the row that the join takes at one step of the walk over two tables: the row with the greater entry for its key
 abbrev pub winner : AtKey → Row
 winner (in_first one) = one
 winner (in_second other) = other

@@ -25,13 +25,13 @@ use Rattle.state_index.specs.Spots.{Places, call_places, link_places, spots_of}
 abbrev pub floor_meant : Option stamp.FileStamp → Option FileStamp
 floor_meant floor = option_map file_stamp_meant floor
 
--- Says that this entry results from `lapse_entry horizon` for some entry of the same key, and that
--- this other entry isn't below the floor.
+-- Says that some entry in the list, for the same key, isn't below the floor, and that `lapse_entry horizon` turns that entry into this one.
 abbrev pub LapsesTo : List (model.Key × ops.Entry) → Option FileStamp → ℕ → model.Key → ops.Entry → Type 0
 LapsesTo entries floor horizon key entry =
     (before : ops.Entry) × Contains entries (key, before) × IsKept floor before.stamp.file × (lapse_entry horizon before ≡ entry)
 
--- Says that these rows are the join of two tables, after the entries below the floor are removed and the entries that ended before the horizon have lapsed.
+-- Says that these rows are the join of two tables, after the entries below the floor are removed and the entries whose bodies ended before the horizon have
+-- lapsed.
 pub record AreJoined (first second : List (Key × Entry)) (floor : Option FileStamp) (horizon : ℕ) (joined : List (model.Key × ops.Entry)) : Type 0 where
   pub whole : List (Key × Entry)
   pub is_join : IsJoinOfRows (ord_max (on entry_meant entry_cmp)) first second whole

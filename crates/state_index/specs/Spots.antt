@@ -38,8 +38,8 @@ pub record AreSpotsOf (places : Places) (rows : List (Key × Entry)) (spots : Li
   pub ascending : IsStrictlyAscending spot_cmp spots
   pub members : (spot : Spot) → Contains spots spot ↔ Contains (spots_of places rows) spot
 
--- the spot of a posting: the name of its place, with its row. The posting has its place as an index
--- in a list of names. If the list has no such index, the result is `None`
+-- the spot of a posting: the name of its place, with its row. The posting has its place as an index in a list of names. If the list has no element at this
+-- index, the result is `None`
 abbrev pub posting_spot : List (List ℕ) → Posting → Option Spot
 posting_spot names posting = option_map (spot_at posting.at) (slice_get names posting.place)
 

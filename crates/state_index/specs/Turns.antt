@@ -69,15 +69,14 @@ is_put deleted = false
 is_put lapsed = false
 is_put (put_with body) = true
 
--- the index that an entry has in the join, if it is the greater entry of its key and `at` rows come
--- before it. The result is `None` if the entry is below the floor, or if it isn't a put after
--- `lapse horizon`
+-- the index that an entry has in the join, if the join takes this entry and `at` rows come before it. The result is `None` if the entry is below the floor, or
+-- if it isn't a put after `lapse horizon`
 abbrev pub goes : Option FileStamp → ℕ → ℕ → Entry → Option ℕ
 goes floor horizon at entry =
     if is_kept floor (entry_meant entry).stamp.file && is_put (lapse horizon (entry_meant entry).op) then Some at else None
 
--- how many rows the join has up to and including an entry, if it is the greater entry of its key
--- and `at` rows come before it. An entry below the floor has no row in the join
+-- how many rows the join has up to and including an entry, if the join takes this entry and `at` rows come before it. An entry below the floor has no row in
+-- the join
 abbrev pub after : Option FileStamp → ℕ → Entry → ℕ
 after floor at entry = if is_kept floor (entry_meant entry).stamp.file then 1 + at else at
 

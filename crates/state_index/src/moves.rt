@@ -14,7 +14,7 @@ use docker_join::{Entry, FileStamp, Op};
 use std::alloc::Global;
 
 /// The index that each row of two tables has in their join. It is `None` if the join takes the
-/// other table's entry of the key, or if the row's entry is below the floor. It is also `None` if
+/// other table's entry for the key, or if the row's entry is below the floor. It is also `None` if
 /// the entry isn't a put, or if its body ended before the horizon.
 #[derive(Debug, Drop)]
 pub struct Moves {
@@ -40,8 +40,8 @@ impl Moves {
     }
 
     /// Finds the index that each row of two tables has in their join. The join has no entries below
-    /// the floor, and entries that ended before the horizon have lapsed. The horizon is a day
-    /// number, counted from 0 for 1960-01-01. There must be room for the indexes of all rows.
+    /// the floor, and entries whose bodies ended before the horizon have lapsed. The horizon is a
+    /// day number, counted from 0 for 1960-01-01. There must be room for the indexes of all rows.
     /// Allocates nothing.
     pub fn of_tables(
         self,
@@ -82,9 +82,9 @@ impl Moves {
         moves
     }
 
-    /// Records the indexes that the rows of one key have in the join. There are one or two rows of
-    /// the key. Before these rows the join has `at` rows. Returns how many rows the join has up to
-    /// this key.
+    /// Records the indexes that the rows with one key have in the join. One table or both tables
+    /// have a row with this key. Before these rows the join has `at` rows. Returns how many rows
+    /// the join has up to and including this key.
     fn take(&mut self, turn: Turn<'_>, floor: &Option<FileStamp>, horizon: u16, at: u32) -> u32
         requires few { at + 1 < 2 ^ 32 }
         requires first_room { vec_len self.old.first + length (firsts (turn_meant turn ∷ []))
@@ -135,17 +135,17 @@ impl Moves {
     }
 }
 
-/// Whether the first of two entries of one key is greater, so that the join takes it. If they are
-/// equal, the join takes the second.
+/// Whether the first of two entries for the same key is greater than the second, so that the join
+/// takes it. If they are equal, the join takes the second.
 fn wins(one: &Entry, other: &Entry) -> bool
     ensures { result ≡ wins one.now other.now }
 {
     other < one
 }
 
-/// The index that an entry has in the join, if it is the greater entry of its key and `at` rows
-/// come before it. Returns `None` if the entry is below the floor, if it isn't a put, or if its
-/// body ended before the horizon.
+/// The index that an entry has in the join, if the join takes this entry and `at` rows come before
+/// it. Returns `None` if the entry is below the floor, if it isn't a put, or if its body ended
+/// before the horizon.
 fn index_of(entry: &Entry, floor: &Option<FileStamp>, horizon: u16, at: u32) -> Option<u32>
     ensures { result ≡ goes (floor_meant floor.now) horizon at entry.now }
 {
@@ -156,8 +156,8 @@ fn index_of(entry: &Entry, floor: &Option<FileStamp>, horizon: u16, at: u32) -> 
     }
 }
 
-/// How many rows the join has up to and including an entry, if it is the greater entry of its key
-/// and `at` rows come before it. An entry below the floor has no row in the join.
+/// How many rows the join has up to and including an entry, if the join takes this entry and `at`
+/// rows come before it. An entry below the floor has no row in the join.
 fn index_after(entry: &Entry, floor: &Option<FileStamp>, at: u32) -> u32
     requires { at + 1 < 2 ^ 32 }
     ensures { result ≡ after (floor_meant floor.now) at entry.now }

@@ -3,7 +3,7 @@ ghost use Rattle.std.specs.Prelude.{◌≡◌, Contains, IsSome, IfSome, Some, s
 ghost use Rattle.docker_model.specs.state.Order.{bytes_cmp, IsStrictlyAscending};
 ghost use Rattle.state_index.specs.Rooms.{Includes};
 
-/// The same places, sorted in ascending order and without duplicates.
+/// These places, sorted in ascending order and without duplicates.
 pub(crate) fn ascending_places(mut places: Vec<[u8; 7]>) -> Vec<[u8; 7]>
     ensures up { IsStrictlyAscending bytes_cmp result.items }
     ensures all { Includes places.items result.items }

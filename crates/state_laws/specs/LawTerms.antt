@@ -10,9 +10,9 @@ use Rattle.state_laws.specs.Staging.{IsStaged, IsCommit}
 abbrev pub first_full_stamp : List LedgerItem → Option FileStamp
 first_full_stamp ledger = option_map (λ (item : LedgerItem). item.stamp) (find (λ (item : LedgerItem). item.indicator == 70) ledger)
 
--- `Fact` holds if `after` is the state after a valid state has received another valid state. All
--- entries of the received state were offered for staging, with the floor of the two ledgers
--- together, and the staged entries were committed
+-- `Fact` holds if `own` and `received` are valid states and `after` is the state after receiving.
+-- All entries of `received` were offered for staging to the office whose state is `own`, with the
+-- floor of the two ledgers together. Then the staged entries were committed
 abbrev pub HoldsOnceCommitted : State → State → Option FileStamp → List (Key × Entry) → State → Type 0 → Type 0
 HoldsOnceCommitted own received floor staged after Fact =
     IsValid own → IsValid received → IsFloor (own.ledger ++ received.ledger) floor → IsStaged own floor received.entries staged

@@ -14,7 +14,7 @@ Row = Key × Body
 abbrev pub AreInKeyOrder : List Row → Type 0
 AreInKeyOrder rows = IsStrictlyAscending (on (λ (row : Row). row.0) key_cmp) rows
 
--- `rows` are the live table as a list: each live key once, with its body, in key order
+-- `rows` is the live table as a list: each live key once, with its body, in key order
 pub record AreRowsOf (live : Table) (rows : List Row) : Type 0 where
   pub ascending : AreInKeyOrder rows
   pub members : (key : Key) (body : Body) → Contains rows (key, body) ↔ (live key ≡ Some body)

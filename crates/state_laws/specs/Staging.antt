@@ -1,6 +1,7 @@
 -- The steps in which a state is received from a stream. The entries of the received state are
--- offered one by one. An offered entry that the commit will put into the state is staged, which
--- means that it is kept apart. At the end all staged entries are committed together.
+-- offered one by one to the receiving office. An offered entry that the commit will put into the
+-- office's state is staged, which means that it is set aside. At the end all staged entries are
+-- committed together.
 use Rattle.std.specs.Prelude.{◌≡◌, ◌↔◌, ◌⊎◌, List, ◌++◌, Option, Some, None, Contains, ⊤}
 use Rattle.docker_model.specs.file.Change.{Key}
 use Rattle.docker_model.specs.state.Order.{IsStrictlyAscending, IsBelow}
@@ -14,7 +15,7 @@ abbrev pub HasNoEntryOf : List (Key × Entry) → Key → Type 0
 HasNoEntryOf entries key = (entry : Entry) → ¬ Contains entries (key, entry)
 
 -- the offered entry is to be staged: the entry isn't below the floor of the two ledgers together.
--- If the state has an entry at the same key, the offered entry is greater
+-- If the state has an entry for the same key, the offered entry is greater than that entry
 pub record IsToStage (own : State) (floor : Option FileStamp) (key : Key) (entry : Entry) : Type 0 where
   pub kept : IsKept floor entry.stamp.file
   pub greater : (other : Entry) → Contains own.entries (key, other) → IsBelow entry_cmp other entry
@@ -30,15 +31,17 @@ pub record IsStaged (own : State) (floor : Option FileStamp) (offered staged : L
   pub members : (key : Key) (entry : Entry) → Contains staged (key, entry) ↔ (Contains offered (key, entry) × IsToStage own floor key entry)
 
 -- before lapsing, the committed state has this entry. Either the entry is staged, or it is an entry
--- of the state. In the second case it isn't below the floor, and its key has no staged entry
+-- of the state before the commit. In the second case it isn't below the floor, and its key has no
+-- staged entry
 abbrev pub IsPutIn : State → List (Key × Entry) → Option FileStamp → Key → Entry → Type 0
 IsPutIn own staged floor key entry =
     Contains staged (key, entry) ⊎ (Contains own.entries (key, entry) × IsKept floor entry.stamp.file × HasNoEntryOf staged key)
 
--- `after` is the state after a commit. Its horizon is unchanged. Its ledger is the union of both
--- ledgers without the items below the floor of the union. Each key with a staged entry has that
--- entry. Each other key keeps its entry, unless that entry is below the floor. Each entry whose
--- body ended before the horizon has lapsed
+-- `after` is the state after a commit. Its horizon is unchanged. Its ledger is the union of the
+-- state's ledger and the received items, without the items below the floor of the union. Each key
+-- with a staged entry has that entry. A key without a staged entry has the same entry as before the
+-- commit, unless that entry is below the floor. Each entry whose body ended before the horizon has
+-- lapsed
 pub record IsCommit (own : State) (items : List LedgerItem) (staged : List (Key × Entry)) (after : State) : Type 0 where
   pub horizon : after.horizon ≡ own.horizon
   pub floor : Option FileStamp

@@ -54,9 +54,9 @@ pub fn horizon_is_set_last()
         → IsJoin own received (raise_horizon received.horizon joined) }
 {}
 
-/// Entries are staged one by one, as they are offered. As long as no entry has been offered, no
-/// entry is staged. An offered entry is staged if it isn't below the floor and is greater than the
-/// entry that the receiving state has at the same key.
+/// Entries are staged one by one, as they are offered for staging. As long as no entry has been
+/// offered, no entry is staged. An offered entry is staged if it isn't below the floor, and the
+/// receiving state has no equal or greater entry for the same key.
 pub fn offers_are_staged()
     ensures none { (own : State) (floor : Option FileStamp) → IsStaged own floor [] [] }
     ensures test { (own : State) → AreAscending own.entries → (floor : Option FileStamp) (key : Key)

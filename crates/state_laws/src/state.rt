@@ -84,8 +84,8 @@ pub fn summary_is_valid()
 
 /// Lapsing is monotone: it preserves the order of ops, so it maps the greatest op of a list to the
 /// greatest op of the lapsed list. Lapsing is idempotent. Lapsing with one horizon and then with
-/// another equals lapsing with the greater horizon. With the horizon 0, lapsing leaves each op
-/// unchanged.
+/// another equals lapsing with the greater of the two horizons. With the horizon 0, lapsing leaves
+/// each op unchanged.
 pub fn laws_of_lapse()
     ensures order { (horizon : ℕ) (first second : Op) → IsAtMost op_cmp first second
         → IsAtMost op_cmp (lapse horizon first) (lapse horizon second) }

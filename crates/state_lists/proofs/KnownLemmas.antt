@@ -1,4 +1,4 @@
--- The text that the code writes equals the text that lists what a state knows.
+-- The text that the code writes equals the text that lists what an office knows.
 use Rattle.std.proofs.Common.{◌≡◌, ℕ, ◌<◌, List, ◌++◌, ap, ◌∙◌, subst, Some, None}
 use Rattle.std.specs.Prelude.{Option, IfSome, codes, option_map}
 use Rattle.std.proofs.lemmas.List.Elements.{All-contains}
@@ -28,7 +28,7 @@ module _ (state : State) (valid : IsValid state) (entries : List (model.Key × o
   of_all : IsTallyOf (live_rows state.entries) tally
   of_all = subst (λ (all : List (model.Key × ops.Entry)). IsTallyOf (live_rows all) tally) are counted
 
-  -- the lines made from a tally of all live rows form the text that lists what the state knows
+  -- the lines made from a tally of all live rows form the text that lists what the office knows
   pub is_known : IsKnownText state bytes
   is_known = record {
     full = full;

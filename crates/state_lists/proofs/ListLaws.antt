@@ -1,4 +1,4 @@
--- A live table has only one list of timing points, and a state has only one text that lists what it knows.
+-- A live table has only one list of timing points. For each state there is only one text that lists what an office with this state knows.
 use Rattle.std.proofs.Common.{◌≡◌, ℕ, ◌≤◌, List, refl, ap, sym, ◌∙◌, subst, Contains, Some, None, arith}
 use Rattle.std.specs.Prelude.{Option}
 use Rattle.docker_model.specs.state.State.{State, live_table}

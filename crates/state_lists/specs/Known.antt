@@ -1,7 +1,5 @@
--- The text that lists what a state knows: its horizon, its newest full extract, the latest of its
--- schedules' last days, and three counts. The counts are the numbers of live schedules,
--- associations and timing points. Days are numbered from 1960-01-01, which is 0, to 2059-12-31,
--- which is 36524.
+-- The text that lists what an office knows: the horizon of its state, the newest full extract, the latest of the schedules' last days, and three counts. The
+-- counts are the numbers of live schedules, associations and timing points. Days are numbered from 1960-01-01, which is 0, to 2059-12-31, which is 36524.
 use Rattle.std.specs.Prelude.{◌≡◌, ℕ, ◌≤◌, ◌==◌, nat_le, if◌then◌else◌, List, [], ◌++◌, length, filter, codes, decimal, Contains, Option, Some, None}
 use Rattle.std.specs.List.{filter_map}
 use Rattle.docker_model.specs.records.Date.{last_day}
@@ -67,13 +65,13 @@ last_line (Some day) = named_line (codes "LAST        ") (day_text day)
 unfoldable pub count_line : List ℕ → ℕ → List ℕ
 count_line name count = named_line name (decimal count)
 
--- the text that lists what a state knows, made from the state's horizon, its newest full extract, the latest of its schedules' last days, and all live rows
+-- the text that lists what an office knows, made from its state's horizon, newest full extract, latest last day of a schedule, and all live rows
 abbrev pub known_text : ℕ → Option FileStamp → Option ℕ → List Row → List ℕ
 known_text horizon full last rows =
     horizon_line horizon ++ full_line full ++ last_line last ++ count_line (codes "SCHEDULES   ") (count_of 3 rows)
     ++ count_line (codes "ASSOCIATIONS") (count_of 2 rows) ++ count_line (codes "PLACES      ") (count_of 1 rows)
 
--- says that this text lists what the state knows
+-- says that this text lists what an office with this state knows
 pub record IsKnownText (state : State) (text : List ℕ) : Type 0 where
   pub full : Option FileStamp
   pub is_full : IsFloor state.ledger full

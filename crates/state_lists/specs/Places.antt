@@ -37,7 +37,7 @@ abbrev pub place_line : List Row → Key → Body → List ℕ
 place_line rows (tiploc_key code) (tiploc_body bytes) = ended (place_text code bytes (count_at code rows))
 place_line _ _ _ = []
 
--- the lines of the timing points among these live rows, in the same order
+-- the lines of the timing points among these live rows, in the order of the rows
 abbrev pub places_text : List Row → List ℕ
 places_text rows = flat_map (λ (row : Row). place_line rows row.0 row.1) rows
 

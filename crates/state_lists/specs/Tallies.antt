@@ -23,8 +23,8 @@ abbrev pub with_day : List ℕ → Option ℕ → List ℕ
 with_day days None = days
 with_day days (Some day) = days ++ day ∷ []
 
--- the lines of the text that lists what a state knows. The counts and the last day are taken from a
--- tally
+-- the lines of the text that lists what an office knows. The counts and the last day are taken from
+-- a tally
 abbrev pub known_lines : ℕ → Option FileStamp → Tally → List ℕ
 known_lines horizon full tally =
     horizon_line horizon ++ full_line full ++ last_line tally.last ++ count_line (codes "SCHEDULES   ") tally.schedules

@@ -1,5 +1,5 @@
-//! Prints what a state knows. Each line has a name in columns 1 to 12 and a value from column 14
-//! on.
+//! Prints what an office with this state knows. Each line has a name in columns 1 to 12 and a value
+//! from column 14 on.
 ghost use Rattle.std.specs.Prelude.{◌≡◌, ◌<◌, IfSome, option_map};
 ghost use Rattle.docker_model.specs.records.Date.{IsDay};
 ghost use Rattle.docker_join.specs.Meaning.{file_stamp_meant};
@@ -15,14 +15,14 @@ use docker_state::State;
 use fixed_text::put;
 use itoa::Buffer;
 
-/// The text that lists what a state knows. Its capacity is enough for all lines, whatever the
-/// counts.
+/// The text that lists what an office with this state knows. Its capacity is enough for all lines,
+/// whatever the counts.
 pub type KnownText = ArrayVec<u8, 187>;
 
-/// The text that lists what a state knows. It has a line for the horizon, and one line each for the
-/// numbers of live schedules, associations and timing points. If there is a full extract, the
-/// newest one has a line. If a live schedule has a last day, there is a line for the latest of
-/// these last days. The call counts all entries, and allocates nothing.
+/// The text that lists what an office with this state knows. It has a line for the horizon, and one
+/// line each for the numbers of live schedules, associations and timing points. If there is a full
+/// extract, the newest one has a line. If a live schedule has a last day, there is a line for the
+/// latest of these last days. The call counts all entries, and allocates nothing.
 pub fn known_text(state: &State) -> KnownText
     ensures { IsKnownText state.now result.items }
 {

@@ -12,7 +12,7 @@ pub fn one_places_text()
         → IsPlacesText live other → text ≡ other }
 {}
 
-/// A state has only one text that lists what the state knows.
+/// For each state there is only one text that lists what an office with this state knows.
 pub fn one_known_text()
     ensures { (state : State) (text other : List ℕ) → IsKnownText state text
         → IsKnownText state other → text ≡ other }

@@ -1,5 +1,5 @@
-//! Lists the timing points that a state knows, with the number of schedules that call at each, and
-//! prints what the state knows in a few lines.
+//! Lists the timing points in a state, with the number of schedules that call at each. Also prints
+//! in a few lines what an office with this state knows.
 #![tactic(auto)]
 
 mod known;

@@ -38,8 +38,8 @@ pub(crate) fn tally_of(rows: &[(Key, Entry)]) -> Tally
     tally
 }
 
-/// The tally with one more row. A row counts only if it is live. Deletions and lapsed entries don't
-/// count.
+/// The tally after one more row was counted. A row counts only if it is live. Deletions and lapsed
+/// entries don't count.
 fn with_row(tally: Tally, row: &(Key, Entry)) -> Tally
     requires { AreFew tally }
     ensures { (rows : List Row) → IsTallyOf rows tally
@@ -52,7 +52,7 @@ fn with_row(tally: Tally, row: &(Key, Entry)) -> Tally
     }
 }
 
-/// The tally with one more live key and its body.
+/// The tally after one more live key was counted, given the key's body.
 fn counted(tally: Tally, key: &Key, body: &Body) -> Tally
     requires { AreFew tally }
     ensures { (rows : List Row) → IsTallyOf rows tally

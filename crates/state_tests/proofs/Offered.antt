@@ -1,4 +1,4 @@
--- Lemmas on offering the entries of a valid state one by one, in their order.
+-- Lemmas on offering the entries of a valid state for staging, one by one and in their order.
 use Rattle.std.proofs.Common.{◌≡◌, List, [], ◌∷◌, ◌++◌, ◌<◌, length, sym, subst, ◌⊎◌, inl, inr, arith}
 use Rattle.std.specs.Prelude.{Contains}
 use Rattle.std.specs.List.{AllByRecursion}
@@ -10,14 +10,14 @@ use Rattle.docker_model.specs.state.Stamp.{IsFloor}
 use Rattle.docker_model.specs.state.State.{State, IsGoodEntry, AreAscending, AreEntries}
 use Rattle.docker_state.specs.Staging.{Staging, IsAboveStaged, IsOffered}
 
--- Says that these entries can be offered in their order. Each is good with the received items, their keys ascend, and all keys are above the staged keys.
+-- Says that these entries can be offered for staging in their order. Each is a good entry for the received ledger items, their keys ascend, and all keys are
+-- above the staged keys.
 pub record CanBeOffered (staging : Staging) (entries : List (Key × Entry)) : Type 0 where
   pub good : AllByRecursion (IsGoodEntry staging.items) entries
   pub above : AllByRecursion (λ (entry : Key × Entry). IsAboveStaged staging.staged entry.0) entries
   pub ascending : AreAscending entries
 
--- if a key is above the staged keys and above the offered key, it is above all staged keys once the
--- offered entry is staged
+-- if a key is above the staged keys and above the key of an offered entry, it is above all staged keys once that entry is staged
 above_both : (staged : List (Key × Entry)) (entry next : Key × Entry) → IsAboveStaged staged next.0 → key_cmp entry.0 next.0 ≡ Less
     → IsAboveStaged (staged ++ entry ∷ []) next.0
 above_both staged entry next above below other among = by (Contains-push_cases staged entry other among)
@@ -33,7 +33,7 @@ all_above : (staged : List (Key × Entry)) (entry : Key × Entry) (rest : List (
 all_above staged entry [] below above = tt
 all_above staged entry (next ∷ rest) below above = (above_both staged entry next above.0 below.0, all_above staged entry rest below.1 above.1)
 
--- after the first entry is offered, the other entries can be offered
+-- after the first entry is offered for staging, the other entries can be offered
 pub rest_offered : (own : State) (staging after : Staging) (entry : Key × Entry) (rest : List (Key × Entry)) → CanBeOffered staging (entry ∷ rest)
     → IsOffered own staging entry.0 entry.1 after → CanBeOffered after rest
 rest_offered own staging after entry rest can (inl to) =
@@ -42,7 +42,7 @@ rest_offered own staging after entry rest can (inl to) =
 rest_offered own staging after entry rest can (inr out) =
     subst (λ (s : Staging). CanBeOffered s rest) (sym out.1) (record { good = can.good.1; above = can.above.1; ascending = can.ascending.1 })
 
--- after an entry is offered, the floor is still the floor of both ledgers together
+-- after an entry is offered for staging, the floor is still the floor of both ledgers together
 pub same_floor : (own : State) (staging after : Staging) (key : Key) (entry : Entry) → IsFloor (own.ledger ++ staging.items) staging.floor
     → IsOffered own staging key entry after → IsFloor (own.ledger ++ after.items) after.floor
 same_floor own staging after key entry floor (inl to) = subst (λ (s : Staging). IsFloor (own.ledger ++ s.items) s.floor) (sym to.1) floor
@@ -52,7 +52,7 @@ none_staged : (entries : List (Key × Entry)) → AllByRecursion (λ (entry : Ke
 none_staged [] = tt
 none_staged (entry ∷ rest) = (λ other among. absurd (let below : among.0 < length {A = Key × Entry} [] = among.1 in omega arith), none_staged rest)
 
--- if nothing is staged, all entries of a valid state can be offered
+-- if nothing is staged, all entries of a valid state can be offered for staging
 pub all_offered : (staging : Staging) (entries : List (Key × Entry)) → staging.staged ≡ [] → AreEntries staging.items entries → CanBeOffered staging entries
 all_offered staging entries none are = record {
   good = recursion_from_All (IsGoodEntry staging.items) entries are.0;

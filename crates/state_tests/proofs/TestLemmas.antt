@@ -25,7 +25,7 @@ one_item items item other one is state items_are valid before none =
     (sym items_are ∙ ap (map item_meant) (only_element items item other one is) ∙ ap (λ (xs : List stamps.LedgerItem). xs ++ item_meant item ∷ []) (sym none))
     valid.ledger
 
--- the only entry of a valid state is good with a ledger that has just the state's only item
+-- the only entry of a valid state is also a good entry for a ledger that has just the state's only item
 good_entry : (items : List LedgerItem) (item other : LedgerItem) → length items ≡ 1 → item ≡ get_or items 0 other
     → (rows : List (Key × Entry)) (row next : Key × Entry) → length rows ≡ 1 → row ≡ get_or rows 0 next
     → (state : State) → map item_meant items ≡ state.ledger → map row_meant rows ≡ state.entries → IsValid state

@@ -77,7 +77,7 @@ fn made_is(rt: &impl Abort, alloc: Global, made: State, lines: &[&[u8]]) {
     state_is(rt, alloc, &made, lines);
 }
 
-/// Asserts that a state is shown just as it was before.
+/// Asserts that a state is shown as the text `before`.
 fn shown_again(rt: &impl Abort, alloc: Global, state: &State, before: &[u8]) {
     let again = shown(rt, alloc, state);
     same(rt, again.as_slice(), before);

@@ -95,7 +95,7 @@ module _ {S A E : Type 0} (taken : S → Told) (failures : S → ℕ) where
   then_gives old mid new b p d q h (Err failed) first same second =
       (gathers_part (taken old) b p (taken mid) d q (taken new) first second.0, second.1 ∙ ap (λ n. n + 1) same)
 
-  -- a failure while writing the first of two pieces is a failure while writing their concatenation
+  -- a failure while writing the first of two pieces counts as a failure while writing their concatenation
   pub fails_first : (old new : S) (b p q holds : List ℕ) (result : Result A E) (Q : E → Type 0) → IsErrAnd result Q
       → TakesPart (taken old) (b ++ p) (taken new) × (failures new ≡ failures old + 1)
       → Gives taken failures old b (p ++ q) result new holds
@@ -165,7 +165,7 @@ module _ {X : Type 0} (bytes : List X → List ℕ) (joined : (xs ys : List X) �
         subst (λ ys. TakesPart a ys e) whole
         (part_longer a (b ++ now) rest e (subst (λ p. TakesPart a (b ++ p) e) (sym (one_more xs i x piece below at is)) so_far))
 
-    -- a failure to make room for the next element is a failure to write the whole list
+    -- a failure to make room for the next element counts as a failure to write the whole list
     pub each_room_fails : {S A E : Type 0} (taken : S → Told) (failures : S → ℕ) (old now new : S) (b d holds : List ℕ) (result : Result A E) (Q : E → Type 0)
         → Gathers (taken old) b (bytes (take i xs)) (taken now) d → failures now ≡ failures old → IsErrAnd result Q
         → TakesPart (taken now) (d ++ []) (taken new) × (failures new ≡ failures now + 1) → Gives taken failures old b (bytes xs) result new holds
@@ -176,7 +176,7 @@ module _ {X : Type 0} (bytes : List X → List ℕ) (joined : (xs ys : List X) �
       part.1 ∙ ap (λ n. n + 1) same,
     )
 
-    -- a failure to write the next element is a failure to write the whole list
+    -- a failure to write the next element counts as a failure to write the whole list
     pub each_fails : {S A E : Type 0} (taken : S → Told) (failures : S → ℕ) (old now new : S) (b d holds : List ℕ) (result : Result A E) (Q : E → Type 0)
         → Gathers (taken old) b (bytes (take i xs)) (taken now) d → failures now ≡ failures old → IsErrAnd result Q
         → TakesPart (taken now) (d ++ piece) (taken new) × (failures new ≡ failures now + 1) → Gives taken failures old b (bytes xs) result new holds

@@ -51,7 +51,8 @@ tag_at : (len number : ℕ) (bytes : List ℕ) (state : State) (key : Key) (stam
     → key_tag key ≡ number
 tag_at len number bytes state key stamp parts = first_of len (key_tag key) number (key_bytes key ++ stamp_bytes stamp ++ 1 ∷ []) bytes parts.text
 
--- if the bytes are a good put's tag, key, stamp and op, each of these is read back
+-- if the bytes are a good put's tag, key, stamp and op, the key, the stamp and the op are read back
+-- from the bytes
 module _ (state : State) (number : ℕ) (bytes key rest stamp op : List ℕ) (ledger : IsLedger state.ledger) (front : bytes ≡ key ++ rest)
     (back : rest ≡ stamp ++ op) (key_size : length key ≡ key_width number) (stamp_size : length stamp ≡ 15) where
   put_read : (k : Key) (s : Stamp) → AreParts state (number ∷ bytes) (before_body k s)
@@ -86,7 +87,8 @@ module _ (state : State) (number : ℕ) (bytes key rest stamp op : List ℕ) (le
       same_op : 1 ∷ [] ≡ op
       same_op = back_same (stamp_bytes s) (1 ∷ []) stamp op behind width
 
-  -- if the op isn't 1, the bytes aren't a put's tag, key, stamp and op
+  -- if the op's byte isn't 1, which stands for a put, the bytes aren't a put's tag, key, stamp and
+  -- op
   pub other_op : ¬ (slice_index op 0 ≡ 1) → (k : Key) (s : Stamp) → ¬ AreParts state (number ∷ bytes) (before_body k s)
   other_op other k s parts = other (put_read k s parts).2
 
@@ -111,8 +113,8 @@ too_short state number n bytes ledger size short (before_body key stamp) len end
     omega arith
 too_short state number n bytes ledger size short _ len ends parts = ends
 
--- if the bytes up to the body aren't a put's tag, key, stamp and op, then nor are any other bytes
--- at the front
+-- if the bytes up to the body aren't a put's tag, key, stamp and op, no other prefix of the bytes
+-- is a put's tag, key, stamp and op
 pub no_put : (state : State) (number n : ℕ) (bytes put body : List ℕ) → IsLedger state.ledger → bytes ≡ put ++ body → length put ≡ n
     → n ≡ key_width number + 16 → ((key : Key) (stamp : Stamp) → ¬ AreParts state (number ∷ put) (before_body key stamp))
     → BeginsWithNoParts IsBeforeBody state (number ∷ bytes)
@@ -161,7 +163,8 @@ other_tag state number bytes one two three (before_line key stamp n lines) len e
     three (sym (first_of len 3 number (drop 1 (part_text (before_line key stamp n lines))) bytes parts.text))
 other_tag state number bytes one two three _ len ends parts = ends
 
--- bytes with the tag of a schedule begin only with the head of a schedule's put
+-- if bytes with the tag of a schedule begin with the head of a put, it is the head of a schedule's
+-- put
 of_schedules : (state : State) (bytes : List ℕ)
     → ((key : ScheduleKey) (stamp : Stamp) (n len : ℕ) → ¬ AreParts state (take len (3 ∷ bytes)) (before_line key stamp n []))
     → BeginsWithNoParts IsPutHead state (3 ∷ bytes)
@@ -191,7 +194,8 @@ no_lines state bytes ledger short = of_schedules state bytes none
         let fit = fits len (part_text (before_line key stamp n [])) (3 ∷ bytes) parts.text in
         omega arith
 
--- if the bytes begin with the head of a schedule's put, its parts are read back
+-- if the bytes begin with the head of a schedule's put, the parts of this head are read back from
+-- the bytes
 module _ (state : State) (bytes put rest number lines : List ℕ) (ledger : IsLedger state.ledger) (split : bytes ≡ put ++ rest)
     (parted : rest ≡ number ++ lines) (put_size_is : length put ≡ 25) (number_size : length number ≡ 4) where
   lines_read : (key : ScheduleKey) (stamp : Stamp) (n len : ℕ) → AreParts state (take len (3 ∷ bytes)) (before_line key stamp n [])

@@ -9,7 +9,7 @@ use Rattle.state_text.specs.PartsSoFar.{under}
 pub under_none : (parts : State) → parts.horizon ≡ 0 → parts ≡ under 0 parts
 under_none parts none = λ k. record { horizon = none k; ledger = parts.ledger; entries = parts.entries }
 
--- if the parts with a horizon are a valid state, raising the horizon to this day only sets it: no entry lapses
+-- if the parts with a horizon are a valid state, raising the horizon to this day only sets the horizon: no entry lapses
 pub set_behind : (horizon : ℕ) (told parts state raised : State) → told ≡ under horizon parts → parts.horizon ≡ 0 → IsValid told → state ≡ parts
     → raised ≡ raise_horizon horizon state
     → raised ≡ told

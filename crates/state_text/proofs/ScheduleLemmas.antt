@@ -64,7 +64,7 @@ begin_up_to count lines line more tells begin (inl is) = record
     { begin = begin; complete = λ all. let size = length-append lines (line ∷ []) in let below = tells.0 is in absurd (omega arith) }
 begin_up_to count lines line more tells begin (inr whole) = record { begin = begin; complete = λ all. whole }
 
--- if more lines follow, a line may come next if some schedule begins with the earlier lines and this line
+-- if more lines follow, a line may come next if some schedule begins with the lines before it and this line
 pub more_up_to : (count : ℕ) (lines : Lines) (line : List ℕ) → length lines + 1 < count → BeginsSchedule (lines ++ line ∷ [])
     → BeginUpTo count (lines ++ line ∷ [])
 more_up_to count lines line more begin = record { begin = begin; complete = λ all. let size = length-append lines (line ∷ []) in absurd (omega arith) }
@@ -85,8 +85,8 @@ lines_up_to state key count lines line bytes same here first up_to =
     let are = one_line_more state key lines line here first up_to.begin in
     subst (λ b. AreLinesUpToIn state key count (lines ++ b ∷ [])) same (record { lines_of = are.0; complete = up_to.complete }, are.1)
 
--- suppose that a schedule with the key begins with the earlier lines. Then a cause for refusing the
--- next line is also a cause for refusing it as a line of that schedule
+-- suppose that a schedule with the key begins with the lines before the next line. Then a cause for refusing that line is also a cause for refusing it as a
+-- line of that schedule
 pub line_refused : (state : State) (key : ScheduleKey) (count : ℕ) (lines : Lines) (line bytes : List ℕ) → line ≡ bytes
     → (lines ≡ []) ⊎ AreLinesIn state key lines → (lines ≡ [] → IsOfKey state.horizon key line)
     → (cause : Option StateCause) → IsLineRefusal count lines line cause → IsUpToRefusal state key count lines bytes cause

@@ -32,7 +32,7 @@ taken_all lines line taken n is last =
     omega arith
 
 -- suppose that reading the last part of an entry results in the stage after the entry, or in
--- `Memory`. Then this result judges the part correctly
+-- `Memory`. Then this result is a correct judgement of the part
 pub entry_judged : (format : Format) (before after : Before) (bytes : List ℕ) (new : State) (lines : List (List ℕ)) (result : Result Stage StateCause)
     → IfOk result (λ s. (ls : List (List ℕ)) → stage_meant s new ls ≡ after) → IfOk result (λ s. IsFresh s new)
     → IfErr result (λ told. told ≡ cause.Memory) → after ≡ advance format before bytes → IsWantingHere format before bytes

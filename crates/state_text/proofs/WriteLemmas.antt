@@ -62,7 +62,7 @@ module _ {S A B : Type 0} (taken : S → Option (List ℕ)) (failures : S → �
     given : Gathers (taken old) b (flat_map item_bytes state.ledger) (taken first) d
     given = subst (λ es. Gathers (taken old) b (flat_map item_bytes es) (taken first) d) ledger one
 
-    -- a failure while writing the number of entries is a failure while writing the text that begins with this number
+    -- a failure while writing the number of entries counts as a failure while writing the text that begins with this number
     pub count_fails : {X E : Type 0} (holds : List ℕ) (result : Result X E) (Q : E → Type 0) → IsErrAnd result Q
         → TakesPart (taken first) (d ++ to_be_bytes w64 (length rows)) (taken second) × (failures second ≡ failures first + 1)
         → Gives taken failures old b (body_text state) result second holds

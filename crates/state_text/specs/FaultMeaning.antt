@@ -50,7 +50,7 @@ pub record IsWantingHere (format : Format) (before : Before) (bytes : List ℕ) 
   pub takes : TakesMemory before bytes
   pub not_bad : (cause : model.StateCause) → ¬ IsBadPart format before bytes cause
 
--- says that the part is bad for this cause. `None` means that memory ran out for the part
+-- says that the part is bad for this cause. `None` means that there was no memory for the part
 abbrev pub IsBadHere : Format → Before → List ℕ → Option model.StateCause → Type 0
 IsBadHere format before bytes None = IsWantingHere format before bytes
 IsBadHere format before bytes (Some cause) = IsBadPart format before bytes cause

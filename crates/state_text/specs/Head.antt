@@ -6,17 +6,17 @@ use Rattle.docker_model.specs.state.StatePart.{EntryPart, before_body, before_li
 use Rattle.state_text.specs.declared.stage.Stage.{Stage}
 use Rattle.state_text.specs.Stage.{stage_meant, IsFresh}
 
--- says that these bytes are the parts of an entry before this point, and that these parts are good
+-- says that these bytes are all parts of an entry before this part, and that they are good
 pub record AreParts (state : State) (bytes : List ℕ) (part : EntryPart) : Type 0 where
   pub here : IsPartHere state part
   pub text : part_text part ≡ bytes
 
--- says that the parts of an entry before this point are the tag, key, stamp and op of a put
+-- says that the parts of an entry before this part are the tag, key, stamp and op of a put
 abbrev pub IsBeforeBody : EntryPart → Type 0
 IsBeforeBody (before_body key stamp) = ⊤
 IsBeforeBody _ = ⊥
 
--- says that the parts of an entry before this point are the head of a put. For a TIPLOC or an
+-- says that the parts of an entry before this part are the head of a put. For a TIPLOC or an
 -- association, the head ends before the body. For a schedule, the head ends before the first line
 abbrev pub IsPutHead : EntryPart → Type 0
 IsPutHead (before_body (tiploc_key code) stamp) = ⊤
@@ -24,8 +24,8 @@ IsPutHead (before_body (association_key key) stamp) = ⊤
 IsPutHead (before_line key stamp count lines) = lines ≡ []
 IsPutHead _ = ⊥
 
--- says that the bytes begin with good parts of an entry, up to a point for which `Ends` holds. The
--- pair gives the stage at this point, and the length of these parts in bytes
+-- says that the bytes begin with good parts of an entry, and that `Ends` holds for the part that
+-- comes next. The pair has the stage before that part, and the length of the good parts in bytes
 pub record BeginsWithParts (Ends : EntryPart → Type 0) (count : ℕ) (state : State) (bytes : List ℕ) (head : Stage × ℕ) : Type 0 where
   pub part : EntryPart
   pub ends : Ends part
@@ -34,7 +34,7 @@ pub record BeginsWithParts (Ends : EntryPart → Type 0) (count : ℕ) (state : 
   pub is : stage_meant head.0 state [] ≡ in_entry count state part
   pub fresh : IsFresh head.0 state
 
--- says that the bytes don't begin with good parts of an entry up to any point for which `Ends`
--- holds: such parts are missing, incomplete or bad
+-- says that the bytes don't begin with such good parts of an entry: for each part for which `Ends`
+-- holds, a part before it is missing, incomplete or bad
 abbrev pub BeginsWithNoParts : (EntryPart → Type 0) → State → List ℕ → Type 0
 BeginsWithNoParts Ends state bytes = (part : EntryPart) (len : ℕ) → Ends part → ¬ AreParts state (take len bytes) part

@@ -21,9 +21,8 @@ use Rattle.state_text.specs.FaultMeaning.{cause_meant, IsBadHere}
 use Rattle.state_text.specs.declared.stage.Stage.{Stage}
 use Rattle.state_text.specs.Stage.{LeadsTo}
 
--- says what the result of judging a part means. `Ok` means that the part is good, and gives the
--- stage after the part. `Err` gives a cause: the part is bad for this cause, or memory ran out for
--- the part
+-- says what the result of judging a part means. `Ok` means that the part is good, and gives the stage after the part. `Err` gives a cause: the part is bad for
+-- this cause, or there was no memory for the part
 abbrev pub Judges : Format → fault_statepart.Before → List ℕ → State → List (List ℕ) → Result Stage StateCause → Type 0
 Judges format before bytes state lines (Ok stage) = LeadsTo format before bytes stage state lines
 Judges format before bytes state lines (Err cause) = IsBadHere format before bytes (cause_meant cause)

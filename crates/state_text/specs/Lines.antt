@@ -13,7 +13,7 @@ pub record BeginUpTo (count : ℕ) (lines : List (List ℕ)) : Type 0 where
   pub complete : length lines ≡ count → IsSchedule lines
 
 -- says why a line that comes after these lines is refused. For `bad_body`, no schedule of `count` lines begins with the lines followed by this line. For
--- `None`, some schedule begins with them, but memory ran out for the line
+-- `None`, some schedule begins with them, but there was no memory for the line
 abbrev pub IsLineRefusal : ℕ → List (List ℕ) → List ℕ → Option StateCause → Type 0
 IsLineRefusal count lines line None = BeginUpTo count (lines ++ line ∷ [])
 IsLineRefusal count lines line (Some bad_body) = ¬ BeginUpTo count (lines ++ line ∷ [])
@@ -27,9 +27,8 @@ AreLinesIn state key lines = AreLinesOf key lines × HaveNotToLapse state lines
 abbrev pub AreLinesUpToIn : State → model.ScheduleKey → ℕ → List (List ℕ) → Type 0
 AreLinesUpToIn state key n lines = AreLinesUpTo key n lines × HaveNotToLapse state lines
 
--- says why a line is refused as one of the `n` lines of a schedule with this key. For `bad_body`,
--- no schedule of `n` lines with this key begins with the earlier lines and this line. For `None`,
--- some schedule does, but memory ran out for the line
+-- says why a line is refused as one of the `n` lines of a schedule with this key. For `bad_body`, no schedule of `n` lines with this key begins with the lines
+-- before it and this line. For `None`, some schedule does, but there was no memory for the line
 abbrev pub IsUpToRefusal : State → model.ScheduleKey → ℕ → List (List ℕ) → List ℕ → Option StateCause → Type 0
 IsUpToRefusal state key n lines line None = AreLinesUpToIn state key n (lines ++ line ∷ [])
 IsUpToRefusal state key n lines line (Some bad_body) = ¬ AreLinesUpToIn state key n (lines ++ line ∷ [])

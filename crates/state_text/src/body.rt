@@ -53,8 +53,8 @@ pub(crate) fn assoc_body(key: &AssocKey, horizon: u16, bytes: &[u8]) -> Option<B
     Some(Body::Assoc(line))
 }
 
-/// Whether the end date that begins at this index of the line is on the horizon or later. An end
-/// date that can't be read counts as no end.
+/// Whether the end date that begins at this index of the line is on the horizon or later. Returns
+/// true if the end date can't be read.
 fn stays(line: &Line, at: usize, horizon: u16) -> bool
     requires { at + 6 ≤ LINE }
     ensures { IsTrue result ↔ (horizon ≤ readable_end (slice_range line.now at (at + 6))) }

@@ -97,7 +97,7 @@ fn add_key(buffer: &mut Buffer, key: &Key)
 }
 
 /// Appends an op and its body. For a schedule's body it appends only the number of lines. The
-/// buffer needs room for the longest op, an association's.
+/// buffer needs room for the longest op with its body, an association's put.
 fn add_op(buffer: &mut Buffer, op: &Op)
     requires room { array_vec_len buffer.old + (OP + LINE) ≤ ROOM }
     requires few { length (op_lines (op_meant op.now)) < 2 ^ 32 }

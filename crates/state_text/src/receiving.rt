@@ -51,7 +51,7 @@ pub(crate) struct Receiving<R> {
     of: PhantomData<R>,
 }
 
-/// Offers the next entry to the staging. `given` records the earlier entries for proofs.
+/// Offers the next entry for staging. `given` records the entries before it for proofs.
 fn offer(
     own: &State,
     staging: &mut Staging,

@@ -139,9 +139,10 @@ impl Gathered {
     }
 
     /// Judges the next line of a schedule of `count` lines, and then adds the line. Returns `Body`
-    /// if no schedule begins with the earlier lines and this line; the earlier lines are then
-    /// unchanged. Also returns `Body` if this is the last line and the lines with it aren't a
-    /// schedule; all lines are then dropped. If memory runs out, all lines are dropped too.
+    /// if no schedule begins with the lines that were read and this line; the lines that were read
+    /// are then unchanged. Also returns `Body` if this is the last line and the lines with it
+    /// aren't a schedule; all lines are then dropped. If memory runs out, all lines are dropped
+    /// too.
     fn take(&mut self, line: &Line, count: u32) -> Result<(), StateCause>
         requires { length self.old < count }
         ensures taken { IsOk result → self.new ≡ self.old ++ line.now ∷ [] }

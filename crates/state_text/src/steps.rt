@@ -203,7 +203,7 @@ fn give<K: Keeper>(
 }
 
 /// Reads the op of an entry. The op of a put is followed by a body. Any other op completes the
-/// entry. Returns `Body` if the format has no such op.
+/// entry. Returns `Body` if the byte isn't an op of the format.
 fn after_op<K: Keeper>(
     format: Format,
     count: u64,

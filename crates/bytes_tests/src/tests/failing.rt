@@ -32,8 +32,8 @@ fn writes(
     same(rt, sink.device().bytes(), bytes);
 }
 
-/// Asserts that writing fails at this call, and that the sink has only the bytes of the earlier
-/// calls.
+/// Asserts that writing fails at this call, and that the sink has only the bytes of the calls
+/// before it.
 fn fails_to_write(rt: &impl Abort, alloc: Global, state: &State, known: &[u8], call: u64)
     requires { 0 < call }
 {

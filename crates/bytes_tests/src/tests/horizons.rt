@@ -105,7 +105,8 @@ fn accepted_lapsed(
     accepted(rt, alloc, text.as_slice(), number);
 }
 
-/// Asserts that a text with this horizon is accepted for a lapsed entry of each kind of key.
+/// Asserts that texts with this horizon and one lapsed entry are accepted: one text for each kind
+/// of key.
 fn each_accepted_lapsed(rt: &impl Abort, alloc: Global, horizon: &[u8], number: u16) {
     accepted_lapsed(rt, alloc, horizon, number, ASHFELD_HEAD, 65);
     accepted_lapsed(rt, alloc, horizon, number, JOINS_HEAD, 81);

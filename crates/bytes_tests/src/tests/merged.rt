@@ -16,7 +16,7 @@ use test_records::{
     LO, LO_0850, LO_0905, LO_1000, LO_1100, LT, LT_0935, LT_1030, LT_1130, ZZ,
 };
 
-/// The join of the states of these files, one after the other.
+/// The result of joining the states of these files, one after the other.
 fn merged(rt: &impl Abort, alloc: Global, files: &[&[&[u8]]]) -> State {
     let mut all = State::empty(alloc);
     for file in files {

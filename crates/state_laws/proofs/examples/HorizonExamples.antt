@@ -85,7 +85,8 @@ end_of_lapsed = refl
 abbrev text : List ℕ
 text = state_text dks_2 f2_state
 
--- a text in the format DKS2 that begins with the mark of the format DKS1 has the fault `bad_mark`
+-- a text that is read in the format DKS2 but begins with the mark of the format DKS1 has the fault
+-- `bad_mark`
 other_mark : IsStateFault dks_2 1000 (codes "DKS1" ++ drop 4 text) (record { at = 0; cause = bad_mark })
 other_mark = inl (record {
   before = before_mark;
@@ -121,7 +122,8 @@ cut_in_horizon : IsStateFault dks_2 1000 (take 5 text) (record { at = 4; cause =
 cut_in_horizon =
     inr (inr (inl (record { before = before_horizon; good = tt; rest = 0 ∷ []; whole = refl; ends = lit< tt; within = lit≤ tt; cause = refl; item_at = refl })))
 
--- the format DKS2 can hold the example state without its entry, whichever day is the horizon
+-- the example state without its entry can be written in the format DKS2, whichever day is the
+-- horizon
 told_without : (horizon : ℕ) → IsDay horizon → IsToldState dks_2 (state_with horizon [])
 told_without horizon day = record {
   valid = record {

@@ -1,5 +1,6 @@
--- Worked examples of key order and byte order. In three examples the two orders differ: if the tag
--- is left out, if the low byte of a number comes first, and if no record can have the keys.
+-- Worked examples of key order and byte order. In three examples the two orders differ. In the
+-- first the tag is left out. In the second the low byte of a number comes first. In the third the
+-- keys are such that no record can have them.
 use Rattle.std.proofs.Common.{◌≡◌, ℕ, List, ◌∷◌, refl}
 use Rattle.std.specs.Prelude.{codes}
 use Rattle.std.specs.Int.{w16, to_le_bytes}
@@ -37,8 +38,8 @@ later_day_in_bytes = refl
 low_byte_first : bytes_cmp (to_le_bytes w16 255) (to_le_bytes w16 256) ≡ Greater
 low_byte_first = refl
 
--- the key of an association with these two UIDs. If the UIDs have different lengths, one key can be
--- lower in the order of fields, and the other key in the order of bytes
+-- the key of an association with these two UIDs. If two such keys have UIDs of different lengths,
+-- one key can be lower in the order of fields, and the other lower in the order of bytes
 abbrev association_of : List ℕ → List ℕ → Key
 association_of base associated =
     association_key (record { base = base; associated = associated; start = 0; location = codes "ASHFELD"; suffix = 32; indicator = 80 })

@@ -35,7 +35,8 @@ cut_in_mark =
       item_at = refl;
     })))
 
--- a text with another mark has the fault `bad_mark`
+-- a text that is read in the format DKS1 but begins with the mark of the format DKS2 has the fault
+-- `bad_mark`
 other_mark : IsStateFault dks_1 1000 (codes "DKS2" ++ drop 4 text) (record { at = 0; cause = bad_mark })
 other_mark = inl (record {
   before = before_mark;
@@ -53,7 +54,7 @@ told_f2 : IsToldState dks_1 f2_state
 told_f2 =
     record { valid = f2_state_valid; horizon = refl; ops = All-from_recursion (λ (entry : Key × Entry). TellsOp dks_1 entry.1.op) f2_state.entries (tt, tt) }
 
--- a text with one more byte after the state has the fault `has_tail`
+-- a text with an extra byte after the end of the state has the fault `has_tail`
 one_byte_more : IsStateFault dks_1 1000 (text ++ 7 ∷ []) (record { at = 309; cause = has_tail })
 one_byte_more = inr (inr (inr (record {
   state = f2_state;

@@ -71,7 +71,8 @@ lapse_from_either horizon live key = by (live key) refl
 
 module _ (one two live : Table) (from : IsFromEither one two live) where
   -- suppose that the table `live` has at each key the body of one of two tables `one` and `two`, or
-  -- no body. Then its index of calls can be computed from the indexes of calls of `one` and `two`
+  -- no body. Then the index of calls of `live` can be computed from the indexes of calls of `one`
+  -- and `two`
   pub calling_from_either : (first second index : List CallingRow) → IsCallingIndex one first → IsCallingIndex two second
       → IsStrictlyAscending calling_cmp index
       → ((row : CallingRow) → Contains index row ↔ IsCallingFromEither one two live first second row) → IsCallingIndex live index
@@ -100,8 +101,8 @@ module _ (one two live : Table) (from : IsFromEither one two live) where
       back place key lines made (inr (inr none)) = none_some (schedule_body lines) (sym none ∙ made.is_live)
 
   -- suppose that the table `live` has at each key the body of one of two tables `one` and `two`, or
-  -- no body. Then its index of associations can be computed from the indexes of associations of
-  -- `one` and `two`
+  -- no body. Then the index of associations of `live` can be computed from the indexes of
+  -- associations of `one` and `two`
   pub linked_from_either : (first second index : List LinkedRow) → IsLinkedIndex one first → IsLinkedIndex two second → IsStrictlyAscending linked_cmp index
       → ((row : LinkedRow) → Contains index row ↔ IsLinkedFromEither one two live first second row) → IsLinkedIndex live index
   linked_from_either first second index is_first is_second up same = record {

@@ -30,8 +30,8 @@ module _ {K : Type 0} (place : List ℕ) where
       by true h rest = absurd (each row (cons-Contains-first row rows) ((bytes_eq-Decides row.0 place).0 h))
       by false h rest = rest
 
-  -- if all rows of a segment are for the place and no other row is, filtering the index by the
-  -- place gives the segment
+  -- if all rows of a segment are for the place and no other row of the index is for it, filtering
+  -- the index by the place gives the segment
   pub piece_is : (front rows back : List (List ℕ × K)) → ((row : List ℕ × K) → Contains front row → ¬ (row.0 ≡ place))
       → ((row : List ℕ × K) → Contains rows row → row.0 ≡ place)
       → ((row : List ℕ × K) → Contains back row → ¬ (row.0 ≡ place)) → filter (λ (row : List ℕ × K). bytes_eq row.0 place) ((front ++ rows) ++ back) ≡ rows

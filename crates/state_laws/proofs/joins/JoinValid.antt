@@ -1,5 +1,5 @@
--- The join of valid states is valid. A valid state is still valid after a greater horizon is set.
--- The floor of a valid state's ledger is the file stamp of its first full extract.
+-- The join of valid states is valid. A valid state is still valid after its horizon is raised. The
+-- floor of a valid state's ledger is the file stamp of its first full extract.
 use Rattle.std.proofs.Common.{List, Contains, subst, sym, Some, None, map, inl, inr, ◌⊎◌, ℕ, ◌<◌, ◌≤◌}
 use Rattle.std.proofs.Common.{◌++◌, ap, ◌≡◌, [], ◌∷◌, refl, ◌∙◌, Bool, true, false, cond, eqb-true, All}
 use Rattle.std.specs.Prelude.{Option, max, option_map, find, ◌==◌}

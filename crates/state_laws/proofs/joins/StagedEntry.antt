@@ -1,5 +1,5 @@
--- When one more entry is offered, it is staged or left out. The first lemmas are about the entry
--- that a state has at a key.
+-- When one more entry is offered for staging, it is staged or left out. The first lemmas are about
+-- the entry that a state has at a key.
 use Rattle.std.proofs.Common.{◌≡◌, List, [], ◌∷◌, ◌++◌, refl, ap, sym, ◌∙◌, subst, inl, inr, ◌⊎◌, Some, None, Contains, arith}
 use Rattle.std.specs.Prelude.{Option, ◌↔◌, option_and_then}
 use Rattle.std.specs.declared.cmp.Ordering.TheVariants.{Less}
@@ -45,8 +45,8 @@ entry_at_iff state up key entry = by (find_in state.entries key)
           λ among. absurd (none entry among),
         )
 
--- an entry is to be staged if and only if it isn't below the floor and is greater than the state's
--- entry at its key
+-- an offered entry is to be staged if and only if it isn't below the floor, and the state has no
+-- equal or greater entry for the same key
 pub to_stage_by_get : (own : State) → AreAscending own.entries → (floor : Option FileStamp) (key : Key) (entry : Entry)
     → IsToStage own floor key entry ↔ (IsKept floor entry.stamp.file × IsGreaterThan (entry_at own key) entry)
 to_stage_by_get own up floor key entry = by (entry_at own key) refl
@@ -66,7 +66,7 @@ to_stage_by_get own up floor key entry = by (entry_at own key) refl
 
 -- ---- entries are staged one by one
 
--- as long as no entry has been offered, no entry is staged
+-- as long as no entry has been offered for staging, no entry is staged
 pub nothing_staged : (own : State) (floor : Option FileStamp) → IsStaged own floor [] []
 nothing_staged own floor = record {
   ascending = tt;
@@ -75,7 +75,7 @@ nothing_staged own floor = record {
 
 module _ (own : State) (floor : Option FileStamp) (offered staged : List (Key × Entry)) (key : Key) (entry : Entry)
     (stages : IsStaged own floor offered staged) where
-  -- if an offered entry is to be staged, it is appended to the staged entries
+  -- if the next offered entry is to be staged, it is appended to the staged entries
   pub one_staged_more : ((other : Key × Entry) → Contains staged other → key_cmp other.0 key ≡ Less) → IsToStage own floor key entry
       → IsStaged own floor (offered ++ (key, entry) ∷ []) (staged ++ (key, entry) ∷ [])
   one_staged_more above to = record {
@@ -102,7 +102,7 @@ module _ (own : State) (floor : Option FileStamp) (offered staged : List (Key ×
       back k e to_stage (inl here) = Contains-append_left staged ((key, entry) ∷ []) (k, e) ((stages.members k e).1 (here, to_stage))
       back k e to_stage (inr here) = Contains-append_right staged ((key, entry) ∷ []) (k, e) here
 
-  -- if an offered entry isn't to be staged, the staged entries are unchanged
+  -- if the next offered entry isn't to be staged, the staged entries are unchanged
   pub one_left_out : ¬ IsToStage own floor key entry → IsStaged own floor (offered ++ (key, entry) ∷ []) staged
   one_left_out out = record {
     ascending = stages.ascending;
@@ -120,8 +120,9 @@ module _ (own : State) (floor : Option FileStamp) (offered staged : List (Key ×
 
 -- ---- after all entries are offered, the commit makes the join
 
--- suppose that all entries of a received state are offered, and the staged entries are committed.
--- The result is the join of `own` with the received state without its horizon
+-- suppose that all entries of a received state are offered for staging to the office whose state is
+-- `own`, and the staged entries are committed. The result is the join of `own` with the received
+-- state without its horizon
 pub staging_joins_before : (own received : State) (floor : Option FileStamp) (staged : List (Key × Entry)) (after : State) → IsValid own → IsValid received
     → IsFloor (own.ledger ++ received.ledger) floor → IsStaged own floor received.entries staged → IsCommit own received.ledger staged after
     → IsJoin own (without_horizon received) after
@@ -130,8 +131,9 @@ staging_joins_before own received floor staged after valid valid_too is_floor st
     (λ item. (λ x. x, λ x. x)) floor commit.floor is_floor commit.is_floor in
     commit_is_join own received valid valid_too staged after commit (subst (λ f. IsStaged own f received.entries staged) floors stages)
 
--- suppose that all entries of a received state are offered, the staged entries are committed, and
--- then the received horizon is set. The result is the join of `own` with the received state
+-- suppose that all entries of a received state are offered for staging to the office whose state is
+-- `own`. Then the staged entries are committed, and the received horizon is set. The result is the
+-- join of `own` with the received state
 pub staging_joins : (own received : State) (floor : Option FileStamp) (staged : List (Key × Entry)) (after : State) → IsValid own → IsValid received
     → IsFloor (own.ledger ++ received.ledger) floor → IsStaged own floor received.entries staged → IsCommit own received.ledger staged after
     → IsJoin own received (raise_horizon received.horizon after)
@@ -148,7 +150,8 @@ commit_is_valid own received floor staged after valid valid_too is_floor stages 
     without : IsValid (without_horizon received)
     without = record { horizon = omega arith; ledger = valid_too.ledger; entries = valid_too.entries; have_lapsed = none_to_lapse received.entries }
 
--- if the entries of a state are offered to the state itself, no entry is staged
+-- if all entries of a state are offered for staging to an office that has this state, no entry is
+-- staged
 pub own_stages_nothing : (own : State) (floor : Option FileStamp) → IsStaged own floor own.entries []
 own_stages_nothing own floor = record {
   ascending = tt;

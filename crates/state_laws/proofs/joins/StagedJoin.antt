@@ -1,5 +1,5 @@
--- An office offers all entries of a received state to its own state, and commits the staged
--- entries. The result is the join of its own state with the received state without its horizon.
+-- An office is offered all entries of a received state for staging, and commits the staged entries.
+-- The result is the join of its own state with the received state without its horizon.
 use Rattle.std.proofs.Common.{◌≡◌, ℕ, List, ◌++◌, ap, sym, ◌∙◌, subst, inl, inr, ◌⊎◌, Some, None, Contains}
 use Rattle.std.specs.Prelude.{Option}
 use Rattle.std.specs.declared.cmp.Ordering.TheVariants.{Equal}
@@ -39,7 +39,8 @@ module _ (own received : State) (valid : IsValid own) (valid_too : IsValid recei
   good_received : (key : Key) (entry : Entry) → Contains received.entries (key, entry) → IsGoodEntry received.ledger (key, entry)
   good_received key entry among = All-contains (IsGoodEntry received.ledger) received.entries (key, entry) valid_too.entries.0 among
 
-  -- an entry of the state and a received entry of the same key are equal if they tie in the order
+  -- an entry of the state and a received entry for the same key are equal if they tie in the order
+  -- of entries
   tied_equal : (key : Key) (one two : Entry) → Contains own.entries (key, one) → Contains received.entries (key, two) → entry_cmp one two ≡ Equal → one ≡ two
   tied_equal key one two in_own in_received e = exact_entry key one two (good_own key one in_own).op (good_received key two in_received).op e
 
@@ -52,7 +53,7 @@ module _ (own received : State) (valid : IsValid own) (valid_too : IsValid recei
   Best : Key → Entry → Type 0
   Best key entry = IsGreatestAmong (own.entries ++ received.entries) key entry × IsKept commit.floor entry.stamp.file
 
-  -- a staged entry isn't below the floor, and is the greatest entry of its key
+  -- a staged entry isn't below the floor, and is the greatest entry for its key
   staged_best : (key : Key) (entry : Entry) → Contains staged (key, entry) → Best key entry
   unfolding Best
   staged_best key entry among =
@@ -69,8 +70,8 @@ module _ (own received : State) (valid : IsValid own) (valid_too : IsValid recei
       under offered to other (inl here) = at_most_below entry_cmp other entry (to.greater other here)
       under offered to other (inr here) = subst (λ e. IsAtMost entry_cmp other e) (one_received key other entry here offered) (at_most_itself entry_total other)
 
-  -- if an entry of the state isn't below the floor, and no entry of its key is staged, it is the
-  -- greatest entry of the key
+  -- if an entry of the state isn't below the floor, and no entry for its key is staged, it is the
+  -- greatest entry for the key
   own_best : (key : Key) (entry : Entry) → Contains own.entries (key, entry) → IsKept commit.floor entry.stamp.file → HasNoEntryOf staged key → Best key entry
   unfolding Best
   own_best key entry among kept none = (
@@ -103,12 +104,13 @@ module _ (own received : State) (valid : IsValid own) (valid_too : IsValid recei
   forth key entry (inl here) = staged_best key entry here
   forth key entry (inr told) = own_best key entry told.0 told.1 told.2
 
-  -- the greatest entry of a key is staged, or it is in the state and no entry of the key is staged
+  -- the greatest entry for a key is staged, or it is in the state and no entry for the key is
+  -- staged
   back : (key : Key) (entry : Entry) → Best key entry → IsPutIn own staged commit.floor key entry
   unfolding Best
   back key entry best = by (Contains-append_cases own.entries received.entries (key, entry) best.0.among)
     where
-      -- if the state's entry is the greatest entry of its key, no entry of the key is staged
+      -- if the state's entry is the greatest entry for its key, no entry for the key is staged
       none_staged : Contains own.entries (key, entry) → HasNoEntryOf staged key
       none_staged here other inside =
           let told = (stages.members key other).0 inside in

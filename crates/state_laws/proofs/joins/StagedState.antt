@@ -43,7 +43,7 @@ module _ (own received : State) (floor : Option FileStamp) (staged : List (Key �
   floors : floor ≡ join.floor
   floors = floor_unique (own.ledger ++ received.ledger) (own.ledger ++ received.ledger) (λ item. (λ x. x, λ x. x)) floor join.floor is_floor join.is_floor
 
-  -- a staged entry is greater than the state's entry of the same key
+  -- a staged entry is greater than the state's entry for the same key
   above : (key : Key) (mine entry : Entry) → Contains own.entries (key, mine) → Contains staged (key, entry) → ¬ IsAtMost entry_cmp entry mine
   above key mine entry here there low = low (entry_total.antisymm entry mine ∙ ap ordering_reverse (((stages.members key entry).0 there).1.greater mine here))
 

@@ -1,4 +1,4 @@
--- Well-formed entries of one key that tie in the order are equal.
+-- If two well-formed entries for the same key tie in the order of entries, they are equal.
 use Rattle.std.proofs.Common.{◌≡◌, ℕ, List, [], ◌∷◌, length, All, refl, ap, sym, ◌∙◌, arith, length-append}
 use Rattle.std.specs.List.{concat}
 use Rattle.std.specs.declared.cmp.Ordering.TheVariants.{Equal}
@@ -61,7 +61,7 @@ same_op key (put_with a) (put_with b) good_a good_b tied =
     let parts = then_equal (bytes_cmp (body_bytes a) (body_bytes b)) (nat_cmp (body_tag a) (body_tag b)) behind.1 in
     ap put_with (same_body key a b good_a good_b (exact_bytes (body_bytes a) (body_bytes b) parts.0))
 
--- if two well-formed entries of one key tie in the order, they are equal
+-- if two well-formed entries for the same key tie in the order of entries, they are equal
 pub exact_entry : (key : Key) (a b : Entry) → IsOpOf key a.op → IsOpOf key b.op → entry_cmp a b ≡ Equal → a ≡ b
 exact_entry key a b good_a good_b tied =
     let parts = then_equal (stamp_cmp a.stamp b.stamp) (op_cmp a.op b.op) tied in

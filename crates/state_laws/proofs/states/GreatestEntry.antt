@@ -1,4 +1,4 @@
--- The greatest entry of a key in a list. Each key that has an entry has a greatest entry.
+-- The greatest entry for a key in a list. Each key that has an entry has a greatest entry.
 use Rattle.std.proofs.Common.{List, Contains, ◌≡◌, ◌∷◌, subst, inl, inr, ◌⊎◌, ap, [], refl, Bool, true, false}
 use Rattle.std.specs.Ordering.{is_eq}
 use Rattle.docker_model.specs.file.Change.{Key}
@@ -15,11 +15,11 @@ use Rattle.state_laws.proofs.states.PlainTable.{Keyed}
 abbrev pub NoEntry : List Keyed → Key → Type 0
 NoEntry entries key = (entry : Entry) → ¬ Contains entries (key, entry)
 
--- the list has a greatest entry of the key
+-- the list has a greatest entry for the key
 abbrev pub GreatestEntry : List Keyed → Key → Type 0
 GreatestEntry entries key = (entry : Entry) × Contains entries (key, entry) × ((other : Entry) → Contains entries (key, other) → IsAtMost entry_cmp other entry)
 
--- a list whose first entry has the key has a greatest entry of the key
+-- a list whose first entry has the key has a greatest entry for the key
 greater_of : (first : Keyed) (entries : List Keyed) (key : Key) → first.0 ≡ key → NoEntry entries key ⊎ GreatestEntry entries key
     → GreatestEntry (first ∷ entries) key
 greater_of first entries key same (inl none) =
@@ -69,7 +69,7 @@ still first entries key apart (inr best) =
     by other (inl e) = absurd (apart (ap (λ (pair : Keyed). pair.0) e))
     by other (inr inside) = best.2 other inside
 
--- a list has no entry of a key, or has a greatest entry of the key
+-- a list has no entry for a key, or has a greatest entry for the key
 pub greatest_in : (entries : List Keyed) (key : Key) → NoEntry entries key ⊎ GreatestEntry entries key
 greatest_in [] key = inl (λ entry among. nil-Contains (key, entry) among)
 greatest_in (first ∷ entries) key = by (is_eq (key_cmp first.0 key)) refl (greatest_in entries key)

@@ -1,5 +1,5 @@
--- Lemmas on how a floor and a horizon affect entries. If an entry isn't below the floor, no greater
--- entry is below the floor. Lapsing preserves the key order of entries.
+-- Lemmas on how a floor and a horizon affect entries. If an entry isn't below the floor, no entry
+-- that is greater than it is below the floor. Lapsing preserves the key order of entries.
 use Rattle.std.proofs.Common.{◌≡◌, ℕ, ◌<◌, ◌≤◌, List, [], ◌∷◌, subst, inl, inr, ◌⊎◌, refl, sym, ◌∙◌, Some, None}
 use Rattle.std.specs.Prelude.{Option}
 use Rattle.std.specs.List.{AllByRecursion}
@@ -23,7 +23,7 @@ kept_up (Some floor) low high most kept =
     at_most_trans file_stamp_total floor low.stamp.file high.stamp.file kept
     (λ greater. most (λ i. ordering_then (ordering_then (greater i) (nat_cmp low.stamp.number high.stamp.number)) (op_cmp low.op high.op)))
 
--- lapsing never makes an op greater
+-- an op is never greater after lapsing than before
 op_lapse_below : (horizon : ℕ) (op : Op) → IsAtMost op_cmp (lapse horizon op) op
 op_lapse_below horizon deleted = at_most_itself op_total deleted
 op_lapse_below horizon lapsed = at_most_itself op_total lapsed
@@ -33,7 +33,7 @@ op_lapse_below horizon (put_with body) = by (below_or horizon body)
     by (inl below) = subst (λ op. IsAtMost op_cmp op (put_with body)) (sym (put_lapses horizon body below)) (λ greater. cc)
     by (inr above) = subst (λ op. IsAtMost op_cmp op (put_with body)) (sym (put_stays horizon body above)) (at_most_itself op_total (put_with body))
 
--- lapsing never makes an entry greater
+-- an entry is never greater after lapsing than before
 pub lapse_below : (horizon : ℕ) (entry : Entry) → IsAtMost entry_cmp (lapse_entry horizon entry) entry
 lapse_below horizon entry = by (stamp_cmp entry.stamp entry.stamp) (at_most_itself entry_total entry)
   where
@@ -48,7 +48,7 @@ tied_lapsed deleted tied = cc
 tied_lapsed lapsed tied = refl
 tied_lapsed (put_with body) tied = cc
 
--- if two entries tie in the order, and one of them has lapsed, they are equal
+-- if two entries tie in the order of entries, and one of them has lapsed, they are equal
 pub level_lapsed : (first second : Entry) → second.op ≡ lapsed → IsAtMost entry_cmp first second → IsAtMost entry_cmp second first → first ≡ second
 level_lapsed first second is up down =
     let parts = then_equal (stamp_cmp first.stamp second.stamp) (op_cmp first.op second.op) (level entry_total first second up down) in

@@ -1,5 +1,5 @@
 -- Lapsing is monotone: it preserves the order of ops and entries. Lapsing is idempotent. Lapsing
--- with one horizon and then with another equals lapsing with the greater horizon.
+-- with one horizon and then with another equals lapsing with the greater of the two horizons.
 use Rattle.std.proofs.Common.{◌≡◌, ℕ, ◌<◌, ◌≤◌, subst, inl, inr, ◌⊎◌, refl, ap, sym, ◌∙◌, Bool, true, false, cond, arith}
 use Rattle.std.specs.Prelude.{max, nat_lt}
 use Rattle.std.specs.declared.cmp.Ordering.{Ordering}
@@ -68,7 +68,8 @@ max_most a b n first second = by (nat_lt a b) refl
     by true h = let below = ltb-true a b h in subst (λ m. m ≤ n) (sym (max-eq_right (omega arith))) second
     by false h = subst (λ m. m ≤ n) (sym (max-eq_left (ltb-false a b h))) first
 
--- lapsing an op with one horizon and then with another equals lapsing it with the greater horizon
+-- lapsing an op with one horizon and then with another equals lapsing it with the greater of the
+-- two horizons
 pub lapse_twice : (second first : ℕ) (op : Op) → lapse second (lapse first op) ≡ lapse (max second first) op
 lapse_twice second first deleted = refl
 lapse_twice second first lapsed = refl
@@ -106,7 +107,8 @@ deleted_least horizon body = by (below_or horizon body)
 number_above : (m n : ℕ) → n < m → nat_cmp m n ≡ Greater
 number_above m n below = sym (nat_cmp_is m n Greater below)
 
--- if one body is at most another body in the order, it doesn't end later than the other body
+-- if one body is at most another body in the order of bodies, it doesn't end later than the other
+-- body
 ends_in_order : (a b : Body) → IsAtMost body_cmp a b → body_end a ≤ body_end b
 ends_in_order a b most = by (nat_lt (body_end b) (body_end a)) refl
   where
@@ -146,8 +148,8 @@ lapse_entry_keeps_order horizon a b most = by (stamp_cmp a.stamp b.stamp) most
 
 -- ---- lapsing of entries has the same laws as lapsing of ops
 
--- lapsing an entry with one horizon and then with another equals lapsing it with the greater
--- horizon
+-- lapsing an entry with one horizon and then with another equals lapsing it with the greater of the
+-- two horizons
 pub entry_twice : (second first : ℕ) (entry : Entry) → lapse_entry second (lapse_entry first entry) ≡ lapse_entry (max second first) entry
 entry_twice second first entry = λ i. record { stamp = entry.stamp; op = lapse_twice second first entry.op i }
 

@@ -1,4 +1,4 @@
--- Lapsing commutes with taking the greatest entry: after lapsing, the greatest entry of a key is
+-- Lapsing commutes with taking the greatest entry: after lapsing, the greatest entry for a key is
 -- still the greatest of the key's entries.
 use Rattle.std.proofs.Common.{◌≡◌, ℕ, List, map, Contains, subst, ap}
 use Rattle.docker_model.specs.file.Change.{Key}
@@ -22,8 +22,8 @@ pub lapsed_to : (horizon : ℕ) (entries : List (Key × Entry)) (key : Key) (ent
     → Contains (lapse_entries horizon entries) (key, lapse_entry horizon entry)
 lapsed_to horizon entries key entry among = map-Contains (lapse_keyed horizon) entries (key, entry) among
 
--- if an entry is the greatest entry of its key in a list, the lapsed entry is the greatest entry of
--- the key in the lapsed list
+-- if an entry is the greatest entry for its key in a list, the lapsed entry is the greatest entry
+-- for the key in the lapsed list
 pub greatest_lapses : (horizon : ℕ) (entries : List (Key × Entry)) (key : Key) (entry : Entry) → IsGreatestAmong entries key entry
     → IsGreatestAmong (lapse_entries horizon entries) key (lapse_entry horizon entry)
 greatest_lapses horizon entries key entry best = record {

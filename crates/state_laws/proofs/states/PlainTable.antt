@@ -32,8 +32,8 @@ use Rattle.cif_laws.proofs.orders.AtMost.{less_not_greater, at_most_trans}
 abbrev pub Keyed : Type 0
 Keyed = Key × Entry
 
--- the table after one more entry: at the entry's key it has the body that the entry's op puts, if
--- any
+-- the table after one more entry is applied: at the entry's key it has the body that the entry's op
+-- puts, if any
 abbrev pub step : Table → Keyed → Table
 step table entry key = cond (is_eq (key_cmp entry.0 key)) (body_of entry.1.op) (table key)
 
@@ -45,8 +45,8 @@ Ascends first second = first.0 ≡ second.0 → IsBelow stamp_cmp first.1.stamp 
 abbrev pub NoneThere : List Keyed → Table → Key → Type 0
 NoneThere entries table key = ((entry : Entry) → ¬ Contains entries (key, entry)) × (fold step table entries key ≡ table key)
 
--- the list has an entry of this key with the greatest stamp. After all entries of the list, the
--- table has the body of this entry at the key
+-- the list has entries for this key, and one of them has the greatest stamp of them all. After all
+-- entries of the list are applied, the table has the body of this entry at the key
 abbrev pub LastThere : List Keyed → Table → Key → Type 0
 LastThere entries table key =
     (entry : Entry) × Contains entries (key, entry) × (fold step table entries key ≡ body_of entry.op)
@@ -155,8 +155,8 @@ across_files file change second below same =
     λ i. ordering_then (ordering_then (below i) (bytes_cmp (file_stamp_of file).reference second.1.stamp.file.reference))
     (nat_cmp change.number second.1.stamp.number)
 
--- if files are in moment order, then of two entries of one key, the later entry has the greater
--- stamp
+-- if files are in moment order, then of two entries for the same key, the later entry has the
+-- greater stamp
 pub entries_ascend : (files : List (List (List ℕ))) → IsStrictlyAscending (on moment_of moment_cmp) files → AllLater Ascends (entries_along files)
 entries_ascend [] up = tt
 entries_ascend (file ∷ files) up =
@@ -179,7 +179,7 @@ entries_ascend (file ∷ files) up =
 abbrev CmpStamps : List (List ℕ) → List (List ℕ) → Ordering
 CmpStamps first second = file_stamp_cmp (file_stamp_of first) (file_stamp_of second)
 
--- a file with an earlier moment has a lower file stamp
+-- of two files, the file with the earlier moment has the lower file stamp
 stamp_below : (first second : List (List ℕ)) → IsBelow (on moment_of moment_cmp) first second → CmpStamps first second ≡ Less
 stamp_below first second below = λ i. ordering_then (below i) (bytes_cmp (file_stamp_of first).reference (file_stamp_of second).reference)
 
@@ -219,7 +219,7 @@ NoneAbove files file = (other : List (List ℕ)) → Contains files other → is
 abbrev SomeAbove : List (List (List ℕ)) → List (List ℕ) → Type 0
 SomeAbove files file = (other : List (List ℕ)) × Contains files other × (is_full other ≡ true) × (CmpStamps file other ≡ Less)
 
--- the file counts: it is one of the files, and no full extract among the files is newer
+-- the file counts: it is one of the files, and no full extract among the files is newer than it
 abbrev KeptThere : List (List (List ℕ)) → List (List ℕ) → Type 0
 KeptThere files file = Contains files file × NoneAbove files file
 
@@ -233,7 +233,7 @@ none_above_head first files file above among none other there full = by (Contain
         less_not_greater (CmpStamps other file) (subst (λ f. CmpStamps f file ≡ Less) same below)
     by (inr inside) = none other inside full
 
--- if no later file is a full extract, every file counts
+-- if no file after the first file is a full extract, every file counts
 all_kept : (first : List (List ℕ)) (files : List (List (List ℕ))) (file : List (List ℕ)) → AllByRecursion (IsBelow (on moment_of moment_cmp) first) files
     → list_any is_full files ≡ false → Contains (first ∷ files) file → NoneAbove (first ∷ files) file
 all_kept first files file above none among other there full = by (Contains-cons first files other there) (Contains-cons first files file among)
@@ -355,15 +355,15 @@ module _ (files ordered : List (List (List ℕ))) (order : IsInMomentOrder files
 
 -- ---- a search for a key in a state finds the only entry of the key
 
--- a search finds an entry of the key in the list
+-- a search finds an entry for the key in the list
 abbrev pub Found : List Keyed → Key → Type 0
 Found entries key = (pair : Keyed) × (find (λ entry. is_eq (key_cmp entry.0 key)) entries ≡ Some pair) × Contains entries (key, pair.1)
 
--- a search for the key finds no entry, since the list has no entry of the key
+-- a search for the key finds no entry, since the list has no entry for the key
 abbrev pub NotFound : List Keyed → Key → Type 0
 NotFound entries key = (find (λ entry. is_eq (key_cmp entry.0 key)) entries ≡ None) × ((entry : Entry) → ¬ Contains entries (key, entry))
 
--- a search finds an entry of the key, or the list has no entry of the key
+-- a search finds an entry for the key, or the list has no entry for the key
 pub find_in : (entries : List Keyed) (key : Key) → Found entries key ⊎ NotFound entries key
 find_in [] key = inr (refl, λ entry among. nil-Contains (key, entry) among)
 find_in (first ∷ entries) key = by (is_eq (key_cmp first.0 key)) refl (find_in entries key)

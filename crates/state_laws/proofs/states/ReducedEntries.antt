@@ -1,5 +1,5 @@
 -- Ledger items and entries can be reduced with a horizon. The result is a state. It has the items
--- that aren't below the floor of all items, and the greatest entry of each key if that entry isn't
+-- that aren't below the floor of all items, and the greatest entry for each key if that entry isn't
 -- below the floor. Each entry whose body ended before the horizon has lapsed. A reduction in two
 -- steps equals the reduction in one step, if the horizon of the first step is at most the horizon
 -- of the second step.
@@ -27,7 +27,7 @@ KeptOf entries floor horizon key entry =
     (greatest : Entry) × IsGreatestAmong entries key greatest × IsKept floor greatest.stamp.file × (lapse_entry horizon greatest ≡ entry)
 
 -- the state is made by reducing these items and entries with its horizon. It has the items that
--- aren't below the floor of all items. It has the greatest entry of each key, lapsed with the
+-- aren't below the floor of all items. It has the greatest entry for each key, lapsed with the
 -- horizon, unless that entry is below the floor
 pub record IsReduced (items : List LedgerItem) (entries : List Keyed) (state : State) : Type 0 where
   pub floor : Option FileStamp
@@ -106,8 +106,8 @@ module _ (items more : List LedgerItem) (entries others : List Keyed) (once twic
     Whole : Type 0
     Whole = (best : Entry) × IsGreatestAmong (entries ++ others) key best
 
-    -- each entry of a key in the second step of the reduction is at most the greatest of all
-    -- entries of the key
+    -- each entry for a key in the second step of the reduction is at most the greatest of all
+    -- entries for the key
     under_best : (best : Entry) → IsGreatestAmong (entries ++ others) key best → (other : Entry) → Contains (once.entries ++ others) (key, other)
         → IsAtMost entry_cmp other best
     under_best best is other among = by (Contains-append_cases once.entries others (key, other) among)
@@ -120,7 +120,7 @@ module _ (items more : List LedgerItem) (entries others : List Keyed) (once twic
             (subst (λ e. IsAtMost entry_cmp e told.0) told.3 (lapse_below once.horizon told.0))
             (is.greatest told.0 (Contains-append_left entries others (key, told.0) told.1.among))
 
-    -- suppose that the greatest of all entries of a key isn't below the floor. Either it is in
+    -- suppose that the greatest of all entries for a key isn't below the floor. Either it is in
     -- `others`, or the first step of the reduction keeps it, lapsed with the horizon of this step
     stands : (best : Entry) → IsGreatestAmong (entries ++ others) key best → IsKept second.floor best.stamp.file
         → Contains once.entries (key, lapse_entry once.horizon best) ⊎ Contains others (key, best)
@@ -136,7 +136,7 @@ module _ (items more : List LedgerItem) (entries others : List Keyed) (once twic
           λ i. lapse_entry once.horizon best,
         ))
 
-    -- let `best` be the greatest of all entries of a key, and `top` the key's greatest entry among
+    -- let `best` be the greatest of all entries for a key, and `top` the key's greatest entry among
     -- the entries that the second step of the reduction receives. Lapsing makes them equal
     same_lapse : (best top : Entry) → IsGreatestAmong (entries ++ others) key best → IsGreatestAmong (once.entries ++ others) key top
         → IsKept second.floor best.stamp.file → IsKept second.floor top.stamp.file → lapse_entry twice.horizon best ≡ lapse_entry twice.horizon top

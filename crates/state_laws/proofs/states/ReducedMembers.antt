@@ -25,7 +25,7 @@ floor_along items more same (Some stamp) greatest = record {
   greatest = λ item among. greatest.greatest item ((same item).1 among);
 }
 
--- the greatest entry of a key depends only on the members of the list
+-- the greatest entry for a key depends only on the members of the list
 pub greatest_along : (entries others : List Keyed) → SameMembers entries others → (key : Key) (entry : Entry) → IsGreatestAmong entries key entry
     → IsGreatestAmong others key entry
 greatest_along entries others same key entry best = record {

@@ -1,6 +1,6 @@
 -- A set of files has at most one summary for each horizon. The join of two summaries is the summary
--- of both sets of files together, with the greater horizon. Setting a horizon on a summary gives
--- the summary with the greater of the two horizons.
+-- of both sets of files together, with the greater of their two horizons. Setting a horizon on a
+-- summary gives the summary with the greater of the two horizons.
 use Rattle.std.proofs.Common.{◌≡◌, ℕ, ◌≤◌, List, ◌++◌, map, Contains, subst, inl, inr, ◌⊎◌, ap, sym, ◌∙◌}
 use Rattle.std.specs.Prelude.{max}
 use Rattle.std.specs.List.{flat_map}
@@ -51,7 +51,8 @@ members_of_append xs ys zs left right x among = by (Contains-append_cases xs ys 
     by (inl here) = left x here
     by (inr here) = right x here
 
--- the ledger items of two sets of files are the ledger items of their union
+-- the ledger items of two sets of files, taken together, are the ledger items of the union of the
+-- sets
 items_of_union : (files others : List File) → SameMembers (map ledger_item_of others ++ map ledger_item_of files) (map ledger_item_of (files ++ others))
 items_of_union files others item = (
   members_of_append (map ledger_item_of others) (map ledger_item_of files) (map ledger_item_of (files ++ others))

@@ -42,8 +42,8 @@ below_kept (Some floor) low high kept = by (at_most_or file_stamp_total floor lo
         (op_cmp low.op high.op)))
 
 module _ (files : List File) (floor : Option FileStamp) (key : Key) where
-  -- if a file isn't older than the floor, each entry that its changes make is among the entries of
-  -- all files. The file stamp of this entry isn't below the floor
+  -- if the file stamp of a file isn't below the floor, each entry that its changes make is among
+  -- the entries of all files. The file stamp of this entry isn't below the floor
   pub entry_in : (entry : Entry) → IsEntryOf files floor key entry → Contains (entries_along files) (key, entry) × IsKept floor entry.stamp.file
   entry_in entry made =
       let pair : entry_of_change made.file made.change ≡ (key, entry) = (λ i. (made.key_is i, made.entry_is i)) in (
@@ -52,8 +52,8 @@ module _ (files : List File) (floor : Option FileStamp) (key : Key) where
         subst (λ (e : Entry). IsKept floor e.stamp.file) made.entry_is made.kept.kept,
       )
 
-  -- if the file stamp of an entry isn't below the floor, the entry was made by a file that isn't
-  -- older than the floor
+  -- if the file stamp of an entry isn't below the floor, a change of a file that isn't below the
+  -- floor makes this entry
   pub entry_out : (entry : Entry) → Contains (entries_along files) (key, entry) → IsKept floor entry.stamp.file → IsEntryOf files floor key entry
   entry_out entry among kept =
       let found = Contains-flat_map entries_of files (key, entry) among in

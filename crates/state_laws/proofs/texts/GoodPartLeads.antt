@@ -149,7 +149,8 @@ step_stamp format count state key stamp ledger is =
     (ap (λ s. in_entry count state (before_op key s)) (stamp_read state.ledger stamp ledger is))
     (part_more format count state (key_text key) (stamp_bytes stamp))
 
--- an op may begin with 0 or 1 in each format, and with 2 in the format that has lapsed ops
+-- an op may begin with the byte 0 or 1 in each format, and with the byte 2 in the format that has
+-- lapsed ops
 zero_told : (format : Format) → IsOpByte format 0
 zero_told dks_1 = inl refl
 zero_told dks_2 = inl refl

@@ -1,4 +1,4 @@
--- A text has at most one fault, and the text of a state has none.
+-- A text has at most one fault. The text of a state within the limit has none.
 use Rattle.std.proofs.Common.{◌≡◌, ℕ, ◌+◌, ◌≤◌, List, [], ◌∷◌, ◌++◌, length, refl, ap, sym, ◌∙◌}
 use Rattle.std.proofs.Common.{subst, inl, inr, arith, append_assoc, append-nil, length-append}
 use Rattle.docker_model.specs.file.Change.{Key}

@@ -108,7 +108,8 @@ judge_entry_count format horizon ledger bytes good size small =
           ∙ (λ i. sym (append-nil (items_before format (before_entry_count horizon ledger))) i ++ eight_bytes bytes size small i),
     )
 
--- the format can hold the state, and at least one entry follows the state's entries in the text
+-- the state can be written in the format, and at least one entry follows the state's entries in the
+-- text
 abbrev pub StateHere : (format : Format) → ℕ → State → Type 0
 StateHere format count state = IsToldState format state × (length state.ledger < 2 ^ 64) × (length state.entries < count) × (count < 2 ^ 64)
 

@@ -187,7 +187,8 @@ body_leads format count state (association_key key) stamp (schedule_body lines) 
 body_leads format count state (schedule_key key) stamp (tiploc_body bytes) below is stays = absurd is
 body_leads format count state (schedule_key key) stamp (association_body line) below is stays = absurd is
 
--- a state with this horizon and this ledger may have the entry, and the format can hold it
+-- a state with this horizon and this ledger may have the entry, and the entry can be written in the
+-- format
 abbrev pub IsToldEntry : Format → ℕ → List LedgerItem → Key × Entry → Type 0
 IsToldEntry format horizon ledger entry = IsGoodEntry ledger entry × HasNotToLapse horizon entry.1.op × TellsOp format entry.1.op
 
@@ -238,8 +239,8 @@ entry_count_leads format horizon ledger is_horizon is fits =
     then_leads format _ _ _ (ledger_leads format horizon (length ledger) ledger is_horizon is fits (omega arith))
     (no_step format _ _ (all_items horizon ledger))
 
--- the format can hold entries that are good, don't have to lapse, and have only ops that the format
--- can hold
+-- entries that are good and don't have to lapse can be written in the format, if their ops can be
+-- written in the format
 told_entries : (format : Format) (horizon : ℕ) (ledger : List LedgerItem) (entries : List (Key × Entry)) → AllByRecursion (IsGoodEntry ledger) entries
     → AllByRecursion (λ (entry : Key × Entry). HasNotToLapse horizon entry.1.op) entries
     → AllByRecursion (λ (entry : Key × Entry). TellsOp format entry.1.op) entries

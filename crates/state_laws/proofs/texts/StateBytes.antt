@@ -1,4 +1,5 @@
--- Encoding is inverse to decoding, if the number of bytes is right.
+-- Decoding bytes and encoding the result gives the same bytes, if the number of bytes is right for
+-- what is decoded.
 use Rattle.std.proofs.Common.{◌≡◌, ℕ, zero, suc, ◌<◌, ◌^◌, List, [], ◌∷◌, ◌++◌, length, take, drop, get_or, refl, ap, sym, subst, inl, inr, arith}
 use Rattle.std.specs.Prelude.{slice_index, slice_range}
 use Rattle.std.specs.List.{AllByRecursion}

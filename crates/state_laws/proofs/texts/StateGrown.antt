@@ -1,4 +1,4 @@
--- If a format can hold a state, it can also hold the state after a good entry is appended.
+-- If a state can be written in a format, so can the state after a good entry is appended.
 use Rattle.std.proofs.Common.{ℕ, arith, List, [], ◌∷◌, ◌++◌, All, ◌≡◌, ◌<◌, ◌≤◌, ◌^◌, length, sym, subst, inl, inr, ◌⊎◌, true, false, cond, nat_le}
 use Rattle.std.specs.Ordering.{on}
 use Rattle.std.proofs.lemmas.List.Elements.{All-from_recursion, recursion_from_All}
@@ -21,12 +21,12 @@ pub horizon_day : (format : Format) (horizon : ℕ) → IsHorizonOf format horiz
 horizon_day dks_1 horizon none = omega (arith, none)
 horizon_day dks_2 horizon day = day
 
--- each format can hold a deletion
+-- a deletion can be written in each format
 pub tells_deleted : (format : Format) → TellsOp format deleted
 tells_deleted dks_1 = tt
 tells_deleted dks_2 = tt
 
--- each format can hold a put
+-- a put can be written in each format
 pub tells_put : (format : Format) (body : Body) → TellsOp format (put_with body)
 tells_put dks_1 body = tt
 tells_put dks_2 body = tt
@@ -41,8 +41,8 @@ valid_without horizon ledger day is = record {
   have_lapsed = All-from_recursion (λ (entry : Key × Entry). HasNotToLapse horizon entry.1.op) [] tt;
 }
 
--- the format can hold a state without entries, if the format allows the state's horizon and the
--- state's ledger is well formed
+-- a state without entries can be written in the format, if the format allows the state's horizon
+-- and the state's ledger is well formed
 pub no_entries : (format : Format) (horizon : ℕ) (ledger : List LedgerItem) → IsHorizonOf format horizon → IsLedger ledger
     → IsToldState format (record { horizon = horizon; ledger = ledger; entries = [] })
 no_entries format horizon ledger is_horizon is = record {
@@ -74,7 +74,8 @@ valid_more state key stamp op valid here of stays = record {
     entry : Entry
     entry = record { stamp = stamp; op = op }
 
--- if a format can hold a state and one more good entry, it can hold the state with that entry
+-- if a state and one more good entry can be written in a format, so can the state with that entry
+-- appended
 pub one_entry_more : (format : Format) (state : State) (key : Key) (stamp : Stamp) (op : Op) → IsToldState format state → IsStampHere state key stamp
     → IsOpOf key op
     → HasNotToLapse state.horizon op → TellsOp format op → IsToldState format (with_entry state key stamp op)
@@ -96,7 +97,8 @@ good_after_items format horizon count ledger is_horizon is within fits = by (leb
     by (inr told) =
         subst (λ b. AreGood format (cond b (before_entry_count horizon ledger) (before_item horizon count ledger))) (sym told.0) (is_horizon, is, told.1, fits)
 
--- if the format can hold a state, all parts up to and including the state's entries are good
+-- if a state can be written in the format, all parts up to and including the state's entries are
+-- good
 pub good_after_entries : (format : Format) → (count : ℕ) (state : State) → IsToldState format state → length state.ledger < 2 ^ 64
     → length state.entries ≤ count → count < 2 ^ 64 → AreGood format (after_entries count state)
 good_after_entries format count state valid items within fits = by (leb_tells count (length state.entries))

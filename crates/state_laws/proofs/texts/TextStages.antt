@@ -1,5 +1,5 @@
 -- A reader reads a text part by part. The text read is the concatenation of the parts read. Of two
--- different stages of one text, one is later.
+-- different stages of one text, one is later than the other.
 use Rattle.std.proofs.Common.{◌≡◌, ℕ, ◌<◌, List, ◌++◌, length, [], ◌∷◌, ap, ◌∙◌, sym, subst, append_assoc, append-nil, ◌⊎◌, refl, inl, inr}
 use Rattle.std.specs.Prelude.{⊤}
 use Rattle.std.specs.List.{concat}

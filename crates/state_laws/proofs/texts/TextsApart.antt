@@ -1,5 +1,5 @@
--- States with the same text are equal. A reader of a text with a limit stops at no more than one
--- stage.
+-- States with the same text are equal. A reader with a limit stops at no more than one stage of a
+-- text.
 use Rattle.std.proofs.Common.{◌≡◌, ℕ, ◌+◌, ◌≤◌, List, [], ◌++◌, length, ap, sym, ◌∙◌, subst, inl, inr, arith, append_assoc, append-nil, length-append}
 use Rattle.std.proofs.lemmas.List.{append_cancel_left}
 use Rattle.docker_model.specs.state.State.{State}
@@ -80,7 +80,7 @@ no_bad_part format limit text state rest fault good is has =
     by (inr (inl later)) = bad_stops format text has.before (at_end state) has.bytes has.rest rest fault.cause has.size has.bad has.whole whole later
     by (inr (inr later)) = no_part_at_end format state has.before later
 
--- a reader of the text with the limit stops at this stage: the reader reaches this stage, and no
+-- if a reader with this limit reads the text, it stops at this stage: it reaches this stage, and no
 -- later stage
 pub record IsStopped (format : Format) (limit : ℕ) (text : List ℕ) (before : Before) : Type 0 where
   pub good : AreGood format before
@@ -90,7 +90,7 @@ pub record IsStopped (format : Format) (limit : ℕ) (text : List ℕ) (before :
   pub stops : (after : Before) (more : List ℕ) → IsLater format before after → text ≡ text_before format after ++ more
       → length (text_before format after) ≤ limit → ⊥
 
--- a reader of a text with a limit stops at no more than one stage
+-- a reader with a limit stops at no more than one stage of a text
 pub one_stop : (format : Format) → (limit : ℕ) (text : List ℕ) (first second : Before) → IsStopped format limit text first → IsStopped format limit text second
     → first ≡ second
 one_stop format limit text first second one two = by (both_in_line format text first second one.rest two.rest one.good two.good one.whole two.whole)

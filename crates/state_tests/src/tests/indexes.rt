@@ -83,7 +83,8 @@ fn association(rt: &impl Abort) -> Key {
     })
 }
 
-/// A table with one more row, from a file with this date of extract.
+/// The table `table` with one more row. The row's entry comes from a file with this date of
+/// extract.
 fn and(
     rt: &impl Abort,
     alloc: Global,
@@ -131,7 +132,8 @@ fn indexed(rt: &impl Abort, alloc: Global, table: &Table<Entry>) -> Index {
     Index::of_rows(room, notes, rows)
 }
 
-/// Makes the index of the join of both tables, without the entries below a floor.
+/// Makes the index of the join of the tables `timetable` and `update`, without the entries below a
+/// floor.
 fn joined(rt: &impl Abort, alloc: Global, floor: &Option<FileStamp>) -> Index {
     let own = timetable(rt, alloc);
     let other = update(rt, alloc);

@@ -36,7 +36,7 @@ fn copied(rt: &impl Abort, alloc: Global, op: &Op) -> Op
     }
 }
 
-/// Offers a copy of this entry.
+/// Offers `own` a copy of this entry for staging.
 fn offer(rt: &impl Abort, alloc: Global, own: &State, staging: &mut Staging, row: &(Key, Entry))
     requires floor { IsFloor (own.now.ledger ++ staging.old.items) staging.old.floor }
     requires above { IsAboveStaged staging.old.staged (key_meant row.now.0) }
@@ -51,7 +51,7 @@ fn offer(rt: &impl Abort, alloc: Global, own: &State, staging: &mut Staging, row
         .expect(rt, "memory");
 }
 
-/// Offers copies of these entries, one by one.
+/// Offers `own` copies of these entries for staging, one by one.
 fn offer_all(
     rt: &impl Abort,
     alloc: Global,
@@ -123,7 +123,7 @@ const UPDATE: &[&[u8]] = &[HD_5A, BS_C10003, BS, LO, LT, ZZ];
 /// A full extract that is later than `UPDATE`, with a third schedule.
 const EXTRACT: &[&[u8]] = &[HD_7B, BS_C10002, LO_1000, LT_1030, ZZ];
 
-/// What is shown for a state that knows only the file `EXTRACT`.
+/// What is shown for a state whose ledger has only the file `EXTRACT`.
 const EXTRACT_ONLY: &[&[u8]] = &[
     b"item 23534 1260 DFROC1B F DFROC1A",
     b"floor 23534 1260 DFROC1B",

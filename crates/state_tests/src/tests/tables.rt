@@ -39,7 +39,7 @@ fn entry_is(rt: &impl Abort, table: &Table<Entry>, code: &str, place: u8) {
     same(rt, table.get(&key(rt, code)), Some(&entry(rt, place)));
 }
 
-/// Asserts that a row has this key.
+/// Asserts that the row at this index has the key of this timing point.
 fn key_is(rt: &impl Abort, rows: &[(Key, Entry)], at: usize, code: &str) {
     let row = rows.get(at).expect(rt, "a row");
     same(rt, row.0, key(rt, code));

@@ -17,7 +17,7 @@ use Rattle.docker_state.proofs.GreatestRows.{last_is_greatest, greatest_is_last}
 use Rattle.docker_state.proofs.LastMade.{sorted_made, last_is, last_len, last_picked}
 use Rattle.docker_state.proofs.rows.greatest_rows.Goals as goal
 
--- the greatest entry of a key among some rows is the key's greatest entry in any list with the same rows
+-- the greatest entry for a key among some rows is the key's greatest entry in any list with the same rows
 along : (xs ys : List (model.Key × ops.Entry)) → ((pair : model.Key × ops.Entry) → Contains xs pair → Contains ys pair)
     → ((pair : model.Key × ops.Entry) → Contains ys pair → Contains xs pair)
     → (key : model.Key) (entry : ops.Entry) → IsGreatestAmong xs key entry → IsGreatestAmong ys key entry

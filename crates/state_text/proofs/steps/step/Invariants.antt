@@ -1,4 +1,4 @@
--- In each of these calls, the ghost value `format` is the format of the text.
+-- In each call that `step` makes, the ghost value `format` is the format of the text.
 use Rattle.state_text.proofs.steps.step.Given as goal
 
 abbrev pub ghost-after_horizon : goal.ghost-after_horizon
