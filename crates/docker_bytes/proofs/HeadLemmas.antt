@@ -1,5 +1,4 @@
--- Reading the head of an entry at once. If an entry has a body, its head is all parts before the
--- body.
+-- Reading the head of an entry in one step. If an entry has a body, its head is all parts before the body.
 use Rattle.std.proofs.Common.{◌≡◌, ℕ, ◌+◌, ◌≤◌, List, [], ◌++◌, length, ap, sym, ◌∙◌, subst, arith, append-nil, length-append}
 use Rattle.std.proofs.lemmas.List.{nil_from_length}
 use Rattle.docker_model.specs.state.State.{IsValid}
@@ -26,7 +25,7 @@ module _ {K : Type 0} (old : StateReading K) (count : ℕ) (is : IsReading old) 
   pub valid_so_far : IsValid old.parts
   valid_so_far = good.0.valid
 
-  -- if the parts of a head are good, a reading that takes the whole head at once has read the text up to the head's end
+  -- a reading that takes a head in one step has read the text up to the head's end, if the parts of the head are good
   pub head_read : (new : StateReading K) (bytes : List ℕ) (part : EntryPart) → AreParts old.parts bytes part
       → stage_meant new.stage old.parts [] ≡ in_entry count old.parts part → IsFresh new.stage old.parts → old.reached + length bytes ≤ old.limit
       → new.parts ≡ old.parts → new.lines ≡ [] → new.partial.items ≡ old.partial.items → new.reached ≡ old.reached + length bytes

@@ -55,7 +55,7 @@ line_leads format at entries key stamp n is state lines taken line good taken_is
       refl,
     )
 
--- a line is a bad part if it can't follow the lines of its schedule that were read before. A line that can follow them is refused only if there is no memory
+-- a line is a bad part if it can't follow the lines of its schedule that were read before it. A line that can follow them is refused only if there is no memory
 -- for it
 pub line_bad : (format : Format) (at : Stage) (entries : ℕ) (key : code.ScheduleKey) (stamp : stamps.Stamp) (n : ℕ) → at ≡ stage.Line entries key stamp n
     → (state : State) (lines : List (List ℕ)) (line : List ℕ) (cause : Option model.StateCause) → IsUpToRefusal state (schedule_meant key) n lines line cause

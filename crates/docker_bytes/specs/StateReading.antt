@@ -64,8 +64,8 @@ pub record IsWanting (format : Format) (limit : ℕ) (text piece : List ℕ) (at
   pub ends_in_piece : length text < length (text_before format before) + width before
   pub item_at : at ≡ length (items_before format before)
 
--- says what it means that a parser returns this fault for a piece that follows a text: a part is
--- bad, or the state goes past the limit. The cause `None` means that memory ran out
+-- says what it means that a parser returns this fault for a piece that follows a text: a part is bad, or the state's text goes past the limit. The cause `None`
+-- means that memory ran out
 abbrev pub IsCauseSoFar : Format → ℕ → List ℕ → List ℕ → ℕ → Option model.StateCause → Type 0
 IsCauseSoFar format limit text piece at None = IsWanting format limit text piece at
 IsCauseSoFar format limit text piece at (Some cause) =

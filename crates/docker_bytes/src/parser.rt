@@ -47,9 +47,9 @@ impl<K: Keeper> Parser<K> {
     /// Takes the next bytes of the text, and returns how many of these bytes it used. `More` means
     /// that all of these bytes were used, and that the state needs more bytes. `Done` means that
     /// the bytes up to the state's last byte were used, and that later calls use no bytes. Returns
-    /// a fault once a part is bad, or once the state goes past the limit. Also returns a fault if
-    /// there is no memory for a part that ends in this piece. The offset of this fault is the
-    /// beginning of the part's item, and no part up to and including this part is bad. After a
+    /// a fault once a part is bad, or once the state's text goes past the limit. Also returns a
+    /// fault if there is no memory for a part that ends in this piece. The offset of this fault is
+    /// the beginning of the part's item, and no part up to and including this part is bad. After a
     /// fault, each later call returns the same fault.
     pub(crate) fn feed(&mut self, piece: &[u8]) -> Result<(usize, Step), StateFault>
         ensures within { IfOk result (λ answer. answer.0 ≤ length piece.now) }

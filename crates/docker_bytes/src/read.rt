@@ -93,7 +93,7 @@ pub(crate) fn read_format<S: Source, K: Maker>(
 }
 
 /// Feeds all bytes of a source to a parser that has read no bytes yet, in pieces of at most 65,536
-/// bytes. A byte that follows the state is a fault.
+/// bytes. If a byte follows the state, the result is the fault `Tail`.
 pub(crate) fn read_pieces<S: Source, K: Keeper>(
     alloc: Global,
     source: &mut S,
@@ -133,7 +133,7 @@ impl<K: Keeper> Taker for Parser<K> {
     ghost bounded = { taken_is_bounded };
 }
 
-/// Feeds bytes to a parser. A byte that follows the state is a fault.
+/// Feeds bytes to a parser. If a byte follows the state, the result is the fault `Tail`.
 fn feed<K: Keeper>(parser: &mut Parser<K>, piece: &[u8]) -> Result<(), ReadFault>
     ensures read { (format : formats.Format) (limit : ℕ) (text : List ℕ) →
         HasRead parser.old format limit text → IsOk result →

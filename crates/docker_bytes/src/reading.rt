@@ -112,8 +112,9 @@ impl<K: Keeper> StateReading<K> {
         }
     }
 
-    /// How many lines at the front of a piece of `len` bytes can be taken at once. These lines are
-    /// complete, end within the limit, and don't include the last of the schedule's `count` lines.
+    /// How many lines at the front of a piece of `len` bytes can be taken in one step. These lines
+    /// are complete, end within the limit, and don't include the last of the schedule's `count`
+    /// lines.
     fn inner_lines(&self, count: u32, len: usize) -> u64
         requires { self.now.reached ≤ self.now.limit }
         ensures { result ≡ min (min (len / LINE) ((self.now.limit - self.now.reached) / LINE))
@@ -162,9 +163,10 @@ impl<K: Keeper> StateReading<K> {
         Ok(rest)
     }
 
-    /// Takes the head of an entry at once. If an entry has a body, its head is all parts before the
-    /// body. Takes nothing unless the head lies whole at the front of the piece, is good and ends
-    /// within the limit. Returns the bytes after the head, or the whole piece if nothing was taken.
+    /// Takes the head of an entry in one step. If an entry has a body, its head is all parts before
+    /// the body. Takes nothing unless the head lies whole at the front of the piece, is good and
+    /// ends within the limit. Returns the bytes after the head, or the whole piece if nothing was
+    /// taken.
     fn take_head<'a>(&mut self, piece: &'a [u8]) -> &'a [u8]
         requires { IsReading self.old }
         ensures rest { take (length piece.now - length result.now) piece.now ++ result.now

@@ -10,7 +10,7 @@ use Rattle.std.specs.Prelude.{Result, ◌↔◌, is_ok}
 use Rattle.std.specs.declared.cmp.Ordering.TheVariants.{Less, Equal, Greater}
 use Rattle.docker_model.specs.state.Order.{bytes_cmp}
 
--- if every name is less or greater than a UID, the UID isn't among the names
+-- if each name is either less than or greater than a UID, the UID isn't among the names
 absent : (names : List (List ℕ)) (uid : List ℕ) (at : ℕ)
     → IsPartitionPoint (λ name. bytes_cmp name uid ≡ Less) (λ name. bytes_cmp name uid ≡ Greater) names at → ¬ Contains names uid
 absent names uid at parts among = here (cases_lt among.0 at)

@@ -69,7 +69,8 @@ impl Excerpt {
     }
 
     /// The excerpt for a place and a day, made from the thin changes of a file. The value of the
-    /// excerpt has the state of the whole file. If memory runs out, the thin changes are dropped.
+    /// excerpt contains the state of the whole file. If memory runs out, the thin changes are
+    /// dropped.
     pub fn of_file(
         alloc: Global,
         place: Tiploc,

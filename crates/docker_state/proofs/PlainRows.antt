@@ -62,11 +62,11 @@ along : (xs ys : List (model.Key × ops.Entry)) → ((pair : model.Key × ops.En
 along xs ys to from key entry best = record { among = to (key, entry) best.among; greatest = λ other among. best.greatest other (from (key, other) among) }
 
 module _ (old new out : List (Key × Entry)) (sorted : IsSorted by_entry new) (moved : IsPermutation old new) (last : out ≡ last_rows new) where
-  -- the rows in `out`, which are the last rows of the keys in the sorted list, ascend
+  -- the rows in `out`, which has the last row for each key in the sorted list, ascend
   pub lasts_in_order : AreAscending out
   lasts_in_order = subst (λ (rows : List (Key × Entry)). AreAscending rows) (sym last) (lasts_ascend new (rows_sorted new sorted))
 
-  -- `out`, the list of the last rows of the keys in the sorted list, has exactly the rows with the greatest entry for their key
+  -- `out` has the last row for each key in the sorted list. These are exactly the rows with the greatest entry for their key
   pub lasts_are_greatest : All (λ (row : Key × Entry). HasRecords (op_meant row.1.op)) old → (key : model.Key) (entry : ops.Entry)
       → Contains (map row_meant out) (key, entry) ↔ IsGreatestAmong (map row_meant old) key entry
   lasts_are_greatest have key entry = (

@@ -48,7 +48,7 @@ value_in rows up key entry among =
     let found = Contains-map row_meant rows (key, entry) among in
     (found.0.1, subst (λ k. value_at rows k ≡ Some found.0.1) (λ i. (found.2 i).0) (value_of rows found.0 up found.1), λ i. (found.2 i).1)
 
--- the value that rows have at a key is among the rows
+-- if rows have a value at a key, this key with this value is among the rows
 pub in_rows : (rows : List (Key × Entry)) (key : model.Key) (value : Entry) → value_at rows key ≡ Some value
     → Contains (map row_meant rows) (key, entry_meant value)
 in_rows rows key value found =

@@ -27,7 +27,7 @@ pub(crate) fn rows_of_uid<'a>(
 }
 
 /// How many rows come before the UID's schedules. If the row at index `near` is one of these
-/// schedules, a walk back finds the first of them. Otherwise a binary search finds it.
+/// schedules, a backward walk finds the first of them. Otherwise a binary search finds it.
 fn rows_before(rows: &[(Key, Entry)], uid: &Uid, near: usize) -> usize
     requires { AreAscending rows.now }
     ensures within { result ≤ length rows.now }
@@ -50,8 +50,8 @@ fn is_of_uid_at(rows: &[(Key, Entry)], uid: &Uid, at: usize) -> bool
     }
 }
 
-/// The index of the UID's first schedule. A walk back from the given row, which is one of the UID's
-/// schedules, finds it.
+/// The index of the UID's first schedule. A backward walk from the given row, which is one of the
+/// UID's schedules, finds it.
 fn first_back(rows: &[(Key, Entry)], uid: &Uid, from: usize) -> usize
     requires up { AreAscending rows.now }
     requires here { is_of_uid_at uid.now rows.now from ≡ true }

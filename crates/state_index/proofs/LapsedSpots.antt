@@ -1,4 +1,4 @@
--- After entries have lapsed, the spots whose rows still have a put are exactly the spots of the new rows. A spot is a TIPLOC with the index of a row there.
+-- After entries have lapsed, the spots of rows whose op is still a put are exactly the spots of the new rows. A spot is a TIPLOC with the index of a row there.
 use Rattle.std.proofs.Common.{◌≡◌, ℕ, List, [], refl, ap, sym, ◌∙◌, subst, Bool, true, false, Some, None, Contains}
 use Rattle.std.specs.Prelude.{Option, filter, slice_get, option_map, option_and_then}
 use Rattle.std.specs.Option.{is_some}

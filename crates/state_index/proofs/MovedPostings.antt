@@ -141,7 +141,7 @@ module _ (names others : List (List ℕ)) (ranks : List ℕ) (are : AreRanks oth
         → IsStrictlyAscending posting_cmp (moved_postings ranks moves postings)
     moved_ascends postings rising = chosen_ascends (moved_posting ranks moves) posting_cmp posting_cmp moved_below postings rising
 
--- merging the postings of both tables, after they got their new indexes, gives the postings of the joined rows
+-- merging the postings of both tables, each with its new indexes, gives the postings of the joined rows
 module _ (places : Places) (rows others joined : List Keyed) (moves other_moves : List (Option ℕ)) (names other_names all : List (List ℕ))
     (ranks other_ranks : List ℕ) (are : AreRanks all names ranks) (others_are : AreRanks all other_names other_ranks)
     (up : IsStrictlyAscending bytes_cmp names) (others_up : IsStrictlyAscending bytes_cmp other_names) (all_up : IsStrictlyAscending bytes_cmp all)

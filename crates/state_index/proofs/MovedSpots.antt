@@ -64,7 +64,7 @@ module _ (moves : List (Option ℕ)) where
       let found = chosen_from (moved_spot moves) spots spot among in
       chosen_to (moved_spot moves) others found.0 spot (same found.0 found.1) found.2
 
--- merging the spots (each a TIPLOC and a row's index) of both tables, after they got the new indexes of their rows, gives the spots of the joined rows
+-- merging the spots (each a TIPLOC and a row's index) of both tables, each with the new index of its row, gives the spots of the joined rows
 module _ (places : Places) (rows others joined : List Keyed) (moves other_moves : List (Option ℕ)) (first second : List Spot) where
   pub joined_spots : (out : List Spot) → AreRising moves → AreRising other_moves → AreSpotsOf places rows first → AreSpotsOf places others second
       → ((spot : Spot) → Contains (spots_of places joined) spot

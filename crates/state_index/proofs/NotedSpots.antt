@@ -1,5 +1,5 @@
--- The postings made from the notes of rows, which list the rows' places, have exactly the spots of these rows. A spot is a posting with the TIPLOC itself
--- instead of the TIPLOC's index.
+-- If postings are made from the notes of rows, which list the rows' places, their spots are exactly the spots of these rows. A spot is a posting with the
+-- TIPLOC itself instead of the TIPLOC's index.
 use Rattle.std.proofs.Common.{◌≡◌, ℕ, zero, suc, ◌+◌, ◌≤◌, List, [], ◌∷◌, ◌++◌, map, take, drop, length}
 use Rattle.std.proofs.Common.{refl, ap, sym, ◌∙◌, subst, Bool, true, false, Some, None, arith, get_or}
 use Rattle.std.specs.Prelude.{Option, slice_get, option_map}

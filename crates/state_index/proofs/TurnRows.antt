@@ -1,5 +1,5 @@
--- Lemmas on the steps of a walk over two tables. A step has the rows with one key, and the join takes the row with the greater entry. The lemmas say which rows
--- the steps have, and which indexes the rows have in the join.
+-- Lemmas on the steps of a walk over two tables. Each step takes the rows with one key, and the join takes the row with the greater entry. The lemmas say which
+-- rows the steps take, and which indexes the rows have in the join.
 use Rattle.std.proofs.Common.{◌≡◌, ℕ, suc, ◌+◌, ◌≤◌, List, [], ◌∷◌, map, length, refl, ap, Bool, true, false, cond, None, arith}
 use Rattle.std.specs.Prelude.{Option, ⊤}
 use Rattle.std.specs.List.{AllByRecursion}
@@ -32,8 +32,7 @@ winner (in_first one) = one
 winner (in_second other) = other
 winner (in_both one other) = (one.0, picked one.1 other.1)
 
--- Says that if a step of the walk over two tables has a row of each table, the two rows have the
--- same key.
+-- Says that if a step of the walk over two tables takes a row of each table, the two rows have the same key.
 abbrev pub IsLevel : AtKey → Type 0
 IsLevel (in_first one) = ⊤
 IsLevel (in_second other) = ⊤
@@ -111,7 +110,7 @@ pub winners_are : (xs ys : List Row) → map winner (turns_of xs ys) ≡ walk pi
 winners_are [] ys = all_winners ys
 winners_are (x ∷ xs) ys = winners_from x xs (turns_of xs) (walk picked xs) (winners_are xs) ys
 
--- if a step of the walk over two tables has a row of each table, the two rows have the same key
+-- if a step of the walk over two tables takes a row of each table, the two rows have the same key
 pub turns_level : (xs ys : List Row) → AllByRecursion IsLevel (turns_of xs ys)
 turns_level [] ys = all_level ys
 turns_level (x ∷ xs) ys = level_from x xs (turns_of xs) (turns_level xs) ys

@@ -10,9 +10,9 @@ ghost use Rattle.state_index.specs.declared.index.Index.{Index};
 ghost use Rattle.state_index.specs.Spots.{IsIndexOf, call_spots, link_spots};
 ghost use Rattle.state_index.specs.Tables.{calling_rows, linked_rows};
 
-/// An index of a state's rows has the two indexes of the state's live table: where schedules call,
-/// and where associations are. A spot is a posting with the TIPLOC itself instead of the TIPLOC's
-/// index.
+/// An index of a state's rows contains the two indexes of the state's live table: where schedules
+/// call, and where associations are. A spot is a posting with the TIPLOC itself instead of the
+/// TIPLOC's index.
 pub fn indexes_of_rows()
     ensures calls { (state : State) (index : Index)
         → AreAscending state.entries → IsIndexOf state.entries index

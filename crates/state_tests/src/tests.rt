@@ -62,7 +62,7 @@ fn shown_is(rt: &impl Abort, alloc: Global, state: &State, lines: &[&[u8]]) {
     same(rt, shown.as_slice(), wanted.as_slice());
 }
 
-/// Asserts that a state is shown as these lines, and that `get` finds the entry of each of its
+/// Asserts that a state is shown as these lines, and that `get` finds the entry for each of its
 /// keys.
 fn state_is(rt: &impl Abort, alloc: Global, state: &State, lines: &[&[u8]]) {
     shown_is(rt, alloc, state, lines);
@@ -71,7 +71,7 @@ fn state_is(rt: &impl Abort, alloc: Global, state: &State, lines: &[&[u8]]) {
     }
 }
 
-/// Asserts that a state is shown as these lines, and that `get` finds the entry of each of its
+/// Asserts that a state is shown as these lines, and that `get` finds the entry for each of its
 /// keys. Takes the state by value.
 fn made_is(rt: &impl Abort, alloc: Global, made: State, lines: &[&[u8]]) {
     state_is(rt, alloc, &made, lines);

@@ -31,7 +31,7 @@ not_first state key count lines line none bad are =
     let first = first_kind line one.0.lines_of.begin in
     bad (record { kind = first.0; fields = first.1; of_key = record { new = one.0.lines_of.new; key_is = one.0.lines_of.key_is; stays = one.1 } })
 
--- after one more line is appended, the lines still have the key, and the schedule still doesn't end before the horizon
+-- after one more line is appended, the lines still belong to a schedule with the key, and this schedule still doesn't end before the horizon
 pub one_line_more : (state : State) (key : ScheduleKey) (lines : Lines) (line : List ℕ) → (lines ≡ []) ⊎ AreLinesIn state key lines
     → (lines ≡ [] → IsOfKey state.horizon key line)
     → BeginsSchedule (lines ++ line ∷ []) → AreLinesIn state key (lines ++ line ∷ [])
@@ -76,8 +76,8 @@ written_last lines after line found at put last is =
     is ∙ ap (λ rows. slice_index_or rows at found) put ∙ ap (λ n. slice_index_or (lines ++ line ∷ []) n found) last
     ∙ get_or-append_seam lines line [] found
 
--- suppose that a line may come next in a schedule of `count` lines. If the lines before it have the
--- key, then with this line they are the first lines of a schedule with the key
+-- suppose that a line may come next in a schedule of `count` lines. If the lines before it belong to a schedule with the key, these lines and this line are the
+-- first lines of such a schedule
 pub lines_up_to : (state : State) (key : ScheduleKey) (count : ℕ) (lines : Lines) (line bytes : List ℕ) → line ≡ bytes
     → (lines ≡ []) ⊎ AreLinesIn state key lines → (lines ≡ [] → IsOfKey state.horizon key line)
     → BeginUpTo count (lines ++ line ∷ []) → AreLinesUpToIn state key count (lines ++ bytes ∷ [])

@@ -40,7 +40,7 @@ fn refused_deletion(rt: &impl Abort, alloc: Global, key: &[u8], number: &[u8], c
     refused_entry(rt, alloc, &[key, FILE, number, DELETED], cause);
 }
 
-/// Asserts that an entry with this key is refused for its body.
+/// Asserts that an entry with this key is refused because of its body.
 fn refused_body(rt: &impl Abort, alloc: Global, key: &[u8], body: &[u8]) {
     let parts = [key, FILE, SECOND, PUT, body];
     refused_entry(rt, alloc, &parts, StateCause::Body);
@@ -118,8 +118,8 @@ fn bad_bodies(rt: HostRuntime) {
     }
 }
 
-/// Asserts that an entry of a schedule is refused for its body, which consists of this count of
-/// lines and these lines.
+/// Asserts that an entry of a schedule is refused because of its body, which consists of this count
+/// of lines and these lines.
 fn refused_schedule(rt: &impl Abort, alloc: Global, count: &[u8; 4], lines: &[&[u8]]) {
     let lines = joined_text(rt, alloc, lines);
     let parts = [C10001, FILE, SECOND, PUT, count, lines.as_slice()];

@@ -88,7 +88,8 @@ entries_of_union files others entry = (
 
 -- ---- the laws of summaries
 
--- for each horizon, a set of files has at most one summary, whatever the order of the list
+-- for each horizon, a set of files has at most one summary, whatever the order in which the files
+-- are listed
 pub summary_unique : (files others : List File) → SameMembers files others → (horizon : ℕ) (s t : State) → IsSummary files horizon s
     → IsSummary others horizon t → s ≡ t
 summary_unique files others same horizon s t is_s is_t =

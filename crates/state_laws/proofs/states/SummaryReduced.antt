@@ -52,8 +52,8 @@ module _ (files : List File) (floor : Option FileStamp) (key : Key) where
         subst (λ (e : Entry). IsKept floor e.stamp.file) made.entry_is made.kept.kept,
       )
 
-  -- if the file stamp of an entry isn't below the floor, a change of a file that isn't below the
-  -- floor makes this entry
+  -- if the file stamp of an entry isn't below the floor, a change of a file whose stamp isn't below
+  -- the floor makes this entry
   pub entry_out : (entry : Entry) → Contains (entries_along files) (key, entry) → IsKept floor entry.stamp.file → IsEntryOf files floor key entry
   entry_out entry among kept =
       let found = Contains-flat_map entries_of files (key, entry) among in
