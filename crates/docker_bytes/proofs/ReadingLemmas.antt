@@ -186,8 +186,8 @@ part_read old new bytes is none wide some small fits leads empty reached same ke
         ∙ ap length (sym (items_stay (format_of old) (before_of old) bytes (ap begins_item (sym leads.is) ∙ within.0))
         ∙ ap (items_before (format_of old)) (sym leads.is) ∙ ap (λ f. items_before f (before_of new)) (sym kept))
 
--- if a part that ends with these bytes is bad, or if there was no memory for it, a fault with this
--- cause and offset is correct
+-- if a part that ends with these bytes is bad, or if there was no memory for it, a reader may
+-- return a fault with this cause and offset
 pub part_refused : {K : Type 0} (old : StateReading K) (front bytes : List ℕ) (at : ℕ) (cause : Option StateCause) → IsReading old
     → bytes ≡ old.partial.items ++ front → length bytes ≡ width (before_of old)
     → 0 < length front → old.reached + length bytes ≤ old.limit → at ≡ old.item_at → IsBadHere (format_of old) (before_of old) bytes cause
@@ -234,7 +234,7 @@ part_refused old front bytes at cause is split wide some fits same bad = by caus
 
 -- ---- reading a piece
 
--- a fault that is correct for the first bytes of a piece is correct for the whole piece
+-- if a fault may be returned for the first bytes of a piece, it may be returned for the whole piece
 pub told_stays : (format : Format) (limit : ℕ) (text read front behind : List ℕ) (at : ℕ) (cause : Option StateCause)
     → IsCauseSoFar format limit (text ++ read) front at cause
     → IsCauseSoFar format limit text ((read ++ front) ++ behind) at cause
@@ -298,7 +298,8 @@ module _ {K : Type 0} (initial now : StateReading K) (piece rest : List ℕ) (wh
   pub all_text : text_of now ++ rest ≡ text_of initial ++ piece
   all_text = ap (λ xs. xs ++ rest) on.text ∙ append_assoc (text_of initial) (before_rest piece rest) rest ∙ ap (λ xs. text_of initial ++ xs) whole
 
-  -- a fault that is returned for the first bytes of the rest is correct for the whole piece
+  -- if a fault may be returned for the first bytes of the rest, it may be returned for the whole
+  -- piece
   pub told_of_piece : (front behind : List ℕ) (at : ℕ) (cause : Option StateCause) → rest ≡ front ++ behind
       → IsCauseSoFar (format_of now) now.limit (text_of now) front at cause
       → IsCauseSoFar (format_of initial) initial.limit (text_of initial) piece at cause

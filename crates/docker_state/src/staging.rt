@@ -31,8 +31,8 @@ pub struct Staging {
     floor: Option<FileStamp>,
     items: Vec<LedgerItem>,
     staged: Vec<(Key, Entry)>,
-    // The index of the state's entry that is read first to look up the next key. Keys are offered
-    // in ascending order, so the next key is likely to be near this index.
+    // The index of the state's entry that is read first to look up the next key. Entries are
+    // offered in the order of their keys, so the next key is likely to be near this index.
     near: usize,
 }
 

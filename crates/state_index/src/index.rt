@@ -145,8 +145,8 @@ impl Index {
         })
     }
 
-    /// The live schedules that call at a TIPLOC, found by binary search. This must be the index of
-    /// `rows`.
+    /// The live schedules that call at a TIPLOC, found by binary search. The index must be the
+    /// index of `rows`.
     pub fn calling<'a>(&'a self, rows: &'a [(Key, Entry)], tiploc: &Tiploc) -> PlaceRows<'a>
         requires index { IsIndexOf (map row_meant rows.now) self.now }
         requires ascending { AreAscending (map row_meant rows.now) }
@@ -179,7 +179,7 @@ impl Index {
         .len()
     }
 
-    /// The live associations at a location, found by binary search. This must be the index of
+    /// The live associations at a location, found by binary search. The index must be the index of
     /// `rows`.
     pub fn linked<'a>(&'a self, rows: &'a [(Key, Entry)], tiploc: &Tiploc) -> PlaceRows<'a>
         requires index { IsIndexOf (map row_meant rows.now) self.now }

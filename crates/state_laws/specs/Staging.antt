@@ -30,9 +30,9 @@ pub record IsStaged (own : State) (floor : Option FileStamp) (offered staged : L
   pub ascending : AreAscending staged
   pub members : (key : Key) (entry : Entry) → Contains staged (key, entry) ↔ (Contains offered (key, entry) × IsToStage own floor key entry)
 
--- before lapsing, the committed state has this entry. Either the entry is staged, or it is an entry
--- of the state before the commit. In the second case it isn't below the floor, and its key has no
--- staged entry
+-- before entries lapse, the state after the commit has this entry. Either the entry is staged, or
+-- it is an entry of the state before the commit. In the second case it isn't below the floor, and
+-- its key has no staged entry
 abbrev pub IsPutIn : State → List (Key × Entry) → Option FileStamp → Key → Entry → Type 0
 IsPutIn own staged floor key entry =
     Contains staged (key, entry) ⊎ (Contains own.entries (key, entry) × IsKept floor entry.stamp.file × HasNoEntryOf staged key)

@@ -27,8 +27,7 @@ items_of items (Some staging) = staging.items
 abbrev pub given_of : {R : Type 0} → Receiving R → State
 given_of it = given_state (items_of it.items.items it.staging) it.given.entries
 
--- says that the staging is correct: it has the floor of both ledgers together, and an entry that was given is staged if and only if this state has to take it
--- over
+-- says that the staging is correct. It has the floor of both ledgers together. An entry that was given is staged if and only if this state has to take it over
 pub record IsStagedOf (own : State) (staging : Staging) (entries : List (model.Key × ops.Entry)) : Type 0 where
   pub floor : IsFloor (own.ledger ++ staging.items) staging.floor
   pub staged : IsStaged own staging.floor entries staging.staged

@@ -53,7 +53,8 @@ module _ (own received : State) (valid : IsValid own) (valid_too : IsValid recei
   Best : Key → Entry → Type 0
   Best key entry = IsGreatestAmong (own.entries ++ received.entries) key entry × IsKept commit.floor entry.stamp.file
 
-  -- a staged entry isn't below the floor, and is the greatest entry for its key
+  -- a staged entry isn't below the floor, and is the greatest entry that the two states have for
+  -- its key
   staged_best : (key : Key) (entry : Entry) → Contains staged (key, entry) → Best key entry
   unfolding Best
   staged_best key entry among =
@@ -70,8 +71,8 @@ module _ (own received : State) (valid : IsValid own) (valid_too : IsValid recei
       under offered to other (inl here) = at_most_below entry_cmp other entry (to.greater other here)
       under offered to other (inr here) = subst (λ e. IsAtMost entry_cmp other e) (one_received key other entry here offered) (at_most_itself entry_total other)
 
-  -- if an entry of the state isn't below the floor, and no entry for its key is staged, it is the
-  -- greatest entry for the key
+  -- suppose that an entry of our own state isn't below the floor, and that no entry for its key is
+  -- staged. Then it is the greatest entry that the two states have for the key
   own_best : (key : Key) (entry : Entry) → Contains own.entries (key, entry) → IsKept commit.floor entry.stamp.file → HasNoEntryOf staged key → Best key entry
   unfolding Best
   own_best key entry among kept none = (
@@ -104,13 +105,14 @@ module _ (own received : State) (valid : IsValid own) (valid_too : IsValid recei
   forth key entry (inl here) = staged_best key entry here
   forth key entry (inr told) = own_best key entry told.0 told.1 told.2
 
-  -- the greatest entry for a key is staged, or it is in the state and no entry for the key is
-  -- staged
+  -- suppose that the greatest entry that the two states have for a key isn't below the floor. Then
+  -- it is staged, or it is in our own state and no entry for the key is staged
   back : (key : Key) (entry : Entry) → Best key entry → IsPutIn own staged commit.floor key entry
   unfolding Best
   back key entry best = by (Contains-append_cases own.entries received.entries (key, entry) best.0.among)
     where
-      -- if the state's entry is the greatest entry for its key, no entry for the key is staged
+      -- if our own entry is the greatest entry that the two states have for its key, no entry for
+      -- the key is staged
       none_staged : Contains own.entries (key, entry) → HasNoEntryOf staged key
       none_staged here other inside =
           let told = (stages.members key other).0 inside in

@@ -122,7 +122,7 @@ association_decided key line =
 pub line_count_decided : (count : ℕ) → Decided (IsLineCount count)
 line_count_decided count = both_decided (lt_decided 0 count) (lt_decided count (2 ^ 32 - 1))
 
--- it is decidable whether the bytes are a good body
+-- it is decidable whether the bytes are a good body for a key in a state
 pub body_part_decided : (state : State) (key : Key) (bytes : List ℕ) → Decided (IsBodyPart state key bytes)
 body_part_decided state (tiploc_key code) bytes = text_of_length_decided 63 bytes
 body_part_decided state (association_key key) bytes =
