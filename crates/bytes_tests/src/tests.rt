@@ -81,7 +81,7 @@ fn known_text(rt: &impl Abort, alloc: Global) -> Vec<u8> {
     joined_text(rt, alloc, &[MARK, ONE, ITEM, ONE, HEAD, BS, LO, LT])
 }
 
-/// The state of the file of 9 June with its schedule.
+/// The state of a file of 9 June that puts the schedule of C10001.
 fn known_state(rt: &impl Abort, alloc: Global) -> State {
     state(rt, alloc, &[HD, BS, LO, LT, ZZ])
 }

@@ -220,7 +220,7 @@ valid_of_kept place day item all kept lines item_is is_file few all_are thinning
     thin_valid place day lines is_file few kept (subst (λ (a : List model.Change). IsThinning place day a kept) all_are thinning) state
     (kept_state item kept lines state item_is is)
 
--- each row with the greatest entry for its key is a row that some change makes
+-- suppose that rows have, for each key, the greatest of the entries that changes make. Then each of the rows is a row that some change makes
 pub rows_made_by : (file : FileStamp) (all : List model.Change) (made rows : List (Key × Entry)) → map row_meant made ≡ map (made_by file) all
     → ((key : model.Key) (entry : ops.Entry) → Contains (map row_meant rows) (key, entry) ↔ IsGreatestAmong (map row_meant made) key entry)
     → AreMadeBy all (map row_meant rows)

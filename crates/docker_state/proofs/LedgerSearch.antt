@@ -19,9 +19,8 @@ module _ {A : Type 0} (f : A → LedgerItem) (ledger : List LedgerItem) (floor :
       subst (λ (v : A). HasIfKept ledger (f v) floor) found.1.2 (each found.1.0 found.0 (omega arith) (let within = found.1.1 in omega arith)) in
       subst (λ (v : LedgerItem). HasIfKept ledger v floor) found.2 here kept
 
-  -- suppose that the ledger has each of the first n items that isn't below the floor, and that it
-  -- has the next item unless this item is below the floor. Then the ledger has each of the first n
-  -- + 1 items that isn't below the floor
+  -- suppose that the ledger has each of the first n items of the list that isn't below the floor. Suppose too that it has the next item, unless this item is
+  -- below the floor. Then the ledger has each of the first n + 1 items that isn't below the floor
   pub one_more_has : (at : ℕ) (item : A) → at < length items → item ≡ get_or items at item → (b : Bool) → IsTrue b ↔ HasIfKept ledger (f item) floor → b ≡ true
       → AllWithin (λ v. HasIfKept ledger (f v) floor) items 0 at → AllWithin (λ v. HasIfKept ledger (f v) floor) items 0 (at + 1)
   one_more_has at item within is b tells has before =

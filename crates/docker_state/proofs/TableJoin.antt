@@ -69,7 +69,7 @@ module _ (first second joined : List (Key × Entry)) (up_first : AreAscending fi
   abbrev Both : List (model.Key × ops.Entry)
   Both = map row_meant first ++ map row_meant second
 
-  -- the value of the join at a key is the greatest entry for this key
+  -- the value of the join at a key is the greatest entry that the two tables have for this key
   up : (key : model.Key) (a b : Option Entry) → value_at first key ≡ a → value_at second key ≡ b → (value : Entry) → picked_value higher a b ≡ Some value
       → IsGreatestAmong Both key (entry_meant value)
   up key None None is_a is_b value here = cc
@@ -127,7 +127,7 @@ module _ (first second joined : List (Key × Entry)) (up_first : AreAscending fi
           let level_with : w ≡ there.0 = same_value w there.0 (value_at second key) is_b there.1 in
           subst (λ e. IsAtMost entry_cmp e (entry_meant value)) (ap entry_meant level_with ∙ there.2) greater.second
 
-  -- each entry of the join is the greatest entry for its key
+  -- each entry of the join is the greatest entry that the two tables have for its key
   pub joined_greatest : (key : model.Key) (entry : ops.Entry) → Contains (map row_meant joined) (key, entry) → IsGreatestAmong Both key entry
   joined_greatest key entry among =
       let there = value_in joined is.ascends key entry among in
@@ -157,7 +157,7 @@ module _ (first second joined : List (Key × Entry)) (up_first : AreAscending fi
           let m = some_right (value_at first key) e.0 in
           (entry_meant m.0, in_rows joined key m.0 (is.values key ∙ (λ i. picked_value higher (value_at first key) (e.1 i)) ∙ m.1))
 
-  -- if the bodies' lines are records, the greatest entry for each key is in the join
+  -- if the bodies' lines are records, the greatest entry that the two tables have for a key is in the join
   pub greatest_joined : ((pair : model.Key × ops.Entry) → Contains Both pair → HasRecords pair.1.op) → (key : model.Key) (entry : ops.Entry)
       → IsGreatestAmong Both key entry → Contains (map row_meant joined) (key, entry)
   greatest_joined records key entry best = by (Contains-append_cases (map row_meant first) (map row_meant second) (key, entry) best.among)

@@ -158,10 +158,10 @@ pub(crate) fn is_to_stage(
 impl State {
     /// Joins the state with the received ledger items and entries. The ledger becomes the union of
     /// both ledgers, and each staged entry is written at its key. Entries and items below the floor
-    /// of both ledgers are dropped, and each entry whose body ended before this state's horizon
-    /// lapses. If the entries were offered to another state with the same floor, this state may
-    /// have a greater entry for the key of a staged entry. This state's entry then stays, and the
-    /// result is still the join. If nothing is staged and no item is new, nothing is done. If
+    /// of both ledgers together are dropped, and each entry whose body ended before this state's
+    /// horizon lapses. If the entries were offered to another state with the same floor, this state
+    /// may have a greater entry for the key of a staged entry. This state's entry then stays, and
+    /// the result is still the join. If nothing is staged and no item is new, nothing is done. If
     /// memory runs out, the state is unchanged, and what was received is dropped.
     pub fn commit(&mut self, staging: Staging) -> Result<(), Memory>
         requires floor { IsFloor (self.old.ledger ++ staging.items) staging.floor }

@@ -48,7 +48,7 @@ const PUT_AND_DELETED: &[&[u8]] = &[
     b"deleted",
 ];
 
-/// What is shown for the state if the file that puts and deletes the schedule is a full extract.
+/// What is shown for the state of a full extract that puts a schedule and then deletes it.
 const PUT_AND_DELETED_IN_FULL: &[&[u8]] = &[
     b"item 23536 1260 DFROC1A F DFROC1Z",
     b"floor 23536 1260 DFROC1A",

@@ -1,4 +1,4 @@
--- The rows have the greatest entry for each key, and are written to the memory that was reserved for them.
+-- The rows have, for each key, the greatest of the entries that the changes make. They are written to the memory that was reserved for them.
 use Rattle.std.proofs.Common.{List, map, length, ap, sym, subst, arith}
 use Rattle.docker_model.specs.file.Change as model
 use Rattle.docker_model.specs.state.Op as ops
