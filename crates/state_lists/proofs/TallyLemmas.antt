@@ -172,7 +172,7 @@ count_few tag i rows =
     let front = length-take i rows in
     omega arith
 
--- if there are fewer than 2^63 rows, each count among the first `i` rows is below 2^63
+-- if there are fewer than 2^63 rows, each count in the tally of the first `i` rows is below 2^63
 pub are_few : (i : ℕ) (rows : List (Kept × Held)) (tally : Tally) → IsTallyOf (live_up_to i rows) tally → length rows < 2 ^ 63 → AreFew tally
 are_few i rows tally is short = record {
   schedules = (let most = count_few 3 i rows in let told = is.schedules in omega arith);

@@ -89,15 +89,15 @@ pub(super) const TOO_LATE: &[u8] = b"\x8e\xad";
 /// The count of ledger items and the count of entries, both 0.
 pub(super) const NOTHING: &[u8] = b"\0\0\0\0\0\0\0\0\0\0\0\0\0\0\0\0";
 
-/// The tag, the key and the stamp of the schedule of C10001.
+/// The tag, the key and the stamp of the entry for C10001's schedule.
 pub(super) const SCHEDULE_HEAD: &[u8] =
     b"\x03C10001\x5b\xf1P\x5b\xf0\x04\xecDFROC1A\x00\x00\x00\x02";
 
-/// The tag, the key and the stamp of the association between C10001 and C10002.
+/// The tag, the key and the stamp of the entry for the association between C10001 and C10002.
 pub(super) const JOINS_HEAD: &[u8] =
     b"\x02C10001C10002\x5b\xf1ASHFELD P\x5b\xf0\x04\xecDFROC1A\x00\x00\x00\x02";
 
-/// The tag, the key and the stamp of the TIPLOC ASHFELD.
+/// The tag, the key and the stamp of the entry for the TIPLOC ASHFELD.
 pub(super) const ASHFELD_HEAD: &[u8] = b"\x01ASHFELD\x5b\xf0\x04\xecDFROC1A\x00\x00\x00\x02";
 
 /// The op of a lapsed entry.

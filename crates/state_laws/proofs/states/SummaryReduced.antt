@@ -68,8 +68,8 @@ module _ (files : List File) (floor : Option FileStamp) (key : Key) where
         entry_is = is;
       }
 
-  -- the greatest entry of the files that count is the greatest of all entries, and isn't below the
-  -- floor
+  -- if an entry is the greatest that the files that count make for a key, it is the greatest that
+  -- any of the files make for the key. It isn't below the floor
   pub greatest_forth : (entry : Entry) → IsGreatestEntryOf files floor key entry → IsGreatestAmong (entries_along files) key entry
       × IsKept floor entry.stamp.file
   greatest_forth entry best =
@@ -81,8 +81,8 @@ module _ (files : List File) (floor : Option FileStamp) (key : Key) where
       by other among (inl kept) = best.greatest other (entry_out other among kept)
       by other among (inr low) = low
 
-  -- if the greatest of all entries isn't below the floor, it is the greatest entry of the files
-  -- that count
+  -- if the greatest entry that any of the files make for a key isn't below the floor, it is the
+  -- greatest that the files that count make for the key
   pub greatest_back : (entry : Entry) → IsGreatestAmong (entries_along files) key entry → IsKept floor entry.stamp.file
       → IsGreatestEntryOf files floor key entry
   greatest_back entry best kept = record {
