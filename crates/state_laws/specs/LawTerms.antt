@@ -10,9 +10,10 @@ use Rattle.state_laws.specs.Staging.{IsStaged, IsCommit}
 abbrev pub first_full_stamp : List LedgerItem → Option FileStamp
 first_full_stamp ledger = option_map (λ (item : LedgerItem). item.stamp) (find (λ (item : LedgerItem). item.indicator == 70) ledger)
 
--- `Fact` holds if `own` and `received` are valid states and `after` is the state after receiving.
--- All entries of `received` were offered for staging to the office whose state is `own`, with the
--- floor of the two ledgers together. Then the staged entries were committed
+-- `Fact` holds if `own` and `received` are valid states, and `after` results from receiving
+-- `received` in two steps. First all entries of `received` are offered for staging to the office
+-- whose state is `own`, with the floor of the two ledgers together. Then the staged entries are
+-- committed
 abbrev pub HoldsOnceCommitted : State → State → Option FileStamp → List (Key × Entry) → State → Type 0 → Type 0
 HoldsOnceCommitted own received floor staged after Fact =
     IsValid own → IsValid received → IsFloor (own.ledger ++ received.ledger) floor → IsStaged own floor received.entries staged
