@@ -47,13 +47,13 @@ faults_at subs kinds w = or_else kinds
     (or_else (defaults_fault (settled [] w.held).rows [])
     (check_fault built_top (finished [] w.held) (is_some (entered (built_with subs) w.stopped))))))
 
--- a command without words has one fault: the subcommand is missing
+-- for a command without words there is one possible fault: the subcommand is missing
 pub no_word : (subs : List Shape) → built_fault (built_with subs) nothing_held [] ≡ kind.MissingSubcommand ∷ []
 unfolding walk_fault defaults_fault
 no_word subs = refl
 
--- if the first word is plain and isn't a subcommand's name, there are two faults: an unknown
--- argument and an invalid subcommand
+-- if the first word is plain and isn't a subcommand's name, there are two possible faults: an
+-- unknown argument and an invalid subcommand
 pub unnamed_fault : (subs : List Shape) (word : Text) (words : List Text) → is_plain_word word ≡ true
     → subcommand_met (names_of (built_with subs)) idle word ≡ None
     → built_fault (built_with subs) nothing_held (word ∷ words) ≡ kind.UnknownArgument ∷ kind.InvalidSubcommand ∷ []
@@ -92,7 +92,7 @@ module _ (subs : List Shape) (s : Shape) (name : Text) (words : List Text)
   unfolding walk_fault
   named_walk_fault = ap₂ or_else named_turn (ap (λ w. walk_fault built_top names w words) named_walked ∙ no_later_fault names name [] words)
 
-  -- the faults of the command are the subcommand's faults for the words after its name
+  -- the faults of the command are the faults that the subcommand finds in the words after its name
   pub named_fault : built_fault (built_with subs) nothing_held (name ∷ words) ≡ level_fault s [] nothing_held words false []
   unfolding defaults_fault
   named_fault =

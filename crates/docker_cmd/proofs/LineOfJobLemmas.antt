@@ -12,7 +12,7 @@ use Rattle.cif_device.specs.Device.{Reads, IsEnd}
 use Rattle.docker_cmd.specs.Job.{NameNoJob}
 use Rattle.docker_cmd.specs.JobLine.{ReadsLine, HasNoLine, HasNoJob, HasJob, ReadsAtMost, words_in}
 
--- each byte is printable
+-- each of these bytes is printable
 abbrev pub ArePrintable : List ℕ → Type 0
 ArePrintable = AllByRecursion (λ b. is_printable b ≡ true)
 
@@ -40,7 +40,7 @@ ended (y ∷ a) [] s good same =
     cc
 ended (y ∷ a) (z ∷ b) s good same = ended a b s good.1 (cc)
 
--- if a text begins with printable bytes, its first line has at least as many bytes
+-- if a text begins with n printable bytes, its first line has at least n bytes
 long : (a b r s : List ℕ) → ArePrintable a → length b < length a → a ++ r ≡ b ++ 10 ∷ s → ⊥
 long [] b r s good short same = absurd (omega arith)
 long (y ∷ a) [] r s good short same =

@@ -6,8 +6,8 @@ use Rattle.std.proofs.lemmas.List.Elements.{All-from_recursion}
 use Rattle.std.proofs.lemmas.List.Splits.{slice_split_first, slice_split_none}
 use Rattle.docker_cmd.specs.JobLine.{is_space, word_or_none, words_in}
 
--- the words in a list of pieces are the first piece, unless that piece is empty, and then the words
--- in the other pieces
+-- the words in a list of pieces are the first piece, if it isn't empty, followed by the words in
+-- the other pieces
 first_apart : (piece : List ℕ) (pieces : List (List ℕ))
     → filter (λ word. not (length word == 0)) (piece ∷ pieces) ≡ word_or_none piece ++ filter (λ word. not (length word == 0)) pieces
 first_apart piece pieces = by (length piece == 0)
@@ -17,15 +17,15 @@ first_apart piece pieces = by (length piece == 0)
     by true = refl
     by false = refl
 
--- if a line has a space, its words are the bytes before the first space, unless there are none, and
--- then the words of the bytes after this space
+-- if a line has a space, its words are the bytes before the first space, if there are any, followed
+-- by the words of the bytes after this space
 pub words_at_space : (text : List ℕ) → position_or_len is_space text < length text
     → words_in text ≡ word_or_none (before_first is_space text) ++ words_in (after_first is_space text)
 words_at_space text here =
     ap (filter (λ word. not (length word == 0))) (slice_split_first is_space text 0 here)
     ∙ first_apart (before_first is_space text) (slice_split is_space (after_first is_space text))
 
--- if a text has no first space, none of its bytes is a space
+-- if no first space is found in a text, none of its bytes is a space
 no_space : (text : List ℕ) → position_or_len is_space text ≡ length text → AllByRecursion (λ b. is_space b ≡ false) text
 no_space [] none = tt
 no_space (b ∷ text) none = by (is_space b) refl none (no_space text)

@@ -62,7 +62,7 @@ unfolding walked
 plain_walked c names position word h plain none =
     ap (λ (met : Held × Step). after_step c word (at h position) met.0 met.1) (plain_met c names position word h plain none)
 
--- a plain word that isn't a subcommand's name can only have a fault because of its position
+-- a plain word that isn't a subcommand's name can cause a fault only by its position
 pub plain_turn : (s : Shape) (names : Names) (position : ℕ) (word : Text) (h : Held) → is_plain_word word ≡ true → subcommand_met names idle word ≡ None
     → turn_fault s names (at h position) word ≡ step_fault s position h value
 plain_turn s names position word h plain none =
@@ -70,8 +70,8 @@ plain_turn s names position word h plain none =
     let fault = plain_fault s names word h plain none in
     λ i. or_else (fault i) (step_fault s position (met i).0 (met i).1)
 
--- the faults of `clap`'s walk over a plain word and other words are the word's faults, followed by
--- the other words' faults
+-- the faults of `clap`'s walk over a plain word and the words after it are the plain word's faults
+-- if there are any, and otherwise the faults of the words after it
 pub plain_walk_fault : (s : Shape) (names : Names) (position : ℕ) (word : Text) (rest : List Text) (h : Held) → is_plain_word word ≡ true
     → subcommand_met names idle word ≡ None
     → walk_fault s names (at h position) (word ∷ rest)

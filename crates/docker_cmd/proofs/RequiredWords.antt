@@ -33,7 +33,7 @@ leaf name ids = built_leaf (inherited built_top (words_shape name ids))
 abbrev pub placed : ℕ → Text → Rule
 placed position id = with_index position (filled (required_rule id))
 
--- the next position, which is at most the greatest `usize`
+-- the position after this one, but at most the greatest `usize`
 abbrev pub next : ℕ → ℕ
 next position = min (position + 1) usize_max
 
@@ -46,7 +46,7 @@ Fits c position (id ∷ ids) = (arg_by_index c position ≡ Some (placed positio
 abbrev pub row : Text → Text → Row
 row id word = record { id = id; values = word ∷ []; count = None; source = Some CommandLine; reading = reading_by (new_rule id) }
 
--- these ids differ from each other, and no row has one of them
+-- these ids differ from each other, and no row has any of them
 abbrev pub Fresh : List Row → List Text → Type 0
 Fresh rows [] = Unit {0}
 Fresh rows (id ∷ ids) = (has_row id rows ≡ false) × ((word : Text) → Fresh (rows ++ row id word ∷ []) ids)
@@ -141,8 +141,8 @@ is_short [] words = false
 is_short (id ∷ ids) [] = true
 is_short (id ∷ ids) (word ∷ words) = is_short ids words
 
--- the only fault of `clap`'s walk over the words is the fault for too many words, if there are more
--- words than ids
+-- `clap`'s walk over the words finds a fault only if there are more words than ids: the fault for
+-- too many words
 words_fault : (s : Shape) (position : ℕ) (ids words : List Text) (h : Held) (rows : List Row) → stray_fault s ≡ kind.UnknownArgument ∷ []
     → Fits s.rules position ids → Fresh rows ids
     → Settles s h rows → list_all is_plain_word words ≡ true → walk_fault s [] (at h position) words ≡ surplus_fault ids words
@@ -201,8 +201,8 @@ no_default_fault position (id ∷ ids) rows =
     ap (λ b. or_else (cond b [] []) (defaults_fault (with_default rows (placed position id)) rest)) (or-true (has_row id rows))
     ∙ ap (λ rs. defaults_fault rs rest) (same_rows id rows) ∙ no_default_fault (next position) ids rows
 
--- if no row in `rows` has an id, this id is given in `rows ++ rest` if and only if it is given in
--- `rest`
+-- if no row in `rows` has the id `id`, this id counts as given in `rows ++ rest` if and only if it
+-- counts as given in `rest`
 not_given : (id : Text) (rows rest : List Row) → has_row id rows ≡ false → is_given id (rows ++ rest) ≡ is_given id rest
 not_given id [] rest fresh = refl
 not_given id (r ∷ rows) rest fresh =
@@ -210,7 +210,7 @@ not_given id (r ∷ rows) rest fresh =
     ap (λ b. option_map_or (λ (x : Row). explicit_source x.source) (cond b (Some r) (find (λ x. bytes_eq x.id id) (rows ++ rest))) false) parts.0
     ∙ not_given id rows rest parts.1
 
--- if the first row has an id, this id is given
+-- the id of the first row counts as given (`is_given`)
 given_here : (id word : Text) (rest : List Row) → is_given id (row id word ∷ rest) ≡ true
 given_here id word rest =
     ap (λ b. option_map_or (λ (x : Row). explicit_source x.source) (cond b (Some (row id word)) (find (λ x. bytes_eq x.id id) rest)) false)

@@ -49,7 +49,7 @@ three_counted Holds (a ∷ b ∷ []) is = absurd is
 three_counted Holds (a ∷ b ∷ c ∷ []) is = refl
 three_counted Holds (a ∷ b ∷ c ∷ d ∷ words) is = absurd is
 
--- a task has as many words as the task's subcommand requires
+-- a task is named by as many words as its subcommand requires
 pub words_counted : (task : TaskView) (words : List Text) → AreWordsOf task words → length words ≡ length (ids_of (subcommand_of task))
 words_counted new_task words is = one_counted _ words is
 words_counted check_task words is = one_counted _ words is
@@ -89,7 +89,7 @@ Suit Horizon = OfTwo (λ state date. NameHorizon state date)
 Suit Migrate = OfOne (λ state. NamesStored state)
 
 -- if one property of two words implies another, every list of exactly two words that has the first
--- property has the second
+-- property also has the second
 two_weaker : (P Q : Text → Text → Type 0) → ((a b : Text) → P a b → Q a b) → (words : List Text) → OfTwo P words → OfTwo Q words
 two_weaker P Q so [] is = is
 two_weaker P Q so (a ∷ []) is = is
@@ -97,7 +97,7 @@ two_weaker P Q so (a ∷ b ∷ []) is = so a b is
 two_weaker P Q so (a ∷ b ∷ c ∷ words) is = is
 
 -- if one property of three words implies another, every list of exactly three words that has the
--- first property has the second
+-- first property also has the second
 three_weaker : (P Q : Text → Text → Text → Type 0) → ((a b c : Text) → P a b c → Q a b c) → (words : List Text) → OfThree P words → OfThree Q words
 three_weaker P Q so [] is = is
 three_weaker P Q so (a ∷ []) is = is

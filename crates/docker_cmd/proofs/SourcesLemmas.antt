@@ -47,7 +47,8 @@ of_one_file left state takes =
           (λ one two is_one is_two same. sym (Contains-single takes.file one is_one) ∙ Contains-single takes.file two is_two);
     }
 
--- if a task's source is a file that an office takes, the task has read the state of this one file
+-- if a task's source is a file that an office takes, the content that the task has read is the
+-- state of this one file
 pub read_one_file : (task : TaskView) (first second : DeviceBytes) (read : ReadView) → sources_of task ≡ taken_file → IsReadOf task first second read
     → IsOfOneFile first read
 read_one_file new_task first second read is reads = let never : ⊥ = cc in absurd never
@@ -76,7 +77,7 @@ checked (horizon_task day) is = let never : ⊥ = cc in absurd never
 checked migrate_task is = let never : ⊥ = cc in absurd never
 
 -- if a task's horizon is set on the state that was read from its sources, the result is the state
--- that the task has read
+-- that the task makes from its sources
 state_of : (task : TaskView) (first second : DeviceBytes) (state : State) → IsStateOf (sources_of task) first second state
     → IsReadOf task first second (under (horizon_of task) (office_read state))
 state_of new_task first second state is = is
@@ -89,7 +90,8 @@ state_of files_task first second state is = is
 state_of (horizon_task day) first second state is = record { own = state; reads = is; raised = refl }
 state_of migrate_task first second state is = is
 
--- if a task's horizon is set on the content of its sources, the result is what the task has read
+-- if a task's horizon is set on the content of its sources, the result is what the task makes from
+-- its sources
 read_of : (task : TaskView) (first second : DeviceBytes) (read : ReadView) → IsContentOf (sources_of task) first second read
     → IsReadOf task first second (under (horizon_of task) read)
 read_of task first second (file_read file) is =
@@ -131,7 +133,7 @@ held_written task sources horizon first second own made same_sources same_made c
     (written_of task first second own (subst (λ s. IsContentOf s first second own) same_sources content)))
 
 -- suppose that `made` is the content of a task's sources with the task's horizon set on it. Then
--- `made` is what the task has read
+-- `made` is what the task makes from its sources
 pub task_read : (task : TaskView) (sources : Sources) (horizon : Option ℕ) (first left second second_left : DeviceBytes) (own made : ReadView)
     → sources ≡ sources_of task → horizon ≡ horizon_of task → made ≡ under horizon own
     → ReadsFew sources first left second second_left (IsContentOf sources first second own × HasReadToEnd sources left second_left)

@@ -11,7 +11,7 @@ use Rattle.docker_cmd.specs.declared.holding.Holding.TheVariants.{Whole, Place, 
 abbrev pub place_read : Excerpt → ReadView
 place_read office = office_read office.state
 
--- the content that a job had read, given what the job keeps of it in memory
+-- the content that a job has read, given what the job keeps of it in memory
 abbrev pub held_meant : Holding → ReadView
 held_meant (Whole content) = content_meant content
 held_meant (Place office) = place_read office

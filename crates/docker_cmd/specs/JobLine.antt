@@ -16,14 +16,14 @@ pub record IsJobLine (text line rest : List ℕ) : Type 0 where
   pub whole : text ≡ line ++ 10 ∷ rest
   pub line_text : IsLineText line
 
--- a job line was read from a source. If contracts know which bytes the source held, it held the
+-- a job line was read from a source. If contracts can say which bytes the source held, it held the
 -- line, the line feed, and then the bytes that are left in the source
 abbrev pub ReadsLine : Option (List ℕ) → List ℕ → Option (List ℕ) → Type 0
 ReadsLine None line new = IsLineText line
 ReadsLine (Some text) line new = (rest : List ℕ) × IsJobLine text line rest × (new ≡ Some rest)
 
--- the source's bytes don't begin with a job line. The definition is also true if contracts don't
--- know which bytes the source holds
+-- the source's bytes don't begin with a job line. The definition is also true if contracts can't
+-- say which bytes the source holds
 abbrev pub HasNoLine : Option (List ℕ) → Type 0
 HasNoLine None = ⊤
 HasNoLine (Some text) = (line rest : List ℕ) → ¬ IsJobLine text line rest
@@ -46,19 +46,19 @@ abbrev pub ReadsByte : Option (List ℕ) → Option ℕ → Option (List ℕ) �
 ReadsByte old None new = IsEnd old × (new ≡ old)
 ReadsByte old (Some byte) new = Reads old (byte ∷ []) new
 
--- a job line that names this job was read from a source. If contracts know which bytes the source
--- held, it held the line, the line feed, and then the bytes that are left in the source
+-- a job line that names this job was read from a source. If contracts can say which bytes the
+-- source held, it held the line, the line feed, and then the bytes that are left in the source
 abbrev pub ReadsJob : Option (List ℕ) → JobView → Option (List ℕ) → Type 0
 ReadsJob old job new = (line : List ℕ) × ReadsLine old line new × IsJobOf (words_in line) job
 
 -- the source's bytes don't begin with a job line that names a job. The definition is also true if
--- contracts don't know which bytes the source holds
+-- contracts can't say which bytes the source holds
 abbrev pub HasNoJob : Option (List ℕ) → Type 0
 HasNoJob None = ⊤
 HasNoJob (Some text) = (line rest : List ℕ) → IsJobLine text line rest → NameNoJob (words_in line)
 
 -- the source's bytes begin with a job line that names a job. The definition is also true if
--- contracts don't know which bytes the source holds
+-- contracts can't say which bytes the source holds
 abbrev pub HasJob : Option (List ℕ) → Type 0
 HasJob None = ⊤
 HasJob (Some text) = (line : List ℕ) × ((rest : List ℕ) × (IsJobLine text line rest × (¬ NameNoJob (words_in line))))

@@ -28,8 +28,8 @@ use Rattle.docker_cmd.specs.CheckLine.{count_line}
 abbrev pub most_bytes : ℕ
 most_bytes = 1099511627776
 
--- the bytes left in a source, or the bytes that a sink has taken; None if contracts don't know
--- which bytes they are
+-- the bytes left in a source, or the bytes that a sink has taken; None if contracts can't say which
+-- bytes they are
 abbrev pub DeviceBytes : Type 0
 DeviceBytes = Option (List ℕ)
 

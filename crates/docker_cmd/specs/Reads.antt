@@ -4,7 +4,7 @@ use Rattle.docker_cmd.specs.declared.reads.Sources as declared
 use Rattle.docker_cmd.specs.declared.reads.Sources.TheVariants as code
 
 -- the input of a task, in the order of its words. A file is only checked, or taken by an office. A
--- state is in the present or the older format. After a state, a file or a second state may follow
+-- state is in the present or the older format. A file or a second state may follow a state
 pub data Sources : Type 0 where
   no_source : Sources
   checked_file : Sources

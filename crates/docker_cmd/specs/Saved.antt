@@ -1,4 +1,4 @@
--- What a session saves: a state that was read from a version of a STATE file, and that has gained
+-- What a desk saves: a state that was read from a version of a STATE file, and that has gained
 -- files, versions and horizons since.
 use Rattle.std.specs.Prelude.{◌≡◌, ◌<◌, ℕ, List, [], ◌∷◌, length, slice_index_or, Some}
 use Rattle.docker_model.specs.file.File.{most_records}

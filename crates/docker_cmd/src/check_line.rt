@@ -6,7 +6,8 @@ use arrayvec::ArrayVec;
 use fixed_text::put;
 use itoa::Buffer;
 
-/// A line with its line feed. There is room for any two counts.
+/// The line that `check` writes, with its line feed. It has at most 64 bytes, whatever the two
+/// counts are.
 pub(crate) type CheckText = ArrayVec<u8, 64>;
 
 /// Returns the line for a file with `records` records and `changes` changes. The header and the

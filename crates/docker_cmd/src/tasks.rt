@@ -203,9 +203,9 @@ pub enum Task {
         /// The day.
         day: Day,
     },
-    /// `take`: joins a file to a state.
+    /// `take`: takes a file into a state.
     Take,
-    /// `merge`: joins a second state to a state.
+    /// `merge`: joins a state with a second state.
     Merge,
     /// `print`: prints a docker from a state.
     Print {

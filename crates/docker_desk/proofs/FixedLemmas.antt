@@ -24,13 +24,13 @@ use Rattle.docker_desk.specs.Answering.{answers_of, lines_of}
 use Rattle.docker_desk.specs.Learning.{IsKnown}
 use Rattle.docker_desk.specs.SessionViews.{Step}
 
--- two states are equal if they are the summaries of the same files and the same horizon
+-- two states are equal if both are the summary of the same files under the same horizon
 pub one_state : (first second : Known) (one two : State) → IsKnown first one → IsKnown second two → AreOneKnowledge first second → one ≡ two
 one_state first second one two left right same =
     summary_unique first.files second.files same.0 second.horizon one two (subst (λ h. IsSummary first.files h one) same.1 left.is) right.is
 
 -- two states that know the same files print the same docker for each place, and for each day that
--- neither state's horizon refuses
+-- isn't refused because of either horizon
 pub one_docker : (first second : Known) (one two : State) → IsKnown first one → IsKnown second two → HaveSameFiles first.files second.files
     → (place : List ℕ) (day : ℕ) → ¬ IsDayRefused one.horizon day → ¬ IsDayRefused two.horizon day → (text other : List ℕ)
     → IsDockerText (live_table one) place day text → IsDockerText (live_table two) place day other → text ≡ other
@@ -53,8 +53,8 @@ plain_dockers known state is distinct =
       ),
     )
 
--- suppose that no two known files have the same moment. Then the state lists the timing points of
--- the plain table, from which the rows that ended before the horizon are removed
+-- suppose that no two known files have the same moment. Then the state's list of timing points is
+-- the list for the plain table without the rows that ended before the horizon
 pub plain_places : (known : Known) (state : State) → IsKnown known state → HaveDistinctMoments known.files
     → (plain : Table) × IsPlainTable known.files plain
     × ((text : List ℕ) → IsPlacesText (live_table state) text → IsPlacesText (lapse_table known.horizon plain) text)

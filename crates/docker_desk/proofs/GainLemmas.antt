@@ -114,7 +114,7 @@ module _ (earlier : List (List ℕ)) where
         gained_none gains _ _ gained (same_saved setting before after does.result does.desk)
 
     -- after a line is answered, the state has gained what the line's request adds. The state has
-    -- gained nothing if the request was refused, or if the line makes no request
+    -- gained nothing if the request was refused, or if the line isn't a request
     gained_asked : (request : Option RequestView) (answer : AnswerView) (gains : List Gain) → ((day : ℕ) → request ≡ Some (horizon_request day) → IsDay day)
         → DoesAsked setting request before answer after → GainsAsked setting earlier request before answer after gains
         → AreGained earlier gains before.desk.state after.desk.state
@@ -139,8 +139,8 @@ module _ (earlier : List (List ℕ)) where
         (gained_steps step.after last steps gained.1.0 are.1.1 gained.1.1.1.0)))
 
     -- suppose that STATE held version number `own` of `earlier` when the session began. Then `save`
-    -- stores the text of a state that was read from that version and then gained what the steps
-    -- before `save` gained
+    -- stores the text of a state that was read from that version, and that then gained what the
+    -- desk's state gained in the steps before `save`
     pub places_version : (first before after : SessionView) (steps : List Step) (old : List Event) (own : ℕ) (gains : List Gain) (answer : List ℕ)
         → (begins : BeginsAt setting.name old first) → HoldsVersion earlier begins.held own → AreSteps setting first steps before
         → GainedBy setting earlier steps gains → Saves setting before (done_with answer) after → IsPlaced setting earlier own gains before after

@@ -1,4 +1,4 @@
--- What a session learns from the files that `take`, `merge` and `renew` read.
+-- What a desk learns from the files that `take`, `merge` and `renew` read.
 use Rattle.std.proofs.Common.{◌≡◌, ℕ, List, [], ◌∷◌, ◌++◌, refl, sym, ◌∙◌, subst, Some, None, Ok, Err}
 use Rattle.std.specs.Prelude.{Option, Result, ⊤}
 use Rattle.docker_model.specs.run.Run.{Known, nothing, united}
@@ -41,7 +41,7 @@ held_after_look name old new first second one two =
 -- ---- a state is received or saved
 
 module _ (before after : SessionView) (known : Known) where
-  -- if a file held the text of a summary and its state was received, the session learns that
+  -- if a file held the text of a summary, and the desk received this state, the desk learned this
   -- summary
   hears_held : (events : Reading → List Event) (held : Bytes) (holds : HoldsKnown events before after known) → held ≡ holds.read.held
       → JoinsState dks_2 most_bytes held before.desk.state after.desk.state → HearsState events before after known
@@ -55,7 +55,7 @@ module _ (before after : SessionView) (known : Known) where
         of = known_read most_bytes holds.read.held there.received holds.sent known there.read holds.holds holds.of;
       }
 
-  -- if `merge` succeeded, and the file held the text of a summary, the session learns this summary
+  -- if `merge` succeeded, and the file held the text of a summary, the desk learned this summary
   pub hears_merged : (other : Text) (text : List ℕ) → Joins other StopsInState EndsReceiving before (done_with text) after
       → HoldsKnown (events_of other) before after known → HearsState (events_of other) before after known
   hears_merged other text does holds = by does.result does.opens.read does.told does.opens.asked does.opens.ends
@@ -68,7 +68,7 @@ module _ (before after : SessionView) (known : Known) where
       by (Ok done) None told asked ends = absurd ends
       by (Err fault) read told asked ends = let never : ⊥ = cc in absurd never
 
-  -- if `renew` succeeded, and the state's file held the text of a summary, the session learns this
+  -- if `renew` succeeded, and the state's file held the text of a summary, the desk learned this
   -- summary
   pub hears_renewed : (setting : Setting) (text : List ℕ) → Renews setting before (done_with text) after
       → HoldsKnown (renewing setting.name) before after known → HearsState (renewing setting.name) before after known
@@ -101,7 +101,7 @@ module _ (before after : SessionView) (known : Known) where
 
 -- ---- what a session learns from its steps
 
--- if `take` succeeded, there is a file that the session learned
+-- if `take` succeeded, there is a file that the desk came to know
 takes_heard : (file : Text) (text : List ℕ) (before after : SessionView) → Joins file StopsInFile EndsTaking before (done_with text) after
     → (heard : Known) × HearsFile file before after heard
 takes_heard file text before after does = by does.result does.opens.read does.told does.opens.asked does.opens.ends
@@ -117,7 +117,7 @@ takes_heard file text before after does = by does.result does.opens.read does.to
     by (Err fault) read told asked ends = let never : ⊥ = cc in absurd never
 
 module _ (setting : Setting) where
-  -- from each request that succeeded, the session learned files and a horizon, or nothing
+  -- by each request that succeeded, the desk came to know files and a horizon, or nothing new
   hears_some : (request : RequestView) (text : List ℕ) (before after : SessionView) → DoesRequest setting request before (done_with text) after
       → ReceivesKnown setting request before after → (heard : Known) × Hears setting request before after heard
   hears_some (print_request place day) text before after does received = (nothing, refl)
@@ -132,7 +132,7 @@ module _ (setting : Setting) where
   hears_some (horizon_request day) text before after does received = (record { files = []; horizon = day }, refl)
   hears_some save_request text before after does received = (nothing, refl)
 
-  -- from each step, the session learned files and a horizon, or nothing
+  -- in each step, the desk came to know files and a horizon, or nothing new
   learns_some : (request : Option RequestView) (answer : AnswerView) (before after : SessionView) (old : Known) → DoesAsked setting request before answer after
       → HearsKnown setting request before answer after → (new : Known) × Learns setting request before answer after old new
   learns_some (Some request) (done_with text) before after old does hears =
@@ -141,7 +141,7 @@ module _ (setting : Setting) where
   learns_some (Some request) no_request before after old does hears = (old, refl)
   learns_some None answer before after old does hears = (old, refl)
 
-  -- from all steps together, the session learned files and a horizon, or nothing
+  -- in all steps together, the desk came to know files and a horizon, or nothing new
   pub learned_of : (first last : SessionView) (steps : List Step) (old : Known) → AreSteps setting first steps last → AllHearKnown setting steps
       → (new : Known) × AreLearned setting old steps new
   learned_of first last [] old are hear = (old, refl)

@@ -16,7 +16,7 @@ pub then : (old middle new : List Event) (first next : List Event) → middle �
 then old middle new first next before after =
     after ∙ ap (λ (events : List Event). events ++ next) before ∙ append_assoc old first next
 
--- a draft that was empty and took a text holds exactly this text
+-- if a draft was empty and a text was written to it, the draft holds exactly this text
 pub draft_took : (names_bytes : Bool) (text : List ℕ) (before after : Bytes) → before ≡ named_if names_bytes [] → Takes before text after
     → after ≡ named_if names_bytes text
 draft_took true text before after empty takes = rw empty at takes

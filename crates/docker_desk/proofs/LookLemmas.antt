@@ -19,7 +19,7 @@ use Rattle.docker_desk.specs.Looking.{IsGoodLook}
 use Rattle.docker_desk.specs.Serving.{BeginsAt}
 
 module _ (name : Text) where
-  -- a look that is good (`IsGoodLook`) is still good after events were added to the history
+  -- a look that is good (`IsGoodLook`) is still good after events are added to the history
   pub good_more : (old new more : List Event) (look : ℕ) → new ≡ old ++ more → IsGoodLook name old look → IsGoodLook name new look
   good_more old new more look grown (inl before) = inl (record {
     earlier = before.earlier;
@@ -56,7 +56,8 @@ module _ (name : Text) where
     number = (let size = length-append old (drafted name from ∷ []) in omega (arith, size, number));
   })
 
-  -- if the number of the look is unchanged, the look is still good after events were added
+  -- if the look's position is unchanged, the look is still good after events are added to the
+  -- history
   good_same : (old new more : List Event) (look look_now : ℕ) → new ≡ old ++ more → look_now ≡ look → IsGoodLook name old look
       → IsGoodLook name new look_now
   good_same old new more look look_now grown same good = subst (IsGoodLook name new) (sym same) (good_more old new more look grown good)

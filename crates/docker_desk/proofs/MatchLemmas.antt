@@ -18,7 +18,7 @@ use Rattle.docker_desk.specs.Copying.{IsNoFront, with_other}
 pub goes_on : (text piece taken : List ℕ) (at n : ℕ) → take n (drop at text) ≡ take n piece → take at text ≡ taken → take (at + n) text ≡ taken ++ take n piece
 goes_on text piece taken at n same front = take-add at n text ∙ (λ i. front i ++ same i)
 
--- the same as `goes_on`, for a sink that has taken no byte that differs from the text
+-- the same as `goes_on`, for a sink whose bytes have all agreed with the text so far
 pub goes_on_as : (text piece taken : List ℕ) (other : Option ℕ) (at n : ℕ) → is_some other ≡ false → with_other (take at text) other ≡ taken
     → take n (take (length text - at) (drop at text)) ≡ take n piece → Some (with_other (take (at + n) text) other) ≡ Some (taken ++ take n piece)
 goes_on_as text piece taken None at n none front same = ap Some (goes_on text piece taken at n (ap (take n) (sym rest) ∙ same) front)
@@ -27,7 +27,8 @@ goes_on_as text piece taken None at n none front same = ap Some (goes_on text pi
     rest = ap (λ (many : ℕ). take many (drop at text)) (sym (length-drop at text)) ∙ take-length (drop at text)
 goes_on_as text piece taken (Some byte) at n none front same = let never : ⊥ = cc in absurd never
 
--- if a sink has taken a byte that differs from the text, it hasn't taken exactly the text
+-- if a sink has taken a byte that differs from the byte of the text at the same offset, the sink
+-- hasn't taken exactly the text
 pub never_whole : (text own front taken : List ℕ) (other : Option ℕ) (test : Bool) → is_some other ≡ true → own ≡ text → with_other front other ≡ taken
     → IfSome other (λ _. IsNoFront (with_other front other) own) → test ≡ false → (IsTrue test → taken ≡ text) × (taken ≡ text → IsTrue test)
 never_whole text own front taken None test some same is none fails = let never : ⊥ = cc in absurd never

@@ -29,7 +29,7 @@ told_docker state place day (refused_for fault) allowed same = subst (IsDockerRe
 told_docker state place day no_request allowed never = never
 
 -- two states that know the same files print the same permanent docker for each place, and for each
--- day that neither state's horizon refuses
+-- day that isn't refused because of either horizon
 pub one_permanent : (first second : Known) (one two : State) → IsKnown first one → IsKnown second two → HaveSameFiles first.files second.files
     → (place : List ℕ) (day : ℕ) → ¬ IsDayRefused one.horizon day → ¬ IsDayRefused two.horizon day → (text other : List ℕ)
     → IsDockerText (permanent_table (live_table one)) place day text → IsDockerText (permanent_table (live_table two)) place day other → text ≡ other

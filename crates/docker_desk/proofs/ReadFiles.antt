@@ -21,13 +21,13 @@ use Rattle.docker_desk.specs.Reading.{StopsInState, reading}
 use Rattle.docker_desk.specs.declared.compared.Compared.{Compared}
 use Rattle.docker_desk.specs.declared.compared.Compared.TheVariants as compared
 
--- if the status isn't 4 and no failure was counted, the failure count agrees with the status
+-- if the status isn't 4 and the failure count is unchanged, the count agrees with the status
 -- (`IsCounted`)
 not_failed : (status before after : ℕ) → status ≢ 4 → after ≡ before → IsCounted status before after
 not_failed status before after other same =
     ((λ is. absurd (other is), λ rose. let never : ⊥ = omega (arith, same, rose) in absurd never), λ differs. same)
 
--- if the status is 4 and one failure was counted, the failure count agrees with the status
+-- if the status is 4 and the failure count has grown by one, the count agrees with the status
 -- (`IsCounted`)
 failed_once : (before after : ℕ) → after ≡ before + 1 → IsCounted 4 before after
 failed_once before after rose = ((λ is. rose, λ is. refl), λ differs. absurd (differs refl))
@@ -58,8 +58,8 @@ takes left left_now old new (Err (office.State fault)) outcome kept = absurd out
 takes left left_now old new (Err office.Lapsed) outcome kept = absurd outcome
 takes left left_now old new (Err office.Sink) outcome kept = absurd outcome
 
--- after a file was taken or refused, one failure was counted if and only if the result's status is
--- 4
+-- after an office took or refused a file, the failure count has grown by one if and only if the
+-- result's status is 4
 pub taking_counted : (before after : ℕ) (result : Result ⊤ OfficeFault) → CountsTaking before after result → IsCounted (result_status result) before after
 taking_counted before after (Ok done) counted = not_failed 0 before after (λ is. omega arith) counted
 taking_counted before after (Err (office.File fault)) counted = not_failed _ before after (λ is. omega arith) counted
@@ -97,7 +97,8 @@ pub reloads : (left left_now : Bytes) (new : State) (result : Result ⊤ OfficeF
 reloads left left_now new (Ok done) outcome = outcome
 reloads left left_now new (Err fault) outcome = refuses_to_receive left left_now fault outcome
 
--- after a state was refused, one failure was counted if and only if the fault's status is 4
+-- after an office refused a state, the failure count has grown by one if and only if the fault's
+-- status is 4
 fault_counted : (before after : ℕ) (fault : OfficeFault) → CountsWhy (why_unread fault) before after
     → IsCounted (result_status {A = ⊤} (Err fault)) before after
 fault_counted before after (office.State fault) counted = not_failed _ before after (λ is. omega arith) counted
@@ -114,8 +115,8 @@ reading_counted before after (Err fault) counted = fault_counted before after fa
 
 -- ---- comparing a file with a state
 
--- suppose that comparing the copy with the text of a state has a result. Then comparing the bytes
--- that the source held with this text has the same result
+-- if comparing the copy with a state's text gives a result, comparing the bytes that the source
+-- held with this text gives the same result
 found_held : (bytes : Bytes) (copy : Option Text) (found : Compared) (state : State) (left : Bytes) → IfSome copy (IsText bytes)
     → ComparesCopy found copy (state_text dks_2 state) → IsFound found state (reading bytes left)
 found_held None copy compared.Same state left held is = tt

@@ -25,7 +25,7 @@ use Rattle.docker_desk.specs.Answering.{HasLines, IsEndless, IsFollowed, ServesN
 -- ---- reading the lines of the input
 
 -- the bytes of the input begin with these lines, and the bytes after the lines are left. The
--- definition is also true if contracts don't know which bytes the input held
+-- definition is also true if contracts can't say which bytes the input held
 abbrev pub ReadsFirst : DeviceBytes → List LineView → DeviceBytes → Type 0
 ReadsFirst None lines left = ⊤
 ReadsFirst (Some text) lines left = (rest : List ℕ) × (AreFirstLines text lines rest × (left ≡ Some rest))
@@ -400,7 +400,7 @@ pub counts_on : (result : Option Ending) (input input_now output output_now : �
     → (input_now ≡ input) × (output_now ≡ output)
 counts_on result input input_now output output_now none counts = subst (λ (r : Option Ending). CountsNext r input input_now output output_now) none counts
 
--- if the status isn't 4 and no failure was counted, the failure count agrees with the status
+-- if the status isn't 4 and the failure count is unchanged, the count agrees with the status
 -- (`IsCounted`)
 counted_none : (status count : ℕ) → status ≢ 4 → IsCounted status count count
 counted_none status count other = ((λ four. absurd (other four), λ more. absurd (omega arith)), λ _. refl)

@@ -17,8 +17,8 @@ FoundCameFrom =
     (files : Files) (horizon : ℕ) (state : State) (uid : List ℕ) (day : ℕ) (found : Stamped) → IsSummary files horizon state
     → IsFoundFor state uid day (Some found) → CameFrom files found
 
--- suppose that the files have a plain table and the day isn't before the horizon. If a schedule is
--- found in the files' summary, it is the schedule chosen from the plain table
+-- suppose that there is a plain table of the files, and that the day isn't before the horizon. If a
+-- schedule is found in the files' summary, it is the schedule chosen from the plain table
 abbrev pub FoundIsPlain : Type 0
 FoundIsPlain =
     (files : Files) (horizon : ℕ) (state : State) (table : Table) (uid : List ℕ) (day : ℕ) (found : Option Stamped) → IsSummary files horizon state
@@ -26,7 +26,8 @@ FoundIsPlain =
     → IsChosenOn table uid day (option_map (λ (it : Stamped). it.schedule) found)
 
 -- if a text shows the schedule that a state has for a UID on a day, this schedule came from a known
--- file. If the known files have a plain table, it is also the schedule chosen from this table
+-- file. If there is a plain table of the known files, it is also the schedule chosen from this
+-- table
 pub train_known : FoundCameFrom → FoundIsPlain → (known : Known) (state : State) (uid : List ℕ) (day : ℕ) (text : List ℕ) → IsKnown known state
     → IsTrainText state uid day text → state.horizon ≤ day → IsTrainOf known uid day text
 train_known came_from is_plain known state uid day text is train from = record {

@@ -58,7 +58,7 @@ ended_well InputFailed unsaved none = let never : ⊥ = omega (arith, none) in a
 ended_well InputEndless unsaved none = let never : ⊥ = omega (arith, none) in absurd never
 ended_well OutputFailed unsaved none = let never : ⊥ = omega (arith, none) in absurd never
 
--- if a session has only one word, this word names the state's file
+-- if a session is started with only one word, this word names the state's file
 named_so : (word name : Text) (may_write : Bool) → word ∷ [] ≡ session_words name may_write → name ≡ word
 named_so word name false same = cc
 named_so word name true same = let never : ⊥ = cc in absurd never
@@ -69,7 +69,7 @@ named_so word name true same = let never : ⊥ = cc in absurd never
 one_line : AreLines (codes "files\n") (whole_line asked_line ∷ [])
 one_line = ([], (record { whole = refl; line_text = record { short = omega arith; printable = AllPass-from_list_all is_printable asked_line refl } }, refl))
 
--- the line `files` makes the request `files`
+-- the line `files` is the request `files`
 asks_files : (may_write : Bool) → IsRequestOf may_write asked_line files_request
 asks_files may_write = record { name = refl; rest = refl; allowed = λ writes. let never : ⊥ = cc in absurd never }
 
@@ -172,7 +172,7 @@ module _ (text : List ℕ) (holds : HoldsState dks_2 most_bytes (Some text) no_s
   all_steps its first last (step ∷ next ∷ steps) begins named lines are met takes = let never : ⊥ = cc in absurd never
 
 -- suppose that STATE holds the text of a state without files, and that `files` is the only line of
--- the input. Then the session answers that there are no files, or that memory ran out
+-- the input. Then the desk answers that there are no files, or that memory ran out
 pub files_answered : (text : List ℕ) (old new : HostView) (status : ℕ) → HoldsState dks_2 most_bytes (Some text) no_state
     → old.history ≡ placed (codes "S") (Some text) ∷ [] → old.input ≡ Some (codes "files\n") → old.output ≡ Some []
     → IsShelfHistory new.history → status ≡ 0 → Serves (codes "S" ∷ []) true old new status → IsAnswered new.output

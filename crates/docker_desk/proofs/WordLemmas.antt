@@ -11,8 +11,8 @@ use Rattle.docker_desk.specs.Requests.{after_word, first_word, without_spaces}
 
 -- ---- the words of pieces
 
--- the words in a list of pieces are the first piece, unless that piece is empty, and then the words
--- in the other pieces
+-- the words in a list of pieces are the first piece, if it isn't empty, followed by the words in
+-- the other pieces
 first_apart : (piece : List ℕ) (pieces : List (List ℕ))
     → filter (λ word. not (length word == 0)) (piece ∷ pieces) ≡ word_or_none piece ++ filter (λ word. not (length word == 0)) pieces
 first_apart piece pieces = by (length piece == 0)
@@ -30,15 +30,15 @@ some_word piece some = by (length piece == 0) refl
     by false is = refl
     by true is = let none : length piece ≡ 0 = search (rules, tests) in absurd (omega (arith, some, none))
 
--- if a text has a space, its words are the bytes before the first space, unless there are none, and
--- then the words of the bytes after this space
+-- if a text has a space, its words are the bytes before the first space, if there are any, followed
+-- by the words of the bytes after this space
 at_space : (text : List ℕ) → position_or_len is_space text < length text
     → words_in text ≡ word_or_none (before_first is_space text) ++ words_in (after_first is_space text)
 at_space text here =
     ap (filter (λ word. not (length word == 0))) (slice_split_first is_space text 0 here)
     ∙ first_apart (before_first is_space text) (slice_split is_space (after_first is_space text))
 
--- if a text has no first space, none of its bytes is a space
+-- if no first space is found in a text, none of its bytes is a space
 no_space : (text : List ℕ) → position_or_len is_space text ≡ length text → AllByRecursion (λ b. is_space b ≡ false) text
 no_space [] none = tt
 no_space (b ∷ text) none = by (is_space b) refl none (no_space text)
@@ -141,8 +141,8 @@ words_none text none = (words_behind_spaces text ∙ ap words_in none, ap (befor
 
 -- ---- removing spaces one by one
 
--- if a text begins with a space, the text without its leading spaces is the same before and after
--- this space is removed
+-- if a text begins with a space, removing only this space doesn't change what is left once all
+-- leading spaces are removed
 pub space_leads : (text : List ℕ) → position_or_len is_space text < length text → before_first is_space text ≡ []
     → without_spaces text ≡ without_spaces (after_first is_space text)
 space_leads [] here none = absurd (omega (arith, here))

@@ -28,20 +28,20 @@ AreFirstLines text [] rest = rest ≡ text
 AreFirstLines text (line ∷ lines) rest =
     (next : List ℕ) × (IsNextLine text line next × AreFirstLines next lines rest)
 
--- the input begins with these lines. The definition is also true if contracts don't know which
--- bytes the input holds
+-- the input begins with these lines. The definition is also true if contracts can't say which bytes
+-- the input holds
 abbrev pub BeginsWith : DeviceBytes → List LineView → Type 0
 BeginsWith None lines = ⊤
 BeginsWith (Some text) lines = (rest : List ℕ) × AreFirstLines text lines rest
 
--- the input consists of exactly these lines. The definition is also true if contracts don't know
+-- the input consists of exactly these lines. The definition is also true if contracts can't say
 -- which bytes the input holds
 abbrev pub HasLines : DeviceBytes → List LineView → Type 0
 HasLines None lines = ⊤
 HasLines (Some text) lines = AreLines text lines
 
--- the input has at least 2 ^ 64 - 1 bytes. The definition is also true if contracts don't know
--- which bytes the input holds
+-- the input has at least 2 ^ 64 - 1 bytes. The definition is also true if contracts can't say which
+-- bytes the input holds
 abbrev pub IsEndless : DeviceBytes → Type 0
 IsEndless None = ⊤
 IsEndless (Some text) = 2 ^ 64 - 1 ≤ length text
@@ -107,8 +107,8 @@ ServesNext setting before after input input_now output output_now None =
 ServesNext setting before after input input_now output output_now (Some ending) =
     AnswersLines setting before after input output output_now ending
 
--- the failure counts of the input and the output changed as they do when the answering of one line
--- has this outcome
+-- the failure counts of the input and the output changed as they do when answering one line has
+-- this outcome
 abbrev pub CountsNext : Option Ending → ℕ → ℕ → ℕ → ℕ → Type 0
 CountsNext None input input_now output output_now = (input_now ≡ input) × (output_now ≡ output)
 CountsNext (Some ending) input input_now output output_now =

@@ -30,8 +30,8 @@ pub record DeskView : Type 0 where
   pub state : State
   pub unsaved : Bool
 
--- this is the fault for which a docker is refused: `Lapsed` if the state's horizon refuses its day,
--- otherwise `Memory`
+-- this is the fault for which a docker is refused: `Lapsed` if its day is refused because of the
+-- state's horizon, otherwise `Memory`
 abbrev pub IsDockerRefused : State → ℕ → OfficeFault → Type 0
 IsDockerRefused state day office.Lapsed = IsDayRefused state.horizon day
 IsDockerRefused state day office.Memory = ¬ IsDayRefused state.horizon day
@@ -128,7 +128,7 @@ RefusesToReceive read (office.File fault) = ⊥
 RefusesToReceive read office.Lapsed = ⊥
 RefusesToReceive read office.Sink = ⊥
 
--- this is the fault for which a file isn't read. If there is no reading, the file couldn't be
+-- this is the fault for which a file couldn't be read. If there is no reading, the file couldn't be
 -- opened. Otherwise the file was opened, and `Refuses` holds for the reading and the fault
 abbrev pub IsWhyNot : (Reading → OfficeFault → Type 0) → OfficeFault → Option Reading → Type 0
 IsWhyNot Refuses fault (Some read) = Refuses read fault
@@ -161,14 +161,14 @@ EndsReloading new (Err fault) read = IsWhyNot RefusesToReceive fault read
 
 -- ---- how a file is compared with a state
 
--- these bytes differ from the text. The definition is also true if contracts don't know which bytes
+-- these bytes differ from the text. The definition is also true if contracts can't say which bytes
 -- these are
 abbrev pub IsOtherText : Bytes → Text → Type 0
 IsOtherText None text = ⊤
 IsOtherText (Some bytes) text = bytes ≢ text
 
 -- comparing the text in a file with the text of a state has this result: `Same` if they are equal,
--- `Other` if they differ. `Unknown` is possible in both cases. If contracts don't know which bytes
+-- `Other` if they differ. `Unknown` is possible in both cases. If contracts can't say which bytes
 -- the file held, every result is possible
 abbrev pub IsFound : Compared → State → Reading → Type 0
 IsFound compared.Same state read = IsText read.held (state_text dks_2 state)
@@ -206,16 +206,17 @@ abbrev pub unsaved_by : Result ⊤ OfficeFault → Bool → Bool
 unsaved_by (Ok done) unsaved = true
 unsaved_by (Err fault) unsaved = unsaved
 
--- the number of the look after a request: `look` if the request succeeded, otherwise `before`
+-- the position of the desk's look after a request: `look` if the request succeeded, otherwise
+-- `before`
 abbrev pub look_by : {A : Type 0} → Result A OfficeFault → ℕ → ℕ → ℕ
 look_by (Ok done) look before = look
 look_by (Err fault) look before = before
 
 -- ---- how a text is stored
 
--- storing a text in the named file, by a draft based on the look with this number, ended with this
--- result. Either the draft replaced the file, or a device failed, or there was no memory for a
--- draft
+-- storing a text in the named file, by a draft based on the look at this position in the history,
+-- ended with this result. Either the draft replaced the file, or a device failed, or there was no
+-- memory for a draft
 abbrev pub EndsStoring : (names_bytes : Bool) (name : Text) (look : ℕ) (text : List ℕ)
     (old new : List Event) → Result ⊤ OfficeFault → Type 0
 EndsStoring names_bytes name look text old new (Ok done) = IsStored names_bytes name look text old new
@@ -227,8 +228,8 @@ EndsStoring names_bytes name look text old new (Err office.Lapsed) = ⊥
 EndsStoring names_bytes name look text old new (Err (office.File fault)) = ⊥
 EndsStoring names_bytes name look text old new (Err (office.State fault)) = ⊥
 
--- saving a text in the named file ended with this result. A draft with the text is made, and if the
--- draft replaced the file, the file is looked at again
+-- saving a text in the named file ended with this result. A draft with the text was made, and if it
+-- replaced the file, the file was looked at again
 abbrev pub EndsSaving : (names_bytes : Bool) (name : Text) (look : ℕ) (text : List ℕ)
     (old new : List Event) → Result ⊤ OfficeFault → Type 0
 EndsSaving names_bytes name look text old new (Ok done) =

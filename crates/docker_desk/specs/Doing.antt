@@ -92,8 +92,8 @@ DoesRequest setting (horizon_request day) before answer after =
     (answer ≡ done_with []) × (after ≡ with_horizon day before)
 DoesRequest setting save_request before answer after = Saves setting before answer after
 
--- the line makes this request; None says that the line makes no request. Only a whole line can make
--- a request
+-- the line is this request; None says that the line isn't a request. Only a whole line can be a
+-- request
 abbrev pub AsksOf : Bool → LineView → Option RequestView → Type 0
 AsksOf may_write (whole_line line) request = IsLineText line × AsksFor may_write line request
 AsksOf may_write bad_line request = request ≡ None
@@ -106,9 +106,10 @@ DoesAsked setting (Some request) before answer after =
     DoesRequest setting request before answer after
 DoesAsked setting None before answer after = (answer ≡ no_request) × (after ≡ before)
 
--- this step may occur in a session. The step's line has the step's request. Carrying out the
--- request at the step's first point gives the step's answer and ends at the step's second point.
--- The folder failed once in the step if the answer has status 4, and otherwise didn't fail
+-- this step may occur in a session. The step's line is the step's request, or isn't a request if
+-- the step has none. Carrying out the request at the step's first point gives the step's answer and
+-- ends at the step's second point. The folder failed once in the step if the answer has status 4,
+-- and otherwise didn't fail
 pub record IsStep (setting : Setting) (step : Step) : Type 0 where
   pub asks : AsksOf setting.may_write step.line step.request
   pub does : DoesAsked setting step.request step.before step.answer step.after

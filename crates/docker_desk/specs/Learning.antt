@@ -1,5 +1,5 @@
--- What a session knows. At each point its state is the summary of the files and the horizon that
--- the session knows.
+-- What a desk knows in a session. At each point the desk's state is the summary of the files and
+-- the horizon that the desk knows.
 use Rattle.std.specs.Prelude.{◌≡◌, ◌↔◌, ℕ, List, [], ◌∷◌, ◌++◌, Option, Some, None, option_map, ⊤}
 use Rattle.docker_model.specs.file.File.{most_records}
 use Rattle.docker_model.specs.state.State.{State, live_table}
@@ -30,14 +30,14 @@ pub record IsKnown (known : Known) (state : State) : Type 0 where
   pub good : IsGoodKnown dks_2 known
   pub is : IsStateOf known state
 
--- for each day that the state's horizon doesn't refuse, the state and this table have the same
--- dockers without the short-term plan
+-- for each day that isn't refused because of the state's horizon, the permanent docker made from
+-- the state is the permanent docker made from this table
 abbrev pub KeepsAs : State → Table → Type 0
 KeepsAs state table = (place : List ℕ) (day : ℕ) (text : List ℕ) → ¬ IsDayRefused state.horizon day
     → IsDockerText (permanent_table (live_table state)) place day text ↔ IsDockerText (permanent_table table) place day text
 
--- `take` opened the named file, which held an extract, and took the extract. The session learned
--- this extract, with no horizon
+-- `take` opened the named file, which held an extract, and took the extract. So the desk came to
+-- know this extract, and no horizon
 pub record HearsFile (name : Text) (before after : SessionView) (heard : Known) : Type 0 where
   pub read : Reading
   pub asked : after.history ≡ before.history ++ events_of name read
@@ -45,7 +45,7 @@ pub record HearsFile (name : Text) (before after : SessionView) (heard : Known) 
   pub heard_is : heard ≡ record { files = takes.file ∷ []; horizon = 0 }
 
 -- `merge` or `renew` opened a file, and the opening added these events to the history. The file
--- held the text of the summary of this knowledge, and the session learned this knowledge
+-- held the text of the summary of this knowledge, and the desk gained this knowledge
 pub record HearsState (events : Reading → List Event) (before after : SessionView) (heard : Known)
     : Type 0 where
   pub read : Reading
@@ -76,7 +76,7 @@ Hears setting (horizon_request day) before after heard =
     heard ≡ record { files = []; horizon = day }
 Hears setting save_request before after heard = heard ≡ nothing
 
--- if `old` was known before a line, `new` is known after the line. If the line has a request that
+-- if `old` was known before a line, `new` is known after the line. If the line is a request that
 -- succeeded, `new` also includes what the request added
 abbrev pub Learns : Setting → Option RequestView → SessionView → AnswerView → SessionView
     → Known → Known → Type 0
@@ -179,7 +179,7 @@ GainsDone setting earlier (horizon_request day) before after gains =
     gains ≡ horizon_gained day ∷ []
 GainsDone setting earlier save_request before after gains = gains ≡ []
 
--- this is what the state gained by a line: nothing, unless the line has a request that succeeded
+-- this is what the state gained by a line: nothing, unless the line is a request that succeeded
 abbrev pub GainsAsked : Setting → List Text → Option RequestView → SessionView → AnswerView → SessionView
     → List Gain → Type 0
 GainsAsked setting earlier (Some request) before (done_with text) after gains =
@@ -188,9 +188,9 @@ GainsAsked setting earlier (Some request) before (refused_for fault) after gains
 GainsAsked setting earlier (Some request) before no_request after gains = gains ≡ []
 GainsAsked setting earlier None before answer after gains = gains ≡ []
 
--- this is what the state gained by these steps, in order. Contracts know which bytes were in each
--- file that `take`, `merge` or `renew` read. Each file that `merge` or `renew` read held a version
--- in `earlier`
+-- this is what the state gained by these steps, in order. Contracts can say which bytes were in
+-- each file that `take`, `merge` or `renew` read. Each file that `merge` or `renew` read held a
+-- version in `earlier`
 abbrev pub GainedBy : Setting → List Text → List Step → List Gain → Type 0
 GainedBy setting earlier [] gains = gains ≡ []
 GainedBy setting earlier (step ∷ steps) gains = (now : List Gain) × ((more : List Gain)
@@ -218,8 +218,8 @@ pub record KnowsAt (setting : Setting) (known : Known) (state : State) : Type 0 
   pub has : last.desk.state ≡ state
 
 -- this text shows a train's schedule, or says that the train has no schedule that day. A schedule
--- that is shown came from a known file. If the known files have a plain table, the schedule is also
--- the one chosen from this table for the train on that day
+-- that is shown came from a known file. If there is a plain table of the known files, the schedule
+-- is also the one chosen from this table for the train on that day
 pub record IsTrainOf (known : Known) (uid : List ℕ) (day : ℕ) (text : List ℕ) : Type 0 where
   pub found : Option Stamped
   pub text_is : text ≡ train_text uid day found

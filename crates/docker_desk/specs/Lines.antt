@@ -43,21 +43,21 @@ abbrev pub AreLines : List ℕ → List LineView → Type 0
 AreLines text [] = text ≡ []
 AreLines text (line ∷ lines) = (rest : List ℕ) × (IsNextLine text line rest × AreLines rest lines)
 
--- if the line is whole, it has at most 255 bytes, and all are printable. Contracts know these facts
--- about each line that was read, even if they don't know which bytes the source held
+-- if the line is whole, it has at most 255 bytes, and all are printable. Contracts state these
+-- facts about each line that was read, even if they can't say which bytes the source held
 abbrev pub IsSomeLine : LineView → Type 0
 IsSomeLine (whole_line line) = IsLineText line
 IsSomeLine bad_line = ⊤
 IsSomeLine cut_line = ⊤
 
--- this line was read from a source. If contracts know which bytes the source held, those bytes
+-- this line was read from a source. If contracts can say which bytes the source held, those bytes
 -- began with the line, and the bytes after the line are left
 abbrev pub ReadsNext : Option (List ℕ) → LineView → Option (List ℕ) → Type 0
 ReadsNext None line new = IsSomeLine line
 ReadsNext (Some text) line new = (rest : List ℕ) × (IsNextLine text line rest × (new ≡ Some rest))
 
 -- the bytes that are still to be read: the bytes that were read ahead, followed by the bytes left
--- in the source. None if contracts don't know which bytes are left in the source
+-- in the source. None if contracts can't say which bytes are left in the source
 abbrev pub with_ahead : List ℕ → Option (List ℕ) → Option (List ℕ)
 with_ahead ahead left = option_map (λ rest. ahead ++ rest) left
 
@@ -122,14 +122,14 @@ pub record SkipsTo (text : List ℕ) (left : Option (List ℕ)) : Type 0 where
   pub one : IsWithoutFeed skipped
   pub behind : left ≡ Some rest
 
--- the rest of a line and its line feed were read. The definition is also true if contracts don't
--- know which bytes the source held
+-- the rest of a line and its line feed were read. The definition is also true if contracts can't
+-- say which bytes the source held
 abbrev pub SkipsLine : Option (List ℕ) → Option (List ℕ) → Type 0
 SkipsLine None new = ⊤
 SkipsLine (Some text) new = SkipsTo text new
 
 -- all bytes left in the source were read, and none of them is a line feed. The definition is also
--- true if contracts don't know which bytes the source held
+-- true if contracts can't say which bytes the source held
 abbrev pub SkipsAll : Option (List ℕ) → Option (List ℕ) → Type 0
 SkipsAll None new = ⊤
 SkipsAll (Some text) new = IsWithoutFeed text × (new ≡ Some [])

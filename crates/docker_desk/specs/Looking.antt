@@ -2,7 +2,7 @@
 use Rattle.std.specs.Prelude.{◌≡◌, ℕ, ◌+◌, List, ◌∷◌, ◌++◌, length, ◌⊎◌}
 use Rattle.docker_host.specs.History.{Bytes, Event, Text, closed, looked, opened, placed}
 
--- the event with this number is a look at the named file, and the next two events are the opening
+-- the event at this position is a look at the named file, and the next two events are the opening
 -- and the closing of that file
 pub record IsBeforeOpening (name : Text) (history : List Event) (look : ℕ) : Type 0 where
   pub earlier : List Event
@@ -12,7 +12,7 @@ pub record IsBeforeOpening (name : Text) (history : List Event) (look : ℕ) : T
   pub whole : history ≡ earlier ++ looked name ∷ opened name held ∷ closed left ∷ later
   pub number : look ≡ length earlier
 
--- the event with this number is a look at the named file, and in the event before it a draft
+-- the event at this position is a look at the named file, and in the event before it a draft
 -- replaced that file
 pub record IsAfterPlacing (name : Text) (history : List Event) (look : ℕ) : Type 0 where
   pub earlier : List Event

@@ -1,4 +1,4 @@
--- What contracts know of a file that was opened, read and closed.
+-- What contracts say about a file that was opened, read and closed.
 use Rattle.std.specs.Prelude.{◌≡◌, List, [], ◌∷◌, ◌++◌, Option, Some, None, IfSome}
 use Rattle.docker_model.specs.state.StateText.{dks_2}
 use Rattle.docker_cmd.specs.Prepared.{ReadsFewOfFile, ReadsFewOfState}

@@ -157,18 +157,18 @@ HasRest (merge_request other) rest = NamesFile rest other
 HasRest (horizon_request day) rest = OfOne (λ date. NamesDay date day) (words_in rest)
 HasRest save_request rest = words_in rest ≡ []
 
--- the line makes this request, and the desk may write if the request requires it
+-- the line is this request, and the desk may write if the request requires it
 pub record IsRequestOf (may_write : Bool) (line : List ℕ) (request : RequestView) : Type 0 where
   pub name : first_word line ≡ name_of (verb_of request)
   pub rest : HasRest request (after_word line)
   pub allowed : is_writing (verb_of request) ≡ true → may_write ≡ true
 
--- the line makes this request; None says that it makes no request
+-- the line is this request; None says that it isn't a request
 abbrev pub AsksFor : Bool → List ℕ → Option RequestView → Type 0
 AsksFor may_write line (Some request) = IsRequestOf may_write line request
 AsksFor may_write line None = (request : RequestView) → ¬ IsRequestOf may_write line request
 
--- this verb and this rest of a line make this request; None says that they make no request
+-- a line with this verb and this rest is this request; None says that it isn't a request
 abbrev pub FitsRest : Verb → List ℕ → Option RequestView → Type 0
 FitsRest verb rest (Some request) = (verb_of request ≡ verb) × HasRest request rest
 FitsRest verb rest None = (request : RequestView) → verb_of request ≡ verb → ¬ HasRest request rest

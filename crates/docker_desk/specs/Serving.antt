@@ -87,7 +87,8 @@ ending_text InputFailed unsaved = device_line ++ unsaved_text unsaved
 ending_text InputEndless unsaved = device_line ++ unsaved_text unsaved
 ending_text OutputFailed unsaved = device_line ++ unsaved_text unsaved
 
--- the session ended in this way: it has this status, and its end was reported on the sink of faults
+-- the session ended in this way and with this exit status, and its end was reported on the sink of
+-- faults
 pub record EndsWithStatus (ending : Ending) (unsaved : Bool) (status : ℕ) (old new : FaultsView)
     : Type 0 where
   pub status_is : status ≡ ending_status ending unsaved

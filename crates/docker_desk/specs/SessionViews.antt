@@ -7,7 +7,7 @@ use Rattle.docker_desk.specs.Desk.{DeskView}
 use Rattle.docker_desk.specs.Replies.{AnswerView}
 
 -- what doesn't change in a session: the name of the state's file, whether the desk may write, and
--- whether contracts know which bytes the folder's drafts have taken
+-- whether contracts can say which bytes were written to the folder's drafts
 pub record Setting : Type 0 where
   pub name : Text
   pub may_write : Bool
@@ -18,8 +18,8 @@ abbrev pub setting : Text → Bool → Bool → Setting
 setting name may_write names_bytes =
     record { name = name; may_write = may_write; names_bytes = names_bytes }
 
--- a point of a session: what the desk knows, and the number of the look on which the next draft is
--- based. A point also records the folder's history and its failure count
+-- a point of a session: what the desk knows, and the position of the look on which the next draft
+-- is based. A point also records the folder's history and its failure count
 pub record SessionView : Type 0 where
   pub desk : DeskView
   pub look : ℕ

@@ -15,8 +15,7 @@ use crate::session_words::SessionWords;
 use docker_cmd::OfficeFault;
 use docker_host::Folder;
 
-/// Answers one line. If the line makes a request, carries out the request. A refusal changes
-/// nothing.
+/// Answers one line. If the line is a request, carries out the request. A refusal changes nothing.
 pub fn answer_line<D: Folder>(
     words: &SessionWords<'_>,
     line: &[u8],

@@ -8,7 +8,7 @@ use cif_line::{Failed, Sink, write_all};
 use fixed_text::put;
 use itoa::Buffer;
 
-/// The header of an answer, with its line feed. The longest header fits.
+/// The header of an answer, with its line feed. The longest header fits in 64 bytes.
 type AnswerHeader = ArrayVec<u8, 64>;
 
 /// Writes the answer with a status and a text: its header, and then the text unchanged. If a write

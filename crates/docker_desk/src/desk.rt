@@ -26,8 +26,8 @@ use std::alloc::Global;
 use std::marker::Model;
 
 /// A desk: an office, and whether the office's state may differ from the state that STATE was last
-/// seen to hold. The desk also keeps the text of its last answer to `known`, until the office's
-/// state may change.
+/// seen to hold. The desk also keeps the text of its last answer to `known`, as long as the
+/// office's state can't have changed.
 #[derive(Debug, Drop)]
 pub struct Desk {
     alloc: Global,
@@ -131,10 +131,10 @@ impl Desk {
         answer_on(page, printed)
     }
 
-    /// Returns a few lines on what the desk knows: the horizon, the newest full extract, the last
-    /// day, and the numbers of live entries. The answer is a refusal only if memory ran out. The
-    /// first call counts all entries; later calls return the same text, until the state may have
-    /// changed.
+    /// Returns a few lines on what the desk knows: the horizon, the newest full extract, the latest
+    /// last day of a live schedule, and the numbers of live entries. The answer is a refusal only
+    /// if memory ran out. The first call counts all entries; later calls return the same text,
+    /// until the state may have changed.
     pub fn known(&mut self) -> Answer
         ensures answer { IsKnownAnswer self.old.state (answer_meant result) }
         ensures desk { self.new ≡ self.old }
@@ -270,7 +270,7 @@ impl Desk {
     }
 }
 
-/// Returns the text of what an office knows: `kept`, or a new text if `kept` is `None`.
+/// Returns the text that says what an office knows: `kept`, or a new text if `kept` is `None`.
 fn text_of_known(kept: Option<KnownText>, office: &Office) -> KnownText
     requires { IfSome kept (λ text. IsKnownText office.now text.items) }
     ensures { IsKnownText office.now result.items }

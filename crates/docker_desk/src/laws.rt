@@ -60,7 +60,7 @@ pub fn looks_come_before_readings()
         → IsGoodLook setting.name last.history last.look }
 {}
 
-/// Suppose that the file that `merge` or `renew` read held the text of a summary. Then the session
+/// Suppose that the file that `merge` or `renew` read held the text of a summary. Then the desk
 /// learns that summary from the file. If each file that `merge` or `renew` reads holds such a text,
 /// the knowledge after every step is determined, and the law `known_files_fix_sessions` applies to
 /// the whole session.
@@ -90,8 +90,9 @@ pub fn saves_tell_what_is_known()
 {}
 
 /// What a desk saves is a new version of its state's file. Its text is the text of a state that was
-/// read from version number `own` of `earlier`, and that then gained what the steps before `save`
-/// gained. `earlier` lists the texts of all earlier versions of any state's file.
+/// read from version number `own` of `earlier`, and that then gained what the desk's state gained
+/// in the steps before `save`. `earlier` lists the texts of all earlier versions of any state's
+/// file.
 pub fn saves_are_versions()
     ensures { (setting : Setting) (first before after : SessionView) (steps : List Step)
         (old : List Event) (earlier : List (List ℕ)) (own : ℕ) (gains : List Gain)
@@ -117,10 +118,10 @@ pub fn offices_know_as_desks()
     ensures { (known : Known) (state : State) → EndsWith known state → IsKnown known state }
 {}
 
-/// Two sessions that know the same files and the same horizon have equal states, and so equal
-/// texts. Two sessions that know the same files, even with different horizons, print the same
-/// docker for each timing point and each day that neither horizon refuses. The law is also true if
-/// an office of a run takes the place of one session.
+/// Two desks that know the same files and the same horizon have equal states, and so equal texts.
+/// Two desks that know the same files, even with different horizons, print the same docker for each
+/// timing point and each day that isn't refused because of either horizon. The law is also true if
+/// an office of a run takes the place of one desk.
 pub fn known_files_fix_states()
     ensures state { (first second : Known) (one two : State) → IsKnown first one
         → IsKnown second two → AreOneKnowledge first second → one ≡ two }
@@ -134,19 +135,18 @@ pub fn known_files_fix_states()
         → IsDockerText (live_table two) place day other → text ≡ other }
 {}
 
-/// If no two files that a session knows have the same moment, these files have a plain table, and
-/// each docker that is printed is the docker of this table.
+/// If no two files that a desk knows have the same moment, there is a plain table of these files,
+/// and each docker that the desk prints is the docker of this table.
 pub fn dockers_are_of_the_plain_table()
     ensures { (known : Known) (state : State) → IsKnown known state
         → HaveDistinctMoments known.files
         → (plain : Table) × IsPlainTable known.files plain × PrintsAs state plain }
 {}
 
-/// Two sessions that know the same files, even with different horizons, have the same dockers
-/// without the short-term plan, for each timing point and each day that neither horizon refuses.
-/// The law is also true if an office of a run takes the place of one session. If no two of the
-/// files have the same moment, these dockers are the dockers of the plain table without its
-/// short-term entries.
+/// Two desks that know the same files, even with different horizons, print the same permanent
+/// docker for each timing point and each day that isn't refused because of either horizon. The law
+/// is also true if an office of a run takes the place of one desk. If no two of the files have the
+/// same moment, these dockers are the dockers of the plain table without its short-term entries.
 pub fn known_files_fix_permanent_answers()
     ensures docker { (first second : Known) (one two : State) → IsKnown first one
         → IsKnown second two → HaveSameFiles first.files second.files → (place : List ℕ) (day : ℕ)
@@ -172,9 +172,9 @@ pub fn trains_came_from_known_files()
     found_train_is_plain();
 }
 
-/// Two sessions that know the same files and the same horizon have the same list of timing points,
-/// and the same text as the answer to `known`. The law is also true if an office of a run takes the
-/// place of one session.
+/// Two desks that know the same files and the same horizon give the same answer to `places`, and
+/// the same answer to `known`. The law is also true if an office of a run takes the place of one
+/// desk.
 pub fn known_files_fix_lists()
     ensures places { (first second : Known) (one two : State) → IsKnown first one
         → IsKnown second two → AreOneKnowledge first second → (text other : List ℕ)
@@ -189,8 +189,8 @@ pub fn known_files_fix_lists()
     one_known_text();
 }
 
-/// If no two files that a session knows have the same moment, these files have a plain table. The
-/// session lists the timing points of this table without its lapsed entries.
+/// If no two files that a desk knows have the same moment, there is a plain table of these files.
+/// The desk lists the timing points of this table without the rows that ended before the horizon.
 pub fn places_are_of_the_plain_table()
     ensures { (known : Known) (state : State) → IsKnown known state
         → HaveDistinctMoments known.files → (plain : Table) × IsPlainTable known.files plain
@@ -205,7 +205,7 @@ pub fn an_input_has_one_reading()
 {}
 
 /// Each line of the input that was answered has exactly one answer. If the session ended at the end
-/// of the input, these lines are all lines of the input.
+/// of the input, these lines are all the lines of the input.
 pub fn each_line_has_one_answer()
     ensures one { (ending : Ending) (input output output_now : DeviceBytes) (steps : List Step)
         → EndsSession ending input steps output output_now

@@ -49,8 +49,8 @@ impl From<cif_line::Failed> for InputFault {
 
 /// Reads the next line of a source, beginning with the bytes that were read ahead. The bytes after
 /// the line feed are kept for the next call. With `Cut` and `End` the source has reported its end,
-/// so a caller that must not read past the end has to stop. With a fault, the part of the line that
-/// was read is lost.
+/// so a caller that must not read past the end has to stop. If the call returns a fault, the part
+/// of the line that was read is lost.
 pub fn next_line<S: Source>(ahead: &mut Ahead, source: &mut S) -> Result<Asked, InputFault>
     requires { S.failures source.old < 2 ^ 64 - 1 }
     ensures ends { EndsLine (with_ahead ahead.old (S.left source.old)) result

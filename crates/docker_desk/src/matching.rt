@@ -11,7 +11,7 @@ use std::marker::{Brand, Model, PhantomData};
 
 /// A sink that compares what is written to it with a text. The sink takes the bytes that agree with
 /// the text, and then the first byte that differs. After that byte, each write fails. The sink
-/// allocates nothing. Contracts get the text from its type parameter `B`.
+/// allocates nothing. Contracts refer to the text through the type parameter `B`.
 #[derive(Drop)]
 pub(crate) struct Matching<'a, B: Begun> {
     text: &'a [u8],

@@ -16,7 +16,7 @@ use docker_cmd::text_of;
 pub enum Verb {
     /// Prints the docker of a timing point on a day.
     Print,
-    /// Prints the docker of a timing point on a day without the short-term plan.
+    /// Prints the permanent docker of a timing point on a day.
     Permanent,
     /// Shows the schedule that is chosen for a train on a day.
     Train,
@@ -24,7 +24,8 @@ pub enum Verb {
     Files,
     /// Lists the timing points that are known, with the number of live schedules that call at each.
     Places,
-    /// Shows the horizon, the newest full extract, the last day, and the number of live entries.
+    /// Shows the horizon, the newest full extract, the latest last day of a live schedule, and the
+    /// numbers of live entries.
     Known,
     /// Joins the state with the state that the state's file holds now.
     Renew,
@@ -154,7 +155,7 @@ pub enum Request<'a> {
         /// The day.
         day: Day,
     },
-    /// `permanent`: prints the docker of a timing point on a day without the short-term plan.
+    /// `permanent`: prints the permanent docker of a timing point on a day.
     Permanent {
         /// The timing point.
         place: Tiploc,

@@ -1,4 +1,4 @@
-//! A worked example of the contract of `serve`, on devices whose bytes contracts know.
+//! A worked example of the contract of `serve`, on devices whose bytes contracts can state.
 ghost use Rattle.std.specs.Prelude.{◌≡◌, ◌⊎◌, IfOk, codes};
 ghost use Rattle.docker_desk.specs.Replies.{memory_answer};
 
@@ -12,9 +12,9 @@ use std::alloc::Global;
 const ROOM: usize = 100;
 
 /// Serves a session on a shelf, and returns the answer if the session ends with status 0, and
-/// `Memory` otherwise. The session has one word, `S`. The file `S` holds the text of the state that
-/// knows no files. The input is the one line `files`. The answer lists no files, unless memory ran
-/// out.
+/// `Memory` otherwise. The session is started with one word, `S`. The file `S` holds the text of
+/// the state that knows no files. The input is the one line `files`. The answer lists no files,
+/// unless memory ran out.
 pub fn files_of_none(alloc: Global) -> Result<Kept, Memory>
     ensures { IfOk result (λ output. (output.taken ≡ codes "0 0 0\n")
         ⊎ (output.taken ≡ memory_answer)) }

@@ -5,7 +5,7 @@ use Rattle.std.specs.Prelude.{◌≡◌, ℕ, Bool, true, false, ⊤, List, Opti
 abbrev pub Text : Type 0
 Text = List ℕ
 
--- the bytes of a text; `None` if contracts don't know which bytes they are. For example, contracts
+-- the bytes of a text; `None` if contracts can't say which bytes they are. For example, contracts
 -- never know the bytes of a real file
 abbrev pub Bytes : Type 0
 Bytes = Option Text
@@ -20,11 +20,10 @@ pub data Event : Type 0 where
   unopened : (name : Text) → Event
   -- an opened file was closed when these bytes were still to be read
   closed : (left : Bytes) → Event
-  -- a draft for the named file was made. It is based on the look that is the event with this
-  -- number, counted from 0
+  -- a draft for the named file was made. It is based on the look at this position in the history,
+  -- counted from 0
   drafted : (name : Text) (look : ℕ) → Event
-  -- a draft for the named file, based on the look that is the event with this number, couldn't be
-  -- made
+  -- a draft for the named file, based on the look at this position in the history, couldn't be made
   undrafted : (name : Text) (look : ℕ) → Event
   -- a draft replaced the named file. From then on the file holds these bytes
   placed : (name : Text) (bytes : Bytes) → Event
@@ -34,12 +33,12 @@ pub data Event : Type 0 where
   -- a draft for the named file was discarded
   dropped : (name : Text) → Event
 
--- the bytes of this text if contracts know which bytes they are, and otherwise `None`
+-- the bytes of this text if contracts can say which bytes they are, and otherwise `None`
 abbrev pub named_if : Bool → Text → Bytes
 named_if true text = Some text
 named_if false text = None
 
--- the bytes are this text, or contracts don't know which bytes they are
+-- the bytes are this text, or contracts can't say which bytes they are
 abbrev pub IsText : Bytes → Text → Type 0
 IsText None text = ⊤
 IsText (Some bytes) text = bytes ≡ text

@@ -89,11 +89,11 @@ pub trait Folder {
     // closed, completed or discarded.
     ghost failures: { Self → ℕ };
 
-    // The number of the look's event in the history, counted from 0.
+    // The look's position in the history.
     ghost look_of: { Self.Seen → ℕ };
 
-    // Whether contracts know which bytes the folder's drafts have taken. Contracts don't know the
-    // bytes of real files.
+    // Whether contracts can say which bytes were written to the folder's drafts. Contracts don't
+    // know the bytes of real files.
     ghost names_bytes: { Bool };
 
     /// Looks at the named file. A draft for the file can be based on the result.

@@ -33,8 +33,8 @@ one_state first second one two left right same =
     (same_state dks_2 left.offices right.offices left.events right.events left.exchange right.exchange left.leaves.run right.leaves.run left.office
     right.office (is_there first one left) (is_there second two right))) same
 
--- says that these two states print the same docker, for each place and each day that neither state
--- refuses
+-- says that these two states print the same docker, for each place and each day that isn't refused
+-- because of either state's horizon
 abbrev PrintOne : State → State → Type 0
 PrintOne one two =
     (place : List ℕ) (day : ℕ) → ¬ IsDayRefused one.horizon day → ¬ IsDayRefused two.horizon day → (text other : List ℕ)
@@ -51,7 +51,8 @@ one_docker first second one two left right same =
     (same_docker dks_2 left.offices right.offices left.events right.events left.exchange right.exchange left.leaves.run right.leaves.run left.office
     right.office (is_there first one left) (is_there second two right) left.leaves.good right.leaves.good)) same
 
--- if the files that an office knows have a plain table, the office prints the dockers of this table
+-- if there is a plain table of the files that an office knows, the office prints the dockers of
+-- this table
 pub plain_prints : (known : Known) (state : State) → EndsWith known state → (plain : Table) → IsPlainTable known.files plain → PrintsAs state plain
 plain_prints known state end plain is =
     at_end (λ k s. IsPlainTable k.files plain → PrintsAs s plain) known state end

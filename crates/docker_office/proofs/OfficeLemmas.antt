@@ -148,7 +148,7 @@ knows_file_too limit left old new files horizon takes is = record {
       (join_is_summary (takes.file ∷ []) files 0 horizon takes.own old new takes.of_file is (join_commutes old takes.own new takes.joined));
 }
 
--- if contracts know which bytes a source holds, only one state can be read from the source
+-- if contracts can say which bytes a source holds, only one state can be read from the source
 pub one_read : (format : Format) (limit : ℕ) (left : Option (List ℕ)) (read sent : State) → ReadsState format limit left read
     → HoldsState format limit left sent → read ≡ sent
 one_read format limit left read sent reads holds =

@@ -1,4 +1,4 @@
--- What a command knows follows from what its sources held.
+-- What the office of a command knows follows from what the command's sources held.
 use Rattle.std.proofs.Common.{◌≡◌, ◌≤◌, ◌<◌, ◌^◌, ℕ, List, [], ◌∷◌, Some, None, length, refl, sym, ◌∙◌, ap, subst, arith, append-nil}
 use Rattle.std.specs.Prelude.{max, Option}
 use Rattle.std.proofs.lemmas.List.Elements.{All-cons, All-nil}
@@ -171,8 +171,9 @@ known_docker known state place day text is allowed text_is = record {
   docker = text_is;
 }
 
--- if a job writes a text from a state, this text is made from what the job knows. It is the text of
--- the job's summary, a docker of this summary, or the list of the known files
+-- if a job writes a text from a state, this text is made from what the job's office knows. It is
+-- the text of the summary of this knowledge, a docker of this summary, or the list of the known
+-- files
 written_of_state : (task : TaskView) (first second : Bytes) (state : State) (text : List ℕ) (known : Known)
     → ((day : ℕ) → task ≡ horizon_task day → IsDay day) → IsReadOf task first second (office_read state)
     → IsOutputText (output_of task) (office_read state) text → ¬ IsRefusedDocker (output_of task) (office_read state)
@@ -205,12 +206,13 @@ written_of_state (horizon_task day) first second state text known days reads is 
 written_of_state migrate_task first second state text known days reads is allowed knows =
     known_text known state text (known_older known first state knows reads) is
 
--- only `check` reads a file without making a state, and its output may be any text, because `check`
--- knows nothing
+-- only `check` reads a file without making a state, and `WritesKnown` allows any text as the output
+-- of `check`
 written_of_file : (task : TaskView) (known : Known) (text : List ℕ) → task ≡ check_task → WritesKnown task known text
 written_of_file task known text is = subst (λ (t : TaskView). WritesKnown t known text) (sym is) tt
 
--- if a job writes a text, and the job isn't a `check`, the text is made from what the job knows
+-- if a job writes a text, and the job isn't a `check`, the text is made from what the job's office
+-- knows
 written_known : (task : TaskView) (first second : Bytes) (what : ReadView) (text : List ℕ) (known : Known)
     → ((day : ℕ) → task ≡ horizon_task day → IsDay day) → IsReadOf task first second what
     → IsOutputText (output_of task) what text → ¬ IsRefusedDocker (output_of task) what
@@ -249,7 +251,7 @@ stored_allowed files_task words name (office_read state) stored = λ refused. re
 stored_allowed (horizon_task day) words name (office_read state) stored = λ refused. refused
 stored_allowed migrate_task words name (office_read state) stored = λ refused. refused
 
--- if a job stores its output, the output is the text of the summary of what the job knows
+-- if a job stores its output, the output is the text of the summary of what the job's office knows
 stored_known : (task : TaskView) (words : List Text) (name : Text) (known : Known) (text : List ℕ) → file_stored (output_of task) words ≡ Some name
     → WritesKnown task known text → IsKnownText dks_2 known text
 stored_known new_task words name known text stored writes = writes

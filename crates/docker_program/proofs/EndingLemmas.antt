@@ -86,7 +86,7 @@ module _ (run : Run) (job : JobView) (rest : Bytes) where
   none_if_failed now (inl fails) = none_if_unopened now fails
   none_if_failed now (inr is) = none_if_opened now is
 
-  -- facts about a job that read its sources whole
+  -- facts about a job that has read its sources
   module _ {Holds : Written → PreparedView → Type 0} (has : HasRead run.old run.new Holds job rest) where
     read_none : NoStoring run.old.history has.read
     read_none = none_if_opened has.read has.is.opened

@@ -33,8 +33,8 @@ no_refused (docker_written place day) (office_read state) none = λ refused. non
 no_refused files_written (office_read state) none = λ refused. refused
 no_refused state_written (office_read state) none = λ refused. refused
 
--- if writing a job's output to a draft fails, the fault is `Sink`, and the draft failed exactly
--- once
+-- if writing a job's output to a draft fails, the fault is `Sink`, and the draft's failure count
+-- has grown by one
 pub fails_alone : {K : Type 0} (taken : K → Bytes) (failures : K → ℕ) (old new : K) (prepared : PreparedView) (name : Text) (fault : OfficeFault) →
     stored_by prepared.job ≡ Some name → EndsEmitting taken failures (output_of prepared.job.task) prepared.read old new (Err fault) →
     (fault ≡ office.Sink) × (failures new ≡ failures old + 1)
@@ -62,7 +62,8 @@ pub ends_wanting : (by : Drafting) (written : Written) (prepared : PreparedView)
 ends_wanting by written prepared name is none kept =
     (subst (λ (stored : Option Text). WantsToWriteTo stored by written prepared) (sym is) none, kept)
 
--- if the draft failed and was discarded, writing the output ends with the draft's fault
+-- if the output couldn't be written to the draft and the draft was discarded, writing the output
+-- ends with the fault `Sink`
 pub ends_dropped : (by : Drafting) (written : Written) (prepared : PreparedView) (name : Text) (fault : OfficeFault) → stored_by prepared.job ≡ Some name
     → fault ≡ office.Sink → IsDropped name by.look written.before written.now → written.output_now ≡ written.output
     → EndsWriting by written prepared (Err fault)
@@ -70,15 +71,15 @@ ends_dropped by written prepared name fault is alone given_up kept =
     subst (λ (fault : OfficeFault). EndsWriting by written prepared (Err fault)) (sym alone)
     (subst (λ (stored : Option Text). WritesPartTo stored by written prepared) (sym is) (inr (inl given_up), kept))
 
--- if only the draft failed, and failed once, the failure count agrees with the status of the fault
--- `Sink` (`IsCounted`)
+-- if a failure count has grown by one, the count agrees with the status of the fault `Sink`
+-- (`IsCounted`)
 pub counted_alone : (fault : OfficeFault) (before after : ℕ) → fault ≡ office.Sink → after ≡ before + 1 →
     IsCounted (status_of (Office fault)) before after
 counted_alone fault before after alone rose =
     subst (λ fault. IsCounted (status_of (Office fault)) before after) (sym alone)
     ((λ is. rose, λ is. refl), λ differs. absurd (differs refl))
 
--- a draft that was empty and gained a text holds exactly this text
+-- if a draft was empty and a text was written to it, the draft holds exactly this text
 holds_gained : (names_bytes : Bool) (empty taken : Bytes) (text : List ℕ) → empty ≡ named_if names_bytes [] → Takes empty text taken
     → taken ≡ named_if names_bytes text
 holds_gained true empty taken text none gained = subst (λ (b : Bytes). Takes b text taken) none gained
@@ -101,8 +102,8 @@ ends_stored by written prepared name middle empty taken is none gains made put k
       kept,
     )
 
--- if the complete draft failed to replace the file, the file may or may not hold the output, as
--- `WritesPart` says
+-- if the complete draft couldn't be renamed over the file, the file may or may not hold the output,
+-- as `WritesPart` says
 pub ends_unplaced : (by : Drafting) (written : Written) (prepared : PreparedView) (name : Text) (middle : List Event) (empty taken : Bytes)
     → stored_by prepared.job ≡ Some name → empty ≡ named_if by.names_bytes [] → GainsOutput prepared empty taken
     → middle ≡ written.before ++ drafted name by.look ∷ [] → written.now ≡ middle ++ unplaced name taken ∷ []
@@ -146,13 +147,14 @@ ends_printed taken failures old new prepared history by (Err (office.File fault)
 ends_printed taken failures old new prepared history by (Err (office.State fault)) is ends lapsed = ends
 ends_printed taken failures old new prepared history by (Err office.Source) is ends lapsed = ends
 
--- if a device didn't fail and the status isn't 4, the failure count agrees with the status
--- (`IsCounted`)
+-- if the status isn't 4 and a device's failure count is unchanged, the sum of this count and the
+-- folder's failure count agrees with the status (`IsCounted`)
 none_failed : (status folder before after : ℕ) → status ≢ 4 → after ≡ before → IsCounted status (folder + before) (folder + after)
 none_failed status folder before after other same =
     ((λ is. absurd (other is), λ rose. let never : ⊥ = omega arith in absurd never), λ differs. omega arith)
 
--- when a job prints, one failure is counted if and only if the result's status is 4
+-- when a job prints, the sum of the failure counts of the folder and of the output grows by one if
+-- and only if the result's status is 4
 pub counted_printed : {K : Type 0} (taken : K → Bytes) (failures : K → ℕ) (old new : K) (prepared : PreparedView) (folder : ℕ)
     (result : Result ⊤ OfficeFault) →
     EndsEmitting taken failures (output_of prepared.job.task) prepared.read old new result →

@@ -119,7 +119,8 @@ none_failed : (status one one_now two two_now : ℕ) → status ≢ 4 → one_no
 none_failed status one one_now two two_now other first second =
     ((λ is. absurd (other is), λ rose. let never : ⊥ = omega arith in absurd never), λ differs. omega arith)
 
--- when two sources are read, one failure is counted if and only if the result's status is 4
+-- when two sources are read, the sum of their failure counts grows by one if and only if the
+-- result's status is 4
 pub counted_together : {A : Type 0} (result : Result A OfficeFault) (one one_now two two_now : ℕ) → CountsSources result one one_now two two_now →
     IsCounted (result_status result) (one + two) (one_now + two_now)
 counted_together (Ok made) one one_now two two_now counts = none_failed 0 one one_now two two_now (λ is. omega arith) counts.0 counts.1
@@ -134,7 +135,7 @@ counted_together (Err office.Lapsed) one one_now two two_now counts = elim count
 counted_together (Err office.Sink) one one_now two two_now counts = elim counts [ ]
 
 -- suppose that a failure count agrees with the status (`IsCounted`). If the same number is added to
--- the old count and to the new count, they still agree with the status
+-- the old count and to the new count, the two sums also agree with the status
 pub counted_beside : (status before after more all all_now : ℕ) → IsCounted status before after → all ≡ before + more → all_now ≡ after + more →
     IsCounted status all all_now
 counted_beside status before after more all all_now counts is is_now = (
@@ -142,7 +143,8 @@ counted_beside status before after more all all_now counts is is_now = (
   λ differs. let same : after ≡ before = counts.1 differs in omega arith,
 )
 
--- if a file couldn't be opened, one failure is counted if and only if the fault is `Failed`
+-- if a file couldn't be opened, the sum of the failure counts has grown by one if and only if the
+-- reason is `Failed`
 pub counted_opening : (cause : OpenFault) (before after more more_now : ℕ) → (cause ≡ opening.Failed → after ≡ before + 1)
     → (¬ (cause ≡ opening.Failed) → after ≡ before) → more_now ≡ more
     → IsCounted (result_status {A = ⊤} (Err (one_of office.Source office.Memory cause))) (more + before) (more_now + after)

@@ -33,7 +33,7 @@ unread words names_bytes old new job rest office.Memory asks at_most unwritten r
 unread words names_bytes old new job rest office.Lapsed asks at_most unwritten reads = elim reads [ ]
 unread words names_bytes old new job rest office.Sink asks at_most unwritten reads = elim reads [ ]
 
--- if a job read its sources whole and writing its output ends with a fault, the program ends with
+-- if a job has read its sources, and writing its output ends with a fault, the program ends with
 -- that fault
 unwritten : (words : List Text) (names_bytes : Bool) (old new : HostView) (job : JobView) (rest : Bytes) (read : List Event)
     (prepared : PreparedView) (fault : OfficeFault) →
@@ -73,7 +73,7 @@ ends_unwritten words names_bytes before old new shown read job rest prepared fau
     (unwritten words names_bytes before new job rest read prepared fault asks at_most
     (subst (λ (history : List Event). IsPrepared (asking history read rest new.input) job prepared) seen is) ends)
 
--- if a job read its sources whole and wrote its output whole, the program ends without a fault
+-- if a job has read its sources and has written its whole output, the program ends without a fault
 pub ends_done : (words : List Text) (names_bytes : Bool) (before old new : HostView) (shown read : List Event) (job : JobView) (rest : Bytes)
     (prepared : PreparedView) → before ≡ old → shown ≡ with_look_at (stored_by job) before.history
     → AsksFor words before.input job rest → AsksAtMost words before.input rest → IsPrepared (asking shown read rest new.input) job prepared

@@ -134,7 +134,7 @@ check_result extract text words old shown new status named zero same put empty m
 
 -- ---- what `take` leaves on a shelf
 
--- if contracts know the bytes that a source held, they know the bytes that are left in it
+-- if contracts can say which bytes a source held, they can say which bytes are left in it
 rest_known : (held lost : List ℕ) (left : Bytes) → Reads (Some held) lost left → (rest : List ℕ) × (left ≡ Some rest)
 rest_known held lost None reads = absurd (none_some held (sym reads))
 rest_known held lost (Some rest) reads = (rest, refl)
@@ -142,7 +142,7 @@ rest_known held lost (Some rest) reads = (rest, refl)
 few_known : (state : List ℕ) (left : Bytes) → ReadsFewOfState dks_2 (Some state) left → (rest : List ℕ) × (left ≡ Some rest)
 few_known state left few = rest_known state (few.text ++ few.piece) left few.lost
 
--- if contracts know the bytes left in a source that is at its end, no bytes are left
+-- if contracts can say which bytes are left in a source that is at its end, no bytes are left
 end_some : (left : Bytes) (rest : List ℕ) → left ≡ Some rest → IsEnd left → left ≡ Some []
 end_some None rest is end = absurd (none_some rest is)
 end_some (Some own) rest is end = ap Some end

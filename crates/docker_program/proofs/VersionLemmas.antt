@@ -44,14 +44,15 @@ version_held knowns texts bytes number are holds =
     let low : number < length knowns = omega arith in
     (slice_index_or texts number [], holds.held, zip_at (IsKnownText dks_2) knowns texts number nothing [] are low)
 
--- a text that a job stored, or may have stored, is the text of the summary of what the job knows
+-- a text that a job stored, or may have stored, is the text of the summary of what the job's office
+-- knows
 stored_either : (run : Run) (job : JobView) (read : SourcesRead) (text : List ℕ) (known : Known) → Stores run job read text ⊎ MayStore run job read text
     → Knows job.task read.first read.second known → IsKnownText dks_2 known text
 stored_either run job read text known (inl stores) knows = stores_known run job read text known stores knows
 stored_either run job read text known (inr stores) knows = may_store_known run job read text known stores knows
 
 -- a text that a command stored, or may have stored, is the text of the summary of what the
--- command's job knows
+-- command's office knows
 by_command : {Held : Bytes → Bytes → Type 0} (task : TaskView) (known : Known) (text : List ℕ) (by : ByCommand task Held text)
     → Knows task by.read.first by.read.second known → IsKnownText dks_2 known text
 by_command task known text by knows =
@@ -77,8 +78,8 @@ all_gained knowns texts (gain ∷ gains) known old new are is gained =
     all_gained knowns texts gains (known_with knowns known gain) gained.0 new are
     (gained_known knowns texts gain known old gained.0 are is gained.1) gained.2
 
--- a text that a session saved is the text of the summary of what was known at the session's
--- beginning and of everything that the session gained
+-- a text that a desk saved is the text of the summary of what was known when the session began, and
+-- of everything that the desk's state then gained
 saved_known : (knowns : List Known) (texts : List (List ℕ)) (own : ℕ) (gains : List Gain) (text : List ℕ) → AreKnown knowns texts
     → IsSaved texts own gains text → IsKnownText dks_2 (known_once knowns (known_at knowns own) gains) text
 saved_known knowns texts own gains text are is =

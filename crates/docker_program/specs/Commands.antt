@@ -1,6 +1,6 @@
--- What commands know: files and a horizon. Each state, docker or list of files that a command
--- stores or prints is made from the summary of the known files and the known horizon. The same
--- holds for each state that a desk saves.
+-- What the office of a command knows: files and a horizon. Each state, docker or list of files that
+-- a command stores or prints is made from the summary of the known files and the known horizon. The
+-- same holds for each state that a desk saves.
 use Rattle.std.specs.Prelude.{◌≡◌, ◌⊎◌, ◌<◌, ℕ, Bool, List, [], ◌∷◌, ◌++◌, length, map, slice_index_or, Some, None, ⊤}
 use Rattle.docker_model.specs.state.Lapse.{IsDayRefused}
 use Rattle.docker_model.specs.state.State.{State, live_table}
@@ -32,7 +32,7 @@ history_read before job read =
     with_files_read (names_of job) read (with_look_at (stored_by job) before)
 
 -- a command that was run: its words, and its devices before and after. `names_bytes` says whether
--- contracts know which bytes the folder's drafts have taken
+-- contracts can say which bytes were written to the folder's drafts
 pub record Run : Type 0 where
   pub words : List Text
   pub names_bytes : Bool
@@ -62,8 +62,8 @@ pub record Stores (run : Run) (job : JobView) (read : SourcesRead) (text : List 
       (history_read run.old.history job read) run.new.history
   pub unprinted : run.new.output ≡ run.old.output
 
--- a command may have stored this text: a draft with this text failed to replace the file that the
--- job writes. The file now holds either this text or what it held before
+-- a command may have stored this text: replacing the file that the job writes by a draft with this
+-- text failed. The file now holds either this text or what it held before
 pub record MayStore (run : Run) (job : JobView) (read : SourcesRead) (text : List ℕ) : Type 0 where
   pub reads : Reads run job read text
   pub name : Text
@@ -132,8 +132,9 @@ abbrev pub HoldsKnown : Format → Bytes → Known → Type 0
 HoldsKnown format bytes known =
     (text : List ℕ) × (bytes ≡ Some text) × IsKnownText format known text
 
--- a command has this knowledge, given what its sources held. It knows the files and the horizons of
--- the states that it read, the file that it took or made a docker from, and the horizon that it set
+-- the office of a command has this knowledge, given what the command's sources held. The office
+-- knows the files and the horizons of the states that it read, the file that it took or made a
+-- docker from, and the horizon that it set
 abbrev pub Knows : TaskView → Bytes → Bytes → Known → Type 0
 Knows new_task first second known = known ≡ nothing
 Knows check_task first second known = ⊥
@@ -150,7 +151,7 @@ Knows (horizon_task day) first second known =
 Knows migrate_task first second known = HoldsKnown dks_1 first known
 
 -- this text is the docker at this timing point for this day, made from the summary of what is
--- known. The known horizon doesn't refuse the day
+-- known. The day isn't refused because of the known horizon
 pub record PrintsKnown (known : Known) (place : List ℕ) (day : ℕ) (text : List ℕ) : Type 0 where
   pub good : IsGoodKnown dks_2 known
   pub allowed : ¬ IsDayRefused known.horizon day
@@ -158,8 +159,8 @@ pub record PrintsKnown (known : Known) (place : List ℕ) (day : ℕ) (text : Li
   pub is : IsStateOf known state
   pub docker : IsDockerText (live_table state) place day text
 
--- a command with this knowledge may write this text: the text of the summary of what it knows, a
--- docker of that summary, or the list of the known files
+-- a command whose office has this knowledge may write this text: the text of the summary of this
+-- knowledge, a docker of that summary, or the list of the known files
 abbrev pub WritesKnown : TaskView → Known → List ℕ → Type 0
 WritesKnown new_task known text = IsKnownText dks_2 known text
 WritesKnown check_task known text = ⊤

@@ -62,7 +62,7 @@ reading old new job rest now =
     asking (with_look_at (stored_by job) old.history) now rest new.input
 
 -- the program ended after the job's sources were opened, read and closed, or after a file couldn't
--- be opened. `Holds` is true of the changes to the folder and to standard input by that time
+-- be opened. `Holds` is true of the changes to the folder and to standard input until then
 abbrev pub EndsReading : HostView → HostView → (Asking → JobView → Type 0)
     → JobView → Bytes → Type 0
 EndsReading old new Holds job rest = Holds (reading old new job rest new.history) job
@@ -148,7 +148,7 @@ failures_of host = host.input_failures + host.folder_failures + host.output_fail
 
 -- the program was started with these words, and ended with this status. The fields give the fault
 -- that ended the program, if any, the requests to the folder, and what was written. `names_bytes`
--- says whether contracts know which bytes the folder's drafts have taken
+-- says whether contracts can say which bytes were written to the folder's drafts
 pub record Performs (words : List Text) (names_bytes : Bool) (old new : HostView)
     (status : ℕ) : Type 0 where
   pub ending : Option Fault

@@ -1,4 +1,4 @@
--- What commands leave on a shelf, a folder in memory whose texts contracts know.
+-- What commands leave on a shelf, a folder in memory. Contracts can say which texts its files hold.
 use Rattle.std.specs.Prelude.{◌≡◌, List, [], ◌∷◌, ℕ, Some, codes}
 use Rattle.docker_model.specs.file.File.{most_records}
 use Rattle.docker_model.specs.file.FileFault.{IsFileText}

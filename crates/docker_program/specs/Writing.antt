@@ -22,9 +22,8 @@ abbrev pub written : (output output_now : Bytes) (before now : List Event) → W
 written output output_now before now =
     record { output = output; output_now = output_now; before = before; now = now }
 
--- how a file is replaced. `look` is the number of the look on which the draft is based, counted
--- from 0 among the events. `names_bytes` says whether contracts know which bytes the folder's
--- drafts have taken
+-- how a file is replaced. `look` is the position of the look on which the draft is based.
+-- `names_bytes` says whether contracts can say which bytes were written to the folder's drafts
 pub record Drafting : Type 0 where
   pub look : ℕ
   pub names_bytes : Bool
@@ -44,8 +43,8 @@ pub record StoresOutput (by : Drafting) (written : Written) (prepared : Prepared
   pub is : IsOutputText (output_of prepared.job.task) prepared.read text
   pub history : IsStored by.names_bytes name by.look text written.before written.now
 
--- a draft of the job's output failed to replace the file with this name. The file now holds either
--- the output or what it held before
+-- replacing the file `name` by a draft of the job's output failed. The file now holds either the
+-- output or what it held before
 pub record MayStoreOutput (by : Drafting) (written : Written) (prepared : PreparedView)
     (name : Text) : Type 0 where
   pub text : List ℕ

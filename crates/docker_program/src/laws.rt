@@ -59,7 +59,7 @@ pub fn versions_are_summaries()
 
 /// If two texts are the texts of summaries of the same files and the same horizon, they are equal,
 /// byte for byte. Two offices that know the same files print equal dockers, for each timing point
-/// and each day that neither office's horizon refuses.
+/// and each day that isn't refused because of either office's horizon.
 pub fn known_files_fix_texts()
     ensures text { (one two : Known) (text other : List ℕ) → IsKnownText dks_2 one text
         → IsKnownText dks_2 two other → AreOneKnowledge one two → text ≡ other }
@@ -68,8 +68,8 @@ pub fn known_files_fix_texts()
         → HaveSameFiles one.files two.files → text ≡ other }
 {}
 
-/// If no two of the known files have the same moment, these files have a plain table, and each
-/// docker that is printed is the docker of this table.
+/// If no two of the known files have the same moment, there is a plain table of these files, and
+/// each docker that is printed is the docker of this table.
 pub fn dockers_are_of_the_plain_table()
     ensures { (known : Known) (place : List ℕ) (day : ℕ) (text : List ℕ)
         → PrintsKnown known place day text → HaveDistinctMoments known.files

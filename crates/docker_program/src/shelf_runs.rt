@@ -1,5 +1,5 @@
-//! Runs commands on a shelf, a folder in memory. Contracts know the texts of a shelf's files, so
-//! the contract of `perform` says exactly what is stored and printed.
+//! Runs commands on a shelf, a folder in memory. Contracts can say which texts a shelf's files
+//! hold, so the contract of `perform` says exactly what is stored and printed.
 ghost use Rattle.std.specs.Prelude.{◌≡◌, IfSome, length};
 ghost use Rattle.docker_model.specs.file.Change.{changes};
 ghost use Rattle.docker_model.specs.file.Text.{lines_of};

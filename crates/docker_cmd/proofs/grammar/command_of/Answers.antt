@@ -5,7 +5,7 @@ use Rattle.docker_cmd.specs.Grammar.{required_rule, words_shape}
 use Rattle.docker_cmd.specs.Tasks.{name_of}
 use Rattle.docker_cmd.proofs.grammar.command_of.Goals as goal
 
--- the subcommand with the arguments of these ids
+-- the subcommand with the arguments that have these ids
 abbrev of_ids : Text → List Text → App
 of_ids name ids = record { top = words_shape name ids; subs = [] }
 

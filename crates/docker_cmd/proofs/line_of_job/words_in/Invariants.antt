@@ -5,7 +5,7 @@ use Rattle.docker_cmd.specs.JobLine.{words_in}
 use Rattle.docker_cmd.specs.Words.{texts}
 use Rattle.docker_cmd.proofs.line_of_job.words_in.Given as goal
 
--- the words found by now, followed by the words in the rest of the line, are the words of the whole
+-- the words found so far, followed by the words in the rest of the line, are the words of the whole
 -- line
 abbrev pub invariant-loop-word : goal.invariant-loop-word
 invariant-loop-word l = record {

@@ -4,7 +4,7 @@ use Rattle.docker_cmd.specs.Words.{texts}
 use Rattle.docker_cmd.proofs.FoundWords.{HasFound}
 use Rattle.docker_cmd.proofs.words.words_at.Given as goal
 
--- the words found by now are the words of the ids before this one
+-- the words found so far are the words of the ids before this one
 abbrev pub invariant-loop-id : goal.invariant-loop-id
 invariant-loop-id l = record {
   so_far : HasFound l.ids (rows_of (found_of l.words)) l.id-index (texts l.found.items);

@@ -4,7 +4,7 @@ use Rattle.docker_desk.specs.Lines.{with_ahead}
 use Rattle.docker_desk.proofs.LineLemmas.{ArePrintable}
 use Rattle.docker_desk.proofs.lines.next_line.Given as goal
 
--- the bytes read by now are the bytes of the line
+-- the bytes read so far are the bytes of the line
 abbrev pub invariant-loop : goal.invariant-loop
 invariant-loop g l = record {
   so_far : Reads (with_ahead l.fn.ahead (g.S.Source.left l.fn.source)) l.line.items (with_ahead l.ahead (g.S.Source.left l.source));

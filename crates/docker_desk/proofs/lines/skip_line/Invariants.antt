@@ -3,8 +3,8 @@ use Rattle.std.specs.Prelude.{Option}
 use Rattle.docker_desk.specs.Lines.{ReadsMany, SkipsLine, SkipsAll, with_ahead}
 use Rattle.docker_desk.proofs.lines.skip_line.Given as goal
 
--- the bytes read by now all belong to the bad line. So reading the rest of the line from here on
--- has the same result as reading it from the beginning of the loop
+-- the bytes read so far all belong to the bad line. So skipping the rest of the line from here has
+-- the same result as skipping it from where the loop began
 abbrev pub invariant-loop : goal.invariant-loop
 invariant-loop g l = record {
   line : (new : Option (List ℕ)) → SkipsLine (with_ahead l.ahead (g.S.Source.left l.source)) new
