@@ -116,8 +116,8 @@ fn an_answer_with_a_text(rt: HostRuntime) {
     answers(&rt, rt.alloc(), &Answer::Text(page), "0 2 8\none\ntwo\n");
 }
 
-/// Writes the answer that has the usage line to a sink that takes one byte per write. Only the
-/// write with this number fails. Returns the result and the sink.
+/// Writes an answer, whose text is the usage line, to a sink that takes one byte per write. Only
+/// the write with this number fails. Returns the result and the sink.
 fn broken_at(rt: &impl Abort, alloc: Global, write: u64) -> (Result<(), Failed>, Fuse<Kept>)
     requires { 0 < write }
 {
@@ -127,8 +127,8 @@ fn broken_at(rt: &impl Abort, alloc: Global, write: u64) -> (Result<(), Failed>,
     (done, sink)
 }
 
-/// Asserts that a sink whose write with this number fails has the bytes of the earlier writes, and
-/// that the failure is reported.
+/// Asserts that a sink that fails at the write with this number has then taken exactly these bytes,
+/// and that the failure is reported.
 fn stops_at(rt: &impl Abort, alloc: Global, write: u64, bytes: &str)
     requires { 0 < write }
 {

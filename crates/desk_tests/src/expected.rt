@@ -41,7 +41,7 @@ DOCKER ASHFELD 2024-06-18
 END                                                     
 ";
 
-/// The answer to a request for a day that the horizon refuses.
+/// The answer to a request for a day that is refused because of the horizon.
 pub(crate) const DAY_REFUSED: &str = "\
 1 1 52
 docker: day refused: before horizon plus three days

@@ -114,7 +114,8 @@ fn letters(rt: &impl Abort, alloc: Global, many: usize) -> Vec<u8> {
     text
 }
 
-/// Asserts that a line of this many letters is whole or bad, and that the line after it is read.
+/// Asserts that a line of this many letters is whole if `is_whole` is set, and bad otherwise. Also
+/// asserts that the line after it is read.
 fn is_line_of(rt: &impl Abort, alloc: Global, many: usize, is_whole: bool) {
     let long = letters(rt, alloc, many);
     let mut text = letters(rt, alloc, many);

@@ -36,11 +36,11 @@ const ITEM: &[u8] = b"\x5b\xf0\x04\xecDFROC1AUDFROC1Z";
 
 const ITEM_LATER: &[u8] = b"\x5b\xf1\x04\xecDFROC1BUDFROC1A";
 
-/// The entry of C10001 in the file `MORNING`, without its op.
+/// The entry for C10001 from the file `MORNING`, without its op.
 const ENTRY: &[u8] = b"\x03C10001\x5b\xf1P\x5b\xf0\x04\xecDFROC1A\0\0\0\x02";
 
-/// Two more entries of C10001, without their ops: its overlay at record 5 of the update of 9 June,
-/// and its revision in the update of 10 June.
+/// Two more entries for C10001, without their ops: for its overlay at record 5 of the update of 9
+/// June, and for its revision in the update of 10 June.
 const ENTRY_OVERLAY: &[u8] = b"\x03C10001\x5b\xf1O\x5b\xf0\x04\xecDFROC1A\0\0\0\x05";
 
 const ENTRY_LATER: &[u8] = b"\x03C10001\x5b\xf1P\x5b\xf1\x04\xecDFROC1B\0\0\0\x02";
@@ -108,7 +108,7 @@ pub(crate) const LAPSED_STATE: Parts = &[MARK_15, ONE, ITEM, ONE, ENTRY, LAPSED]
 /// The ledger item of a full extract of 9 June 2024, 21:00.
 const ITEM_FULL: &[u8] = b"\x5b\xf0\x04\xecDFROC1AFDFROC1Z";
 
-/// The entries of three timing points in the full extract of 9 June, without their ops.
+/// The entries for three timing points from the full extract of 9 June, without their ops.
 const ASHFELD: &[u8] = b"\x01ASHFELD\x5b\xf0\x04\xecDFROC1A\0\0\0\x02";
 
 const BRAYTON: &[u8] = b"\x01BRAYTON\x5b\xf0\x04\xecDFROC1A\0\0\0\x03";

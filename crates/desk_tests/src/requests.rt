@@ -83,7 +83,7 @@ fn asked_by(rt: &impl Abort, alloc: Global, text: &[u8], may_write: bool) -> Vec
     }
 }
 
-/// Asserts that a line makes the request with these words. If there are no words, asserts that the
+/// Asserts that a line is the request with these words. If there are no words, asserts that the
 /// line isn't a request.
 fn asks(rt: &impl Abort, alloc: Global, line: &str, may_write: bool, words: &str) {
     let mut text = Vec::new(alloc);
@@ -185,7 +185,7 @@ const NOTHING: &[&str] = &[
     "print\u{7e}ASHFELD 2024-06-10",
 ];
 
-/// Asserts that the line of each row makes the row's request.
+/// Asserts that the line of each row is the row's request.
 fn ask(rt: &impl Abort, alloc: Global, rows: &[Row], may_write: bool) {
     for (line, words) in rows {
         asks(rt, alloc, line, may_write, words);

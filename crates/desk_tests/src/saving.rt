@@ -1,5 +1,5 @@
 //! Tests of how a desk saves its state, and how it renews its state after another program has
-//! saved.
+//! written the state's file.
 
 use crate::compare::same;
 use crate::desks::{desk_of, ends, prints};

@@ -12,8 +12,8 @@ drop_next : (i : ℕ) (places : List Place) (place : Place) → i < length place
     → drop i places ≡ place ∷ drop (i + 1) places
 drop_next i places place below at = drop-cons places i place below ∙ (λ j. sym at j ∷ drop (sym (add-one i) j) places)
 
--- if the file at index `i` has another name, the search can go on with the files from index `i + 1`
--- on
+-- if the file at index `i` doesn't have the name that is searched for, the search can go on with
+-- the files from index `i + 1` on
 pub next_place : (i : ℕ) (places : List Place) (place : Place) (name : Text) → i < length places → place ≡ get_or places i place
     → texts_of places name ≡ texts_of (drop i places) name → bytes_eq (string_bytes place.name) name ≡ false
     → texts_of places name ≡ texts_of (drop (i + 1) places) name

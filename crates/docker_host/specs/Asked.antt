@@ -1,5 +1,5 @@
--- The events that a folder's history gains when a text is stored in a file. The number of a look is
--- the number of its event, counted from 0.
+-- The events that a folder's history gains when a text is stored in a file. A look is given by its
+-- position in the history.
 use Rattle.std.specs.Prelude.{◌≡◌, ℕ, Bool, ⊤, ◌⊎◌, List, [], ◌∷◌, ◌++◌, Result, Ok, Err}
 use Rattle.docker_host.specs.History.{Text, Event, drafted, undrafted, placed, unplaced, dropped, named_if}
 use Rattle.docker_host.specs.declared.folder.OpenFault.{OpenFault}
@@ -19,14 +19,14 @@ abbrev pub IsStored : Bool → Text → ℕ → Text → List Event → List Eve
 IsStored names_bytes name look text old new =
     new ≡ old ++ drafted name look ∷ placed name (named_if names_bytes text) ∷ []
 
--- a draft of this text, based on the look at this position in the history, was made and failed to
--- replace the file
+-- a draft of this text, based on the look at this position in the history, was made, but replacing
+-- the file by the draft failed
 abbrev pub IsUnplaced : Bool → Text → ℕ → Text → List Event → List Event → Type 0
 IsUnplaced names_bytes name look text old new =
     new ≡ old ++ drafted name look ∷ unplaced name (named_if names_bytes text) ∷ []
 
--- the text wasn't stored, because a device failed: no draft was made, the draft was discarded, or
--- the draft failed to replace the file
+-- storing the text failed because a device failed: no draft was made, the draft was discarded, or
+-- replacing the file by the draft failed
 abbrev pub FailsToStore : Bool → Text → ℕ → Text → List Event → List Event → Type 0
 FailsToStore names_bytes name look text old new =
     IsUndrafted name look old new

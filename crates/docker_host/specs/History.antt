@@ -6,7 +6,7 @@ abbrev pub Text : Type 0
 Text = List ℕ
 
 -- the bytes of a text; `None` if contracts can't say which bytes they are. For example, contracts
--- never know the bytes of a real file
+-- can never say which bytes a real file holds
 abbrev pub Bytes : Type 0
 Bytes = Option Text
 
@@ -20,14 +20,13 @@ pub data Event : Type 0 where
   unopened : (name : Text) → Event
   -- an opened file was closed when these bytes were still to be read
   closed : (left : Bytes) → Event
-  -- a draft for the named file was made. It is based on the look at this position in the history,
-  -- counted from 0
+  -- a draft for the named file was made. It is based on the look at this position in the history
   drafted : (name : Text) (look : ℕ) → Event
   -- a draft for the named file, based on the look at this position in the history, couldn't be made
   undrafted : (name : Text) (look : ℕ) → Event
   -- a draft replaced the named file. From then on the file holds these bytes
   placed : (name : Text) (bytes : Bytes) → Event
-  -- a draft with these bytes failed to replace the named file. The file holds these bytes, or the
+  -- replacing the named file by a draft with these bytes failed. The file holds these bytes, or the
   -- bytes that it held before
   unplaced : (name : Text) (bytes : Bytes) → Event
   -- a draft for the named file was discarded

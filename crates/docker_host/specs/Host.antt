@@ -2,7 +2,8 @@
 use Rattle.std.specs.Prelude.{ℕ, ◌^◌, ◌-◌, ◌<◌, Bool, List}
 use Rattle.docker_host.specs.History.{Bytes, Event}
 
--- all devices of a program at one moment. Bytes are `None` if contracts don't know them
+-- all devices of a program at one moment. Bytes are `None` if contracts can't say which bytes they
+-- are
 pub record HostView : Type 0 where
   -- the bytes left in the input, whether its end was reported, and whether the input was read after
   -- that

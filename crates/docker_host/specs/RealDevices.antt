@@ -1,4 +1,5 @@
--- What contracts see of real devices. Contracts don't know the bytes of real devices.
+-- What contracts can say about real devices. They can't say which bytes a real device holds or
+-- takes.
 use Rattle.std.specs.Prelude.{ℕ, Bool}
 
 -- a source, such as an opened file: its failure count, whether it has reported its end, and whether

@@ -92,8 +92,8 @@ pub trait Folder {
     // The look's position in the history.
     ghost look_of: { Self.Seen → ℕ };
 
-    // Whether contracts can say which bytes were written to the folder's drafts. Contracts don't
-    // know the bytes of real files.
+    // Whether contracts can say which bytes were written to the folder's drafts. Contracts can't
+    // say which bytes real files hold.
     ghost names_bytes: { Bool };
 
     /// Looks at the named file. A draft for the file can be based on the result.
@@ -142,8 +142,8 @@ pub trait Folder {
         ensures failures { CountsFailure (result ≡ Err OpenFault.Failed)
             (failures self.old) (failures self.new) };
 
-    /// Replaces the file with its draft. The file then holds the bytes that the draft took. If the
-    /// call fails, the file holds these bytes or the bytes that it held before.
+    /// Replaces the file with its draft. The file then holds the bytes that were written to the
+    /// draft. If the call fails, the file holds these bytes or the bytes that it held before.
     fn complete(&mut self, made: Drafted<'_, Self::Draft>) -> Result<(), Failed>
         requires { failures self.old + Self.Draft.failures made.draft < 2 ^ 64 - 1 }
         ensures asked { OnOk result (history self.new ≡ history self.old

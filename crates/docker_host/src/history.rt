@@ -33,13 +33,13 @@ pub enum Note<'a> {
     Looked(&'a str),
     /// A named file was opened, and held these bytes.
     Opened(&'a str, &'a [u8]),
-    /// A named file was opened. Contracts don't know its bytes.
+    /// A named file was opened. Contracts can't say which bytes it held.
     OpenedUnnamed(&'a str),
     /// A named file couldn't be opened.
     Unopened(&'a str),
     /// An opened file was closed when these bytes were still to be read.
     Closed(&'a [u8]),
-    /// An opened file was closed. Contracts don't know its bytes.
+    /// An opened file was closed. Contracts can't say which bytes were left in it.
     ClosedUnnamed,
     /// A draft for a named file was made. It is based on the look at this position of the history.
     Drafted(&'a str, &'a Position),
@@ -48,11 +48,11 @@ pub enum Note<'a> {
     Undrafted(&'a str, &'a Position),
     /// A draft replaced a named file. From then on the file holds these bytes.
     Placed(&'a str, &'a [u8]),
-    /// A draft replaced a named file. Contracts don't know the bytes of the draft.
+    /// A draft replaced a named file. Contracts can't say which bytes the draft held.
     PlacedUnnamed(&'a str),
-    /// A draft with these bytes failed to replace a named file.
+    /// Replacing a named file by a draft with these bytes failed.
     Unplaced(&'a str, &'a [u8]),
-    /// A draft failed to replace a named file. Contracts don't know the bytes of the draft.
+    /// Replacing a named file by a draft failed. Contracts can't say which bytes the draft held.
     UnplacedUnnamed(&'a str),
     /// A draft for a named file was discarded.
     Dropped(&'a str),
@@ -75,7 +75,7 @@ impl History {
         History {}
     }
 
-    /// Returns the position that the next event will have: the number of events until now.
+    /// Returns the position that the next event will have: the number of events so far.
     pub fn position(&self) -> Position
         ensures { result.at ≡ length self.now.events }
     {

@@ -1,4 +1,4 @@
-//! Standard input. Contracts don't know its bytes.
+//! Standard input. Contracts can't say which bytes it holds.
 ghost use Rattle.std.specs.Prelude.{◌≡◌, None, false};
 
 use crate::transfers::read_some;

@@ -1,4 +1,4 @@
-//! A real file that was opened. Contracts don't know its bytes.
+//! A real file that was opened. Contracts can't say which bytes it holds.
 ghost use Rattle.std.specs.Prelude.{◌≡◌, None, IfOk, false};
 
 use crate::folder::OpenFault;

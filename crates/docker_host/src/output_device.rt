@@ -1,4 +1,4 @@
-//! Standard output and standard error. Contracts don't know their bytes.
+//! Standard output and standard error. Contracts can't say which bytes they have taken.
 ghost use Rattle.std.specs.Prelude.{◌≡◌, None};
 
 use crate::transfers::write_some;

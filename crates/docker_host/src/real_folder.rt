@@ -1,5 +1,5 @@
-//! The folder of the real files. Contracts don't know the bytes of the files. But contracts know
-//! the order of the calls, and which file each call named.
+//! The folder of the real files. Contracts can't say which bytes the files hold. But contracts
+//! state in which order the calls were made, and which file each call named.
 ghost use Rattle.std.specs.Prelude.{◌≡◌, ◌+◌, ◌-◌, ◌^◌, ◌<◌, [], ◌∷◌, ◌++◌, false, None, IsErr, OnOk, OnErr};
 ghost use Rattle.cif_device.specs.Device.{CountsFailure};
 ghost use Rattle.docker_host.specs.History.{placed, unplaced, dropped};

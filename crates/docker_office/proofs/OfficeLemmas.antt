@@ -1,4 +1,4 @@
--- The contracts of an office's calls follow from the contracts of the calls that they make.
+-- The contracts of an office's methods follow from the contracts of the functions that they call.
 use Rattle.std.proofs.Common.{◌≡◌, ◌≢◌, ℕ, ◌+◌, ◌≤◌, List, [], ◌∷◌, ◌++◌, ap, arith, inl, inr, refl, sym, ◌∙◌, subst, Some, Ok, Err}
 use Rattle.std.specs.Prelude.{Option, Result, max, IsOk, IfErr, OnOk, OnErr}
 use Rattle.std.specs.Result.{is_ok}
@@ -62,7 +62,7 @@ pub holds_file : (limit : ℕ) (left : BytesLeft) (read : FileRead) → ReadsTex
 holds_file limit left read reads =
     record { text = reads.text; held = reads.held; file = reads.of_text.records; is_text = reads.of_text.is_text }
 
--- if the reader of states returns a fault, the fault that the office returns has the same meaning
+-- if the reader of states returns a fault, the office returns a fault with the same meaning
 pub unread_by_office : (wants : Wanting) (format : Format) (limit : ℕ) (left left_now : BytesLeft) (failures failures_now : ℕ) (cause : states.ReadFault)
     → StopsReading format limit left left_now (IsWhyUnread wants format limit left left_now (Some cause)) (CountsWhy (Some cause) failures failures_now)
     → StopsReading format limit left left_now (IsWhyUnread wants format limit left left_now (why_unread (office_fault_of_state cause)))
@@ -71,7 +71,7 @@ unread_by_office wants format limit left left_now failures failures_now state_fa
 unread_by_office wants format limit left left_now failures failures_now (state_faults.State fault) ends = ends
 unread_by_office wants format limit left left_now failures failures_now state_faults.Memory ends = ends
 
--- if the reader of files returns a fault, the fault that the office returns has the same meaning
+-- if the reader of files returns a fault, the office returns a fault with the same meaning
 pub untaken : {A B : Type 0} (limit : ℕ) (IsMade : B → Type 0) (left left_now : BytesLeft) (failures failures_now : ℕ) (cause : files.ReadFault)
     → ReadsNoFurther most_at_once limit left left_now
     → ((fault : FileFault) → ◌≡◌ {A = Result A files.ReadFault} (Err cause) (Err (file_faults.File fault)) → RefusesText limit left fault)
@@ -86,7 +86,7 @@ untaken limit IsMade left left_now failures failures_now (file_faults.File fault
 untaken limit IsMade left left_now failures failures_now file_faults.Memory few file memory counted =
     record { no_further = few; outcome = inl (memory refl); failures = counted.1 (λ is. cc) }
 
--- if a file was read whole, either the office takes the file or memory runs out for the file's
+-- if a whole file was read, either the office takes the file or memory runs out for the file's
 -- state
 pub taken_whole : {A : Type 0} (limit : ℕ) (IsMade : A → Type 0) (left left_now : BytesLeft) (failures failures_now : ℕ) (read : FileRead)
     (result : Result A OfficeFault) → ReadsNoFurther most_at_once limit left left_now → ReadsText limit left read → IsEnd left_now → failures_now ≡ failures
@@ -117,8 +117,8 @@ takes_file limit left read old own new reads summary join = record {
   joined = join;
 }
 
--- if an office that knew no file now has the summary of the file that was read, the office has
--- taken the file
+-- if the state of an office that knew no file is now the summary of the file that was read, the
+-- office has taken the file
 pub takes_whole : (limit : ℕ) (left : Option (List ℕ)) (read : FileRead) (state : State) → ReadsText limit left read → limit ≤ most_records
     → ((file : List (List ℕ)) → IsOfRecords read file → state ≡ summary_of file) → TakesFile limit left no_state state
 takes_whole limit left read state reads few told =
@@ -165,25 +165,27 @@ joins_summaries limit left old new joins files others g h sent of_files of_other
 
 -- ---- excerpts
 
--- an excerpt that was read for a place has this place
+-- an excerpt that was read for a place is an excerpt for this place
 pub place_read : (place : List ℕ) (day limit : ℕ) (left : Option (List ℕ)) (excerpt : Excerpt)
     → ReadsMade (IsExcerptAt place day) dks_2 limit left excerpt → excerpt.place ≡ place
 place_read place day limit left excerpt reads = ap (λ (it : Excerpt). it.place) reads.of.made_of
 
--- an excerpt that was read for a day has this day
+-- an excerpt that was read for a day is an excerpt for this day
 pub day_read : (place : List ℕ) (day limit : ℕ) (left : Option (List ℕ)) (excerpt : Excerpt)
     → ReadsMade (IsExcerptAt place day) dks_2 limit left excerpt → excerpt.day ≡ day
 day_read place day limit left excerpt reads = ap (λ (it : Excerpt). it.day) reads.of.made_of
 
--- in contracts, an excerpt that was read has the whole state whose text the source held
+-- in contracts, the value of an excerpt that was read includes the whole state whose text the
+-- source held
 pub state_read : (place : List ℕ) (day limit : ℕ) (left : Option (List ℕ)) (excerpt : Excerpt)
     → ReadsMade (IsExcerptAt place day) dks_2 limit left excerpt → ReadsState dks_2 limit left excerpt.state
 state_read place day limit left excerpt reads =
     subst (ReadsState dks_2 limit left) (sym (ap (λ (it : Excerpt). it.state) reads.of.made_of))
     (record { text = reads.text; held = reads.held; is = reads.of.is })
 
--- in contracts, an excerpt that was read has the whole state whose text the source held. If
--- contracts know the source's bytes, no other state can be read from the source
+-- in contracts, the value of an excerpt that was read includes the whole state whose text the
+-- source held. If contracts can say which bytes the source held, no other state can be read from
+-- the source
 pub one_excerpt : (place : List ℕ) (day limit : ℕ) (left : Option (List ℕ)) (excerpt : Excerpt)
     → ReadsMade (IsExcerptAt place day) dks_2 limit left excerpt → (sent : State) → HoldsState dks_2 limit left sent → excerpt.state ≡ sent
 one_excerpt place day limit left excerpt reads sent holds =
@@ -204,8 +206,8 @@ pub read_refused : {A : Type 0} (wants : Wanting) (format : Format) (limit : ℕ
     → RefusesState format limit left fault
 read_refused wants format limit IsMade left left_now result outcome fault is = subst (IsOutcome wants why_unread format limit IsMade left left_now) is outcome
 
--- if the number of the source's failures is unchanged, reading a state hasn't ended because the
--- source failed
+-- if the source's failure count is unchanged, reading a state hasn't ended because the source
+-- failed
 pub read_unfailed : {A : Type 0} (failures : ℕ) (result : Result A OfficeFault) → CountsOutcome why_unread failures failures result → result ≢ Err office.Source
 read_unfailed failures result counted is =
     let more : failures ≡ failures + 1 = subst (CountsOutcome why_unread failures failures) is counted in absurd (omega arith)
@@ -233,8 +235,7 @@ pub taken_refused : {A : Type 0} (limit : ℕ) (IsMade : A → Type 0) (left lef
     → IsTakingOutcome limit IsMade left left_now result → (fault : FileFault) → result ≡ Err (office.File fault) → RefusesText limit left fault
 taken_refused limit IsMade left left_now result outcome fault is = subst (IsTakingOutcome limit IsMade left left_now) is outcome
 
--- if the number of the source's failures is unchanged, taking a file hasn't ended because the
--- source failed
+-- if the source's failure count is unchanged, taking a file hasn't ended because the source failed
 pub taken_unfailed : {A : Type 0} (failures : ℕ) (result : Result A OfficeFault) → CountsTaking failures failures result → result ≢ Err office.Source
 taken_unfailed failures result counted is = let more : failures ≡ failures + 1 = subst (CountsTaking failures failures) is counted in absurd (omega arith)
 

@@ -46,8 +46,8 @@ pub record KnowsFileToo (limit : ℕ) (left : Option (List ℕ)) (files : List (
   pub is_text : IsFileText limit text file
   pub summary : IsSummary (file ∷ files) horizon new
 
--- says that contracts can say which bytes the source holds. These bytes are the text of this state
--- in this format, and aren't longer than the limit
+-- says that contracts can name the bytes that the source holds, and that these bytes are the text
+-- of this state in this format. The text isn't longer than the limit
 pub record HoldsState (format : Format) (limit : ℕ) (left : Option (List ℕ)) (sent : State) : Type 0 where
   pub text : List ℕ
   pub told : left ≡ Some text

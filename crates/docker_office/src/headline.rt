@@ -1,7 +1,7 @@
 //! The laws of runs. Offices may take files, send, receive and reload, and messages may be lost,
-//! repeated or reordered. In each run, the files and the horizon that an office knows determine its
-//! bytes and its dockers. Each law is the contract of a function with an empty body, so it holds
-//! for all values of its variables.
+//! repeated or reordered. In each run, the files and the horizon that an office knows determine the
+//! bytes of its state, and its dockers. Each law is the contract of a function with an empty body,
+//! so it holds for all values of its variables.
 ghost use Rattle.std.specs.Prelude.{◌≡◌, ℕ, List};
 ghost use Rattle.docker_model.specs.state.State.{State, live_table};
 ghost use Rattle.docker_model.specs.state.StateText.{dks_2, state_text};
@@ -13,8 +13,8 @@ ghost use Rattle.docker_model.specs.run.Run.{Known};
 ghost use Rattle.docker_model.specs.run.Knowledge.{AreOneKnowledge, HaveSameFiles};
 ghost use Rattle.docker_office.specs.RunEnds.{EndsWith, PrintsAs};
 
-/// Two offices that know the same files and the same horizon have equal states, and so equal bytes.
-/// The offices may be in one run or in two different runs.
+/// Two offices that know the same files and the same horizon have equal states. So the texts of the
+/// two states are equal byte for byte. The offices may be in one run or in two different runs.
 pub fn known_files_fix_states()
     ensures state { (first second : Known) (one two : State) → EndsWith first one
         → EndsWith second two → AreOneKnowledge first second → one ≡ two }
@@ -34,9 +34,10 @@ pub fn known_files_fix_dockers()
         → IsDockerText (live_table two) place day other → text ≡ other }
 {}
 
-/// If no two files that an office knows have the same moment, the files have a plain table. The
-/// plain table results from applying the newest full extract, and then each later update in the
-/// order of the updates' moments. Each docker that the office prints is the docker of this table.
+/// If no two files that an office knows have the same moment, there is a plain table of these
+/// files. The plain table results from applying the newest full extract, and then each later update
+/// in the order of the updates' moments. Each docker that the office prints is the docker of this
+/// table.
 pub fn dockers_are_of_the_plain_table()
     ensures { (known : Known) (state : State) → EndsWith known state
         → HaveDistinctMoments known.files

@@ -1,5 +1,5 @@
 //! Offices and runs. Each office keeps a state, takes files, exchanges states with the other
-//! offices, and prints. A run is a list of events at several offices.
+//! offices, and prints dockers. A run is a list of events at several offices.
 #![tactic(auto)]
 
 mod event;

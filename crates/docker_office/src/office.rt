@@ -22,8 +22,8 @@ use std::alloc::Global;
 use std::marker::Model;
 use std::mem;
 
-/// An office, with the state of the files and the horizon that it knows. `noted` says whether the
-/// states that the office reads get an index.
+/// An office. Its state is the summary of the files and the horizon that the office knows. `noted`
+/// says whether the states that the office reads get an index.
 #[derive(Debug, Drop)]
 pub struct Office {
     alloc: Global,

@@ -21,7 +21,7 @@ pub enum RunFault {
     #[error("no such message")]
     NoMessage,
     /// The office refused the event: for a `Take`, because of the file's fault or because memory
-    /// ran out; for another event, because memory ran out.
+    /// ran out; for any other event, because memory ran out.
     #[error("{0}")]
     Office(OfficeFault),
 }

@@ -16,13 +16,14 @@ use std::alloc::Global;
 ///
 /// Each reply is one that the definitions allow for its event after the earlier events. The reply
 /// is `NoOffice` if the office doesn't exist, and `NoMessage` if the office exists and the message
-/// doesn't. If both exist, a `Take` is carried out, or refused for its text's fault or because
-/// memory ran out. A `Send`, a `Deliver` or a `Reload` is carried out, or refused because memory
-/// ran out. A `Horizon` is carried out. Each office has the state of exactly the files and the
-/// horizon that it knows. Each message has the state that its office had when the message was sent.
+/// doesn't. If both exist, a `Take` is carried out, or refused because its text has a fault or
+/// because memory ran out. A `Send`, a `Deliver` or a `Reload` is carried out, or refused because
+/// memory ran out. A `Horizon` is carried out. The state of each office is the summary of exactly
+/// the files and the horizon that the office knows. Each message holds the text of the state that
+/// the sending office had when it sent the message.
 ///
-/// So the files and the horizon that an office knows determine its bytes and its dockers, whatever
-/// was lost, repeated or reordered. The laws of `headline` state this.
+/// So the files and the horizon that an office knows determine the bytes of its state, and its
+/// dockers, whatever was lost, repeated or reordered. The laws of `headline` state this.
 pub fn run(alloc: Global, offices: usize, events: &[Event<'_>]) -> Result<Exchange, Memory>
     requires { All HasGoodLimit (events_meant events.now) }
     ensures run { IfOk result (LeavesRun offices (events_meant events.now)) }

@@ -9,7 +9,8 @@ use std::fs::{Files, Permissions};
 use std::os::unix::fs::{PermissionsExt, symlink};
 use std::process::Abort;
 
-/// The result of `store` if the draft was refused or failed.
+/// The result of `store` if no draft could be made, or if the draft couldn't be written or renamed
+/// over the file.
 const FAILED: Result<(), OpenFault> = Err(OpenFault::Failed);
 
 /// Writes a file, as another program would.

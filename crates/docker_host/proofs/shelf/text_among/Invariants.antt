@@ -1,4 +1,4 @@
--- No file before the current index has the name.
+-- No file before the current index has the name that is searched for.
 use Rattle.std.proofs.Common.{◌≡◌, drop}
 use Rattle.docker_host.specs.Places.{texts_of}
 use Rattle.docker_host.proofs.shelf.text_among.Given as goal

@@ -1,4 +1,5 @@
--- The value of the new office has the state of the file whose text the source held.
+-- In contracts, the value of the new office includes the state of the file whose text the source
+-- held.
 use Rattle.std.proofs.Common.{inr, refl, sym}
 use Rattle.std.proofs.lemmas.Result.{err_from_is_err_and}
 use Rattle.docker_bytes.specs.Values.{Excerpt}
