@@ -60,13 +60,14 @@ counted (id ∷ ids) (word ∷ words) = by (counted ids words)
     by (inr never) = inr ((λ same. never.0 (omega (arith, same))), never.1)
 
 module _ (s : Subcommand) (words : List Text) (plain : list_all is_plain_word words ≡ true) where
-  -- after a subcommand's name, the only faults are those for a wrong number of words
+  -- for the words after a subcommand's name, the only possible faults are the faults for a wrong
+  -- number of words
   fault_at_name : fault_of docker_app (name_of s ∷ words) ≡ count_fault (ids_of s) words
   fault_at_name =
       let k = known s in
       named_fault leaves (leaf_of s) (name_of s) words k.met k.under ∙ leaf_fault (name_of s) (ids_of s) words k.fits k.fresh plain
 
-  -- after a subcommand's name, the words are looked up by the ids of the subcommand's arguments, in
+  -- the words after a subcommand's name are looked up by the ids of the subcommand's arguments, in
   -- order
   found_at_name : found_in (subcommand_of docker_app (name_of s ∷ words)) ≡ found_at (name_of s) (paired (ids_of s) words)
   found_at_name =
@@ -81,7 +82,7 @@ module _ (s : Subcommand) (words : List Text) (plain : list_all is_plain_word wo
       ap (option_and_then (λ t. option_map (pair_of t) (found_words (ids_of t) (paired (ids_of s) words)))) (named_back s)
       ∙ ap (option_map (pair_of s)) ((known s).found words count)
 
-  -- after a subcommand's name, `clap` accepts or refuses the words, depending on their number
+  -- `clap` accepts or refuses the words after a subcommand's name, depending on their number
   named_judged : Judged (name_of s ∷ words)
   named_judged = elim (counted (ids_of s) words) [
     | inl is ↦ inl (record {

@@ -1,4 +1,4 @@
--- Reading the job line byte by byte, and what each byte means for the text of the source.
+-- Reading the job line byte by byte, and what the bytes read so far say about the source's text.
 use Rattle.std.proofs.Common.{◌≡◌, ℕ, ◌<◌, ◌≤◌, ◌≢◌, List, [], ◌∷◌, ◌++◌, length, Bool, true, false, refl, sym, ◌∙◌, ap}
 use Rattle.std.proofs.Common.{subst, arith, append_assoc, length-append, append-nil, Some, None, inl, inr, get_or}
 use Rattle.std.specs.Prelude.{Option, option_map, ◌&&◌, ◌⊎◌, nat_le}

@@ -48,7 +48,7 @@ of_one_file left state takes =
     }
 
 -- if a task's source is a file that an office takes, the content that the task has read is the
--- state of this one file
+-- summary of this one file
 pub read_one_file : (task : TaskView) (first second : DeviceBytes) (read : ReadView) → sources_of task ≡ taken_file → IsReadOf task first second read
     → IsOfOneFile first read
 read_one_file new_task first second read is reads = let never : ⊥ = cc in absurd never
@@ -76,7 +76,7 @@ checked files_task is = let never : ⊥ = cc in absurd never
 checked (horizon_task day) is = let never : ⊥ = cc in absurd never
 checked migrate_task is = let never : ⊥ = cc in absurd never
 
--- if a task's horizon is set on the state that was read from its sources, the result is the state
+-- if a task's horizon is set for the state that was read from its sources, the result is the state
 -- that the task makes from its sources
 state_of : (task : TaskView) (first second : DeviceBytes) (state : State) → IsStateOf (sources_of task) first second state
     → IsReadOf task first second (under (horizon_of task) (office_read state))
@@ -90,7 +90,7 @@ state_of files_task first second state is = is
 state_of (horizon_task day) first second state is = record { own = state; reads = is; raised = refl }
 state_of migrate_task first second state is = is
 
--- if a task's horizon is set on the content of its sources, the result is what the task makes from
+-- if a task's horizon is set for the content of its sources, the result is what the task makes from
 -- its sources
 read_of : (task : TaskView) (first second : DeviceBytes) (read : ReadView) → IsContentOf (sources_of task) first second read
     → IsReadOf task first second (under (horizon_of task) read)
@@ -123,8 +123,8 @@ still_written output None read is = is
 still_written output (Some day) (file_read file) is = is
 still_written output (Some day) (office_read state) is = is
 
--- suppose that `made` is the content of a task's sources with the task's horizon set on it. Then
--- the task's output can be written from `made`
+-- suppose that `made` is the content of a task's sources after the task's horizon was set for it.
+-- Then the task's output can be written from `made`
 pub held_written : (task : TaskView) (sources : Sources) (horizon : Option ℕ) (first second : DeviceBytes) (own made : ReadView) → sources ≡ sources_of task
     → made ≡ under horizon own → IsContentOf sources first second own → IsWrittenOf (output_of task) made
 held_written task sources horizon first second own made same_sources same_made content =
@@ -132,8 +132,8 @@ held_written task sources horizon first second own made same_sources same_made c
     (still_written (output_of task) horizon own
     (written_of task first second own (subst (λ s. IsContentOf s first second own) same_sources content)))
 
--- suppose that `made` is the content of a task's sources with the task's horizon set on it. Then
--- `made` is what the task makes from its sources
+-- suppose that `made` is the content of a task's sources after the task's horizon was set for it.
+-- Then `made` is what the task makes from its sources
 pub task_read : (task : TaskView) (sources : Sources) (horizon : Option ℕ) (first left second second_left : DeviceBytes) (own made : ReadView)
     → sources ≡ sources_of task → horizon ≡ horizon_of task → made ≡ under horizon own
     → ReadsFew sources first left second second_left (IsContentOf sources first second own × HasReadToEnd sources left second_left)

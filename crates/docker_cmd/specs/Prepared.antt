@@ -96,13 +96,13 @@ abbrev pub IsStateReadBy : TaskView → DeviceBytes → DeviceBytes → State �
 IsStateReadBy (horizon_task day) first second state = RaisesState day first state
 IsStateReadBy task first second state = IsStateOf (sources_of task) first second state
 
--- this is what a task makes from its sources. `check` makes the counts of its file, and any other
--- task makes a state
+-- this is what a task makes from its sources. For `check`, it is the counts of the file; for any
+-- other task, it is a state
 abbrev pub IsReadOf : TaskView → DeviceBytes → DeviceBytes → ReadView → Type 0
 IsReadOf task first second (file_read file) = (task ≡ check_task) × CountsText most_records first file
 IsReadOf task first second (office_read state) = IsStateReadBy task first second state
 
--- the content after this horizon was set on its state. If the horizon is None, or the content has
+-- the content after this horizon was set for its state. If the horizon is None, or the content has
 -- no state, the content is unchanged
 abbrev pub under : Option ℕ → ReadView → ReadView
 under None read = read
@@ -146,8 +146,8 @@ RefusesStateOf two_states first second fault =
 abbrev pub WantsForState : Format → DeviceBytes → DeviceBytes → Type 0
 WantsForState format old new = WantsMemory format most_at_once most_bytes old new
 
--- memory ran out while these sources were read. If memory ran out for the first source, nothing of
--- the second source was read. If memory ran out for the second source, the first source held a
+-- memory ran out while these sources were read. If memory ran out for the first source, nothing was
+-- read from the second source. If memory ran out for the second source, the first source held a
 -- state. A file that is only checked needs memory only before its first byte is read
 abbrev pub WantsFor : Sources → DeviceBytes → DeviceBytes → DeviceBytes → DeviceBytes → Type 0
 WantsFor no_source old new second_old second_new = ⊥
@@ -178,7 +178,7 @@ ReadsFewOfFirst state_and_file old new = ReadsFewOfState dks_2 old new
 ReadsFewOfFirst two_states old new = ReadsFewOfState dks_2 old new
 
 -- the second source was read no further than the piece that decides the result. If the first source
--- held no state, nothing of the second source was read
+-- held no state, nothing was read from the second source
 abbrev pub ReadsFewOfSecond : Sources → DeviceBytes → DeviceBytes → DeviceBytes → Type 0
 ReadsFewOfSecond no_source first old new = new ≡ old
 ReadsFewOfSecond checked_file first old new = new ≡ old

@@ -136,7 +136,7 @@ output_of files_task = files_written
 output_of (horizon_task day) = state_written
 output_of migrate_task = state_written
 
--- the horizon that a task sets on the state that it reads; None if the task sets no horizon
+-- the horizon that a task sets for the state that it reads; None if the task sets no horizon
 abbrev pub horizon_of : TaskView → Option ℕ
 horizon_of (horizon_task day) = Some day
 horizon_of _ = None

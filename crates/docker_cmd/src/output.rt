@@ -14,9 +14,9 @@ use cif_line::{Sink, write_all};
 use docker_office::{LedgerOffice, Office, OfficeFault, PlaceOffice};
 
 /// Writes what the job prints, or the text of the state that the job stores. `check` writes the
-/// line with its file's counts. `day` and `print` write the docker of their timing point on their
-/// day. `files` lists the files that the office knows. Any other job writes the text of the
-/// office's state.
+/// line with its file's counts. `day` and `print` write the docker of the timing point and the day
+/// that their words name. `files` lists the files that the office knows. Any other job writes the
+/// text of the office's state.
 ///
 /// Returns `Lapsed` for a docker of a day before the third day after the state's horizon. Returns
 /// `Memory` if there is no memory for a docker. In both cases nothing is written. Returns `Sink` if

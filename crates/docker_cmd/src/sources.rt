@@ -26,8 +26,7 @@ pub(crate) enum Content {
 }
 
 impl Content {
-    /// Sets the horizon of the content's office, if the content has an office. `None` sets no
-    /// horizon.
+    /// Sets the horizon of the office, if the content is an office. `None` sets no horizon.
     pub(crate) fn under(self, horizon: Option<Day>) -> Content
         ensures { content_meant result ≡ under horizon (content_meant self) }
     {

@@ -284,7 +284,7 @@ impl Task {
         }
     }
 
-    /// Returns the horizon that the task sets on the state that it has read; `None` if the task
+    /// Returns the horizon that the task sets for the state that it has read; `None` if the task
     /// sets no horizon.
     pub fn horizon(self) -> Option<Day>
         ensures { result ≡ horizon_of (task_meant self) }

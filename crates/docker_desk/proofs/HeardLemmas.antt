@@ -117,7 +117,7 @@ takes_heard file text before after does = by does.result does.opens.read does.to
     by (Err fault) read told asked ends = let never : ⊥ = cc in absurd never
 
 module _ (setting : Setting) where
-  -- by each request that succeeded, the desk came to know files and a horizon, or nothing new
+  -- with each request that succeeded, the desk came to know files and a horizon, or nothing new
   hears_some : (request : RequestView) (text : List ℕ) (before after : SessionView) → DoesRequest setting request before (done_with text) after
       → ReceivesKnown setting request before after → (heard : Known) × Hears setting request before after heard
   hears_some (print_request place day) text before after does received = (nothing, refl)

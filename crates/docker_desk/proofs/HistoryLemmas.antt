@@ -33,8 +33,8 @@ then_unplaced name made_for look old middle new took bytes made failed same held
 
 -- ---- how an opening is recorded
 
--- suppose that the opening of a file changed the state from `own` to `now`. If `own` equals `old`
--- and `now` equals `new`, the opening changed the state from `old` to `new`
+-- suppose that reading a file changed the state from `own` to `now`. If `own` equals `old` and
+-- `now` equals `new`, reading the file changed the state from `old` to `new`
 pub opens_as : (name : Text) (Stops : Reading → Type 0) (Ends : State → State → Result ⊤ OfficeFault → Option Reading → Type 0) (own now old new : State)
     (result : Result ⊤ OfficeFault) (before after : List Event) → own ≡ old → now ≡ new → OpensOnce name Stops (Ends own now result) before after
     → OpensOnce name Stops (Ends old new result) before after

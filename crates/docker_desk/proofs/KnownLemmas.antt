@@ -1,4 +1,4 @@
--- What is known in each step of a session, and after all steps.
+-- What a desk knows after each step of a session, and after all steps.
 use Rattle.std.proofs.Common.{◌≡◌, ◌≤◌, ℕ, Bool, List, [], ◌∷◌, ◌++◌, length, refl, sym, ◌∙◌, ap, subst, arith, append-nil, Some, None, Ok, Err}
 use Rattle.std.specs.Prelude.{Option, Result, max, ⊤}
 use Rattle.std.proofs.Math.Nat.{max-zero}

@@ -1,4 +1,4 @@
--- Reading a line byte by byte, and what each byte means for the line.
+-- Reading a line byte by byte, and what the bytes read so far say about the line.
 use Rattle.std.proofs.Common.{◌≡◌, ℕ, ◌+◌, ◌-◌, ◌^◌, ◌≤◌, ◌≢◌, List, [], ◌∷◌, ◌++◌, length, true, false, refl, sym, ◌∙◌}
 use Rattle.std.proofs.Common.{ap, subst, arith, append_assoc, length-append, append-nil, Some, None, inl, inr, Ok, Err}
 use Rattle.std.specs.Prelude.{Option, option_map, Result, ◌⊎◌}

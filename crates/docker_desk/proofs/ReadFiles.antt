@@ -46,7 +46,7 @@ counted_back status first opened start read after same none counted back = (
 
 -- ---- taking a file
 
--- if an office took or refused a file, the desk's `take` ends in the same way
+-- if an office took or refused a file, the desk's `take` ends as the office's call ended
 pub takes : (left left_now : Bytes) (old new : State) (result : Result ⊤ OfficeFault)
     → IsTakingOutcome most_records (λ _. TakesFile most_records left old new) left left_now result → (IsErr result → new ≡ old)
     → EndsTaking old new result (Some (reading left left_now))
@@ -81,16 +81,16 @@ refuses_to_receive left left_now (office.File fault) why = why
 refuses_to_receive left left_now office.Lapsed why = why
 refuses_to_receive left left_now office.Sink why = why
 
--- if an office received or refused a state, the desk's call to receive this state ends in the same
--- way
+-- if an office received or refused a state, the desk's call to receive this state ends as the
+-- office's call ended
 pub receives : (left left_now : Bytes) (old new : State) (result : Result ⊤ OfficeFault)
     → IsOutcome WantsMemory why_unread dks_2 most_bytes (λ _. JoinsState dks_2 most_bytes left old new) left left_now result
     → (IsErr result → new ≡ old) → EndsReceiving old new result (Some (reading left left_now))
 receives left left_now old new (Ok done) outcome kept = outcome
 receives left left_now old new (Err fault) outcome kept = (refuses_to_receive left left_now fault outcome, kept refl)
 
--- if an office reloaded or refused a state, the desk's call to reload this state ends in the same
--- way
+-- if an office reloaded or refused a state, the desk's call to reload this state ends as the
+-- office's call ended
 pub reloads : (left left_now : Bytes) (new : State) (result : Result ⊤ OfficeFault)
     → IsOutcome WantsMemory why_unread dks_2 most_bytes (λ _. ReadsState dks_2 most_bytes left new) left left_now result
     → EndsReloading new result (Some (reading left left_now))

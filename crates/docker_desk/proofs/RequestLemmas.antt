@@ -97,7 +97,7 @@ no_verb may_write line word first none = λ request is.
     cc
 
 module _ (may_write : Bool) (line : List ℕ) (word : Text) (v : Verb) (first : word ≡ first_word line) (found : Some v ≡ verb_named word) where
-  -- the request of a line has the verb that the line's first word names
+  -- the verb of a line's request is the verb that the line's first word names
   of_request : (request : RequestView) → IsRequestOf may_write line request → verb_of request ≡ v
   of_request request is =
       let one : Some v ≡ Some (verb_of request) = found ∙ ap verb_named (first ∙ is.name) ∙ named_back (verb_of request) in
@@ -108,8 +108,8 @@ module _ (may_write : Bool) (line : List ℕ) (word : Text) (v : Verb) (first : 
   pub not_allowed : ((is_writing v ≡ true → may_write ≡ true) → ⊥) → AsksFor may_write line None
   not_allowed never = λ request is. never (subst (λ u. is_writing u ≡ true → may_write ≡ true) (of_request request is) is.allowed)
 
-  -- if the desk may carry out requests with the verb of a line, the line's request is the one that
-  -- the verb and the rest of the line make
+  -- if the desk may carry out requests with the verb of a line, the line's request is the request
+  -- with this verb and with the words in the rest of the line
   pub asked_by : (rest : List ℕ) (request : Option RequestView) → rest ≡ after_word line → (is_writing v ≡ true → may_write ≡ true) → FitsRest v rest request
       → AsksFor may_write line request
   asked_by rest None behind allowed fits = λ request is. fits request (of_request request is) (subst (HasRest request) (sym behind) is.rest)

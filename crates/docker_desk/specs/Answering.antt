@@ -1,4 +1,4 @@
--- What a session reads from its input and writes to its output while it answers lines.
+-- What a desk reads from its input and writes to its output while it answers lines.
 use Rattle.std.specs.Prelude.{◌≡◌, ℕ, ◌+◌, ◌-◌, ◌^◌, ◌≤◌, ◌⊎◌, Bool, false, List, [], ◌∷◌, ◌++◌, length, map, Option, Some, None, ⊤}
 use Rattle.std.specs.List.{flat_map}
 use Rattle.cif_device.specs.Device.{Takes, TakesPart}

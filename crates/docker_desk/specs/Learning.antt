@@ -58,8 +58,8 @@ abbrev pub renewing : Text → Reading → List Event
 renewing name read = looked name ∷ events_of name read
 
 -- this is the knowledge that a successful request added. `take` added its file. `merge` and `renew`
--- added the knowledge of the summary that they received. `horizon` added its day. Any other request
--- added nothing
+-- added the files and the horizon of the summary that they received. `horizon` added its day. Any
+-- other request added nothing
 abbrev pub Hears : Setting → RequestView → SessionView → SessionView → Known → Type 0
 Hears setting (print_request place day) before after heard = heard ≡ nothing
 Hears setting (permanent_request place day) before after heard = heard ≡ nothing

@@ -12,8 +12,8 @@ pub record IsBeforeOpening (name : Text) (history : List Event) (look : ℕ) : T
   pub whole : history ≡ earlier ++ looked name ∷ opened name held ∷ closed left ∷ later
   pub number : look ≡ length earlier
 
--- the event at this position is a look at the named file, and in the event before it a draft
--- replaced that file
+-- the event at this position is a look at the named file, and the event before it is the
+-- replacement of that file by a draft
 pub record IsAfterPlacing (name : Text) (history : List Event) (look : ℕ) : Type 0 where
   pub earlier : List Event
   pub bytes : Bytes

@@ -1,4 +1,4 @@
--- The request in a line: its first word is a verb, and its other words must fit the verb.
+-- The request in a line. The line's first word is a verb, and its other words must fit the verb.
 use Rattle.std.specs.Prelude.{◌≡◌, ℕ, Bool, true, false, not, if◌then◌else◌, List, [], ◌∷◌, ◌++◌, Option, Some, None, IsTrue, codes, filter, find, map}
 use Rattle.std.specs.Str.{bytes_eq}
 use Rattle.std.specs.List.{before_first, after_first}

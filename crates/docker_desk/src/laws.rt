@@ -62,8 +62,8 @@ pub fn looks_come_before_readings()
 
 /// Suppose that the file that `merge` or `renew` read held the text of a summary. Then the desk
 /// learns that summary from the file. If each file that `merge` or `renew` reads holds such a text,
-/// the knowledge after every step is determined, and the law `known_files_fix_sessions` applies to
-/// the whole session.
+/// the steps determine what the desk knows after each of them, and the law
+/// `known_files_fix_sessions` applies to the whole session.
 pub fn known_texts_are_heard()
     ensures merged { (setting : Setting) (other text : List ℕ) (before after : SessionView)
         (known : Known) → DoesRequest setting (merge_request other) before (done_with text) after
@@ -120,8 +120,8 @@ pub fn offices_know_as_desks()
 
 /// Two desks that know the same files and the same horizon have equal states, and so equal texts.
 /// Two desks that know the same files, even with different horizons, print the same docker for each
-/// timing point and each day that isn't refused because of either horizon. The law is also true if
-/// an office of a run takes the place of one desk.
+/// timing point and each day that isn't refused because of either desk's horizon. The law is also
+/// true if an office of a run takes the place of one desk.
 pub fn known_files_fix_states()
     ensures state { (first second : Known) (one two : State) → IsKnown first one
         → IsKnown second two → AreOneKnowledge first second → one ≡ two }
@@ -144,9 +144,10 @@ pub fn dockers_are_of_the_plain_table()
 {}
 
 /// Two desks that know the same files, even with different horizons, print the same permanent
-/// docker for each timing point and each day that isn't refused because of either horizon. The law
-/// is also true if an office of a run takes the place of one desk. If no two of the files have the
-/// same moment, these dockers are the dockers of the plain table without its short-term entries.
+/// docker for each timing point and each day that isn't refused because of either desk's horizon.
+/// The law is also true if an office of a run takes the place of one desk. If no two of the files
+/// have the same moment, these dockers are the dockers of the plain table without its short-term
+/// entries.
 pub fn known_files_fix_permanent_answers()
     ensures docker { (first second : Known) (one two : State) → IsKnown first one
         → IsKnown second two → HaveSameFiles first.files second.files → (place : List ℕ) (day : ℕ)

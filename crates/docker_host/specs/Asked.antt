@@ -20,13 +20,13 @@ IsStored names_bytes name look text old new =
     new ≡ old ++ drafted name look ∷ placed name (named_if names_bytes text) ∷ []
 
 -- a draft of this text, based on the look at this position in the history, was made, but replacing
--- the file by the draft failed
+-- the file with the draft failed
 abbrev pub IsUnplaced : Bool → Text → ℕ → Text → List Event → List Event → Type 0
 IsUnplaced names_bytes name look text old new =
     new ≡ old ++ drafted name look ∷ unplaced name (named_if names_bytes text) ∷ []
 
 -- storing the text failed because a device failed: no draft was made, the draft was discarded, or
--- replacing the file by the draft failed
+-- replacing the file with the draft failed
 abbrev pub FailsToStore : Bool → Text → ℕ → Text → List Event → List Event → Type 0
 FailsToStore names_bytes name look text old new =
     IsUndrafted name look old new

@@ -26,8 +26,8 @@ pub data Event : Type 0 where
   undrafted : (name : Text) (look : ℕ) → Event
   -- a draft replaced the named file. From then on the file holds these bytes
   placed : (name : Text) (bytes : Bytes) → Event
-  -- replacing the named file by a draft with these bytes failed. The file holds these bytes, or the
-  -- bytes that it held before
+  -- replacing the named file with a draft that held these bytes failed. The file holds these bytes,
+  -- or the bytes that it held before
   unplaced : (name : Text) (bytes : Bytes) → Event
   -- a draft for the named file was discarded
   dropped : (name : Text) → Event

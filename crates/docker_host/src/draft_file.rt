@@ -27,7 +27,7 @@ pub struct DraftFile {
 pub(crate) struct Placed {
     /// The name of the file.
     pub(crate) name: String,
-    /// The version of the draft. The next look at the file will see this version.
+    /// The version of the draft. The next look at the file will find this version.
     pub(crate) version: Version,
 }
 
@@ -60,9 +60,10 @@ impl DraftFile {
         })
     }
 
-    /// Replaces the file with the draft. Returns the version that the next look will see, or `None`
-    /// if that version can't be known. For example, it can't be known for a file that was written
-    /// directly. If the file can't be replaced, removes the draft if possible and returns `Failed`.
+    /// Replaces the file with the draft. Returns the version that the next look will find, or
+    /// `None` if that version can't be known. For example, it can't be known for a file that was
+    /// written directly. If the file can't be replaced, removes the draft if possible and returns
+    /// `Failed`.
     pub(crate) fn place(self, rt: &HostRuntime) -> Result<Option<Placed>, Failed> {
         let DraftFile {
             name,

@@ -124,7 +124,7 @@ pub trait Folder {
         ensures counted { failures self.new ≡ failures self.old + Self.File.failures file };
 
     /// Makes an empty draft for the named file, based on the result of a look. Fails if the file
-    /// under the name is no longer the file that the look saw.
+    /// under the name is no longer the file that was looked at.
     fn create<'a>(
         &mut self,
         name: &'a str,

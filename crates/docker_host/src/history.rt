@@ -50,9 +50,9 @@ pub enum Note<'a> {
     Placed(&'a str, &'a [u8]),
     /// A draft replaced a named file. Contracts can't say which bytes the draft held.
     PlacedUnnamed(&'a str),
-    /// Replacing a named file by a draft with these bytes failed.
+    /// Replacing a named file with a draft that held these bytes failed.
     Unplaced(&'a str, &'a [u8]),
-    /// Replacing a named file by a draft failed. Contracts can't say which bytes the draft held.
+    /// Replacing a named file with a draft failed. Contracts can't say which bytes the draft held.
     UnplacedUnnamed(&'a str),
     /// A draft for a named file was discarded.
     Dropped(&'a str),

@@ -19,7 +19,7 @@ pub struct Seen {
     position: Position,
 }
 
-/// The real files. After a draft has replaced a file, the next look at the file's name sees that
+/// The real files. After a draft has replaced a file, the next look at the file's name finds that
 /// draft, even if another program has replaced the file since. So the next draft can't replace the
 /// other program's file unseen.
 #[derive(Drop)]
@@ -57,7 +57,7 @@ impl RealFolder {
     }
 
     /// Returns the version of the draft that replaced the named file, for the next look at that
-    /// name. Returns `None` if no draft has replaced the file, or a look has seen that draft
+    /// name. Returns `None` if no draft has replaced the file, or a look has found that draft
     /// already.
     fn take_placed(&mut self, name: &str) -> Option<Version>
         ensures { self.new ≡ self.old }

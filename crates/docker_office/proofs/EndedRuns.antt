@@ -18,8 +18,9 @@ is_there known state end =
     let low = end.there in
     omega arith
 
--- suppose that an office ends its run with `known` and `state`. If a property is true of the
--- office's knowledge and state at the end of the run, it is true of `known` and `state`
+-- suppose that an office has the knowledge `known` and the state `state` at the end of its run. If
+-- a property is true of the office's knowledge and state at the end of the run, it is true of
+-- `known` and `state`
 at_end : (P : Known → State → Type 0) (known : Known) (state : State) → (end : EndsWith known state)
     → P (known_at_end end.offices end.events end.exchange end.office) (office_state end.exchange.states end.office) → P known state
 at_end P known state end is = subst (P known) end.has (subst (λ k. P k (office_state end.exchange.states end.office)) end.knows is)
@@ -33,8 +34,8 @@ one_state first second one two left right same =
     (same_state dks_2 left.offices right.offices left.events right.events left.exchange right.exchange left.leaves.run right.leaves.run left.office
     right.office (is_there first one left) (is_there second two right))) same
 
--- says that these two states print the same docker, for each place and each day that isn't refused
--- because of either state's horizon
+-- says that the dockers made from these two states are equal, for each place and each day that
+-- isn't refused because of either state's horizon
 abbrev PrintOne : State → State → Type 0
 PrintOne one two =
     (place : List ℕ) (day : ℕ) → ¬ IsDayRefused one.horizon day → ¬ IsDayRefused two.horizon day → (text other : List ℕ)

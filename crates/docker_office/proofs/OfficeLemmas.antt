@@ -135,8 +135,8 @@ takes_whole limit left read state reads few told =
       joined = join_of_nothing state (subst IsValid (sym same) (summary_valid lines reads.of_text.is_text.is (omega arith)));
     }
 
--- after an office took a file, its state is the summary of the files known before and of the file
--- that was taken
+-- after an office took a file, the office's state is the summary of the files that it knew before
+-- and of this file
 pub knows_file_too : (limit : ℕ) (left : Option (List ℕ)) (old new : State) (files : List (List (List ℕ))) (horizon : ℕ) → TakesFile limit left old new
     → IsSummary files horizon old → KnowsFileToo limit left files horizon new
 knows_file_too limit left old new files horizon takes is = record {

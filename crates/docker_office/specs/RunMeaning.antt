@@ -45,8 +45,8 @@ reply_meant (Refused NoOffice) = refused no_office
 reply_meant (Refused NoMessage) = refused no_message
 reply_meant (Refused (Office why)) = refused (refusal_meant why)
 
--- says that a text's fault can have this cause. Only `None` isn't possible, because it means that
--- memory ran out
+-- says that a text's fault can have this cause. Every cause is possible except `None`, which means
+-- that memory ran out
 abbrev pub IsTextCause : Option files.FileCause → Type 0
 IsTextCause None = ⊥
 IsTextCause (Some cause) = ⊤

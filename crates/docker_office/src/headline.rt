@@ -1,7 +1,7 @@
-//! The laws of runs. Offices may take files, send, receive and reload, and messages may be lost,
-//! repeated or reordered. In each run, the files and the horizon that an office knows determine the
-//! bytes of its state, and its dockers. Each law is the contract of a function with an empty body,
-//! so it holds for all values of its variables.
+//! The laws of runs. Offices may take files, and send, receive and reload states. Messages may be
+//! lost, repeated or reordered. In each run, the files and the horizon that an office knows
+//! determine the bytes of its state, and its dockers. Each law is the contract of a function with
+//! an empty body, so it holds for all values of its variables.
 ghost use Rattle.std.specs.Prelude.{◌≡◌, ℕ, List};
 ghost use Rattle.docker_model.specs.state.State.{State, live_table};
 ghost use Rattle.docker_model.specs.state.StateText.{dks_2, state_text};

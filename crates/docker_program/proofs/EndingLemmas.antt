@@ -158,7 +158,7 @@ done_by run (Some (Office office.Source)) same ends = let never : ⊥ = omega ar
 done_by run (Some (Office office.Sink)) same ends = let never : ⊥ = omega arith in absurd never
 done_by run (Some (Office office.Memory)) same ends = let never : ⊥ = omega arith in absurd never
 
--- a command with status 0 stored or printed the output of its job
+-- if a command ended with status 0, it stored or printed the output of its job
 pub run_done : (run : Run) → IsRun run 0 → IsDone run
 run_done run performs = done_by run performs.ending performs.status_is performs.ends
 
@@ -231,6 +231,7 @@ undone_by run status (Some (Office office.Memory)) some same (asked, kept) = by 
     by (inl (inr wants)) = inl (nothing_stored run (none_if_opened run asked.job asked.rest run.new.history wants.0))
     by (inr has) = inl (nothing_stored run (want_none run asked.job asked.rest (stored_by has.prepared.job) has has.holds))
 
--- a command with a status other than 0 stored nothing, or may have stored the output of its job
+-- if a command ended with a status other than 0, it stored nothing, or may have stored the output
+-- of its job
 pub run_undone : (run : Run) (status : ℕ) → IsRun run status → status ≢ 0 → IsUndone run
 run_undone run status performs some = undone_by run status performs.ending some performs.status_is performs.ends

@@ -34,7 +34,7 @@ opened_by asked job result read = record {
   second_few = read.reads.second_few;
 }
 
--- if the sources of a job were opened and read with a result, `ReadsNamed` allows this result
+-- if opening and reading the sources of a job ended with a result, `ReadsNamed` allows this result
 by_reading : (asked : Asking) (job : JobView) (result : Result PreparedView OfficeFault) → AreRead (names_of job) asked job result
     → ReadsNamed asked job result
 unfolding opened_by
@@ -51,8 +51,8 @@ by_reading asked job (Err office.Memory) read = inr (opened_by asked job (Err of
 by_reading asked job (Err office.Lapsed) read = read.reads.ends
 by_reading asked job (Err office.Sink) read = read.reads.ends
 
--- if a file of a job couldn't be opened, `ReadsNamed` allows the fault of this opening as the
--- result
+-- if a file of a job couldn't be opened, `ReadsNamed` allows the fault for which it couldn't be
+-- opened as the result
 by_cause : (asked : Asking) (job : JobView) (cause : OpenFault) → FailsToOpen (names_of job) asked.before asked.now → asked.left ≡ asked.rest
     → ReadsNamed asked job (Err (one_of office.Source office.Memory cause))
 by_cause asked job opening.Failed fails unread = inl (record { fails = fails; unread = unread })

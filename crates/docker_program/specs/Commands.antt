@@ -62,8 +62,8 @@ pub record Stores (run : Run) (job : JobView) (read : SourcesRead) (text : List 
       (history_read run.old.history job read) run.new.history
   pub unprinted : run.new.output ≡ run.old.output
 
--- a command may have stored this text: replacing the file that the job writes by a draft with this
--- text failed. The file now holds either this text or what it held before
+-- a command may have stored this text: replacing the job's file with a draft of this text failed.
+-- The file now holds either this text or what it held before
 pub record MayStore (run : Run) (job : JobView) (read : SourcesRead) (text : List ℕ) : Type 0 where
   pub reads : Reads run job read text
   pub name : Text
@@ -179,7 +179,7 @@ WritesKnown migrate_task known text = IsKnownText dks_2 known text
 -- `merge`, `horizon` or `migrate`. Or a desk saved the version, after it read its state from an
 -- earlier version and gained files, versions and horizons. A number is the index of an earlier
 -- version of any office, counted from 0. `migrate` reads the text of a summary in the older format,
--- and `known` is the knowledge of that summary
+-- and `known` has the files and the horizon of that summary
 pub data Origin : Type 0 where
   begun : Origin
   taken : (own : ℕ) (file : List (List ℕ)) → Origin

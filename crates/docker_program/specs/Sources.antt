@@ -14,7 +14,8 @@ use Rattle.docker_program.specs.SourceNames.{SourceNames, no_source, standard_in
 use Rattle.docker_host.specs.declared.folder.OpenFault.{OpenFault}
 
 -- the bytes of a job's two sources: the bytes that each held before it was read, and the bytes that
--- are left in it. For a file, these are the bytes at its opening and at its closing
+-- are left in it. For a file, these are the bytes that it held when it was opened, and the bytes
+-- that were left when it was closed
 pub record SourcesRead : Type 0 where
   pub first : Bytes
   pub first_left : Bytes

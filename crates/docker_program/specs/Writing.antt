@@ -43,7 +43,7 @@ pub record StoresOutput (by : Drafting) (written : Written) (prepared : Prepared
   pub is : IsOutputText (output_of prepared.job.task) prepared.read text
   pub history : IsStored by.names_bytes name by.look text written.before written.now
 
--- replacing the file `name` by a draft of the job's output failed. The file now holds either the
+-- replacing the file `name` with a draft of the job's output failed. The file now holds either the
 -- output or what it held before
 pub record MayStoreOutput (by : Drafting) (written : Written) (prepared : PreparedView)
     (name : Text) : Type 0 where
@@ -51,9 +51,9 @@ pub record MayStoreOutput (by : Drafting) (written : Written) (prepared : Prepar
   pub is : IsOutputText (output_of prepared.job.task) prepared.read text
   pub history : IsUnplaced by.names_bytes name by.look text written.before written.now
 
--- the job's output was written whole. If the job prints, the output device gained the output, and
--- the output isn't a docker of a refused day. If the job writes a file, a draft of the output
--- replaced the file. Nothing else changed
+-- the job wrote its whole output. If the job prints, the output device gained the output, and the
+-- output isn't a docker of a refused day. If the job writes a file, a draft of the output replaced
+-- the file. Nothing else changed
 abbrev pub WritesTo : Option Text → Drafting → Written → PreparedView → Type 0
 WritesTo None by written prepared =
     GainsOutput prepared written.output written.output_now × (¬ IsRefused prepared)
@@ -61,7 +61,7 @@ WritesTo None by written prepared =
 WritesTo (Some name) by written prepared =
     StoresOutput by written prepared name × (written.output_now ≡ written.output)
 
--- the job's output wasn't written whole, because a device failed. If the job prints, the output
+-- the job didn't write its whole output, because a device failed. If the job prints, the output
 -- device gained a proper prefix of the output. If the job writes a file, no draft was made, or the
 -- draft was discarded, or replacing the file with the draft failed. Nothing else changed
 abbrev pub WritesPartTo : Option Text → Drafting → Written → PreparedView → Type 0
@@ -79,11 +79,11 @@ WantsToWriteTo None by written prepared = PrintsDocker prepared × (written.now 
 WantsToWriteTo (Some name) by written prepared =
     IsUndrafted name by.look written.before written.now
 
--- the job's output was written whole, to the output device or to the file that the job writes
+-- the job wrote its whole output, to the output device or to the file that the job writes
 abbrev pub Writes : Drafting → Written → PreparedView → Type 0
 Writes by written prepared = WritesTo (stored_by prepared.job) by written prepared
 
--- the job's output wasn't written whole, because a device failed. The output goes to the output
+-- the job didn't write its whole output, because a device failed. The output goes to the output
 -- device, or to the file that the job writes
 abbrev pub WritesPart : Drafting → Written → PreparedView → Type 0
 WritesPart by written prepared = WritesPartTo (stored_by prepared.job) by written prepared

@@ -13,10 +13,10 @@ ghost use Rattle.docker_cmd.specs.Words.{Text};
 ghost use Rattle.docker_program.specs.Commands.{AreVersions, IsDone, IsKnownText, IsRun, IsUndone, IsVersion, Knows, MayStore, Prints, PrintsKnown, Run, Stores, Version, WritesKnown, printing};
 ghost use Rattle.docker_program.specs.Sources.{SourcesRead};
 
-/// A command with status 0 has stored or printed the output of its job, made from what its sources
-/// held. A command with another status has stored nothing, unless replacing the file with a draft
-/// of the whole output failed. In that case the file holds either the whole output or what it held
-/// before.
+/// A command that ends with status 0 has stored or printed the output of its job, which is made
+/// from what its sources held. A command that ends with another status has stored nothing, unless
+/// replacing the file with a draft of the whole output failed. In that case the file holds either
+/// the whole output or what it held before.
 pub fn commands_store_or_print()
     ensures done { (run : Run) → IsRun run 0 → IsDone run }
     ensures undone { (run : Run) (status : ℕ) → IsRun run status → status ≢ 0 → IsUndone run }
