@@ -8,7 +8,8 @@ desk: usage: [--write] STATE, and then a line for each request: print TIPLOC DAT
 | with --write take FILE | merge OTHER | horizon DATE | save
 ";
 
-/// The answer with the docker of Ashfeld on 10 June, from a desk that knows the morning train.
+/// The answer with the docker of Ashfeld on 10 June, from a desk that knows the file with the
+/// morning train.
 pub(crate) const ANSWER_0900: &str = "\
 0 3 171
 DOCKER ASHFELD 2024-06-10                               
@@ -16,8 +17,8 @@ DOCKER ASHFELD 2024-06-10
 END                                                     
 ";
 
-/// The answer with the docker of Ashfeld on 10 June, from a desk that knows the morning train and
-/// its overlay.
+/// The answer with the docker of Ashfeld on 10 June, from a desk whose state has the morning train
+/// and its overlay.
 pub(crate) const ANSWER_OVERLAID: &str = "\
 0 3 171
 DOCKER ASHFELD 2024-06-10                               
@@ -25,8 +26,8 @@ DOCKER ASHFELD 2024-06-10
 END                                                     
 ";
 
-/// The answer with the docker of Ashfeld on 10 June, from a desk that knows the revision of the
-/// morning train.
+/// The answer with the docker of Ashfeld on 10 June, from a desk that knows the file with the
+/// revision of the morning train.
 pub(crate) const ANSWER_0905: &str = "\
 0 3 171
 DOCKER ASHFELD 2024-06-10                               
@@ -41,7 +42,7 @@ DOCKER ASHFELD 2024-06-18
 END                                                     
 ";
 
-/// The answer to a request for a day that is refused because of the horizon.
+/// The answer to a request for a day that is refused under the horizon.
 pub(crate) const DAY_REFUSED: &str = "\
 1 1 52
 docker: day refused: before horizon plus three days
@@ -63,10 +64,11 @@ pub(crate) const UNSAVED: &str = "desk: changes not saved\n";
 /// changes.
 pub(crate) const DEVICE_UNSAVED: &str = "docker: device failed\ndesk: changes not saved\n";
 
-/// A desk's answer to `files` if it knows the morning train.
+/// The answer to `files` of a desk that knows only the file with the morning train.
 pub(crate) const FILES: &str = "0 1 34\n2024-06-09 2100 DFROC1A U DFROC1Z\n";
 
-/// A desk's answer to `files` if it knows both the morning train and its revision.
+/// The answer to `files` of a desk that knows the file with the morning train and the file with its
+/// revision.
 pub(crate) const BOTH_FILES: &str = "\
 0 2 68
 2024-06-09 2100 DFROC1A U DFROC1Z

@@ -53,10 +53,10 @@ const LAPSED: &[u8] = b"\x02";
 /// The state that knows no files: 22 bytes.
 pub(crate) const EMPTY_STATE: Parts = &[MARK, NONE, NONE];
 
-/// The state that knows the morning train: 311 bytes.
+/// The state of an office that knows only the file `MORNING`: 311 bytes.
 pub(crate) const MORNING_STATE: Parts = &[MARK, ONE, ITEM, ONE, ENTRY, THREE_LINES, BS, LO, LT];
 
-/// The state that knows the morning train and its overlay.
+/// A state with entries for the schedule of the morning train and for its overlay.
 pub(crate) const OVERLAID_STATE: Parts = &[
     MARK,
     ONE,
@@ -74,7 +74,7 @@ pub(crate) const OVERLAID_STATE: Parts = &[
     LT,
 ];
 
-/// The state that knows only the revision of the morning train: 311 bytes. In a state, each basic
+/// The state of an office that knows only the file `REVISION`: 311 bytes. In a state, each basic
 /// schedule has the transaction `N`.
 pub(crate) const REVISION_STATE: Parts = &[
     MARK,
@@ -88,7 +88,7 @@ pub(crate) const REVISION_STATE: Parts = &[
     LT,
 ];
 
-/// The state that knows the morning train and its revision: 330 bytes.
+/// The state of an office that knows the files `MORNING` and `REVISION`: 330 bytes.
 pub(crate) const BOTH_STATE: Parts = &[
     MARK,
     TWO,
@@ -102,7 +102,8 @@ pub(crate) const BOTH_STATE: Parts = &[
     LT,
 ];
 
-/// The state that knows the morning train, and a horizon after the train's last day: 67 bytes.
+/// The state of an office that knows the file `MORNING`, and a horizon after the last day of the
+/// morning train: 67 bytes.
 pub(crate) const LAPSED_STATE: Parts = &[MARK_15, ONE, ITEM, ONE, ENTRY, LAPSED];
 
 /// The ledger item of a full extract of 9 June 2024, 21:00.
@@ -124,8 +125,8 @@ const WITHOUT_CODES: &[u8] = b"\x01         CORHAM EXCHANGE                     
 
 const DELETED: &[u8] = b"\0";
 
-/// The state that knows the timing points Ashfeld, Brayton and Corham, and the morning train.
-/// Brayton is deleted.
+/// A state with entries for the timing points Ashfeld, Brayton and Corham, and for the morning
+/// train. The entry for Brayton is a deletion.
 pub(crate) const PLACES_STATE: Parts = &[
     MARK,
     ONE,

@@ -259,7 +259,7 @@ FailsBy first first_now second second_now office.Memory = HaveNotFailed first fi
 FailsBy first first_now second second_now office.Lapsed = ⊥
 FailsBy first first_now second second_now office.Sink = ⊥
 
--- two sources were read with this result. If the result is the fault `Source`, the sum of their
+-- reading two sources ended with this result. If the result is the fault `Source`, the sum of their
 -- failure counts grew by one; otherwise both counts are unchanged
 abbrev pub CountsSources : {A : Type 0} → Result A OfficeFault → ℕ → ℕ → ℕ → ℕ → Type 0
 CountsSources (Ok made) first first_now second second_now = HaveNotFailed first first_now second second_now

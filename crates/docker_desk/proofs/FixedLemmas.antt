@@ -30,7 +30,7 @@ one_state first second one two left right same =
     summary_unique first.files second.files same.0 second.horizon one two (subst (λ h. IsSummary first.files h one) same.1 left.is) right.is
 
 -- if two states know the same files, the dockers made from the two states are equal, for each place
--- and for each day that isn't refused because of either state's horizon
+-- and for each day that isn't refused under either state's horizon
 pub one_docker : (first second : Known) (one two : State) → IsKnown first one → IsKnown second two → HaveSameFiles first.files second.files
     → (place : List ℕ) (day : ℕ) → ¬ IsDayRefused one.horizon day → ¬ IsDayRefused two.horizon day → (text other : List ℕ)
     → IsDockerText (live_table one) place day text → IsDockerText (live_table two) place day other → text ≡ other
@@ -80,7 +80,7 @@ office_knows known state end =
           end.leaves.run.states there;
     }))
 
--- a list of steps has as many answers as lines
+-- in a list of steps, there are as many answers as lines
 pub one_each : (steps : List Step) → length (answers_of steps) ≡ length (lines_of steps)
 one_each steps =
     let first = length-map steps (λ (step : Step). step.answer) in

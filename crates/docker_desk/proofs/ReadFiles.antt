@@ -21,19 +21,19 @@ use Rattle.docker_desk.specs.Reading.{StopsInState, reading}
 use Rattle.docker_desk.specs.declared.compared.Compared.{Compared}
 use Rattle.docker_desk.specs.declared.compared.Compared.TheVariants as compared
 
--- if the status isn't 4 and the failure count is unchanged, the count agrees with the status
+-- if the status isn't 4 and the failure count is unchanged, the count is right for the status
 -- (`IsCounted`)
 not_failed : (status before after : ℕ) → status ≢ 4 → after ≡ before → IsCounted status before after
 not_failed status before after other same =
     ((λ is. absurd (other is), λ rose. let never : ⊥ = omega (arith, same, rose) in absurd never), λ differs. same)
 
--- if the status is 4 and the failure count has grown by one, the count agrees with the status
+-- if the status is 4 and the failure count has grown by one, the count is right for the status
 -- (`IsCounted`)
 failed_once : (before after : ℕ) → after ≡ before + 1 → IsCounted 4 before after
 failed_once before after rose = ((λ is. rose, λ is. refl), λ differs. absurd (differs refl))
 
--- if a file's failure count agrees with the status, and the folder adds the file's failures to its
--- own, the folder's failure count agrees with the status too
+-- if a file's failure count is right for the status, and the folder adds the file's failures to its
+-- own, the folder's failure count is right for the status too
 pub counted_back : (status first opened start read after : ℕ) → opened ≡ first → start ≡ 0 → IsCounted status start read → after ≡ opened + read
     → IsCounted status first after
 counted_back status first opened start read after same none counted back = (

@@ -400,12 +400,12 @@ pub counts_on : (result : Option Ending) (input input_now output output_now : �
     → (input_now ≡ input) × (output_now ≡ output)
 counts_on result input input_now output output_now none counts = subst (λ (r : Option Ending). CountsNext r input input_now output output_now) none counts
 
--- if the status isn't 4 and the failure count is unchanged, the count agrees with the status
+-- if the status isn't 4 and the failure count is unchanged, the count is right for the status
 -- (`IsCounted`)
 counted_none : (status count : ℕ) → status ≢ 4 → IsCounted status count count
 counted_none status count other = ((λ four. absurd (other four), λ more. absurd (omega arith)), λ _. refl)
 
--- if the failure count agrees with the status, it has grown by at most one
+-- if the failure count is right for the status, it has grown by at most one
 pub counted_few : (status before after : ℕ) → IsCounted status before after → after ≤ before + 1
 counted_few status before after counted = by (eqb_tells status 4)
   where

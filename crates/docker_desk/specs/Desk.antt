@@ -30,8 +30,8 @@ pub record DeskView : Type 0 where
   pub state : State
   pub unsaved : Bool
 
--- this is the fault for which a docker is refused: `Lapsed` if its day is refused because of the
--- state's horizon, otherwise `Memory`
+-- this is the fault for which a docker is refused: `Lapsed` if its day is refused under the state's
+-- horizon, otherwise `Memory`
 abbrev pub IsDockerRefused : State → ℕ → OfficeFault → Type 0
 IsDockerRefused state day office.Lapsed = IsDayRefused state.horizon day
 IsDockerRefused state day office.Memory = ¬ IsDayRefused state.horizon day

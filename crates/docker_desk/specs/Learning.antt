@@ -30,8 +30,8 @@ pub record IsKnown (known : Known) (state : State) : Type 0 where
   pub good : IsGoodKnown dks_2 known
   pub is : IsStateOf known state
 
--- for each day that isn't refused because of the state's horizon, the permanent docker made from
--- the state is the permanent docker made from this table
+-- for each day that isn't refused under the state's horizon, the permanent docker made from the
+-- state is the permanent docker made from this table
 abbrev pub KeepsAs : State → Table → Type 0
 KeepsAs state table = (place : List ℕ) (day : ℕ) (text : List ℕ) → ¬ IsDayRefused state.horizon day
     → IsDockerText (permanent_table (live_table state)) place day text ↔ IsDockerText (permanent_table table) place day text

@@ -78,9 +78,9 @@ ending_status InputFailed unsaved = 4
 ending_status InputEndless unsaved = 4
 ending_status OutputFailed unsaved = 4
 
--- the text that the sink of faults gains at the end of a session. This text has the line that
--- reports a failed device, if a device failed, and then the line that reports unsaved changes, if
--- there are any
+-- the text that the sink of faults gains at the end of a session. This text is the line that
+-- reports a failed device, if a device failed, followed by the line that reports unsaved changes,
+-- if there are any
 abbrev pub ending_text : Ending → Bool → List ℕ
 ending_text Ended unsaved = unsaved_text unsaved
 ending_text InputFailed unsaved = device_line ++ unsaved_text unsaved

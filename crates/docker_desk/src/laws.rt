@@ -120,8 +120,8 @@ pub fn offices_know_as_desks()
 
 /// Two desks that know the same files and the same horizon have equal states, and so equal texts.
 /// Two desks that know the same files, even with different horizons, print the same docker for each
-/// timing point and each day that isn't refused because of either desk's horizon. The law is also
-/// true if an office of a run takes the place of one desk.
+/// timing point and each day that isn't refused under either desk's horizon. The law is also true
+/// if an office of a run takes the place of one desk.
 pub fn known_files_fix_states()
     ensures state { (first second : Known) (one two : State) → IsKnown first one
         → IsKnown second two → AreOneKnowledge first second → one ≡ two }
@@ -144,9 +144,9 @@ pub fn dockers_are_of_the_plain_table()
 {}
 
 /// Two desks that know the same files, even with different horizons, print the same permanent
-/// docker for each timing point and each day that isn't refused because of either desk's horizon.
-/// The law is also true if an office of a run takes the place of one desk. If no two of the files
-/// have the same moment, these dockers are the dockers of the plain table without its short-term
+/// docker for each timing point and each day that isn't refused under either desk's horizon. The
+/// law is also true if an office of a run takes the place of one desk. If no two of the files have
+/// the same moment, these dockers are the dockers of the plain table without its short-term
 /// entries.
 pub fn known_files_fix_permanent_answers()
     ensures docker { (first second : Known) (one two : State) → IsKnown first one

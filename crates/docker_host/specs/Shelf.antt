@@ -48,7 +48,7 @@ abbrev pub after_events : Texts → List Event → Texts
 after_events texts [] = texts
 after_events texts (event ∷ events) = after_events (after_event texts event) events
 
--- if the event opens a file, the file exists and has the text that the event records
+-- if the event is the opening of a file, this file exists and has the text that the event records
 abbrev pub IsMet : Texts → Event → Type 0
 IsMet texts (opened name bytes) = (bytes ≡ texts name) × IsSome bytes
 IsMet texts (placed name bytes) = ⊤
@@ -60,7 +60,8 @@ IsMet texts (undrafted name look) = ⊤
 IsMet texts (unplaced name bytes) = ⊤
 IsMet texts (dropped name) = ⊤
 
--- each file that these events open has the text that was last placed under its name
+-- whenever one of these events is the opening of a file, this file has the text that was last
+-- placed under its name
 abbrev pub AreMet : Texts → List Event → Type 0
 AreMet texts [] = ⊤
 AreMet texts (event ∷ events) = IsMet texts event × AreMet (after_event texts event) events

@@ -35,7 +35,7 @@ one_state first second one two left right same =
     right.office (is_there first one left) (is_there second two right))) same
 
 -- says that the dockers made from these two states are equal, for each place and each day that
--- isn't refused because of either state's horizon
+-- isn't refused under either state's horizon
 abbrev PrintOne : State → State → Type 0
 PrintOne one two =
     (place : List ℕ) (day : ℕ) → ¬ IsDayRefused one.horizon day → ¬ IsDayRefused two.horizon day → (text other : List ℕ)

@@ -17,7 +17,7 @@ use Rattle.docker_office.specs.declared.event.Event.{Event}
 use Rattle.docker_office.specs.RunSteps.{AreOf, MeetsEvent}
 use Rattle.docker_office.specs.RunEnds.{LeavesRun}
 
--- says that these events had these replies. Each office's state is the summary of what the office
+-- says that these events got these replies. Each office's state is the summary of what the office
 -- knows after these events, and each message is the text of the summary of what its sender knew
 pub record HasRun (offices : ℕ) (events : List RunEvent) (replies : List Reply) (held : Holdings) : Type 0 where
   pub told : All IsRunReply replies

@@ -67,7 +67,7 @@ pub record EndsWith (known : Known) (state : State) : Type 0 where
   pub has : office_state exchange.states office ≡ state
 
 -- says that the state's docker is the table's docker, for each place and each day that isn't
--- refused because of the state's horizon
+-- refused under the state's horizon
 abbrev pub PrintsAs : State → Table → Type 0
 PrintsAs state table =
     (place : List ℕ) (day : ℕ) → ¬ IsDayRefused state.horizon day → (text : List ℕ) → IsDockerText (live_table state) place day text

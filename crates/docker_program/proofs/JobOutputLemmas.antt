@@ -71,7 +71,7 @@ ends_dropped by written prepared name fault is alone given_up kept =
     subst (λ (fault : OfficeFault). EndsWriting by written prepared (Err fault)) (sym alone)
     (subst (λ (stored : Option Text). WritesPartTo stored by written prepared) (sym is) (inr (inl given_up), kept))
 
--- if a failure count has grown by one, the count agrees with the status of the fault `Sink`
+-- if a failure count has grown by one, the count is right for the status of the fault `Sink`
 -- (`IsCounted`)
 pub counted_alone : (fault : OfficeFault) (before after : ℕ) → fault ≡ office.Sink → after ≡ before + 1 →
     IsCounted (status_of (Office fault)) before after
@@ -148,7 +148,7 @@ ends_printed taken failures old new prepared history by (Err (office.State fault
 ends_printed taken failures old new prepared history by (Err office.Source) is ends lapsed = ends
 
 -- if the status isn't 4 and a device's failure count is unchanged, the sum of this count and the
--- folder's failure count agrees with the status (`IsCounted`)
+-- folder's failure count is right for the status (`IsCounted`)
 none_failed : (status folder before after : ℕ) → status ≢ 4 → after ≡ before → IsCounted status (folder + before) (folder + after)
 none_failed status folder before after other same =
     ((λ is. absurd (other is), λ rose. let never : ⊥ = omega arith in absurd never), λ differs. omega arith)

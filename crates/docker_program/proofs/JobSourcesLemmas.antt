@@ -113,8 +113,8 @@ reads_alone name before now rest second second_left job result none (inr read) =
 
 -- ---- how failures are counted
 
--- if neither of two sources failed and the status isn't 4, the sum of their failure counts agrees
--- with the status (`IsCounted`)
+-- if neither of two sources failed and the status isn't 4, the sum of their failure counts is right
+-- for the status (`IsCounted`)
 none_failed : (status one one_now two two_now : ℕ) → status ≢ 4 → one_now ≡ one → two_now ≡ two → IsCounted status (one + two) (one_now + two_now)
 none_failed status one one_now two two_now other first second =
     ((λ is. absurd (other is), λ rose. let never : ⊥ = omega arith in absurd never), λ differs. omega arith)
@@ -134,8 +134,8 @@ counted_together (Err office.Memory) one one_now two two_now counts = none_faile
 counted_together (Err office.Lapsed) one one_now two two_now counts = elim counts [ ]
 counted_together (Err office.Sink) one one_now two two_now counts = elim counts [ ]
 
--- suppose that a failure count agrees with the status (`IsCounted`). If the same number is added to
--- the old count and to the new count, the two sums also agree with the status
+-- suppose that a failure count is right for the status (`IsCounted`). If the same number is added
+-- to the old count and to the new count, the two sums are also right for the status
 pub counted_beside : (status before after more all all_now : ℕ) → IsCounted status before after → all ≡ before + more → all_now ≡ after + more →
     IsCounted status all all_now
 counted_beside status before after more all all_now counts is is_now = (

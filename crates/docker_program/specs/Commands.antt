@@ -151,7 +151,7 @@ Knows (horizon_task day) first second known =
 Knows migrate_task first second known = HoldsKnown dks_1 first known
 
 -- this text is the docker at this timing point for this day, made from the summary of what is
--- known. The day isn't refused because of the known horizon
+-- known. The day isn't refused under the known horizon
 pub record PrintsKnown (known : Known) (place : List ℕ) (day : ℕ) (text : List ℕ) : Type 0 where
   pub good : IsGoodKnown dks_2 known
   pub allowed : ¬ IsDayRefused known.horizon day

@@ -131,8 +131,8 @@ pub record AreNotOpened (names : SourceNames) (asked : Asking)
   pub fails : FailsToOpen names asked.before asked.now
   pub unread : asked.left ≡ asked.rest
 
--- the files among these sources were opened, and closed after the sources of the job were read with
--- this result
+-- the files among these sources were opened. Then reading the sources of the job ended with this
+-- result, and the files were closed
 pub record AreRead (names : SourceNames) (asked : Asking) (job : JobView)
     (result : Result PreparedView OfficeFault) : Type 0 where
   pub read : SourcesRead

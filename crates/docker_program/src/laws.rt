@@ -59,7 +59,7 @@ pub fn versions_are_summaries()
 
 /// If two texts are the texts of summaries of the same files and the same horizon, they are equal,
 /// byte for byte. Two offices that know the same files print equal dockers, for each timing point
-/// and each day that isn't refused because of either office's horizon.
+/// and each day that isn't refused under either office's horizon.
 pub fn known_files_fix_texts()
     ensures text { (one two : Known) (text other : List ℕ) → IsKnownText dks_2 one text
         → IsKnownText dks_2 two other → AreOneKnowledge one two → text ≡ other }
