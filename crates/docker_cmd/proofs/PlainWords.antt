@@ -70,8 +70,8 @@ plain_turn s names position word h plain none =
     let fault = plain_fault s names word h plain none in
     λ i. or_else (fault i) (step_fault s position (met i).0 (met i).1)
 
--- the faults of `clap`'s walk over a plain word and the words after it are the plain word's faults
--- if there are any, and otherwise the faults of the words after it
+-- if a plain word causes faults, `clap`'s walk over this word and the words after it finds exactly
+-- these faults. Otherwise the walk finds the faults of the words after it
 pub plain_walk_fault : (s : Shape) (names : Names) (position : ℕ) (word : Text) (rest : List Text) (h : Held) → is_plain_word word ≡ true
     → subcommand_met names idle word ≡ None
     → walk_fault s names (at h position) (word ∷ rest)

@@ -29,8 +29,8 @@ pub one_state : (first second : Known) (one two : State) → IsKnown first one �
 one_state first second one two left right same =
     summary_unique first.files second.files same.0 second.horizon one two (subst (λ h. IsSummary first.files h one) same.1 left.is) right.is
 
--- if two states know the same files, the dockers made from the two states are equal, for each place
--- and for each day that isn't refused under either state's horizon
+-- suppose that two states know the same files. Then the dockers made from the two states are equal,
+-- for each place and for each day that isn't refused under either state's horizon
 pub one_docker : (first second : Known) (one two : State) → IsKnown first one → IsKnown second two → HaveSameFiles first.files second.files
     → (place : List ℕ) (day : ℕ) → ¬ IsDayRefused one.horizon day → ¬ IsDayRefused two.horizon day → (text other : List ℕ)
     → IsDockerText (live_table one) place day text → IsDockerText (live_table two) place day other → text ≡ other

@@ -62,8 +62,8 @@ known_raised old heard day state is_day heard_is known =
           (raised_summary old.files old.horizon day state known.is);
     })
 
--- if a state is the summary of one file with the horizon 0, this file and this horizon are what is
--- known
+-- if a desk's state is the summary of one file under the horizon 0, this file and this horizon are
+-- what the desk knows
 known_file : (file : List (List ℕ)) (state : State) → IsFile file → length file ≤ most_records → IsSummary (file ∷ []) 0 state
     → IsKnown (record { files = file ∷ []; horizon = 0 }) state
 known_file file state is few summary = record {

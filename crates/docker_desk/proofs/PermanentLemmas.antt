@@ -28,8 +28,8 @@ told_docker state place day (done_with text) allowed told = (told, allowed)
 told_docker state place day (refused_for fault) allowed same = subst (IsDockerRefused state day) (sym same) allowed
 told_docker state place day no_request allowed never = never
 
--- if two states know the same files, the permanent dockers made from the two states are equal, for
--- each place and for each day that isn't refused under either state's horizon
+-- suppose that two states know the same files. Then the permanent dockers made from the two states
+-- are equal, for each place and for each day that isn't refused under either state's horizon
 pub one_permanent : (first second : Known) (one two : State) → IsKnown first one → IsKnown second two → HaveSameFiles first.files second.files
     → (place : List ℕ) (day : ℕ) → ¬ IsDayRefused one.horizon day → ¬ IsDayRefused two.horizon day → (text other : List ℕ)
     → IsDockerText (permanent_table (live_table one)) place day text → IsDockerText (permanent_table (live_table two)) place day other → text ≡ other

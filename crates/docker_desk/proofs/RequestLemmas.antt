@@ -108,8 +108,8 @@ module _ (may_write : Bool) (line : List ℕ) (word : Text) (v : Verb) (first : 
   pub not_allowed : ((is_writing v ≡ true → may_write ≡ true) → ⊥) → AsksFor may_write line None
   not_allowed never = λ request is. never (subst (λ u. is_writing u ≡ true → may_write ≡ true) (of_request request is) is.allowed)
 
-  -- if the desk may carry out requests with the verb of a line, the line's request is the request
-  -- with this verb and with the words in the rest of the line
+  -- suppose that the desk may carry out requests with the verb of a line. Then the line's request
+  -- is the request with this verb and with the words in the rest of the line
   pub asked_by : (rest : List ℕ) (request : Option RequestView) → rest ≡ after_word line → (is_writing v ≡ true → may_write ≡ true) → FitsRest v rest request
       → AsksFor may_write line request
   asked_by rest None behind allowed fits = λ request is. fits request (of_request request is) (subst (HasRest request) (sym behind) is.rest)

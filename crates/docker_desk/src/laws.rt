@@ -62,7 +62,7 @@ pub fn looks_come_before_readings()
 
 /// Suppose that the file that `merge` or `renew` read held the text of a summary. Then the desk
 /// learns that summary from the file. If each file that `merge` or `renew` reads holds such a text,
-/// the steps determine what the desk knows after each of them, and the law
+/// the steps determine what the desk knows after each of them. So the law
 /// `known_files_fix_sessions` applies to the whole session.
 pub fn known_texts_are_heard()
     ensures merged { (setting : Setting) (other text : List ℕ) (before after : SessionView)
@@ -89,10 +89,10 @@ pub fn saves_tell_what_is_known()
         → PlacesKnown setting before after known }
 {}
 
-/// What a desk saves is a new version of its state's file. Its text is the text of a state that was
-/// read from version number `own` of `earlier`, and that then gained what the desk's state gained
-/// in the steps before `save`. `earlier` lists the texts of all earlier versions of any state's
-/// file.
+/// What a desk saves is a new version of its state's file. The new version is the text of a state
+/// that was read from version number `own` of `earlier`. Before `save`, this state gained what the
+/// desk's state gained in the earlier steps of the session. `earlier` lists the texts of all
+/// earlier versions of any state's file.
 pub fn saves_are_versions()
     ensures { (setting : Setting) (first before after : SessionView) (steps : List Step)
         (old : List Event) (earlier : List (List ℕ)) (own : ℕ) (gains : List Gain)
@@ -135,8 +135,8 @@ pub fn known_files_fix_states()
         → IsDockerText (live_table two) place day other → text ≡ other }
 {}
 
-/// If no two files that a desk knows have the same moment, there is a plain table of these files,
-/// and each docker that the desk prints is the docker of this table.
+/// If no two files that a desk knows have the same moment, there is a plain table of these files.
+/// Each docker that the desk prints is the docker of this table.
 pub fn dockers_are_of_the_plain_table()
     ensures { (known : Known) (state : State) → IsKnown known state
         → HaveDistinctMoments known.files

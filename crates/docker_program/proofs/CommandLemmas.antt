@@ -96,8 +96,8 @@ known_raised old day state is_day known = record {
       (raised_summary old.files old.horizon day state known.is);
 }
 
--- if a state is the summary of one file with the horizon 0, this file and this horizon are what is
--- known
+-- if an office's state is the summary of one file under the horizon 0, this file and this horizon
+-- are what the office knows
 pub known_file : (file : List (List ℕ)) (state : State) → IsFile file → length file ≤ most_records → IsSummary (file ∷ []) 0 state
     → IsKnown (of_file file) state
 known_file file state is few summary = record {

@@ -153,8 +153,8 @@ none_failed : (status folder before after : ℕ) → status ≢ 4 → after ≡ 
 none_failed status folder before after other same =
     ((λ is. absurd (other is), λ rose. let never : ⊥ = omega arith in absurd never), λ differs. omega arith)
 
--- when a job prints, the sum of the failure counts of the folder and of the output grows by one if
--- and only if the result's status is 4
+-- when a job prints, the sum of the folder's and the output's failure counts grows by one if and
+-- only if the result's status is 4
 pub counted_printed : {K : Type 0} (taken : K → Bytes) (failures : K → ℕ) (old new : K) (prepared : PreparedView) (folder : ℕ)
     (result : Result ⊤ OfficeFault) →
     EndsEmitting taken failures (output_of prepared.job.task) prepared.read old new result →

@@ -159,8 +159,8 @@ pub record PrintsKnown (known : Known) (place : List ℕ) (day : ℕ) (text : Li
   pub is : IsStateOf known state
   pub docker : IsDockerText (live_table state) place day text
 
--- a command whose office has this knowledge may write this text: the text of the summary of this
--- knowledge, a docker of that summary, or the list of the known files
+-- a command whose office has this knowledge may write this text. The text is the text of the
+-- summary of this knowledge, a docker of that summary, or the list of the known files
 abbrev pub WritesKnown : TaskView → Known → List ℕ → Type 0
 WritesKnown new_task known text = IsKnownText dks_2 known text
 WritesKnown check_task known text = ⊤

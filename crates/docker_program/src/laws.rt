@@ -68,8 +68,8 @@ pub fn known_files_fix_texts()
         → HaveSameFiles one.files two.files → text ≡ other }
 {}
 
-/// If no two of the known files have the same moment, there is a plain table of these files, and
-/// each docker that is printed is the docker of this table.
+/// If no two of the known files have the same moment, there is a plain table of these files. Each
+/// docker that is printed is the docker of this table.
 pub fn dockers_are_of_the_plain_table()
     ensures { (known : Known) (place : List ℕ) (day : ℕ) (text : List ℕ)
         → PrintsKnown known place day text → HaveDistinctMoments known.files
