@@ -25,8 +25,8 @@ NameNoJob words = (job : JobView) → ¬ IsJobOf words job
 abbrev pub AskNothing : Subcommand → List Text → Type 0
 AskNothing subcommand words = (task : TaskView) → subcommand_of task ≡ subcommand → ¬ AreWordsOf task words
 
--- if a task is given, these words name this task of the subcommand. If None is given, the words
--- name no task of the subcommand
+-- if the last argument is a task, these words name this task of the subcommand. If it is None, the
+-- words name no task of the subcommand
 abbrev pub IsTaskOf : Subcommand → List Text → Option TaskView → Type 0
 IsTaskOf subcommand words (Some task) = (subcommand_of task ≡ subcommand) × AreWordsOf task words
 IsTaskOf subcommand words None = AskNothing subcommand words

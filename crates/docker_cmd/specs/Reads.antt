@@ -4,7 +4,8 @@ use Rattle.docker_cmd.specs.declared.reads.Sources as declared
 use Rattle.docker_cmd.specs.declared.reads.Sources.TheVariants as code
 
 -- the input of a task, in the order of its words. A file is only checked, or taken by an office. A
--- state is in the present or the older format. A file or a second state may follow a state
+-- state is in the format `DKS2` or in the older format `DKS1`. A file or a second state may follow
+-- a state
 pub data Sources : Type 0 where
   no_source : Sources
   checked_file : Sources

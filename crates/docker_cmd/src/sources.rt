@@ -106,7 +106,7 @@ fn office_of_state<S: Source>(alloc: Global, source: &mut S) -> Result<Office, O
 }
 
 /// Returns an office that has reloaded the state in a source. The state's text is in the older
-/// format.
+/// format, `DKS1`.
 fn office_of_older_state<S: Source>(alloc: Global, source: &mut S) -> Result<Office, OfficeFault>
     requires { S.failures source.old < 2 ^ 64 - 1 }
     ensures { EndsReadingState S.left S.failures dks_1 most_bytes

@@ -31,7 +31,7 @@ pub enum Subcommand {
     Files,
     /// Raises the horizon of a state.
     Horizon,
-    /// Reads a state in the older format, and writes it in the present format.
+    /// Reads a state in the format `DKS1`, and writes it in the format `DKS2`.
     Migrate,
 }
 
@@ -221,7 +221,7 @@ pub enum Task {
         /// The day.
         day: Day,
     },
-    /// `migrate`: converts a state from the older format to the present format.
+    /// `migrate`: converts a state from the format `DKS1` to the format `DKS2`.
     Migrate,
 }
 

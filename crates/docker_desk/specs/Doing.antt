@@ -16,8 +16,8 @@ use Rattle.docker_desk.specs.declared.compared.Compared.{Compared}
 use Rattle.docker_desk.specs.Replies.{AnswerView, done_with, no_request, refused_for, answer_status}
 use Rattle.docker_desk.specs.SessionViews.{SessionView, Setting, Step}
 
--- the answer to a request with this result. If the request succeeded, the answer's text is empty.
--- Otherwise the request was refused for this fault
+-- the answer to a request that ended with this result. If the request succeeded, the answer's text
+-- is empty. Otherwise the request was refused for this fault
 abbrev pub answer_of : {A : Type 0} → Result A OfficeFault → AnswerView
 answer_of (Ok done) = done_with []
 answer_of (Err fault) = refused_for fault

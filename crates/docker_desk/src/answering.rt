@@ -83,8 +83,8 @@ fn answer_request<D: Folder>(
     }
 }
 
-/// Returns the answer to a request with this result. If the request succeeded, the answer has no
-/// text.
+/// Returns the answer to a request that ended with this result. If the request succeeded, the
+/// answer has no text.
 fn answer_to<T: Drop>(outcome: Result<T, OfficeFault>) -> Answer
     ensures { answer_meant result ≡ answer_of outcome }
 {

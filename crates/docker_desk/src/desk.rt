@@ -133,8 +133,8 @@ impl Desk {
 
     /// Returns a few lines on what the desk knows: the horizon, the newest full extract, the latest
     /// last day of a live schedule, and the numbers of live entries. The answer is a refusal only
-    /// if memory ran out. The first call counts all entries; later calls return the same text,
-    /// until the state may have changed.
+    /// if memory ran out. The first call counts all entries; later calls return that text as long
+    /// as the state can't have changed.
     pub fn known(&mut self) -> Answer
         ensures answer { IsKnownAnswer self.old.state (answer_meant result) }
         ensures desk { self.new ≡ self.old }

@@ -71,8 +71,8 @@ pub(crate) fn tell_failure<L: Sink>(fault: &Fault, unsaved: bool, faults: &mut L
     }
 }
 
-/// Writes the line that reports a fault, and returns the fault's exit status. The status is the
-/// same if the sink fails before the whole line is written.
+/// Writes the line that reports a fault, and returns the fault's exit status. This status is
+/// returned even if the sink fails before the whole line is written.
 pub(crate) fn tell<L: Sink>(fault: &Fault, faults: &mut L) -> u8
     requires { L.failures faults.old < 2 ^ 64 - 1 }
     ensures status { result ≡ status_of fault.now }

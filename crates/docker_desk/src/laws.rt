@@ -92,7 +92,7 @@ pub fn saves_tell_what_is_known()
 /// What a desk saves is a new version of its state's file. The new version is the text of a state
 /// that was read from version number `own` of `earlier`. Before `save`, this state gained what the
 /// desk's state gained in the earlier steps of the session. `earlier` lists the texts of all
-/// earlier versions of any state's file.
+/// versions, of any state's file, that were made before the new one.
 pub fn saves_are_versions()
     ensures { (setting : Setting) (first before after : SessionView) (steps : List Step)
         (old : List Event) (earlier : List (List ℕ)) (own : ℕ) (gains : List Gain)

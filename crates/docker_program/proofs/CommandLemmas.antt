@@ -62,7 +62,7 @@ state_held format known bytes state holds reads =
     same : holds.0 ≡ reads.text
     same = subst (λ (b : Bytes). Held b reads.text) holds.1 reads.held
 
--- if a source held the text of a summary in the present format, the state read from the source is
+-- if a source held the text of a summary in the format `DKS2`, the state read from the source is
 -- that summary, and its files and its horizon are valid
 pub known_held : (known : Known) (bytes : Bytes) (state : State) → HoldsKnown dks_2 bytes known → ReadsState dks_2 most_bytes bytes state
     → IsKnown known state
@@ -150,7 +150,7 @@ taken_behind own bytes file old new is holds takes =
     (known_joined own (of_file takes.file) old takes.own new is
     (known_file takes.file takes.own takes.is_text.is takes.is_text.within takes.of_file) takes.joined)
 
--- if a source held the text of a summary in the older format, the state read from the source is
+-- if a source held the text of a summary in the format `DKS1`, the state read from the source is
 -- that summary
 known_older : (known : Known) (bytes : Bytes) (state : State) → HoldsKnown dks_1 bytes known → ReadsState dks_1 most_bytes bytes state
     → IsKnown known state

@@ -143,8 +143,8 @@ counted_beside status before after more all all_now counts is is_now = (
   λ differs. let same : after ≡ before = counts.1 differs in omega arith,
 )
 
--- if a file couldn't be opened, the sum of the failure counts has grown by one if and only if the
--- reason is `Failed`
+-- if a file couldn't be opened, the sum of the folder's failure count and another device's count
+-- has grown by one if and only if the reason is `Failed`
 pub counted_opening : (cause : OpenFault) (before after more more_now : ℕ) → (cause ≡ opening.Failed → after ≡ before + 1)
     → (¬ (cause ≡ opening.Failed) → after ≡ before) → more_now ≡ more
     → IsCounted (result_status {A = ⊤} (Err (one_of office.Source office.Memory cause))) (more + before) (more_now + after)

@@ -178,8 +178,8 @@ WritesKnown migrate_task known text = IsKnownText dks_2 known text
 -- how a version of a STATE file was made. Either a command made the version: `new`, `take`,
 -- `merge`, `horizon` or `migrate`. Or a desk saved the version, after it read its state from an
 -- earlier version and gained files, versions and horizons. A number is the index of an earlier
--- version of any office, counted from 0. `migrate` reads the text of a summary in the older format,
--- and `known` has the files and the horizon of that summary
+-- version of any office, counted from 0. `migrate` reads the text of a summary in the format
+-- `DKS1`, and `known` has the files and the horizon of that summary
 pub data Origin : Type 0 where
   begun : Origin
   taken : (own : ℕ) (file : List (List ℕ)) → Origin
@@ -228,21 +228,21 @@ AreMade earlier (version ∷ versions) = IsMade earlier version.origin version.t
 abbrev pub known_at : List Known → ℕ → Known
 known_at earlier number = slice_index_or earlier number nothing
 
--- what is known after this gain, given what was known before the gain and what the earlier versions
--- know
+-- what is known after this gain, given what was known before the gain and what each version in
+-- `earlier` knows
 abbrev pub known_with : List Known → Known → Gain → Known
 known_with earlier known (file_gained file) = united known (of_file file)
 known_with earlier known (version_gained number) = united known (known_at earlier number)
 known_with earlier known (horizon_gained day) = united known (of_horizon day)
 
--- what is known after these gains, given what was known before the gains and what the earlier
--- versions know
+-- what is known after these gains, given what was known before the gains and what each version in
+-- `earlier` knows
 abbrev pub known_once : List Known → Known → List Gain → Known
 known_once earlier known [] = known
 known_once earlier known (gain ∷ gains) =
     known_once earlier (known_with earlier known gain) gains
 
--- what a version knows, given how it was made and what the earlier versions know
+-- what a version knows, given how it was made and what each version in `earlier` knows
 abbrev pub known_by : List Known → Origin → Known
 known_by earlier begun = nothing
 known_by earlier (taken own file) = united (known_at earlier own) (of_file file)
@@ -251,14 +251,14 @@ known_by earlier (raised own day) = united (known_at earlier own) (of_horizon da
 known_by earlier (migrated known) = known
 known_by earlier (saved own gains) = known_once earlier (known_at earlier own) gains
 
--- what each version knows, in order. The result begins with what the earlier versions know
+-- what each version knows, in order. The result begins with what each version in `earlier` knows
 abbrev pub known_after : List Known → List Version → List Known
 known_after earlier [] = earlier
 known_after earlier (version ∷ versions) =
     known_after (earlier ++ known_by earlier version.origin ∷ []) versions
 
 -- these are all versions of all offices' STATE files, in the order in which they were made. A
--- version may be made from any earlier version, because an older copy may be restored or sent
+-- version may be made from any earlier version, because an old copy may be restored or sent
 abbrev pub AreVersions : List Version → Type 0
 AreVersions versions = AreMade [] versions
 

@@ -7,8 +7,8 @@ use cif_line::Sink;
 use docker_cmd::{Fault, fault_text, status};
 use docker_host::tell_text;
 
-/// Writes the line that reports a fault, and returns the fault's exit status. The status is the
-/// same if the sink fails before the whole line is written.
+/// Writes the line that reports a fault, and returns the fault's exit status. This status is
+/// returned even if the sink fails before the whole line is written.
 pub fn tell<L: Sink>(fault: &Fault, faults: &mut L) -> u8
     requires { L.failures faults.old < 2 ^ 64 - 1 }
     ensures status { result ≡ status_of fault.now }
