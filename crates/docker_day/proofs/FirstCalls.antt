@@ -54,7 +54,8 @@ pub kept_alone : (event : Option events.Occurrence) → kept_or event None ≡ e
 kept_alone None = refl
 kept_alone (Some event) = refl
 
--- if a suffix already has an event, another event with the suffix leaves the map of first events unchanged
+-- if a suffix already has an event in the map, another event with the suffix leaves the map
+-- unchanged
 pub there_before : (own : ℕ) (event : events.Occurrence) (calls : BTreeMap ℕ events.Occurrence) → is_some (get nat_cmp calls own) ≡ true
     → HasCall own calls event calls
 there_before own event calls is = λ suffix.
@@ -65,7 +66,7 @@ there_before own event calls is = λ suffix.
     by (Some kept) true is = refl
     by None true is = let bad : false ≡ true = is refl in cc
 
--- if a suffix has no event yet, an event with the suffix is stored
+-- if a suffix has no event in the map yet, an event with the suffix is stored there
 pub first_of_suffix : (own : ℕ) (event : events.Occurrence) (before after : BTreeMap ℕ events.Occurrence) → is_some (get nat_cmp before own) ≡ false
     → Updates nat_cmp before after own (Some event) → HasCall own before event after
 first_of_suffix own event before after unkept updates = λ suffix.
@@ -84,7 +85,7 @@ module _ (place : List ℕ) (event : events.Occurrence) where
   elsewhere calls away = λ suffix later. λ i.
       kept_or (get nat_cmp calls suffix) (cond (sym away i && (column 10 event.line == suffix)) (Some event) later)
 
-  -- an event at the place is stored if its suffix has no event yet
+  -- an event at the place is stored in the map if its suffix has no event there yet
   pub taken_here : (before after : BTreeMap ℕ events.Occurrence) → is_here place event ≡ true → HasCall (column 10 event.line) before event after
       → HasEvent place before event after
   taken_here before after here has = λ suffix later.
@@ -129,8 +130,8 @@ IsAtEvent link occasion event visit line =
     (rows : List Row) → AreRowsOf (live_in visit.timetable) rows → (base : ScheduleKey) → base.uid ≡ link.key.base
     → listed line ≡ link_line_at (train_in rows) visit.day visit.start link occasion base event
 
--- says that the line, if there is one, is the association's line with the train that is chosen for
--- the base train's UID
+-- says that the line, if there is one, is the association's line. Its base train is the train that
+-- is chosen for the base train's UID
 abbrev pub IsWithBase : Link → Occasion → Visit → Option DockerLine → Type 0
 IsWithBase link occasion visit line =
     (rows : List Row) → AreRowsOf (live_in visit.timetable) rows

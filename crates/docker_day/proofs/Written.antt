@@ -41,7 +41,7 @@ pub on_any_err : {A E : Type 0} (result : Result A E) {P : Type 0} → P → OnE
 on_any_err (Ok a) holds = tt
 on_any_err (Err e) holds = holds
 
--- ---- the number of failures of the sink
+-- ---- how often a write to the sink has failed
 
 no_error : false ≢ true
 no_error is = cc

@@ -47,7 +47,7 @@ fn is_in_force(visit: &Visit<'_>, link: &LinkView<'_>) -> bool
     ensures { (rows : List Row) → AreRowsOf (live_in visit.now.timetable) rows
         → result ≡ is_in_force (link_in rows) visit.now.start link.now.key link.now.line }
 {
-    // The association's days are checked first, because the choice in its group takes a search.
+    // The association's days are checked first, because the choice in its group needs a search.
     if !link.runs_on(visit.start()) {
         return false;
     }

@@ -8,8 +8,8 @@ ghost use Rattle.docker_day.specs.Locations.{location_meant, location_by_kind, p
 use cif_line::{Kind, Line, kind};
 use train_choice::Occasion;
 
-/// What a docker prints from a location record. A field is spaces if the record's kind doesn't have
-/// this field.
+/// What a docker prints from a location record. A field is spaces if records of this kind don't
+/// have the field.
 #[derive(Clone, Copy, Debug)]
 pub(crate) struct Location<'a> {
     /// The platform.

@@ -34,7 +34,7 @@ pub(crate) fn add_schedule<'a>(
         train.now.lines visit.old.start)
         lines.old.items lines.new.items) }
 {
-    // The schedule's days are checked first, because the choice among its UID's schedules takes a
+    // The schedule's days are checked first, because the choice among its UID's schedules needs a
     // search.
     if !train.runs_on(visit.start()) {
         return Ok(());

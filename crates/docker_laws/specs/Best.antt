@@ -11,14 +11,14 @@ abbrev pub IsBest : {A : Type 0} → (A → A → Ordering) → (A → Bool) →
 IsBest {A} cmp test xs None = (z : A) → Contains xs z → test z ≡ false
 IsBest {A} cmp test xs (Some x) = Contains xs x × (test x ≡ true) × ((z : A) → Contains xs z → test z ≡ true → IsAtMost cmp x z)
 
--- the best element after `x`, which passes the test, is appended to a list. If the list had no best
--- element, or `x` comes before it, the result is `x`. Otherwise the result is the best element as
--- before
+-- the best element of a list with `x` appended, where `x` passes the test. The result is `x` if the
+-- list without `x` had no best element, or if `x` comes before that element. Otherwise the result
+-- is the best element of the list without `x`
 abbrev pub better : {A : Type 0} → (A → A → Ordering) → Option A → A → Option A
 better cmp None x = Some x
 better cmp (Some b) x = if is_lt (cmp x b) then Some x else Some b
 
--- the best element after `x` is appended to a list. If `x` passes the test, the result is computed
--- by `better`. Otherwise the result is the best element as before
+-- the best element of a list with `x` appended. If `x` passes the test, the result is computed by
+-- `better`. Otherwise the result is the best element of the list without `x`
 abbrev pub with_one_more : {A : Type 0} → (A → A → Ordering) → (A → Bool) → Option A → A → Option A
 with_one_more cmp test found x = if test x then better cmp found x else found

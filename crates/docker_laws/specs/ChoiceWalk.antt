@@ -14,7 +14,7 @@ use Rattle.docker_laws.specs.Best.{IsBest, with_one_more}
 abbrev pub IsChosenSoFar : List ℕ → ℕ → List Row → Option Train → Type 0
 IsChosenSoFar uid day rows found = IsBest (on (λ (train : Train). train.key) schedule_choice_cmp) (is_running uid day) (schedules_in rows) found
 
--- the chosen schedule after one more row is appended
+-- the schedule that is chosen after the walk passes one more row
 abbrev pub next_chosen : List ℕ → ℕ → Option Train → Key → Body → Option Train
 next_chosen uid day found (schedule_key key) (schedule_body lines) =
     with_one_more (on (λ (train : Train). train.key) schedule_choice_cmp) (is_running uid day) found (record { key = key; lines = lines })
@@ -26,7 +26,7 @@ next_chosen uid day found _ _ = found
 abbrev pub IsLinkSoFar : Group → ℕ → List Row → Option Link → Type 0
 IsLinkSoFar group day rows found = IsBest (on (λ (link : Link). link.key) association_choice_cmp) (is_linked group day) (associations_in rows) found
 
--- the chosen association after one more row is appended
+-- the association that is chosen after the walk passes one more row
 abbrev pub next_link : Group → ℕ → Option Link → Key → Body → Option Link
 next_link group day found (association_key key) (association_body line) =
     with_one_more (on (λ (link : Link). link.key) association_choice_cmp) (is_linked group day) found (record { key = key; line = line })

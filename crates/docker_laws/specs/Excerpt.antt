@@ -13,7 +13,7 @@ pub record HasCall (live : Table) (place uid : List ℕ) : Type 0 where
   pub uid_is : key.uid ≡ uid
   pub calling : IsCalling live place key lines
 
--- an association at the place is in the live table, and the UID belongs to its associated train
+-- an association at the place is in the live table, and its associated train has the UID
 pub record IsNamed (live : Table) (place uid : List ℕ) : Type 0 where
   pub key : AssociationKey
   pub line : List ℕ
@@ -21,7 +21,7 @@ pub record IsNamed (live : Table) (place uid : List ℕ) : Type 0 where
   pub linked : IsLinked live place key line
 
 -- the docker of the place may depend on the schedules of this UID. A schedule of the UID calls at
--- the place, or the UID belongs to the associated train of an association at the place. All
+-- the place, or the UID is the UID of the associated train of an association at the place. All
 -- schedules of the UID are then needed, since together they determine which of them is chosen on a
 -- day
 abbrev pub IsConcerned : Table → List ℕ → List ℕ → Type 0
@@ -46,9 +46,9 @@ IsSublist [] ys = ⊤
 IsSublist (x ∷ xs) [] = ⊥
 IsSublist (x ∷ xs) (y ∷ ys) = ((x ≡ y) × IsSublist xs ys) ⊎ IsSublist (x ∷ xs) ys
 
--- `part` is an excerpt of the state for the place. The horizon and the ledger are the same, and the
--- entries of `part` are a sublist of the state's entries. The live table of `part` is an excerpt of
--- the state's live table
+-- `part` is an excerpt of the state for the place. `part` has the state's horizon and ledger, and
+-- the entries of `part` are a sublist of the state's entries. The live table of `part` is an
+-- excerpt of the state's live table
 pub record IsExcerptState (place : List ℕ) (state part : State) : Type 0 where
   pub horizon : part.horizon ≡ state.horizon
   pub ledger : part.ledger ≡ state.ledger

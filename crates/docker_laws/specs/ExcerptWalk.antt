@@ -16,7 +16,7 @@ pub record ExcerptSoFar : Type 0 where
   pub kept : List (Key × Entry)
   pub run : List (Key × Entry)
 
--- what a walk has before its first entry: the fields `kept` and `run` are empty
+-- what a walk has computed before its first entry: the fields `kept` and `run` are empty
 abbrev pub nothing_kept : ExcerptSoFar
 nothing_kept = record { kept = []; run = [] }
 
@@ -31,16 +31,16 @@ abbrev pub has_uid : List ℕ → Key → Bool
 has_uid uid (schedule_key key) = bytes_eq key.uid uid
 has_uid uid _ = false
 
--- the UID of the associated train if the entry puts an association, and otherwise `None`
+-- the UID of the associated train if the op is a put of an association, and otherwise `None`
 abbrev pub name_in : Key → Op → Option (List ℕ)
 name_in (association_key key) (put_with (association_body line)) = Some key.associated
 name_in _ _ = None
 
--- the UIDs of the associated trains of all associations that these entries put
+-- the UIDs of the associated trains of all associations that are put by these entries
 abbrev pub names_in : List (Key × Entry) → List (List ℕ)
 names_in entries = filter_map (λ entry. name_in entry.0 entry.1.op) entries
 
--- whether the op puts a schedule that calls at the place
+-- whether the op is a put of a schedule that calls at the place
 abbrev pub is_call : List ℕ → Op → Bool
 is_call place (put_with (schedule_body lines)) = calls_at place lines
 is_call place _ = false
@@ -51,7 +51,7 @@ abbrev pub is_run_named : List (List ℕ) → List (Key × Entry) → Bool
 is_run_named names [] = false
 is_run_named names (first ∷ run) = list_any (λ name. has_uid name first.0) names
 
--- whether one of the collected entries puts a schedule that calls at the place
+-- whether one of the collected entries is a put of a schedule that calls at the place
 abbrev pub is_run_calling : List ℕ → List (Key × Entry) → Bool
 is_run_calling place run = list_any (λ entry. is_call place entry.1.op) run
 
@@ -61,8 +61,8 @@ is_run_calling place run = list_any (λ entry. is_call place entry.1.op) run
 abbrev pub is_run_needed : List ℕ → ExcerptSoFar → Bool
 is_run_needed place so_far = is_run_named (names_in so_far.kept) so_far.run || is_run_calling place so_far.run
 
--- the kept entries after all schedules of a UID are collected in `run`. The entries in `run` are
--- appended if the docker needs them, and dropped otherwise
+-- the entries in `kept` after the walk has collected all schedules of a UID in `run`. The entries
+-- in `run` are appended if the docker needs them, and dropped otherwise
 abbrev pub kept_after_run : List ℕ → ExcerptSoFar → List (Key × Entry)
 kept_after_run place so_far = if is_run_needed place so_far then so_far.kept ++ so_far.run else so_far.kept
 
@@ -71,7 +71,8 @@ abbrev pub goes_on : List (Key × Entry) → List ℕ → Bool
 goes_on [] uid = false
 goes_on (first ∷ run) uid = has_uid uid first.0
 
--- the fields `kept` and `run` after one more entry, which is given as a key and an entry
+-- the fields `kept` and `run` after the walk passes one more entry. The entry's key is one
+-- argument, and the entry without its key is another
 abbrev pub with_entry_of : List ℕ → ExcerptSoFar → Key → Entry → ExcerptSoFar
 with_entry_of place so_far (schedule_key key) entry =
     if goes_on so_far.run key.uid then record { kept = so_far.kept; run = so_far.run ++ (schedule_key key, entry) ∷ [] }
@@ -80,7 +81,7 @@ with_entry_of place so_far key entry =
     if is_here place key then record { kept = kept_after_run place so_far ++ (key, entry) ∷ []; run = [] }
     else record { kept = kept_after_run place so_far; run = [] }
 
--- the fields `kept` and `run` after one more entry, which is given as a pair
+-- the fields `kept` and `run` after the walk passes one more entry, which is a pair with its key
 abbrev pub next_kept : List ℕ → ExcerptSoFar → Key × Entry → ExcerptSoFar
 next_kept place so_far entry = with_entry_of place so_far entry.0 entry.1
 
@@ -96,8 +97,8 @@ kept_so_far place entries = fold (next_kept place) nothing_kept entries
 abbrev pub excerpt_for : List ℕ → State → State
 excerpt_for place state = record { horizon = state.horizon; ledger = state.ledger; entries = kept_after_run place (kept_so_far place state.entries) }
 
--- after these entries, a walk has the fields `kept` and `run`. The flag `needed` says whether the
--- docker needs the schedules in `run`
+-- `kept` and `run` are the fields of a walk that has passed these entries. The flag `needed` says
+-- whether the docker needs the schedules in `run`
 pub record HasKept (place : List ℕ) (entries kept run : List (Key × Entry)) (needed : Bool) : Type 0 where
   pub so_far : kept_so_far place entries ≡ record { kept = kept; run = run }
   pub is_needed : is_run_needed place (record { kept = kept; run = run }) ≡ needed

@@ -9,9 +9,9 @@ use Rattle.docker_model.specs.state.State.{State}
 use Rattle.docker_model.specs.state.Summary.{entry_of}
 
 -- the list `first ∷ entries` after an entry is inserted in key order. The first argument says how
--- the key of the inserted entry compares with the first key. If it is lower, the entry is put at
--- the front. If it is equal, the entry isn't inserted. If it is higher, the entry belongs later in
--- the list, and `rest` is `entries` with the entry inserted
+-- the key of the inserted entry compares with the first key. If the inserted key is lower, the
+-- entry is put at the front. If the keys are equal, the entry isn't inserted. If the inserted key
+-- is higher, the entry belongs later in the list, and `rest` is `entries` with the entry inserted
 abbrev pub placed : Ordering → Key × Entry → Key × Entry → List (Key × Entry) → List (Key × Entry) → List (Key × Entry)
 placed Less entry first entries rest = entry ∷ first ∷ entries
 placed Equal entry first entries rest = first ∷ entries
@@ -23,7 +23,7 @@ abbrev pub with_earlier : Key × Entry → List (Key × Entry) → List (Key × 
 with_earlier entry [] = entry ∷ []
 with_earlier entry (first ∷ entries) = placed (key_cmp entry.0 first.0) entry first entries (with_earlier entry entries)
 
--- the last entry of each key in a list of entries. The result is in key order
+-- the last entry for each key in a list of entries. The result is in key order
 abbrev pub latest_entries : List (Key × Entry) → List (Key × Entry)
 latest_entries [] = []
 latest_entries (entry ∷ entries) = with_earlier entry (latest_entries entries)

@@ -55,7 +55,7 @@ schedules_in rows = filter_map (λ row. schedule_of row.0 row.1) rows
 abbrev pub associations_in : List Row → List Link
 associations_in rows = filter_map (λ row. association_of row.0 row.1) rows
 
--- whether the schedule belongs to the UID and runs on the day
+-- whether the schedule has the UID and runs on the day
 abbrev pub is_running : List ℕ → ℕ → Train → Bool
 is_running uid day train = bytes_eq train.key.uid uid && schedule_runs (first_record train.lines) day
 
@@ -66,8 +66,8 @@ is_choice trains uid day train =
     is_running uid day train
     && list_all (λ other. not (is_running uid day other && is_gt (schedule_choice_cmp train.key other.key))) trains
 
--- of the UID's schedules in these rows, the one that is chosen on the day. The result is `None` if
--- no schedule of the UID in these rows runs on the day
+-- of the UID's schedules in these rows, the schedule that is chosen for the day. The result is
+-- `None` if no schedule of the UID in these rows runs on the day
 abbrev pub chosen_in : List Row → List ℕ → ℕ → Option Train
 chosen_in rows uid day = find (is_choice (schedules_in rows) uid day) (schedules_in rows)
 
@@ -98,8 +98,8 @@ is_link_choice links group day link =
     is_linked group day link
     && list_all (λ other. not (is_linked group day other && is_gt (association_choice_cmp link.key other.key))) links
 
--- of the group's associations in these rows, the one that is chosen on the base train's start day.
--- The result is `None` if no association of the group in these rows runs on that day
+-- of the group's associations in these rows, the association that is chosen for the base train's
+-- start day. The result is `None` if no association of the group in these rows runs on that day
 abbrev pub link_in : List Row → Group → ℕ → Option Link
 link_in rows group day = find (is_link_choice (associations_in rows) group day) (associations_in rows)
 

@@ -73,10 +73,11 @@ pub fn walk_leaves_excerpt()
         ↔ IsDockerText (live_table (excerpt_for place state)) place day text }
 {}
 
-/// The walk that computes an excerpt can stop after any entry and continue from there, with the
-/// same result. The walk has a list of kept entries, and a run: the entries for the schedules of
-/// the current UID. The kept entries, followed by the run, are a sublist of the entries that the
-/// walk has passed. If a state may have the passed entries, it may also have this sublist.
+/// The walk that computes an excerpt can stop after any entry and continue from there. The result
+/// is the same as without the stop. The walk has a list of kept entries, and a run: the entries for
+/// the schedules of the current UID. The kept entries, followed by the run, are a sublist of the
+/// entries that the walk has passed. If a state may have the passed entries, it may also have this
+/// sublist.
 pub fn excerpt_in_a_walk()
     ensures none { (place : List ℕ) → kept_so_far place [] ≡ nothing_kept }
     ensures more { (place : List ℕ) (entries : List (Key × Entry)) (entry : Key × Entry)

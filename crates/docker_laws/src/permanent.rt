@@ -14,9 +14,9 @@ ghost use Rattle.docker_model.specs.docker.Permanent.{is_permanent, permanent_ta
 ghost use Rattle.docker_model.specs.run.Knowledge.{AreFiles, HaveSameFiles};
 ghost use Rattle.docker_laws.specs.Gathering.{IsDockerLine};
 
-/// Leaving out the short-term plan after applying changes equals leaving out the plan first and
-/// then applying only the changes whose keys pass `is_permanent`. These are the keys of TIPLOCs,
-/// and the keys with the STP indicator `P`.
+/// Applying changes and then leaving out the short-term plan gives the same table as leaving out
+/// the plan first and then applying only the changes whose keys pass `is_permanent`. These are the
+/// keys of TIPLOCs, and the keys with the STP indicator `P`.
 pub fn permanent_table_of_changes()
     ensures { (table : Table) (changes : List Change)
         → permanent_table (fold after_change table changes) ≡ fold after_change

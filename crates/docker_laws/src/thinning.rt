@@ -79,9 +79,9 @@ pub fn stand_in_of_a_schedule()
         → IsScheduleOf key (first_record lines ∷ first ∷ last ∷ []) }
 {}
 
-/// The body that the docker of a place needs belongs to the same key as the whole body. The thin
-/// records of a schedule are a schedule with the same key and the same first record. There are at
-/// most three thin records, and they call only at places where the schedule calls.
+/// A body, and the body that the docker of a place needs instead of it, belong to the same key. The
+/// thin records of a schedule form a schedule with the same key and the same first record. There
+/// are at most three thin records, and they call only at places where the schedule calls.
 pub fn thin_body_is_of_its_key()
     ensures schedule { (lines : List (List ℕ)) → IsSchedule lines → IsSchedule (thin_lines lines) }
     ensures of_key { (key : ScheduleKey) (lines : List (List ℕ))

@@ -5,17 +5,18 @@ use crate::records::*;
 /// The records of a file, in order.
 pub(crate) type File = &'static [&'static str];
 
-/// A file that puts a train and then revises it to run on Friday 14 June only. So the docker of 10
-/// June can't list the train.
+/// A file that adds a train and then changes its schedule, so that it runs on Friday 14 June only.
+/// So the docker of 10 June can't list the train.
 pub(crate) const PUT_AND_REVISED: File = &[HD, BS, LO, LT, BS_FRIDAY, LO_0905, LT_0935, ZZ];
 
-/// A file that revises a train to run on Friday 14 June only, and then puts it on all weekdays.
+/// A file that changes a train's schedule so that it runs on Friday 14 June only, and then adds a
+/// schedule for all weekdays under the same key.
 pub(crate) const REVISED_AND_PUT: File = &[HD, BS_FRIDAY, LO_0905, LT_0935, BS, LO, LT, ZZ];
 
-/// A file that puts a train, deletes it and puts it again.
+/// A file that adds a train, deletes it and adds it again.
 pub(crate) const PUT_AGAIN: File = &[HD, BS, LO, LT, BS_DELETED, BS, LO_0905, LT_0935, ZZ];
 
-/// A file that puts a train and then deletes it.
+/// A file that adds a train and then deletes it.
 pub(crate) const PUT_AND_DELETED: File = &[HD, BS, LO, LT, BS_DELETED, ZZ];
 
 /// A file with one train from Ashfeld to Brayton, on weekdays from 10 to 14 June 2024.
@@ -24,7 +25,7 @@ pub(crate) const MORNING: File = &[HD, BS, LO, LT, ZZ];
 /// The file of the morning train, without its trailer.
 pub(crate) const OPEN: File = &[HD, BS, LO, LT];
 
-/// A file with the morning train, which is put by a record with the transaction `R`.
+/// A file with the morning train, which is added by a record with the transaction `R`.
 pub(crate) const REVISED: File = &[HD, BS_REVISED, LO, LT, ZZ];
 
 /// A file with a train from Ashfeld to Brayton that leaves in the evening.
@@ -33,10 +34,10 @@ pub(crate) const EVENING: File = &[HD, BS, LO_2355, LT_0005, ZZ];
 /// A full extract with the morning train.
 pub(crate) const FULL: File = &[HD_FULL, BS, LO, LT, ZZ];
 
-/// A file of 10 June that revises the morning train to leave five minutes later.
+/// A file of 10 June that makes the morning train leave five minutes later than in `MORNING`.
 pub(crate) const REVISION: File = &[HD_10B, BS_REVISED, LO_0905, LT_0935, ZZ];
 
-/// An update of 5 June: it deletes C10003 and puts C10001.
+/// An update of 5 June: it deletes C10003 and adds C10001.
 pub(crate) const FIFTH: File = &[HD_5A, BS_C10003, BS, LO, LT, ZZ];
 
 /// A full extract of 7 June with C10002 as its only train.
@@ -51,7 +52,7 @@ pub(crate) const NINTH_OPEN: File = &[HD_9C, BS, LO_1100, LT_1130];
 /// A file that deletes C10001.
 pub(crate) const DELETION: File = &[HD_9B, BS_DELETED, ZZ];
 
-/// A file of 8 June that puts C10001. `DELETION` deletes this train on 9 June.
+/// A file of 8 June that adds C10001. `DELETION` deletes this train on 9 June.
 pub(crate) const EIGHTH: File = &[HD_8A, BS, LO, LT, ZZ];
 
 /// A file with a new timing point.
@@ -200,7 +201,7 @@ pub(crate) const BASE_CANCELLED: File = two_trains!(BS_C40001, AA_N, BS_C40001_C
 pub(crate) const WITHDRAWN: File = &[HD, BS, LO, LT, BS_DELETED, ZZ];
 
 /// A file with a deletion of the morning train, followed by an origin whose time isn't a time of
-/// day. The origin of a deletion isn't checked.
+/// day. The reader doesn't check the origin of a deleted schedule.
 pub(crate) const DELETED_AT_NO_TIME: File = &[HD, BS_DELETED, LO_2400, LT, ZZ];
 
 /// An update of the year 2000, without changes.

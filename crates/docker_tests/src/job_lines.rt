@@ -15,7 +15,7 @@ fn words_are(rt: &impl Abort, job: &Job, wanted: &[&str]) {
     }
 }
 
-/// Asserts that a job prints the docker of this timing point on the day with this number.
+/// Asserts that a job asks for the docker of this timing point on the day with this number.
 fn asks_for(rt: &impl Abort, job: &Job, tiploc: &[u8; 7], number: u16) {
     match job.task() {
         Task::Day { place, day } => {

@@ -1,5 +1,5 @@
 //! Works out what offices know in a run, only from the events and replies of the run. Also makes
-//! the state that belongs to this knowledge, without an office.
+//! the state that an office with this knowledge must have, without using an office.
 
 use crate::files::*;
 use crate::offices::text_of;
@@ -58,7 +58,7 @@ pub(crate) fn texts_of_files(rt: &impl Abort, alloc: Global) -> Vec<Vec<u8>> {
     texts
 }
 
-/// An event at an office. Files are given by their indexes.
+/// An event at an office. A file is represented by its index in `FILES`.
 #[derive(Clone, Copy)]
 pub(crate) enum Step {
     /// The office takes a file.
@@ -126,7 +126,8 @@ impl Step {
     }
 }
 
-/// The knowledge of an office or a message: its files, by their indexes, and its horizon.
+/// What an office knows, or what a message brings: files, each by its index in `FILES`, and a
+/// horizon.
 #[derive(Clone, Copy)]
 pub(crate) struct Known {
     files: [bool; FILES.len()],
@@ -134,7 +135,7 @@ pub(crate) struct Known {
 }
 
 impl Known {
-    /// Returns knowledge that has no files and no horizon.
+    /// Returns the knowledge of an office that knows no file and no horizon.
     fn nothing() -> Known {
         Known {
             files: [false; FILES.len()],
@@ -149,14 +150,14 @@ impl Known {
         }
     }
 
-    /// Adds a horizon to this knowledge, which then has the greater of the two horizons.
+    /// Replaces the known horizon with this horizon, if this horizon is greater.
     fn raise(&mut self, horizon: Option<Day>) {
         if self.horizon < horizon {
             self.horizon = horizon;
         }
     }
 
-    /// Adds the knowledge of another office or a message to this knowledge.
+    /// Adds what another office knows, or what a message brings, to this knowledge.
     fn join(&mut self, other: &Known) {
         for file in 0..FILES.len() {
             self.files[file] |= other.files[file];
@@ -164,7 +165,7 @@ impl Known {
         self.raise(other.horizon);
     }
 
-    /// Returns the state of the known files and the known horizon.
+    /// Returns the state of an office that knows these files and this horizon.
     fn state(&self, rt: &impl Abort, alloc: Global, texts: &[Vec<u8>]) -> State {
         let mut state = State::empty(alloc);
         for (text, known) in texts.iter().zip(self.files.iter()) {
@@ -179,7 +180,7 @@ impl Known {
         state
     }
 
-    /// Returns the text of the state of the known files and the known horizon.
+    /// Returns the text of the state of an office that knows these files and this horizon.
     pub(crate) fn text(&self, rt: &impl Abort, alloc: Global, texts: &[Vec<u8>]) -> Kept {
         let state = self.state(rt, alloc, texts);
         let room = usize::try_from(encoded_len(&state)).expect(rt, "a length");
@@ -196,7 +197,7 @@ fn state_of(rt: &impl Abort, alloc: Global, text: &[u8]) -> State {
     State::of_file(alloc, file).expect(rt, "room")
 }
 
-/// The knowledge of each office and each message.
+/// What each office knows, and what each message brings.
 #[derive(Drop)]
 pub(crate) struct Knowledge {
     pub(crate) offices: [Known; OFFICES],

@@ -126,7 +126,7 @@ fn left_by(rt: &impl Abort, alloc: Global, steps: &[Step], texts: &[Vec<u8>]) ->
     run(alloc, OFFICES, &events).expect(rt, "memory")
 }
 
-/// For one kind of event, how often it got each kind of reply.
+/// For one kind of event, how often events of this kind got each kind of reply.
 #[derive(Clone, Copy)]
 struct Count {
     done: u32,
@@ -156,7 +156,7 @@ impl Count {
     }
 }
 
-/// For each kind of event, how often it got each kind of reply.
+/// For each kind of event, how often events of this kind got each kind of reply.
 #[derive(Clone, Copy)]
 struct Tally {
     takes: Count,
@@ -204,8 +204,8 @@ impl Tally {
     }
 }
 
-/// Works out the knowledge of each office and each message at the end of a run. Asserts that each
-/// reply is the expected reply.
+/// Works out what each office knows, and what each message brings, at the end of a run. Asserts
+/// that each reply is the expected reply.
 fn known_at_end(
     rt: &impl Abort,
     alloc: Global,
@@ -224,7 +224,7 @@ fn known_at_end(
     known
 }
 
-/// Asserts that this text is the text of the state of the known files and the known horizon.
+/// Asserts that this text is the text of the state of an office with the knowledge `known`.
 fn is_of_known(
     rt: &impl Abort,
     alloc: Global,

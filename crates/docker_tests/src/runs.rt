@@ -292,8 +292,8 @@ fn what_a_reload_lost_comes_again(rt: HostRuntime) {
     ends(&rt, alloc, &found, 0, REVISED_STATE);
 }
 
-/// Returns the result of a run of five offices. The first office takes three files. The last office
-/// receives the same files from the other three offices.
+/// Returns the result of a run of five offices. The first office takes three files. The next three
+/// offices take one of these files each and send their states, which the last office receives.
 fn five_left(rt: &impl Abort, alloc: Global, files: [File; 3]) -> Exchange {
     let first = text_of(rt, alloc, files[0]);
     let second = text_of(rt, alloc, files[1]);

@@ -101,17 +101,17 @@ pub(crate) use train_after;
 /// The state of an office that knows no files.
 pub(crate) const EMPTY_STATE: Parts = &[MARK, NONE, NONE];
 
-/// The state of an office that knows the morning train: 311 bytes.
+/// The state of an office that knows the file `MORNING`: 311 bytes.
 pub(crate) const MORNING_STATE: Parts = train_after!(MARK, ONE, ITEM, ONE);
 
-/// The state of an office that knows the morning train, as a text in the older format: 309 bytes.
+/// The state of an office that knows the file `MORNING`, as a text in the older format: 309 bytes.
 pub(crate) const OLD_STATE: Parts = train_after!(OLD_MARK, ONE, ITEM, ONE);
 
-/// The state of an office that knows the morning train, and a horizon after the train's last day:
-/// 67 bytes.
+/// The state of an office that knows the file `MORNING`, and a horizon after the last day of its
+/// train: 67 bytes.
 pub(crate) const LAPSED_STATE: Parts = &[MARK_15, ONE, ITEM, ONE, ENTRY, PASSED];
 
-/// The state of an office that knows only the revision of the morning train: 311 bytes.
+/// The state of an office that knows only the file `REVISION`: 311 bytes.
 pub(crate) const REVISION_STATE: Parts = &[
     MARK,
     ONE,
@@ -124,7 +124,7 @@ pub(crate) const REVISION_STATE: Parts = &[
     LT_0935,
 ];
 
-/// The state of an office that knows the morning train and its revision: 330 bytes.
+/// The state of an office that knows the files `MORNING` and `REVISION`: 330 bytes.
 pub(crate) const REVISED_STATE: Parts = &[
     MARK,
     TWO,
@@ -173,13 +173,15 @@ pub(crate) const LATE_STATE: Parts = &[
     LT_1030,
 ];
 
-/// The state of an office that knows a train of 8 June and its deletion: 86 bytes.
+/// The state of an office that knows a file with a train, and a later file that deletes this train:
+/// 86 bytes.
 pub(crate) const DELETED_STATE: Parts = &[MARK, TWO, ITEM_8A, ITEM_9B, ONE, ENTRY_9B, GONE];
 
-/// The state of an office that knows a file that puts a train and deletes it: 67 bytes.
+/// The state of an office that knows a file that adds a train and then deletes it: 67 bytes.
 pub(crate) const WITHDRAWN_STATE: Parts = &[MARK, ONE, ITEM, ONE, ENTRY_FIFTH, GONE];
 
-/// The state of an office that knows a timing point and its new code: 171 bytes.
+/// The state of an office that knows a file with a timing point, and a later file with its new
+/// code: 171 bytes.
 pub(crate) const RENAMED_STATE: Parts = &[
     MARK,
     TWO,

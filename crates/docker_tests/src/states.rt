@@ -52,14 +52,15 @@ const ROWS: &[Row] = &[
 ];
 
 /// Asserts that an office that takes these files in this order has a state with this text. An
-/// office that receives the state of each file from another office must have the same text.
+/// office that receives the state of each file from another office must have a state with the same
+/// text.
 fn have(rt: &impl Abort, alloc: Global, files: &[File], parts: Parts) {
     has(rt, alloc, &office_of(rt, alloc, files), parts);
     has(rt, alloc, &merged(rt, alloc, files), parts);
 }
 
-/// Asserts that an office that takes this row's files in either order has this row's text, and that
-/// the text has this row's number of bytes.
+/// Asserts that an office that takes this row's files in either order has a state with this row's
+/// text, and that the text has this row's number of bytes.
 fn is_state(rt: &impl Abort, alloc: Global, row: &Row) {
     let (files, others, bytes, parts) = *row;
     same(rt, text_of_parts(rt, alloc, parts).len(), bytes);

@@ -3,7 +3,7 @@
 use crate::desk::Desk;
 use docker_cmd::{Fault, fault_text};
 
-/// The outcome of a call of an office.
+/// The outcome of a call that an office makes.
 #[derive(Clone, Copy, PartialEq, Eq)]
 pub(crate) enum Answer {
     /// The call succeeded, with the expected result.

@@ -4,7 +4,7 @@
 use crate::desk::Desk;
 use crate::{file_growths, job_growths, office_growths, part_growths, run_growth, state_growths};
 
-/// Runs the row of a call.
+/// Runs a row that names this call.
 pub(crate) fn do_row(desk: &Desk, call: &str, words: &[&str]) {
     match call {
         "FileParser::feed" => file_growths::feed(desk, words),
@@ -18,7 +18,7 @@ pub(crate) fn do_row(desk: &Desk, call: &str, words: &[&str]) {
     }
 }
 
-/// Runs the row of a call that takes or makes a state.
+/// Runs a row whose call reads or joins states, makes a docker, or makes a sink.
 fn do_state_row(desk: &Desk, call: &str, words: &[&str]) {
     match call {
         "State::join" => state_growths::join(desk, words),
@@ -33,7 +33,7 @@ fn do_state_row(desk: &Desk, call: &str, words: &[&str]) {
     }
 }
 
-/// Runs the row of a call of an office or a job.
+/// Runs a row that calls a function of an office or of a job.
 fn do_office_row(desk: &Desk, call: &str, words: &[&str]) {
     match call {
         "Office::take" | "Office::receive" | "Office::reload" | "Office::migrate" => {

@@ -15,8 +15,8 @@ use docker_office::{Office, OfficeFault};
 /// The numbers of bytes per read that are tried besides 1.
 const STEPS: [usize; 2] = [7, 4096];
 
-/// A call of an office, under a limit, with the states that the office has before and after the
-/// call.
+/// A call that an office makes under a limit, and the states that the office has before and after
+/// the call.
 #[derive(Clone, Copy, Drop)]
 pub(crate) struct Asked<'a> {
     /// The call to make.
@@ -106,7 +106,7 @@ impl<'a> Asked<'a> {
     }
 }
 
-/// Runs the row of a table.
+/// Runs a row of this table.
 pub(crate) fn do_row(desk: &Desk, table: &str, words: &[&str]) {
     match table {
         "cut" => cut(desk, words),

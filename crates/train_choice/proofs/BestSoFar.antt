@@ -6,17 +6,18 @@ use Rattle.docker_laws.specs.Best.{better, with_one_more}
 use Rattle.train_choice.specs.Ranked.{is_better}
 
 module _ {A : Type 0} (cmp : A → A → Ordering) (more : A) where
-  -- a value that isn't better leaves the best value unchanged
+  -- a value that isn't better than the best value so far leaves the best value unchanged
   pub best_stays : (found : Option A) → is_better cmp more found ≡ false → found ≡ better cmp found more
   best_stays None is = cc
   best_stays (Some best) is = λ i. cond (sym is i) (Some more) (Some best)
 
-  -- a value that is better becomes the best value
+  -- a value that is better than the best value so far becomes the best value
   pub best_goes : (found : Option A) → is_better cmp more found ≡ true → Some more ≡ better cmp found more
   best_goes None is = refl
   best_goes (Some best) is = λ i. cond (sym is i) (Some more) (Some best)
 
-  -- a value that isn't better leaves the best value unchanged, whether or not the value passes the test
+  -- a value that isn't better than the best value so far leaves the best value unchanged, whether
+  -- or not the new value passes the test
   pub not_better : (test : A → Bool) (found : Option A) → is_better cmp more found ≡ false → found ≡ with_one_more cmp test found more
   not_better test found is = by (test more)
     where
@@ -24,11 +25,11 @@ module _ {A : Type 0} (cmp : A → A → Ordering) (more : A) where
       by true = best_stays found is
       by false = refl
 
-  -- a value that doesn't pass the test leaves the best value unchanged
+  -- a value that fails the test leaves the best value unchanged
   pub not_passing : (test : A → Bool) (found : Option A) → test more ≡ false → found ≡ with_one_more cmp test found more
   not_passing test found is = λ i. cond (sym is i) (better cmp found more) found
 
-  -- a value that is better and passes the test becomes the best value
+  -- a value that passes the test, and is better than the best value so far, becomes the best value
   pub passes_better : (test : A → Bool) (found : Option A) → is_better cmp more found ≡ true → test more ≡ true
       → Some more ≡ with_one_more cmp test found more
   passes_better test found is passes = best_goes found is ∙ (λ i. cond (sym passes i) (better cmp found more) found)

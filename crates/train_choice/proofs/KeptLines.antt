@@ -48,7 +48,7 @@ lines_good key lines of =
 pub falls_few : (key : ScheduleKey) (lines : List (List ℕ)) (number : ℕ) → IsScheduleOf key lines → falls_to lines number ≤ 2
 falls_few key lines number of = let all = few_midnights key lines of in let some = falls_below lines number in omega arith
 
--- ---- the runs-from date in its key determines when a schedule begins
+-- ---- the runs-from date in a schedule's key determines when the schedule begins
 
 same_key : (a b : ScheduleKey) → schedule_key a ≡ schedule_key b → a ≡ b
 same_key a b h = cc

@@ -20,7 +20,7 @@ pub ruleset schedule_fields = (schedule_first, schedule_last, schedule_days, thr
 pub association_first : (line : List ℕ) → HasKind association line → HasGoodFields line → is_date (columns 16 21 line) ≡ true
 association_first line is good = (good_fields association line is good).1.0
 
--- of an association, the checked fields that come after the first date
+-- the checked fields of an association that come after the first date
 association_later : Bool → List CheckedField
 association_later deletion =
     cond deletion [] (checked 22 27 is_end_date ∷ checked 28 34 is_days ∷ []) ++ checked 38 44 is_tiploc ∷ checked 80 80 is_stp_indicator ∷ []

@@ -9,8 +9,8 @@ some_late [] = false
 some_late (event ∷ events) = not (event.falls == 0) || some_late events
 
 -- the last of these times, or `last` if the list is empty. The result is `None` if a time is below
--- the preceding time, where `last` precedes the first time. For example, after 3 the result for the
--- times 4 and 6 is 6, and for the times 4 and 2 it is `None`
+-- the preceding time, where `last` precedes the first time. For example, if `last` is 3, the result
+-- is 6 for the times 4 and 6, and `None` for the times 4 and 2
 abbrev pub ascends : ℕ → List (Occasion × ℕ) → Option ℕ
 ascends last [] = Some last
 ascends last (time ∷ times) = if nat_lt time.1 last then None else ascends time.1 times

@@ -1,4 +1,4 @@
--- Whether a schedule or an association that has begun runs on a day.
+-- Whether a schedule or an association runs on a day that isn't before its first date.
 use Rattle.std.specs.Prelude.{ℕ, Bool, ◌&&◌, List, nat_le}
 use Rattle.docker_model.specs.records.Date.{end_number, runs_on_weekday, weekday_of}
 

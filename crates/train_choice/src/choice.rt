@@ -24,8 +24,9 @@ use cif_line::{Day, Stp, Uid};
 use docker_state::{State, Timetable, UidSchedules};
 
 /// The schedule chosen for a UID on a day: among the UID's live schedules that run on the day, the
-/// one with the lowest STP indicator. If several have that indicator, the one with the latest first
-/// date is chosen. The chosen schedule may be a cancellation. Returns `None` if no schedule runs.
+/// one whose STP indicator is first in the alphabet. If several have this indicator, the one with
+/// the latest first date is chosen. The chosen schedule may be a cancellation. Returns `None` if no
+/// schedule runs.
 pub fn chosen<'a>(state: &'a State, uid: &Uid, day: Day) -> Option<ScheduleView<'a>>
     ensures { IsChosenOn (live_table state.now) uid.now day result }
 {

@@ -26,9 +26,9 @@ use std::collections::BTreeMap;
 use std::marker::Model;
 
 /// The associations chosen at a place on a start day of their base trains, one for each group. Of a
-/// group's associations that run on the day, the one with the lowest STP indicator is chosen. If
-/// several have that indicator, the one with the latest first date is chosen. All chosen
-/// associations are found in one walk over the associations at the place.
+/// group's associations that run on the day, the one whose STP indicator is first in the alphabet
+/// is chosen. If several have this indicator, the one with the latest first date is chosen. All
+/// chosen associations are found in one walk over the associations at the place.
 #[derive(Debug, Drop)]
 pub struct DayLinks<'a> {
     timetable: Timetable<'a>,

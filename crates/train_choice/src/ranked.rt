@@ -26,8 +26,8 @@ pub(crate) fn is_better<R: Ranked>(more: &R, best: Option<&R>) -> bool
     }
 }
 
-/// Whether `one` comes before `other` in the order of choice. That is so if `one` has the lower STP
-/// indicator, or the same indicator and a later first date.
+/// Whether `one` comes before `other` in the order of choice. It does if its STP indicator is
+/// earlier in the alphabet, or if both have the same indicator and `one` has the later first date.
 fn comes_before(one: (Stp, Day), other: (Stp, Day)) -> bool
     ensures { result ≡ is_lt (rank_cmp rank_meant one other) }
 {

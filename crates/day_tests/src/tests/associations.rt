@@ -50,8 +50,8 @@ fn last_day_of_the_calendar(rt: HostRuntime) {
     shows(&rt, rt.alloc(), &[file], "COLWELL", "2059-12-31", lines);
 }
 
-/// Asserts the docker lines at Colwell on 10 June. C40002 is the next working of C40001 a day
-/// later. The record `cancellation` cancels one of these two trains.
+/// Asserts the docker lines at Colwell on 10 June. C40002, which starts a day later, is the next
+/// working of C40001. The record `cancellation` cancels one of these two trains.
 fn without(rt: &impl Abort, alloc: Global, cancellation: &[u8], lines: &[&[u8]]) {
     let file: &[&[u8]] = &[
         HD,

@@ -1,5 +1,5 @@
-//! Makes dockers when memory runs out. The state is unchanged, and a second call returns the
-//! docker. The test run decides which allocation is refused. Each call is made at most twice.
+//! Tests that make dockers when memory runs out. The state is unchanged, and a second call returns
+//! the docker. The test run decides which allocation is refused. Each call is made at most twice.
 
 use super::compare::same;
 use super::{day, place, state_of, written};

@@ -47,8 +47,8 @@ fn deletion_first(rt: HostRuntime) {
     shows(&rt, alloc, files, "BRAYTON", "2024-06-10", &[]);
 }
 
-/// If two changes with equal stamps put the same schedule, the change with the later end date
-/// counts.
+/// If two changes with equal stamps are puts of the same schedule, the change with the later end
+/// date counts.
 #[test]
 fn later_end_of_equal_stamps(rt: HostRuntime) {
     let first: &[&[u8]] = &[HD, BS, LO, LT, ZZ];
@@ -56,8 +56,8 @@ fn later_end_of_equal_stamps(rt: HostRuntime) {
     at_ashfeld(&rt, rt.alloc(), &[first, second], &[LEAVES_0850]);
 }
 
-/// If two changes with equal stamps put the same schedule with the same end date, the change with
-/// the greater bytes counts.
+/// If two changes with equal stamps are puts of the same schedule with the same end date, the
+/// change whose bytes are greater counts.
 #[test]
 fn greater_bytes_of_equal_stamps(rt: HostRuntime) {
     let first: &[&[u8]] = &[HD, BS, LO, LT, ZZ];
@@ -65,8 +65,8 @@ fn greater_bytes_of_equal_stamps(rt: HostRuntime) {
     at_ashfeld(&rt, rt.alloc(), &[first, second], &[LEAVES_0905]);
 }
 
-/// If one of two changes with equal stamps puts a schedule and the other change deletes it, the
-/// schedule stays.
+/// If one of two changes with equal stamps is a put of a schedule, and the other is a deletion of
+/// this schedule, the schedule stays.
 #[test]
 fn put_before_deletion_of_equal_stamps(rt: HostRuntime) {
     let first: &[&[u8]] = &[HD, BS, LO, LT, ZZ];

@@ -40,8 +40,8 @@ fn headings(rt: HostRuntime) {
     prints(&rt, rt.alloc(), files, "ASHFELD", NONE_AT_ASHFELD);
 }
 
-/// Asserts that the docker of Ashfeld on 10 June fits in a sink with this room if and only if
-/// `wanted` is true.
+/// Asserts that the docker of Ashfeld on 10 June fits in a sink with room for `room` bytes if and
+/// only if `wanted` is true.
 fn fits(rt: &impl Abort, alloc: Global, state: &State, room: usize, wanted: bool) {
     let docker = docker(alloc, state, &place(rt, "ASHFELD"), day(rt, "2024-06-10")).expect(
         rt, "a docker",

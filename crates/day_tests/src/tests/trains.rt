@@ -22,7 +22,7 @@ fn one_schedule(rt: HostRuntime) {
     shows(&rt, alloc, files, "ELM", "2024-06-10", &[]);
 }
 
-/// A call without times has no line, and the train's other calls have their lines.
+/// A call without times has no docker line. The train's other calls have their docker lines.
 #[test]
 fn no_line_without_a_time(rt: HostRuntime) {
     let alloc = rt.alloc();

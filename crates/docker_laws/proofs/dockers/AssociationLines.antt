@@ -49,7 +49,8 @@ pub record IsInForce (live : Table) (start : ℕ) (key : AssociationKey) (line :
 
 module _ (live : Table) (trains : List ℕ → ℕ → Option Train) (links : Group → ℕ → Option Link) (tell : TellsTrains live trains)
     (tell_links : TellsLinks live links) (place : List ℕ) (day : ℕ) where
-  -- `partner_identity` computes the train identity that a docker line has for the associated train
+  -- `partner_identity` computes the train identity that a docker line shows for the associated
+  -- train
   partner_is : (uid : List ℕ) (start : Option ℕ) → IsPartnerIdentity live uid start (partner_identity trains uid start)
   partner_is uid None = refl
   partner_is uid (Some start) = by (trains uid start) (tell uid start)

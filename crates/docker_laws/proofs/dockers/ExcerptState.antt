@@ -33,7 +33,8 @@ use Rattle.state_laws.proofs.indexes.CallsTest.{any_forth, calls_test}
 
 -- ---- an excerpt of a valid state is valid
 
--- if a list may be the entries of a state with this ledger, so may each sublist of the list
+-- if a state with this ledger may have the entries of a list, it may also have only the entries of
+-- a sublist of this list
 pub some_entries : (ledger : List LedgerItem) (some all : List Keyed) → AreEntries ledger all → IsSublist some all → AreEntries ledger some
 some_entries ledger some all are is = (
   sublist_all (IsGoodEntry ledger) some all is are.0,
@@ -82,7 +83,7 @@ entry_behind state key entry rest are =
       good.op,
     )
 
--- a valid state with a sublist of its entries is valid
+-- if a valid state keeps only a sublist of its entries, it is still valid
 pub some_valid : (state part : State) → IsValid state → part.horizon ≡ state.horizon → part.ledger ≡ state.ledger → IsSublist part.entries state.entries
     → IsValid part
 some_valid state part valid same_horizon same_ledger is = record {
@@ -202,7 +203,7 @@ module _ (test : Key → Bool) where
 
 -- ---- the keys that the docker of a place needs can be found from the entries
 
--- whether the entry is a live schedule that belongs to the UID and calls at the place
+-- whether the entry is a live schedule that has the UID and calls at the place
 abbrev pub calls_as : List ℕ → List ℕ → Keyed → Bool
 calls_as place uid entry = has_uid uid entry.0 && is_call place entry.1.op
 
@@ -211,7 +212,7 @@ abbrev pub is_name : List ℕ → Option (List ℕ) → Bool
 is_name uid None = false
 is_name uid (Some name) = bytes_eq name uid
 
--- whether the entry is a live association at the place, and the UID belongs to its associated train
+-- whether the entry is a live association at the place, and its associated train has the UID
 abbrev pub names_as : List ℕ → List ℕ → Keyed → Bool
 names_as place uid entry = is_here place entry.0 && is_name uid (name_in entry.0 entry.1.op)
 

@@ -22,8 +22,8 @@ or_assoc : (a b c : Bool) → (a || (b || c)) ≡ ((a || b) || c)
 or_assoc true b c = refl
 or_assoc false b c = refl
 
--- before the first entry, the lists `kept` and `run` of the loop are empty, and no schedule is
--- needed
+-- before the loop comes to the first entry, the lists `kept` and `run` are empty, and the flag says
+-- that the docker needs no schedule
 pub kept_first : (place : List ℕ) → HasKept place [] [] [] false
 kept_first place = record { so_far = refl; is_needed = refl }
 

@@ -272,7 +272,7 @@ module _ (place : List ℕ) (all : List Keyed) (order : AllLater Below all) wher
         ∙ ap (λ (ys : List Keyed). filter (λ (entry : Keyed). is_needed place all entry.0) done ++ ys) (sym of_run)
         ∙ sym (filter-append test done (first ∷ others))
 
-  -- of the entries in `done` and `run`, `kept_after_run` gives exactly the entries whose keys the
+  -- of the entries in `done` and `run`, `kept_after_run` keeps exactly the entries whose keys the
   -- docker needs
   run_end : (done kept run rest : List Keyed) → IsAt place all done (record { kept = kept; run = run }) rest → IsEnded run rest
       → kept_after_run place (record { kept = kept; run = run }) ≡ filter (λ (entry : Keyed). is_needed place all entry.0) (done ++ run)

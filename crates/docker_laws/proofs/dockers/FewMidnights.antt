@@ -21,7 +21,7 @@ HasFewMidnights live = (key : ScheduleKey) (lines : List (List ℕ)) → live (s
 
 -- ---- a well-formed schedule passes midnight at most twice
 
--- a well-formed schedule of a key passes midnight at most twice
+-- a well-formed schedule passes midnight at most twice
 pub few_midnights : (key : ScheduleKey) (lines : List (List ℕ)) → IsScheduleOf key lines → midnights lines ≤ 2
 few_midnights key lines of = by of.schedule.sound
   where

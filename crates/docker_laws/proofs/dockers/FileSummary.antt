@@ -1,4 +1,4 @@
--- A state is computed from the changes of one file, entry by entry. The state is the summary of the
+-- The state that is computed from the changes of one file, entry by entry, is the summary of the
 -- file. The join of an empty state with a valid state is the valid state.
 use Rattle.std.proofs.Common.{◌≡◌, ℕ, List, [], ◌∷◌, length, append-nil, refl, ap, sym, ◌∙◌, subst, inl}
 use Rattle.std.proofs.Common.{inr, ◌⊎◌, Some, None, Bool, true, false, Contains, All, ◌≤◌, arith}
@@ -161,8 +161,8 @@ not_above entry entries key last up inside other same =
     let other_below : IsBelow stamp_cmp other.stamp last.stamp = subst (λ (pair : Keyed). IsBelow stamp_cmp pair.1.stamp last.stamp) same below in
     (λ i. ordering_then (other_below i) (op_cmp other.op last.op))
 
--- if each later entry with the same key has a greater stamp, `latest_entries` gives the greatest
--- entry of each key
+-- if each later entry with the same key has a greater stamp, `latest_entries` keeps the greatest
+-- entry for each key
 latest_is : (entries : List Keyed) → AllLater Ascends entries → (key : Key) (entry : Entry)
     → Contains (latest_entries entries) (key, entry) ↔ IsGreatestAmong entries key entry
 latest_is [] up key entry = (λ among. absurd (nil-Contains (key, entry) among), λ is. absurd (nil-Contains (key, entry) is.among))

@@ -1,6 +1,6 @@
--- Of all values with a property, the first value in an order. A search in a list finds this value
--- under two conditions. The list must have each value with the property, and a value must pass the
--- test if and only if it has the property.
+-- A search in a list finds the value with a property that comes first in an order, under two
+-- conditions. The list must have each value with the property, and a value must pass the test of
+-- the search if and only if it has the property.
 use Rattle.std.proofs.Common.{◌≡◌, List, refl, sym, ◌∙◌, Some, None, Bool, true, Contains}
 use Rattle.std.specs.Prelude.{Option, find}
 use Rattle.std.specs.declared.cmp.Ordering.{Ordering}
@@ -10,7 +10,7 @@ use Rattle.docker_laws.specs.Best.{IsBest}
 use Rattle.cif_laws.proofs.lists.BoolsAndOptions.{true_is_not}
 use Rattle.cif_laws.proofs.orders.Least.{is_least, found_least, none_passes}
 
--- the option is the first value with the property: the value has the property, and no other value
+-- the option has the first value with the property: this value has the property, and no other value
 -- with the property comes before it. The option is `None` if no value has the property
 abbrev pub IsFirst : {A : Type 0} → (A → A → Ordering) → (A → Type 0) → Option A → Type 0
 IsFirst {A} cmp Is None = (x : A) → ¬ Is x
@@ -23,7 +23,7 @@ module _ {A : Type 0} {cmp : A → A → Ordering} (total : IsTotalOrder cmp) (t
   best_is_first None none = λ x is. true_is_not (sym (passes x is) ∙ none x (among x is))
   best_is_first (Some x) best = (holds x best.0 best.1, λ other is. best.2 other (among other is) (passes other is))
 
-  -- the result of the search in the list is the first value with the property
+  -- a search in the list finds the first value with the property
   pub found_is_first : IsFirst cmp Is (find (is_least total test xs) xs)
   found_is_first = by (find (is_least total test xs) xs) refl
     where

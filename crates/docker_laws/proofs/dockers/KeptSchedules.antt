@@ -1,4 +1,4 @@
--- Lemmas on the well-formed schedule of a key, and on the fields of its first record.
+-- Lemmas on well-formed schedules, and on the fields of their first records.
 use Rattle.std.proofs.Common.{◌≡◌, ℕ, ◌<◌, List, true, false, Bool, cond, [], ◌∷◌, ◌++◌, length, subst, ap, sym, arith}
 use Rattle.std.specs.Prelude.{◌==◌}
 use Rattle.std.specs.List.{AllByRecursion}
@@ -34,7 +34,7 @@ first_there key lines of = subst (λ (ls : List (List ℕ)). 0 < length ls) (sym
 pub schedule_first : (line : List ℕ) → HasKind basic_schedule line → HasGoodFields line → is_date (columns 10 15 line) ≡ true
 schedule_first line is good = (good_fields basic_schedule line is good).1.0
 
--- of a basic schedule, the checked fields that come after the runs-from date
+-- the checked fields of a basic schedule that come after the runs-from date
 schedule_later : Bool → List CheckedField
 schedule_later deletion = cond deletion [] (checked 16 21 is_end_date ∷ checked 22 28 is_days ∷ []) ++ checked 80 80 is_stp_indicator ∷ []
 
@@ -49,7 +49,7 @@ pub schedule_last : (line : List ℕ) → HasKind basic_schedule line → HasGoo
 unfolding schedule_later
 schedule_last line is good stays = (later_good line is good stays).0
 
--- the days-run field of a good basic schedule has seven digits 0 or 1, unless the record is a
+-- the days-run field of a good basic schedule has seven digits, each 0 or 1, unless the record is a
 -- deletion
 pub schedule_days : (line : List ℕ) → HasKind basic_schedule line → HasGoodFields line → is_deletion line ≡ false → is_days (columns 22 28 line) ≡ true
 unfolding schedule_later

@@ -21,7 +21,7 @@ use Rattle.docker_laws.proofs.dockers.ExcerptState.{some_valid}
 use Rattle.docker_laws.proofs.dockers.ExcerptWalk.{walk_valid, walk_list_iff, walk_text_iff}
 use Rattle.docker_laws.proofs.dockers.NearDocker.{IsLeftOut, IsNearPart, near_list_iff, near_text_iff}
 
--- an op that can't count on the day puts a schedule that runs on no start day near the day
+-- an op that can't count on the day is a put of a schedule that runs on no start day near the day
 may_not : (day : ℕ) (op : Op) → may_count day op ≡ false
     → (lines : List (List ℕ)) × (op ≡ put_with (schedule_body lines)) × (runs_near day (first_record lines) ≡ false)
 may_not day (put_with (schedule_body lines)) h = (lines, refl, h)
@@ -62,7 +62,7 @@ near_part day state up key = by (find_in (near_entries day state.entries) key) (
           missing all.0 all.2 (live_at state key all.0 all.1) never.1 (may_count day all.0.1.op) refl,
         )
 
--- a valid state with only the entries that may count on a day is valid
+-- if a valid state keeps only the entries that may count on a day, it is still valid
 pub near_valid : (day : ℕ) (state : State) → IsValid state → IsValid (near_state day state)
 near_valid day state valid =
     some_valid state (near_state day state) valid refl refl (sublist_filter (λ (entry : Keyed). may_count day entry.1.op) state.entries)

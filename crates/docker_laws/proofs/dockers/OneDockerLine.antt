@@ -127,7 +127,7 @@ event_apart live place day a b one two same =
 
 -- ---- two lines of associations that tie are equal
 
--- a UID has at most one train identity on a day
+-- the train of a UID has at most one train identity on a day
 one_identity_on : (live : Table) (uid : List ℕ) (day : ℕ) (x y : List ℕ) → IsIdentityOn live uid x day → IsIdentityOn live uid y day → x ≡ y
 one_identity_on live uid day x y (inl one) (inl two) =
     let same = one_train live uid day one.0 two.0 one.1 two.1 one.2 two.2 in

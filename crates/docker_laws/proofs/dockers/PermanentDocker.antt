@@ -69,8 +69,8 @@ after_one table change = by (is_permanent change.key) refl
     by false h = λ i key.
         (outside key (is_permanent key) refl ∙ passed h key (is_eq (key_cmp change.key key)) refl) i
 
--- leaving out the short-term plan after applying changes equals leaving it out first and then
--- applying only the changes whose keys pass `is_permanent`
+-- applying changes and then leaving out the short-term plan gives the same table as leaving it out
+-- first and then applying only the changes whose keys pass `is_permanent`
 pub permanent_along : (table : Table) (changes : List Change)
     → permanent_table (fold after_change table changes)
     ≡ fold after_change (permanent_table table) (filter (λ (it : Change). is_permanent it.key) changes)

@@ -65,7 +65,8 @@ module _ (files : List (List (List ℕ))) (each : All IsFile files) (few : All (
       (All-contains (λ file. length file ≤ most_records) files made.file few made.kept.among)
       made.change made.among body puts)
 
-  -- if no file has too many records, the bodies in the plain table of the files are well formed
+  -- if each file has at most `most_records` records, the bodies in the plain table of the files are
+  -- well formed
   pub plain_bodies : HasGoodBodies table
   plain_bodies key body is =
       by (last_there (entries_along (from_last_full plain.ordered)) empty_table key

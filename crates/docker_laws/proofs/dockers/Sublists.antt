@@ -1,4 +1,4 @@
--- Lemmas on sublists. A sublist has some elements of a list, possibly none or all, in the same
+-- Lemmas on sublists. A sublist has some elements of a list, possibly none or all, in the list's
 -- order.
 use Rattle.std.proofs.Common.{List, [], ◌∷◌, ◌++◌, ◌≡◌, ◌∙◌, refl, sym, subst, inl, inr, ◌⊎◌, Contains, Bool, true, false, cond, All}
 use Rattle.std.specs.Prelude.{filter}

@@ -1,5 +1,5 @@
--- A thinned body belongs to the same key as the whole body. The thin records of a schedule don't
--- call at a place unless the schedule does.
+-- A body and its thinned form belong to the same key. The thin records of a schedule don't call at
+-- a place unless the schedule does.
 use Rattle.std.proofs.Common.{◌≡◌, ℕ, suc, ◌+◌, ◌≤◌, List, [], ◌∷◌, ◌++◌, length, subst, inl, inr, ◌⊎◌, refl, ap, sym}
 use Rattle.std.proofs.Common.{◌∙◌, Bool, true, false, cond, Some, None, Contains, map, All, arith, append-nil}
 use Rattle.std.specs.Prelude.{Option, filter, nat_lt, IsTrue, ◌||◌, ◌&&◌}
@@ -20,7 +20,7 @@ use Rattle.cif_laws.proofs.lists.Membership.{Contains-single, Contains-cons, con
 use Rattle.cif_laws.proofs.lists.FilteredMembers.{filter_back}
 use Rattle.state_laws.proofs.indexes.CallsTest.{calls_test}
 
--- the origins and termini among these records
+-- the records of the list that are origins or termini
 abbrev ends_in : List (List ℕ) → List (List ℕ)
 ends_in lines = filter (λ line. is_end (kind_of line)) lines
 
@@ -116,7 +116,7 @@ few_ends first last origin terminus =
     (sym (λ i. times_by_kind (origin i) first ++ (times_by_kind (terminus i) last ++ [])))
     (few_by (scheduled_time (columns 11 15 first)) (scheduled_time (columns 11 15 last)))
 
--- ---- the thin records of a schedule are a schedule
+-- ---- the thin records of a schedule form a schedule
 
 module _ (lines : List (List ℕ)) (is : IsSchedule lines) where
   same_lines : is.basic ∷ is.extra ++ is.journey ≡ lines
@@ -199,7 +199,7 @@ module _ (lines : List (List ℕ)) (is : IsSchedule lines) where
             member_of IsRecord (journey.first ∷ journey.last ∷ []) line
             (of_ends IsRecord (λ l among. member_of IsRecord lines l is.records (journey_member l among))) inside
 
-  -- the thin records of a schedule are a schedule
+  -- the thin records of a schedule form a schedule
   pub thin_is_schedule : IsSchedule (thin_lines lines)
   thin_is_schedule = subst IsSchedule (sym (thin_is lines is)) (by is.journey_or_none)
     where
@@ -209,7 +209,7 @@ module _ (lines : List (List ℕ)) (is : IsSchedule lines) where
 
 -- ---- a schedule is still a schedule if its origin and its terminus are replaced
 
--- the basic schedule with any good origin and any good terminus is a schedule
+-- the basic schedule, any good origin and any good terminus together form a schedule
 with_any_ends : (lines : List (List ℕ)) → IsSchedule lines → (first last : List ℕ) → IsRecord first → IsRecord last → HasKind origin_location first
     → HasKind terminating_location last → HasGoodFields first → HasGoodFields last → IsSchedule (first_record lines ∷ first ∷ last ∷ [])
 with_any_ends lines is first last first_is last_is origin terminus first_good last_good =
@@ -237,7 +237,7 @@ with_any_ends lines is first last first_is last_is origin terminus first_good la
       });
     })
 
--- the basic schedule, with any origin and any terminus that have good fields, is a schedule with
+-- the basic schedule, with any origin and any terminus that have good fields, forms a schedule with
 -- the same key as the original schedule
 pub any_ends_of_key : (key : ScheduleKey) (lines : List (List ℕ)) → IsScheduleOf key lines → (first last : List ℕ) → IsRecord first → IsRecord last
     → HasKind origin_location first → HasKind terminating_location last → HasGoodFields first → HasGoodFields last
@@ -249,9 +249,9 @@ any_ends_of_key key lines is first last first_is last_is origin terminus first_g
   key_is = is.key_is;
 }
 
--- ---- a thinned body belongs to the same key as the whole body
+-- ---- a body and its thinned form belong to the same key
 
--- the thin records of a schedule are a schedule with the same key
+-- the thin records of a schedule form a schedule with the same key as the whole schedule
 pub thin_of_key : (key : ScheduleKey) (lines : List (List ℕ)) → IsScheduleOf key lines → IsScheduleOf key (thin_lines lines)
 thin_of_key key lines is = record {
   schedule = thin_is_schedule lines is.schedule;
@@ -260,7 +260,8 @@ thin_of_key key lines is = record {
   key_is = ap schedule_named (first_of_thin lines) ∙ is.key_is;
 }
 
--- the records that the docker of a place needs of a schedule are a schedule with the same key
+-- the records that the docker of a place needs of a schedule form a schedule with the same key as
+-- the whole schedule
 pub needed_of_key : (place : List ℕ) (key : ScheduleKey) (lines : List (List ℕ)) → IsScheduleOf key lines → IsScheduleOf key (lines_for place lines)
 needed_of_key place key lines is = by (calls_at place lines)
   where
@@ -268,7 +269,7 @@ needed_of_key place key lines is = by (calls_at place lines)
     by true = is
     by false = thin_of_key key lines is
 
--- the body that the docker of a place needs belongs to the same key as the whole body
+-- a body, and the body that the docker of a place needs instead of it, belong to the same key
 pub needed_is_body : (place : List ℕ) (key : Key) (body : Body) → IsBodyOf key body → IsBodyOf key (body_for place body)
 needed_is_body place (schedule_key key) (schedule_body lines) is = needed_of_key place key lines is
 needed_is_body place (schedule_key key) (tiploc_body bytes) is = is

@@ -1,5 +1,5 @@
--- The table after the changes that are kept for a place and a day equals the thinned table after
--- all changes.
+-- Applying the changes that are kept for a place and a day gives the same table as applying all
+-- changes and then thinning the table.
 use Rattle.std.proofs.Common.{arith, append-nil, append_assoc, ◌≡◌, ℕ, List, [], ◌∷◌, ◌++◌, subst, inl, inr}
 use Rattle.std.proofs.Common.{◌⊎◌, refl, ap, sym, ◌∙◌, Bool, true, false, cond, Some, None, Contains, map}
 use Rattle.std.specs.Prelude.{Option, option_and_then, filter, fold, not}
@@ -124,8 +124,8 @@ module _ (place : List ℕ) (day : ℕ) where
       → fold after_change (thinned place day table) (thin_changes place day changes) key ≡ thinned place day (fold after_change table changes) key
   thin_over table changes key = kept_from changes table (thinned place day table) (λ k. refl) key
 
-  -- the table after the thin changes of a list equals the thinned table after all changes of the
-  -- list
+  -- applying the thin changes of a list to the empty table gives the same table as applying all
+  -- changes of the list and then thinning the table
   thin_enough : (changes : List Change) → AreEnough place day changes (thin_changes place day changes)
   thin_enough changes = kept_from changes empty_table empty_table (λ key. sym (none_or (may_matter place key)))
 
@@ -200,8 +200,8 @@ module _ (place : List ℕ) (day : ℕ) where
         ∙ step_kept place day (table_of changes) (table_of kept) change key matters (so_far key)
         ∙ sym (all_more key)
 
-    -- if the thin form of a change is a deletion, the thinned table has no body at this key after
-    -- the change
+    -- after a change whose thin form is a deletion, the thinned table has no body at the key of the
+    -- change
     none_left : thin_act place day change.act ≡ delete → (key : Key) → is_of key change ≡ true
         → thinned place day (after_change (table_of changes) change) key ≡ None
     none_left deletes key h =

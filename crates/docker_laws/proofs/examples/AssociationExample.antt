@@ -110,7 +110,7 @@ association_in : Key → AssociationKey
 association_in (association_key key) = key
 association_in _ = link_key
 
--- the UIDs differ in their last digit
+-- the UIDs of the two trains differ in their last digit
 uids_differ : codes "C40001" ≡ codes "C40002" → ⊥
 uids_differ same = let last : ◌≡◌ {A = ℕ} 49 50 = ap (λ bytes. slice_index bytes 5) same in omega arith
 

@@ -41,7 +41,7 @@ events_of_night : events_of night_schedule
     ∷ record { number = 5; place = 4; occasion = arrival; time = 40 } ∷ []
 events_of_night = refl
 
--- the first event is on 10 June, and all later events are on 11 June
+-- the first event of the schedule is on 10 June, and all its later events are on 11 June
 days_of_night : map (event_day 23537 night_schedule) (events_of night_schedule) ≡ 23537 ∷ 23538 ∷ 23538 ∷ 23538 ∷ 23538 ∷ []
 days_of_night = refl
 

@@ -152,7 +152,7 @@ joined = state_of (
 abbrev parted : State
 parted = state_of (put_in (association_key link_key) (association_body link) ∷ put_in (schedule_key stops_key) (schedule_body stops) ∷ [])
 
--- the UIDs differ in their last digit
+-- the UIDs of the two trains differ in their last digit
 uids_differ : codes "C40001" ≡ codes "C40002" → ⊥
 uids_differ same = let last : ◌≡◌ {A = ℕ} 49 50 = ap (λ bytes. slice_index bytes 5) same in omega arith
 

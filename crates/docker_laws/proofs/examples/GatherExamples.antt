@@ -49,7 +49,7 @@ at_colwell : map line_text (gathered (train_in rows) (link_in rows) (codes "COLW
 unfolding days_from_civil day_count days_of_years days_of_months
 at_colwell = refl
 
--- on 9 June there are no lines
+-- on 9 June there are no lines at COLWELL
 day_before : gathered (train_in rows) (link_in rows) (codes "COLWELL") 23536 rows ≡ []
 unfolding days_from_civil day_count days_of_years days_of_months
 day_before = refl

@@ -193,7 +193,7 @@ ends_by start runs = leb-true start 23537 (both (nat_le 23537 start) (nat_le sta
 no_falls : midnights ended ≡ 0
 no_falls = refl
 
--- on 16 June no train arrives
+-- on 16 June no train arrives at COLWELL
 no_arrival : (line : DockerLine) → ¬ IsEventLine (table_of revised) place 23543 line
 no_arrival line is =
     let same = revised_is is.key is.schedule is.train_runs.chosen.running.is_live in
@@ -207,8 +207,8 @@ no_arrival line is =
 no_link : (line : DockerLine) → ¬ IsAssociationLine (table_of revised) place 23543 line
 no_link line is = none_some (association_body is.association) is.chosen.associated.is_live
 
--- if the revision is dropped but not the earlier put, the docker is wrong: a train arrives on 16
--- June
+-- if the revision is dropped but not the earlier put, the docker is wrong: a train arrives at
+-- COLWELL on 16 June
 dropped_revision_is_wrong : ¬ ((lines : List DockerLine) → IsDockerList (table_of revised) place 23543 lines
     ↔ IsDockerList (table_of stops_alone) place 23543 lines)
 unfolding days_from_civil day_count days_of_years days_of_months
@@ -248,7 +248,7 @@ not_by_stops uid start key lines same day runs =
 no_falls_of_stops : midnights stops ≡ 0
 no_falls_of_stops = refl
 
--- on 11 June no train arrives
+-- on 11 June no train arrives at COLWELL
 no_arrival_then : (line : DockerLine) → ¬ IsEventLine (table_of overlaid) place 23538 line
 no_arrival_then line is = by (is_eq (schedule_key_cmp short_key is.key)) (is_eq (schedule_key_cmp stops_key is.key)) refl is.train_runs.chosen.running.is_live
   where
@@ -270,7 +270,7 @@ no_arrival_then line is = by (is_eq (schedule_key_cmp short_key is.key)) (is_eq 
 no_link_then : (line : DockerLine) → ¬ IsAssociationLine (table_of overlaid) place 23538 line
 no_link_then line is = none_some (association_body is.association) is.chosen.associated.is_live
 
--- if the overlay is dropped, the docker is wrong: a train arrives on 11 June
+-- if the overlay is dropped, the docker is wrong: a train arrives at COLWELL on 11 June
 dropped_overlay_is_wrong : ¬ ((lines : List DockerLine) → IsDockerList (table_of overlaid) place 23538 lines
     ↔ IsDockerList (table_of stops_alone) place 23538 lines)
 unfolding days_from_civil day_count days_of_years days_of_months
@@ -335,7 +335,7 @@ partner_is_still_kept : thin_changes place 23542 partner_alone ≡ partner_alone
 unfolding days_from_civil day_count days_of_years days_of_months
 partner_is_still_kept = refl
 
--- for 10 and 16 June the train isn't kept
+-- for 10 and 16 June the train's schedule isn't kept: the thin form of its put is a deletion
 partner_is_far : (thin_changes place 23537 partner_alone ≡ change_of 2 (schedule_key follows_on_key) delete ∷ [])
     × (thin_changes place 23543 partner_alone ≡ change_of 2 (schedule_key follows_on_key) delete ∷ [])
 unfolding days_from_civil day_count days_of_years days_of_months

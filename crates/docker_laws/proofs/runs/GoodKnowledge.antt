@@ -34,14 +34,14 @@ no_files_good = (All-nil IsFile, All-nil (λ file. length file ≤ most_records)
 pub nothing_good : (format : Format) → IsGoodKnown format nothing
 nothing_good format = (no_files_good, none_good format)
 
--- the union of two good sets of knowledge is good
+-- if what each of two offices knows is good, the union of their knowledge is good
 pub united_good : (format : Format) (first second : Known) → IsGoodKnown format first → IsGoodKnown format second → IsGoodKnown format (united first second)
 united_good format first second one two = (
   (All-append IsFile first.files second.files one.0.0 two.0.0, All-append (λ file. length file ≤ most_records) first.files second.files one.0.1 two.0.1),
   max_good format first.horizon second.horizon one.1 two.1,
 )
 
--- if an office accepts a file within a limit, the knowledge of this one file is good
+-- if an office accepts a file under a limit, and knows only this file, its knowledge is good
 pub file_good : (format : Format) (text : List ℕ) (limit : ℕ) → limit ≤ most_records → IsFileText limit text (lines_of text)
     → IsGoodKnown format (record { files = lines_of text ∷ []; horizon = 0 })
 file_good format text limit low file =
@@ -55,7 +55,8 @@ file_good format text limit low file =
       none_good format,
     )
 
--- if a format allows a horizon, knowledge that has only this horizon, and no file, is good
+-- if a format allows a horizon, an office that knows only this horizon, and no file, has good
+-- knowledge
 pub horizon_good : (format : Format) (day : ℕ) → IsHorizonOf format day → IsGoodKnown format (record { files = []; horizon = day })
 horizon_good format day is = (no_files_good, is)
 

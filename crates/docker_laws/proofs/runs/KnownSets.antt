@@ -23,7 +23,7 @@ sets_more offices events replies event reply same =
     ap (fold after_reply (none_known offices)) (zip_more events replies event reply same)
     ∙ fold-append after_reply (none_known offices) (zip events replies) ((event, reply) ∷ [])
 
--- ---- appending an event with an allowed reply gives allowed replies
+-- ---- appending an event with an allowed reply leaves all replies of a run allowed
 
 -- the number of replies equals the number of events
 pub replies_long : (known : KnownSets) (events : List RunEvent) (replies : List Reply) → AreReplies known events replies → length events ≡ length replies

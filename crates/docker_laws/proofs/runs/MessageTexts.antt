@@ -21,8 +21,8 @@ use Rattle.state_laws.proofs.states.SummaryValid.{summary_is_valid}
 
 -- ---- the counts in a text fit in eight bytes
 
--- if `f` gives at least one byte for each element, a list has at most as many elements as `flat_map
--- f` gives bytes
+-- if `f` returns at least one byte for each element, a list has at most as many elements as
+-- `flat_map f` returns bytes
 at_least : {A : Type 0} (f : A → List ℕ) → ((x : A) → 1 ≤ length (f x)) → (xs : List A) → length xs ≤ length (flat_map f xs)
 at_least f one [] = omega arith
 at_least f one (x ∷ xs) = let here = one x in let rest = at_least f one xs in let whole = length-append (f x) (flat_map f xs) in omega arith

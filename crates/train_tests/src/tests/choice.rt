@@ -44,7 +44,7 @@ const OVERLAY: &[u8] =
     b"TRAIN  C10001  2024-06-11 O RUNS      2024-06-09 2100 DFROC1A          8        ";
 
 /// The heading for 13 June. On this day C10001 runs according to the new schedule, record 12 of the
-/// file. A new schedule is chosen before an overlay.
+/// file. If a new schedule and an overlay run on the same day, the new schedule is chosen.
 const NEW: &[u8] =
     b"TRAIN  C10001  2024-06-13 N RUNS      2024-06-09 2100 DFROC1A         12        ";
 
@@ -95,8 +95,8 @@ fn cancellation(rt: HostRuntime) {
     says(&rt, rt.alloc(), &state, "C10002", "2024-06-14", other);
 }
 
-/// A new schedule is chosen before an overlay. Of two permanent schedules, the schedule that begins
-/// later is chosen.
+/// If a new schedule and an overlay run on the same day, the new schedule is chosen. Of two
+/// permanent schedules, the schedule that begins later is chosen.
 #[test]
 fn new_and_later(rt: HostRuntime) {
     let state = trains(&rt, rt.alloc());

@@ -47,8 +47,8 @@ fn before_the_horizon(rt: HostRuntime) {
     says(&rt, rt.alloc(), &state, "C10001", "2024-06-13", thursday);
 }
 
-/// After a schedule has lapsed, its days before the horizon are refused, and no schedule runs from
-/// the horizon on.
+/// After a schedule has lapsed, the days before the horizon are refused for its UID, and no
+/// schedule of this UID runs from the horizon on.
 #[test]
 fn lapsed(rt: HostRuntime) {
     let mut state = joined(&rt, rt.alloc(), &[WEEK]);
@@ -64,8 +64,8 @@ fn lapsed(rt: HostRuntime) {
     );
 }
 
-/// Prints the text for C10001 on 10 June to a sink with this room. Asserts the fault, and the bytes
-/// that the sink then has.
+/// Prints the text for C10001 on 10 June to a sink with room for `room` bytes. Asserts the fault,
+/// and the bytes that the sink then has.
 fn takes(rt: &impl Abort, alloc: Global, state: &State, room: usize, wanted: Option<TrainFault>) {
     let mut kept = Kept::new(alloc, room).expect(rt, "room");
     let all = text(alloc, &[MONDAY, BS_WEEK, LO, LT, END], b"\n").expect(rt, "a text");
