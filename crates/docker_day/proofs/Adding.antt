@@ -1,4 +1,4 @@
--- Docker lines that are added only if a test passes.
+-- Docker lines that are appended to a list only if a test passes.
 use Rattle.std.proofs.Common.{◌≡◌, Bool, true, false, cond, List, [], ◌++◌, sym, ◌∙◌, append-nil}
 use Rattle.docker_model.specs.docker.DockerLine.{DockerLine}
 

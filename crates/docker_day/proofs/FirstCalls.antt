@@ -130,8 +130,8 @@ IsAtEvent link occasion event visit line =
     (rows : List Row) → AreRowsOf (live_in visit.timetable) rows → (base : ScheduleKey) → base.uid ≡ link.key.base
     → listed line ≡ link_line_at (train_in rows) visit.day visit.start link occasion base event
 
--- says that the line, if there is one, is the association's line. Its base train is the train that
--- is chosen for the base train's UID
+-- says that the line, if there is one, is the association's line that is made with the train chosen
+-- for the base train's UID
 abbrev pub IsWithBase : Link → Occasion → Visit → Option DockerLine → Type 0
 IsWithBase link occasion visit line =
     (rows : List Row) → AreRowsOf (live_in visit.timetable) rows

@@ -35,7 +35,7 @@ docker_of_walk live place day rows walk none made lines good are walks empty add
     (subst (λ out. IsPermutation out lines) made_is same) sorted
 
 -- a walk over the associations at a place, followed by a walk over the schedules that call there,
--- adds all docker lines of the place
+-- appends all docker lines of the place to a list
 pub both_gathered : (live : Table) (place : List ℕ) (day : ℕ) (linked calling : List Row) (before between after : List DockerLine)
     → AreLinked live place linked → AreCalling live place calling
     → Adds live (λ trains links. gathered trains links place day linked) before between → Adds live

@@ -19,7 +19,8 @@ module _ (there : PlaceDay) (view : RowView) where
   abbrev AddsBack : ℕ → List DockerLine → List DockerLine → Type 0
   AddsBack back before after = Adds (live_in there.timetable) (λ trains links. row_back trains links there.place there.day view back) before after
 
-  -- the visit for the start day `back` days before the day adds the row's lines for this start day
+  -- for the visit whose start day is `back` days before the day, the row's lines for this start day
+  -- are appended
   adds_back : (back : ℕ) (visit : Option Visit) (before after : List DockerLine) → visit ≡ visit_back there back → AddsIf visit view before after
       → AddsBack back before after
   adds_back back visit before after is adds = by (nat_le back there.day) refl (subst (λ (v : Option Visit). AddsIf v view before after) is adds)
@@ -41,18 +42,19 @@ module _ (there : PlaceDay) (view : RowView) where
       (λ i. cond (leb-zero there.day i) (Some (record { timetable = there.timetable; place = there.place; day = there.day; start = there.day - 0 })) None)
       ∙ (λ i. Some (record { timetable = there.timetable; place = there.place; day = there.day; start = same i }))
 
-  -- the visit for the day itself adds the row's lines for that start day
+  -- for the visit whose start day is the day itself, the row's lines for this start day are
+  -- appended
   adds_today : (today : Visit) (before after : List DockerLine)
       → today ≡ record { timetable = there.timetable; place = there.place; day = there.day; start = there.day } → AddsAt today view before after
       → AddsBack 0 before after
   adds_today today before after is adds = adds_back 0 (Some today) before after (ap Some is ∙ sym today_is_back) adds
 
-  -- says that all docker lines of the row were added
+  -- says that `after` is `before` with all docker lines of the row appended
   abbrev AddsRow : List DockerLine → List DockerLine → Type 0
   AddsRow before after = Adds (live_in there.timetable) (λ trains links. view_lines trains links there.place there.day view) before after
 
 module _ (there again : PlaceDay) (view : RowView) (today : Visit) (day_before two_before : Option Visit) where
-  -- the three visits together add all docker lines of the row
+  -- for the three visits together, all docker lines of the row are appended
   pub adds_on_visits : (first second third last : List DockerLine) → there ≡ again
       → AreVisits there today day_before two_before → AddsAt today view first second → AddsIf day_before view second third
       → AddsIf two_before view third last → AddsRow again view first last
@@ -61,7 +63,8 @@ module _ (there again : PlaceDay) (view : RowView) (today : Visit) (day_before t
       (three_backs there.place there.day view (live_in there.timetable) first second third last (adds_today there view today first second are.today_is one)
       (adds_back there view 1 day_before second third are.day_before_is two) (adds_back there view 2 two_before third last are.two_before_is three))
 
-  -- if `row_under_way` says that the row can't have lines for a train that started before the day, the visit for the day itself adds all lines of the row
+  -- let `row_under_way` say that the row can't have lines for a train that started before the day.
+  -- Then all lines of the row are appended for the visit whose start day is the day itself
   pub adds_today_alone : (first second : List DockerLine) → there ≡ again → AreVisits there today day_before two_before
       → IsLiveView (live_in again.timetable) view → row_under_way again.place view again.day ≡ false → AddsAt today view first second
       → AddsRow again view first second
@@ -69,7 +72,8 @@ module _ (there again : PlaceDay) (view : RowView) (today : Visit) (day_before t
       first_back_alone again.place again.day view (live_in again.timetable) first second is_live idle
       (subst (λ (p : PlaceDay). AddsBack p view 0 first second) same (adds_today there view today first second are.today_is one))
 
--- lines that were added for a `PlaceDay` were also added for an equal `PlaceDay`
+-- if the docker lines of a walk for a `PlaceDay` were appended to a list, so were the lines of this
+-- walk for an equal `PlaceDay`
 pub gathered_at : (there again : PlaceDay) (walk : List Row) (before after : List DockerLine) → again ≡ there
     → Adds (live_in again.timetable) (λ trains links. gathered trains links again.place again.day walk) before after
     → Adds (live_in there.timetable) (λ trains links. gathered trains links there.place there.day walk) before after

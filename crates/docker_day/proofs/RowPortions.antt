@@ -119,13 +119,13 @@ live_at there again portion i row same are below is =
     live_item (live_in again.timetable) portion i row (subst (λ (p : PlaceDay). AreLiveViews (live_in p.timetable) (views_in portion)) (sym same) are) below is
 
 module _ (there : PlaceDay) (portion : List (ℕ × RowView)) where
-  -- says that the docker lines of the portion's first `n` rows were added
+  -- says that `after` is `before` with the docker lines of the portion's first `n` rows appended
   abbrev pub AddsFirst : ℕ → List DockerLine → List DockerLine → Type 0
   AddsFirst n before after =
       Adds (live_in there.timetable) (λ trains links. lines_of trains links there.place there.day (views_in (take n portion))) before after
 
-  -- suppose that a walk has moved rows to a portion, and that the lines of the portion were added.
-  -- Then the walk has added the lines of all rows that it has passed
+  -- suppose that a walk has moved rows to a portion, and that the lines of the portion were
+  -- appended to a list. Then the walk has appended the lines of all rows that it has passed
   pub moved_open : (all rest : List Row) (rows : List (ℕ × RowView)) (first second : List DockerLine) → AreOpened all rest [] portion → rows ≡ portion
       → Adds (live_in there.timetable) (λ trains links. lines_of trains links there.place there.day (views_in rows)) first second
       → HaveMoved there all rest first second

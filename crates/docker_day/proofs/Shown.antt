@@ -1,5 +1,5 @@
--- A docker prints columns of a location record. Which columns it prints depends on the record's
--- kind and on the occasion.
+-- A docker shows columns of a location record. Which columns it shows depends on the record's kind
+-- and on the occasion.
 use Rattle.std.proofs.Common.{◌≡◌, ℕ, List, refl, sym, Some, None}
 use Rattle.std.specs.Prelude.{Option}
 use Rattle.docker_model.specs.records.Record.{Kind, header, tiploc_insert, tiploc_amend, tiploc_delete, association, basic_schedule, extra_details}

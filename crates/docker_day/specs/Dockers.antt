@@ -18,8 +18,8 @@ pub record IsDockerOf (live : Table) (place : List ℕ) (day : ℕ) (docker : Do
   pub described : docker.description ≡ description_in (live (tiploc_key place))
   pub list : IsDockerList live place day docker.lines
 
--- says that the docker lines of the rows of a walk were added. This walk includes every association
--- at the place and every schedule that calls there
+-- says that `after` is `before` with the docker lines of a walk's rows appended. The walk includes
+-- every association at the place and every schedule that calls there
 abbrev pub HasGathered : Table → List ℕ → ℕ → List DockerLine → List DockerLine → Type 0
 HasGathered live place day before after =
     (rows : List Row) × IsWalk live place rows × Adds live (λ trains links. gathered trains links place day rows) before after

@@ -81,8 +81,8 @@ abbrev pub runs_recently : List (List ℕ) → ℕ → Bool
 runs_recently lines day = runs_back lines day 0 || runs_back lines day 1 || runs_back lines day 2
 
 -- whether the schedule's train may be at the place on this day, having started on an earlier day.
--- That is so if the schedule runs on one of the two days before, and its train passes midnight by
--- its last event at the place
+-- That is so if the schedule runs on one of the two days before, and its train passes midnight
+-- before its last event at the place
 abbrev pub is_under_way : List ℕ → List (List ℕ) → ℕ → Bool
 is_under_way place lines day = (runs_back lines day 1 || runs_back lines day 2) && some_late (occurrences_to place lines)
 
@@ -90,7 +90,7 @@ is_under_way place lines day = (runs_back lines day 1 || runs_back lines day 2) 
 abbrev pub is_call : List ℕ → ℕ → Occurrence → Bool
 is_call place suffix event = is_at place suffix event.line
 
--- says that `after` is `before` with the lines of `more` appended. `more` makes these lines from
+-- says that `after` is `before` with the lines of `more` appended. `more` computes these lines from
 -- two functions. The first function returns the train of a UID that starts on a day. The second
 -- function returns the association chosen in a group for a start day
 abbrev pub Adds : Table → ((List ℕ → ℕ → Option Train) → (Group → ℕ → Option Link) → List DockerLine) → List DockerLine → List DockerLine → Type 0

@@ -1,4 +1,4 @@
--- What a docker prints from a location record.
+-- What a docker shows of a location record.
 use Rattle.std.specs.Prelude.{ℕ, List, Option}
 use Rattle.docker_model.specs.records.Record.{Kind}
 use Rattle.docker_model.specs.file.Journey.{Occasion, arrival, pass, joining, dividing, next_working, departure}
@@ -6,8 +6,8 @@ use Rattle.docker_model.specs.docker.DockerLine.{platform_by_kind, track_by_kind
 use Rattle.docker_model.specs.records.PrintedTime.{spaces}
 use Rattle.docker_day.specs.declared.location.Location.{Location}
 
--- what a docker prints from a location record: the platform, the line, the path, and the public
--- times of the arrival and the departure
+-- what a docker shows of a location record: the platform, the line, the path, and the public times
+-- of the arrival and the departure
 pub record Shown : Type 0 where
   pub platform : List ℕ
   pub track : List ℕ
@@ -25,7 +25,7 @@ location_meant location = record {
   departure = location.departure.now;
 }
 
--- what a docker prints from a record of this kind
+-- what a docker shows of a record of this kind
 abbrev pub location_by_kind : Option Kind → List ℕ → Shown
 location_by_kind kind line = record {
   platform = platform_by_kind kind line;

@@ -29,8 +29,8 @@ abbrev pub ArePassedOver : ℕ → List Row → List Row → Type 0
 ArePassedOver day before after = (place : List ℕ) (live : Table) → AreLive live before → (rows : List Row) → AreRowsOf live rows
     → gathered (train_in rows) (link_in rows) place day before ≡ gathered (train_in rows) (link_in rows) place day after
 
--- says that a walk has added the lines of the rows that it has passed: the lines that were added,
--- followed by the lines of the remaining rows, are unchanged
+-- says that a walk has appended the lines of the rows that it has passed: the list of lines,
+-- followed by the lines of the remaining rows, is unchanged
 abbrev pub HaveMoved : PlaceDay → List Row → List Row → List DockerLine → List DockerLine → Type 0
 HaveMoved there before after lines more = (rows : List Row) → AreRowsOf (live_in there.timetable) rows
     → more ++ gathered (train_in rows) (link_in rows) there.place there.day after

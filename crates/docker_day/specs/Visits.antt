@@ -43,12 +43,12 @@ abbrev pub IsLiveAt : Option Visit → RowView → Type 0
 IsLiveAt None row = ⊤
 IsLiveAt (Some visit) row = IsLiveView (live_in visit.timetable) row
 
--- says that the docker lines of a row for a visit were added
+-- says that `after` is `before` with the docker lines of a row for a visit appended
 abbrev pub AddsAt : Visit → RowView → List DockerLine → List DockerLine → Type 0
 AddsAt visit row before after = Adds (live_in visit.timetable) (λ trains links. row_piece trains links visit.place visit.day row visit.start) before after
 
--- says that the docker lines of a row for a visit were added, or that there is no visit and nothing
--- was added
+-- says that `after` is `before` with the docker lines of a row for a visit appended, or that there
+-- is no visit and `after` equals `before`
 abbrev pub AddsIf : Option Visit → RowView → List DockerLine → List DockerLine → Type 0
 AddsIf None row before after = after ≡ before
 AddsIf (Some visit) row before after = AddsAt visit row before after

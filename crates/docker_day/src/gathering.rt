@@ -15,8 +15,8 @@ use crate::visits::Visits;
 use cif_line::{Day, Memory, Tiploc};
 use train_choice::LinkView;
 
-/// Adds the docker lines of a row, for each start day whose trains may be at the place on the day.
-/// `row` is the row's index. Returns `Memory` if there is no room for the lines.
+/// Appends the docker lines of a row to `lines`, for each start day whose trains may be at the
+/// place on the day. `row` is the row's index. Returns `Memory` if there is no room for the lines.
 pub(crate) fn add_row<'a>(
     lines: &mut Vec<DockerLine<'a>>,
     visits: &mut Visits<'a>,
@@ -63,8 +63,8 @@ fn is_row_under_way(view: &RowView<'_>, place: &Tiploc, day: Day) -> bool
     }
 }
 
-/// Adds the lines of a row for a visit. Adds nothing if there is no visit, because the visit's
-/// start day would be before day 0.
+/// Appends the lines of a row for a visit to `lines`. Appends nothing if there is no visit, because
+/// the visit's start day would be before day 0.
 fn add_back<'a>(
     lines: &mut Vec<DockerLine<'a>>,
     visit: &mut Option<Visit<'a>>,
@@ -81,7 +81,7 @@ fn add_back<'a>(
     }
 }
 
-/// Adds the lines of a row for one visit.
+/// Appends the lines of a row for one visit to `lines`.
 fn add_piece<'a>(
     lines: &mut Vec<DockerLine<'a>>,
     visit: &mut Visit<'a>,
@@ -99,7 +99,7 @@ fn add_piece<'a>(
     }
 }
 
-/// Adds the line of an association for a visit, if the association is at the place.
+/// Appends the line of an association for a visit to `lines`, if the association is at the place.
 fn add_link<'a>(
     lines: &mut Vec<DockerLine<'a>>,
     visit: &mut Visit<'a>,

@@ -1,4 +1,4 @@
-//! The columns of a location record that a docker prints.
+//! The columns of a location record that a docker shows.
 ghost use Rattle.std.specs.Prelude.{◌≡◌, ◌+◌, ◌-◌, ◌<◌, ◌≤◌};
 ghost use Rattle.docker_model.specs.records.Record.{kind_of, columns, column};
 ghost use Rattle.docker_model.specs.records.PrintedTime.{shown_public};
@@ -8,8 +8,8 @@ ghost use Rattle.docker_day.specs.Locations.{location_meant, location_by_kind, p
 use cif_line::{Kind, Line, kind};
 use train_choice::Occasion;
 
-/// What a docker prints from a location record. A field is spaces if records of this kind don't
-/// have the field.
+/// What a docker shows of a location record. A field is spaces if records of this kind don't have
+/// the field.
 #[derive(Clone, Copy, Debug)]
 pub(crate) struct Location<'a> {
     /// The platform.
@@ -25,9 +25,9 @@ pub(crate) struct Location<'a> {
 }
 
 impl<'a> Location<'a> {
-    /// What a docker prints from a line. The function is called only with location records, because
-    /// no other line has an event. For any other line the platform would be columns 20 to 22, and
-    /// all other fields spaces.
+    /// What a docker shows of a line. The function is called only with location records, because no
+    /// other line has an event. For any other line the platform would be columns 20 to 22, and all
+    /// other fields spaces.
     pub(crate) fn of(line: &'a Line) -> Location<'a>
         ensures { location_meant result ≡ location_by_kind (kind_of line.entry.now) line.entry.now }
     {

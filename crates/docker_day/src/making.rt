@@ -80,8 +80,8 @@ fn docker_of<'a>(
     }
 }
 
-/// Adds the docker lines of the associations at a place and of the schedules that call at the
-/// place.
+/// Appends the docker lines of the associations at a place, and of the schedules that call at the
+/// place, to `lines`.
 fn add_all<'a>(
     alloc: Global,
     lines: &mut Vec<DockerLine<'a>>,

@@ -16,14 +16,15 @@ use arrayvec::ArrayVec;
 use cif_line::{Day, Memory};
 use docker_state::TimetableRows;
 
-/// The number of rows that are read before any line is added. Reading several rows at once makes
-/// their cache misses overlap.
+/// The number of rows that are read before any of their docker lines is appended to the list.
+/// Reading several rows at once makes their cache misses overlap.
 const PORTION: usize = 16;
 
 /// Rows of a walk that have been read, each with its index in the state.
 type Portion<'a> = ArrayVec<(usize, RowView<'a>), PORTION>;
 
-/// Adds the docker lines of all rows of a walk. Returns `Memory` if there is no room for the lines.
+/// Appends the docker lines of all rows of a walk to `lines`. Returns `Memory` if there is no room
+/// for the lines.
 pub(crate) fn add_rows<'a>(
     lines: &mut Vec<DockerLine<'a>>,
     visits: &mut Visits<'a>,
@@ -99,7 +100,7 @@ fn may_row_run(view: &RowView<'_>, day: Day) -> bool
     }
 }
 
-/// Adds the docker lines of the rows of a portion.
+/// Appends the docker lines of a portion's rows to `lines`.
 fn add_portion<'a>(
     lines: &mut Vec<DockerLine<'a>>,
     visits: &mut Visits<'a>,

@@ -18,9 +18,9 @@ use crate::visit::Visit;
 use cif_line::{Day, Memory, Tiploc};
 use train_choice::{Occurrence, ScheduleView, ends_of, passes_midnight};
 
-/// Adds the docker lines of a schedule for a visit, if a train runs according to the schedule on
-/// the start day. `row` is the index of the schedule's row. Returns `Memory` if there is no room
-/// for the lines.
+/// Appends the docker lines of a schedule for a visit to `lines`, if a train runs according to the
+/// schedule on the start day. `row` is the index of the schedule's row. Returns `Memory` if there
+/// is no room for the lines.
 pub(crate) fn add_schedule<'a>(
     lines: &mut Vec<DockerLine<'a>>,
     visit: &mut Visit<'a>,
@@ -54,8 +54,8 @@ pub(crate) fn runs_recently(train: &ScheduleView<'_>, day: Day) -> bool
 }
 
 /// Whether the train of a schedule may be at a place on this day, having started on an earlier day.
-/// That is so if the schedule runs on one of the two days before, and its train passes midnight by
-/// its last event at the place.
+/// That is so if the schedule runs on one of the two days before, and its train passes midnight
+/// before its last event at the place.
 pub(crate) fn is_under_way(train: &ScheduleView<'_>, place: &Tiploc, day: Day) -> bool
     ensures { result ≡ is_under_way place.now train.now.lines day }
 {
@@ -66,8 +66,8 @@ pub(crate) fn is_under_way(train: &ScheduleView<'_>, place: &Tiploc, day: Day) -
     passes_midnight(train, place)
 }
 
-/// Adds the docker lines of a train's events at a place on a day. `start` is the day on which the
-/// train starts.
+/// Appends the docker lines of a train's events at a place on a day to `lines`. `start` is the day
+/// on which the train starts.
 fn add_events<'a>(
     lines: &mut Vec<DockerLine<'a>>,
     train: &ScheduleView<'a>,
@@ -85,7 +85,7 @@ fn add_events<'a>(
     }
 }
 
-/// Like `add_events`, for a train whose origin and destination are given as `detail`.
+/// Like `add_events`, for a train whose origin and destination are in `detail`.
 fn add_there<'a>(
     lines: &mut Vec<DockerLine<'a>>,
     train: &ScheduleView<'a>,

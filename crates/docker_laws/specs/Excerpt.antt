@@ -20,10 +20,10 @@ pub record IsNamed (live : Table) (place uid : List ℕ) : Type 0 where
   pub associated_is : key.associated ≡ uid
   pub linked : IsLinked live place key line
 
--- the docker of the place may depend on the schedules of this UID. A schedule of the UID calls at
--- the place, or the UID is the UID of the associated train of an association at the place. All
--- schedules of the UID are then needed, since together they determine which of them is chosen on a
--- day
+-- the docker of the place may depend on the schedules of this UID. Either a schedule of the UID
+-- calls at the place, or the associated train of an association at the place has this UID. The
+-- docker then needs all schedules of the UID, since together they determine which of them is chosen
+-- on a day
 abbrev pub IsConcerned : Table → List ℕ → List ℕ → Type 0
 IsConcerned live place uid = HasCall live place uid ⊎ IsNamed live place uid
 

@@ -65,7 +65,7 @@ pub fn stand_in_has_one_docker()
 /// For the docker of a place and a day, a schedule may be replaced by the records that the docker
 /// needs of it (`lines_for`). If the schedule doesn't call at the place, it may be replaced by any
 /// records that have the same first record and don't call at the place. The first record followed
-/// by any origin and any terminus with good fields is a schedule with the same key.
+/// by any origin and any terminus with good fields forms a schedule with the same key.
 pub fn stand_in_of_a_schedule()
     ensures needed { (place : List ℕ) (day : ℕ) (lines : List (List ℕ))
         → IsStandIn place day lines (lines_for place lines) }
@@ -162,7 +162,7 @@ pub fn thinning_change_by_change()
 {}
 
 /// If a key is above the keys of all kept changes, no change to this key is kept. So a reader that
-/// knows the greatest kept key may drop a deletion of a higher key without a search.
+/// knows the greatest key of the kept changes may drop a deletion of a higher key without a search.
 pub fn nothing_kept_of_a_key_above()
     ensures none { (highest key : Key) (kept : List Change)
         → AreAtMost highest kept → IsBelow key_cmp highest key → HasNoChangeOf key kept }

@@ -15,7 +15,7 @@ change_of found = record {
 }
 
 -- says that the schedule came from one of these files. This file has the stamp's date, time and
--- reference, and makes the change that the schedule comes from
+-- reference, and the schedule comes from one of the file's changes
 pub record CameFrom (files : List (List (List ℕ))) (found : Stamped) : Type 0 where
   pub file : List (List ℕ)
   pub among : Contains files file

@@ -20,8 +20,8 @@ pub fn one_train_text()
 {}
 
 /// A schedule found in the summary of a set of files came from one of these files. This file has
-/// the stamp's date, time and reference. The file's record with the stamp's record number makes the
-/// change that the schedule comes from.
+/// the stamp's date, time and reference. The schedule comes from one of the file's changes, and
+/// this change has the stamp's record number.
 pub fn train_came_from_a_file()
     ensures { (files : List (List (List ℕ))) (horizon : ℕ) (state : State) (uid : List ℕ) (day : ℕ)
         (found : Stamped) → IsSummary files horizon state → IsFoundFor state uid day (Some found)

@@ -10,36 +10,36 @@ pub(crate) const OFFICES: usize = 3;
 /// Which of the three files an office knows, or which of them the state in a message includes.
 #[derive(Clone, Copy, PartialEq, Eq)]
 pub(crate) struct Known {
-    /// Whether the update of 5 June is included.
+    /// Whether the update of 5 June is one of these files.
     pub(crate) fifth: bool,
-    /// Whether the full extract of 7 June is included.
+    /// Whether the full extract of 7 June is one of these files.
     pub(crate) seventh: bool,
-    /// Whether the update of 9 June is included.
+    /// Whether the update of 9 June is one of these files.
     pub(crate) ninth: bool,
 }
 
-/// No file is included.
+/// The empty set: none of the three files.
 const NONE: Known = Known {
     fifth: false,
     seventh: false,
     ninth: false,
 };
 
-/// Only the update of 5 June is included.
+/// The set with only the update of 5 June.
 const FIFTH: Known = Known {
     fifth: true,
     seventh: false,
     ninth: false,
 };
 
-/// Only the full extract of 7 June is included.
+/// The set with only the full extract of 7 June.
 const SEVENTH: Known = Known {
     fifth: false,
     seventh: true,
     ninth: false,
 };
 
-/// Only the update of 9 June is included.
+/// The set with only the update of 9 June.
 const NINTH: Known = Known {
     fifth: false,
     seventh: false,

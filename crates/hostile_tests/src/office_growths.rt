@@ -160,7 +160,7 @@ fn with_ledger(desk: &Desk, text: &[u8]) -> Result<LedgerOffice, OfficeFault> {
     LedgerOffice::read(desk.alloc(), &mut source_of(text), MOST_BYTES)
 }
 
-/// Prints whether an office with a ledger lists these files.
+/// Prints whether an office that has only a ledger lists these files.
 fn compare_files(desk: &Desk, office: &LedgerOffice, wanted: &str) {
     if let Some(mut kept) = sink(desk) {
         let done = office.files(&mut kept).is_ok();

@@ -1,4 +1,4 @@
-//! The files and dockers that rows name, made of the records and lines of `test_records`.
+//! The files and dockers that rows name, made from the records and lines of `test_records`.
 
 use std::alloc::{AllocError, Global};
 use test_records::dockers::{

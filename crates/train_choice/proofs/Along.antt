@@ -55,14 +55,14 @@ link_of_group live group day rows found has is =
     best_is_link live rows group has day found
     (subst (IsLinkSoFar group day rows) (sym is) (link_behind group day [] rows None (none_linked group day)))
 
--- for the rows of a table, `train_in` gives the chosen schedule, or `None` if the chosen schedule
+-- for the rows of a table, `train_in` returns the chosen schedule, or `None` if the chosen schedule
 -- is a cancellation
 pub train_of_rows : (live : Table) (rows : List Row) (uid : List ℕ) (day : ℕ) (found : Option Train) → AreRowsOf live rows
     → IsChosenOn live uid day found → unless_cancelled found ≡ train_in rows uid day
 train_of_rows live rows uid day found are chosen =
     ap unless_cancelled (one_answer live uid day found _ chosen (chosen_tells live rows uid (rows_have live rows are uid) day))
 
--- for the rows of a table, `link_in` gives the chosen association
+-- for the rows of a table, `link_in` returns the chosen association
 pub link_of_rows : (live : Table) (rows : List Row) (group : Group) (day : ℕ) (found : Option Link) → AreRowsOf live rows
     → IsLinkOn live group day found → found ≡ link_in rows group day
 link_of_rows live rows group day found are is = one_link_answer live group day found (link_in rows group day) is (links_tell live rows are group day)

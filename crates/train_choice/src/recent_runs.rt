@@ -21,8 +21,8 @@ pub struct RecentRuns {
 }
 
 impl RecentRuns {
-    /// The result for a schedule that doesn't run on the given day or on one of the two days before
-    /// it.
+    /// The value for a schedule that runs neither on the given day nor on one of the two days
+    /// before it.
     pub(crate) fn never() -> RecentRuns
         ensures { AreRecentRuns (λ back. false) result }
     {

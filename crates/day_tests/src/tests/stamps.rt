@@ -15,7 +15,7 @@ fn at_ashfeld(rt: &impl Abort, alloc: Global, files: &[&[&[u8]]], lines: &[&[u8]
     shows(rt, alloc, files, "ASHFELD", "2024-06-10", lines);
 }
 
-/// A later update revises a schedule.
+/// A later update revises a schedule of an earlier update.
 #[test]
 fn revision(rt: HostRuntime) {
     let first: &[&[u8]] = &[HD, BS, LO, LT, ZZ];
@@ -38,7 +38,8 @@ fn late_full_extract(rt: HostRuntime) {
     );
 }
 
-/// The deletion in the newer file counts, whichever file is joined first.
+/// If the newer of two files deletes a schedule of the older file, the deletion counts, whichever
+/// file is joined first.
 #[test]
 fn deletion_first(rt: HostRuntime) {
     let alloc = rt.alloc();

@@ -33,7 +33,7 @@ module _ (uid : List ℕ) (day : ℕ) where
       subst (λ trains. IsBest (on (λ (train : Train). train.key) schedule_choice_cmp) (is_running uid day) trains found)
       (sym (trains_more rows row ∙ ap (λ more. schedules_in rows ++ more) none ∙ append-nil (schedules_in rows))) best
 
-  -- `next_chosen` computes the chosen schedule after one more row is appended
+  -- `next_chosen` computes the chosen schedule after one more row is appended to the rows
   pub chosen_more : (rows : List Row) (key : Key) (body : Body) (found : Option Train) → IsChosenSoFar uid day rows found
       → IsChosenSoFar uid day (rows ++ (key, body) ∷ []) (next_chosen uid day found key body)
   chosen_more rows (schedule_key key) (schedule_body lines) found best =
@@ -60,7 +60,7 @@ module _ (group : Group) (day : ℕ) where
       subst (λ links. IsBest (on (λ (link : Link). link.key) association_choice_cmp) (is_linked group day) links found)
       (sym (links_more rows row ∙ ap (λ more. associations_in rows ++ more) none ∙ append-nil (associations_in rows))) best
 
-  -- `next_link` computes the chosen association after one more row is appended
+  -- `next_link` computes the chosen association after one more row is appended to the rows
   pub link_more : (rows : List Row) (key : Key) (body : Body) (found : Option Link) → IsLinkSoFar group day rows found
       → IsLinkSoFar group day (rows ++ (key, body) ∷ []) (next_link group day found key body)
   link_more rows (association_key key) (association_body line) found best =

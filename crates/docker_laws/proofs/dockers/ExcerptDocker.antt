@@ -72,8 +72,8 @@ association_over one other group day key line same is = record {
 -- ---- if two tables agree wherever the docker depends on them, they have the same docker lines
 
 -- the table `other` agrees with the table `one` wherever the docker of the place depends on `one`.
--- The two tables have the same schedules of each UID that the docker needs, and the same
--- associations of each group at the place
+-- For each UID whose schedules the docker needs, both tables have the same schedules. For each
+-- group at the place, both have the same associations
 record Covers (one other : Table) (place : List ℕ) : Type 0 where
   calls : (key : ScheduleKey) (lines : List (List ℕ)) → one (schedule_key key) ≡ Some (schedule_body lines) → CallsAt place lines
       → HaveSameSchedules one other key.uid

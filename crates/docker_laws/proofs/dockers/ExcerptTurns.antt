@@ -28,7 +28,7 @@ pub kept_first : (place : List ℕ) → HasKept place [] [] [] false
 kept_first place = record { so_far = refl; is_needed = refl }
 
 module _ (place : List ℕ) (entries kept run : List Keyed) (needed : Bool) (has : HasKept place entries kept run needed) where
-  -- `next_kept` computes the lists `kept` and `run` after one more entry
+  -- `next_kept` computes the lists `kept` and `run` after the loop passes one more entry
   next_is : (x : Keyed) → kept_so_far place (entries ++ x ∷ []) ≡ next_kept place (at kept run) x
   next_is x = so_far_more place entries x ∙ ap (λ (so_far : ExcerptSoFar). next_kept place so_far x) has.so_far
 

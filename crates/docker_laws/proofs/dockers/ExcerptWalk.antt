@@ -125,8 +125,9 @@ same_tests false false to back = refl
 -- ---- the invariant of a walk
 
 -- The invariant of the walk. The list of all entries is `done`, followed by the field `run` of
--- `so_far` and by `rest`. The field `kept` has the needed entries of `done`. All entries in `run`
--- have the same UID. No entry in `done` has the UID of an entry in `run` or `rest`.
+-- `so_far` and by `rest`. The field `kept` has the entries of `done` that the docker needs. All
+-- entries in `run` have the same UID. No entry in `done` has the UID of an entry in `run` or
+-- `rest`.
 record IsAt (place : List ℕ) (all done : List Keyed) (so_far : ExcerptSoFar) (rest : List Keyed) : Type 0 where
   whole : all ≡ (done ++ so_far.run) ++ rest
   kept : so_far.kept ≡ filter (λ (entry : Keyed). is_needed place all entry.0) done

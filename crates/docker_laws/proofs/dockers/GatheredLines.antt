@@ -114,7 +114,7 @@ module _ (live : Table) (trains : List ℕ → ℕ → Option Train) (links : Gr
   of_row (association_key key) (tiploc_body bytes) is line among = absurd (nil-Contains line among)
   of_row (association_key key) (schedule_body lines) is line among = absurd (nil-Contains line among)
 
-  -- `piece` gives the docker lines of one row for each start day. These lines are in the docker,
+  -- For each start day, `piece` returns the docker lines of one row. These lines are in the docker,
   -- and no two of them tie
   module _ (key : Key) (piece : ℕ → List DockerLine) (back : (start : ℕ) (line : DockerLine) → Contains (piece start) line
       → IsLineFrom live place day key start line)

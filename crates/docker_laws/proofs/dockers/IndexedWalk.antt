@@ -1,4 +1,4 @@
--- A walk over the rows that the indexes give for a place finds each docker line of the place.
+-- A walk over the rows that the indexes list for a place finds each docker line of the place.
 use Rattle.std.proofs.Common.{◌≡◌, ℕ, List, ◌++◌, refl, ap, sym, ◌∙◌, inl, inr, ◌⊎◌, Some, Contains}
 use Rattle.std.specs.Ordering.{on}
 use Rattle.std.proofs.lemmas.List.Elements.{Contains-append_left, Contains-append_right, Contains-append_cases}

@@ -1,6 +1,6 @@
 -- Suppose that a table is lapsed with a horizon, and that a day isn't before this horizon. Then the
--- schedules and associations that are chosen for the day are unchanged. A schedule or an
--- association that runs on the day doesn't lapse.
+-- same schedules and associations are chosen for the day from the lapsed table as from the table. A
+-- schedule or an association that runs on the day doesn't lapse.
 use Rattle.std.proofs.Common.{ℕ, ◌≤◌, List, Bool, true, false, cond, arith}
 use Rattle.std.specs.Prelude.{◌↔◌, ◌&&◌, IsTrue, nat_le}
 use Rattle.std.proofs.lemmas.Bool.{leb-true}

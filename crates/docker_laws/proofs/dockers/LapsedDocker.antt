@@ -48,8 +48,8 @@ partner_after indicator start day is = by (indicator == 78) (indicator == 80) is
 -- lines of `one`
 
 -- the table `other` has each train of `one` with an event on the day. For each of these trains,
--- `other` also has the associations with this base train, and the identities of the associated
--- trains
+-- `other` also has the associations with this train as the base train, and the identities of the
+-- associated trains
 pub record CarriesOver (one other : Table) (day : ℕ) : Type 0 where
   pub trains : (uid : List ℕ) (start : ℕ) (key : ScheduleKey) (lines : List (List ℕ)) → TrainRuns one uid start key lines → (event : Event)
       → event_day start lines event ≡ day → TrainRuns other uid start key lines

@@ -18,8 +18,8 @@ state_chosen_iff horizon state uid day key lines is_day from =
     subst (λ table. IsChosen (live_table state) uid day key lines ↔ IsChosen table uid day key lines) (sym (live_lapsed horizon state))
     (chosen_iff horizon (day_bound horizon is_day) (live_table state) day from uid key lines)
 
--- on a day that isn't before the horizon, a state has the same train before and after its entries
--- lapse
+-- on a day that isn't before the horizon, a state has the same train of each UID before and after
+-- its entries lapse
 pub state_train_iff : (horizon : ℕ) (state : State) (uid : List ℕ) (day : ℕ) (key : ScheduleKey) (lines : List (List ℕ)) → IsDay horizon → horizon ≤ day
     → TrainRuns (live_table state) uid day key lines ↔ TrainRuns (live_table (lapse_state horizon state)) uid day key lines
 state_train_iff horizon state uid day key lines is_day from =

@@ -239,7 +239,8 @@ module _ (place : List ℕ) (day : ℕ) (live part : Table) (stands : StandsFor 
     few = λ key lines is_live calls. few key lines is_live;
   }
 
-  -- if one table may replace another, both have the same docker list for the place and the day
+  -- if one table may replace another for the place and the day, both have the same docker list for
+  -- this place and day
   pub stand_in_list_iff : HasFewMidnights live → HasFewMidnights part → (lines : List DockerLine)
       → IsDockerList live place day lines ↔ IsDockerList part place day lines
   stand_in_list_iff few few_part lines = (
@@ -250,7 +251,8 @@ module _ (place : List ℕ) (day : ℕ) (live part : Table) (stands : StandsFor 
   stand_in_text_same : (lines : List DockerLine) → docker_text part place day lines ≡ docker_text live place day lines
   stand_in_text_same lines = ap (text_with place day lines) (ap description_in stands.tiploc)
 
-  -- if one table may replace another, both have the same docker text for the place and the day
+  -- if one table may replace another for the place and the day, both have the same docker text for
+  -- this place and day
   pub stand_in_text_iff : HasFewMidnights live → HasFewMidnights part → (text : List ℕ)
       → IsDockerText live place day text ↔ IsDockerText part place day text
   stand_in_text_iff few few_part text = (

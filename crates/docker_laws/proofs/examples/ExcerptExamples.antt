@@ -207,7 +207,7 @@ no_partner other others uid h =
     first (inl same) = not_first other found.0 uid same
     first (inr rest) = not_second other found.0 uid (Contains-single {A = Keyed} stops_entry (schedule_key other, found.0) rest)
 
--- the docker prints the identity of the associated train
+-- the docker shows the identity of the associated train
 identity_there : IsPartnerIdentity (live_table joined) (codes "C40002") (Some 23537) (codes "4D42")
 unfolding days_from_civil day_count days_of_years days_of_months
 identity_there =
@@ -226,7 +226,7 @@ identity_there =
       refl,
     )
 
--- if the state doesn't have the associated train, the docker can't print its identity
+-- if the state doesn't have the associated train, the docker can't show its identity
 identity_lost : ¬ IsPartnerIdentity (live_table parted) (codes "C40002") (Some 23537) (codes "4D42")
 identity_lost (inl runs) = no_partner runs.0 runs.1 runs.2.chosen.running.uid_is runs.2.chosen.running.is_live
 identity_lost (inr none) = let first : ◌≡◌ {A = ℕ} 52 63 = ap (λ bytes. slice_index bytes 0) none.1 in omega arith
@@ -246,9 +246,9 @@ parted_is_no_excerpt is = by (is (schedule_key partner_key))
 partner_is_kept : (excerpt_for place joined).entries ≡ joined.entries
 partner_is_kept = refl
 
--- the excerpt of a state with only the associated train is empty. If the association were joined to
--- this excerpt later, the associated train would be missing. So an excerpt must be computed from a
--- whole state
+-- the excerpt of a state with only the associated train is empty. If a state with the association
+-- were joined to this excerpt later, the associated train would be missing. So an excerpt must be
+-- computed from a whole state
 partner_alone_is_dropped : (excerpt_for place (state_of (put_in (schedule_key partner_key) (schedule_body partner) ∷ []))).entries ≡ []
 partner_alone_is_dropped = refl
 

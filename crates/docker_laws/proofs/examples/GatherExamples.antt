@@ -54,7 +54,7 @@ day_before : gathered (train_in rows) (link_in rows) (codes "COLWELL") 23536 row
 unfolding days_from_civil day_count days_of_years days_of_months
 day_before = refl
 
--- rows in which the associated train is cancelled. The docker then prints `????` as the identity of
+-- rows in which the associated train is cancelled. The docker then shows `????` as the identity of
 -- this train
 abbrev cancelled : List Row
 cancelled = (

@@ -350,7 +350,7 @@ only_follows_on other others h = by (is_eq (schedule_key_cmp follows_on_key othe
     by true same is = same_schedule follows_on_key other same
     by false same is = none_some (schedule_body others) is
 
--- the docker of 11 June prints the associated train's identity, if the association has the date
+-- the docker of 11 June shows the associated train's identity, if the association has the date
 -- indicator `N`
 identity_there : IsPartnerIdentity (table_of partner_alone) (codes "C40002") (partner_start 78 23538) (codes "4D42")
 unfolding days_from_civil day_count days_of_years days_of_months
@@ -369,7 +369,7 @@ identity_there =
       refl,
     )
 
--- without the associated train the docker can't print that identity
+-- without the associated train the docker of 11 June can't show that train's identity
 dropped_partner_is_wrong : ¬ IsPartnerIdentity empty_table (codes "C40002") (partner_start 78 23538) (codes "4D42")
 dropped_partner_is_wrong (inl runs) = none_some (schedule_body runs.1) runs.2.chosen.running.is_live
 dropped_partner_is_wrong (inr none) = let first : ◌≡◌ {A = ℕ} 52 63 = ap (λ bytes. slice_index bytes 0) none.1 in omega arith

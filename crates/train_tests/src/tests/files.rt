@@ -31,18 +31,18 @@ const RESTORES: &[&[u8]] = &[HD_10B_0605, BS_CANCELLED_DELETED, ZZ];
 /// A file that is newer than `FIRST` and revises the permanent schedule.
 const REVISES: &[&[u8]] = &[HD_10B_0605, BS_REVISED_SHORTER, LO_0920, LT, ZZ];
 
-/// The heading for 11 June. On this day C10001 runs according to the overlay, record 5 of the first
-/// file.
+/// The heading for 11 June. On this day C10001 runs according to the overlay, record 5 of the file
+/// `FIRST`.
 const OVERLAY: &[u8] =
     b"TRAIN  C10001  2024-06-11 O RUNS      2024-06-09 2100 DFROC1A          5        ";
 
 /// The heading for 14 June. On this day C10001 runs according to the permanent schedule, record 2
-/// of the first file.
+/// of the file `FIRST`.
 const RESTORED: &[u8] =
     b"TRAIN  C10001  2024-06-14 P RUNS      2024-06-09 2100 DFROC1A          2        ";
 
-/// The heading for 12 June. On this day C10001 runs according to the revision, record 2 of the
-/// second file.
+/// The heading for 12 June. On this day C10001 runs according to the revision, record 2 of the file
+/// `REVISES`.
 const REVISED: &[u8] =
     b"TRAIN  C10001  2024-06-12 P RUNS      2024-06-10 0605 DFROC1B          2        ";
 
@@ -61,7 +61,8 @@ fn files_say(rt: &impl Abort, alloc: Global, files: &[&[&[u8]]], on: &str, wante
     says(rt, alloc, &state, "C10001", on, wanted);
 }
 
-/// A later file deletes the permanent schedule, and the overlay is still chosen.
+/// A second file deletes the permanent schedule of the first file. The overlay of the first file is
+/// still chosen.
 #[test]
 fn deleted(rt: HostRuntime) {
     let overlay: &[&[u8]] = &[OVERLAY, BS_OVERLAY, LO_0915, LT, END];
@@ -77,8 +78,8 @@ fn deleted(rt: HostRuntime) {
     );
 }
 
-/// A later file deletes a cancellation. The train runs again, according to the schedule of the
-/// first file.
+/// A second file deletes the cancellation of the first file. The train runs again, according to the
+/// permanent schedule of the first file.
 #[test]
 fn restored(rt: HostRuntime) {
     let restored: &[&[u8]] = &[RESTORED, BS_WEEK, LO, LT, END];
@@ -86,7 +87,8 @@ fn restored(rt: HostRuntime) {
     files_say(&rt, rt.alloc(), &[RESTORES, FIRST], "2024-06-14", restored);
 }
 
-/// A later file revises the schedule. The revision is stored with the transaction `N`.
+/// A second file revises the permanent schedule of the first file. The revision is stored with the
+/// transaction `N`.
 #[test]
 fn revised(rt: HostRuntime) {
     let revised: &[&[u8]] = &[REVISED, BS_SHORTER, LO_0920, LT, END];

@@ -2,7 +2,7 @@ use Rattle.std.proofs.Common.{◌≡◌}
 use Rattle.docker_day.proofs.RowPortions.{AddsFirst}
 use Rattle.docker_day.proofs.portions.add_portion.Given as goal
 
--- the lines of the portion's rows before the current row have been added
+-- the docker lines of the portion's rows before the current row have been appended to `lines`
 abbrev pub invariant-loop-row : goal.invariant-loop-row
 invariant-loop-row l = record {
   same : l.visits ≡ l.fn.visits;
