@@ -22,7 +22,7 @@ abbrev pub runs_near : ℕ → List ℕ → Bool
 runs_near day line = list_any (λ start. schedule_runs line start) (near_starts day)
 
 -- whether an op may count on the day. A put of a schedule may count if and only if the schedule
--- runs near the day, and any other op may count
+-- runs on a start day near the day, and any other op may count
 abbrev pub may_count : ℕ → Op → Bool
 may_count day (put_with (schedule_body lines)) = runs_near day (first_record lines)
 may_count day op = true

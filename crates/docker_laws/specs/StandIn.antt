@@ -19,7 +19,7 @@ pub record IsStandIn (place : List ℕ) (day : ℕ) (whole lines : List (List �
 
 -- `part` may replace `live` in the docker of the place and the day. Both have the same body at the
 -- place's TIPLOC, and the same associations at the place. For each schedule of one table that runs
--- near the day, the other table has, at the same key, a schedule that may replace it
+-- on a start day near the day, the other table has, at the same key, a schedule that may replace it
 pub record StandsFor (place : List ℕ) (day : ℕ) (live part : Table) : Type 0 where
   pub tiploc : part (tiploc_key place) ≡ live (tiploc_key place)
   pub associations : (key : AssociationKey) → key.location ≡ place → part (association_key key) ≡ live (association_key key)

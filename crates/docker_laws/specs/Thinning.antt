@@ -66,7 +66,7 @@ thin_act place day (put body) = if may_count day (put_with body) then put (body_
 abbrev pub thin_change : List ℕ → ℕ → Change → Change
 thin_change place day change = record { number = change.number; key = change.key; act = thin_act place day change.act }
 
--- the thin forms of the changes whose keys may matter at the place
+-- the thin forms of the changes whose keys may matter to the docker of the place
 abbrev pub thin_changes : List ℕ → ℕ → List Change → List Change
 thin_changes place day changes = map (thin_change place day) (filter (λ (change : Change). may_matter place change.key) changes)
 

@@ -62,8 +62,8 @@ pub fn stand_in_has_one_docker()
         → HasGoodBodies live → StandsFor place day live (thinned place day live) }
 {}
 
-/// For the docker of a place and a day, a schedule may be replaced by the records that the docker
-/// needs of it (`lines_for`). If the schedule doesn't call at the place, it may be replaced by any
+/// For the docker of a place and a day, a schedule may be replaced by those of its records that the
+/// docker needs (`lines_for`). If the schedule doesn't call at the place, it may be replaced by any
 /// records that have the same first record and don't call at the place. The first record followed
 /// by any origin and any terminus with good fields forms a schedule with the same key.
 pub fn stand_in_of_a_schedule()
@@ -111,8 +111,8 @@ pub fn thin_lines_in_a_walk()
 
 /// If a schedule runs on no start day near the day, the thin form of its put is a deletion.
 /// Otherwise, if the schedule doesn't call at the place, the thin form is a put of the thin
-/// records. Any other act is unchanged. Whether a schedule runs near the day doesn't depend on its
-/// transaction.
+/// records. Any other act is unchanged. Whether a schedule runs on a start day near the day doesn't
+/// depend on its transaction.
 pub fn thin_act_by_case()
     ensures deletes { (place : List ℕ) (day : ℕ) → thin_act place day delete ≡ delete }
     ensures tiploc { (place : List ℕ) (day : ℕ) (bytes : List ℕ)
@@ -132,10 +132,10 @@ pub fn thin_act_by_case()
         → runs_near day (as_new line) ≡ runs_near day line }
 {}
 
-/// A thinning can be made change by change. A change to a key that can't matter at the place may be
-/// dropped, and any other change may be kept in its thin form. A deletion may be dropped if no
-/// change to its key is kept. When a key is deleted or put again, the kept changes to that key may
-/// be removed.
+/// A thinning can be made change by change. A change to a key that can't matter to the docker of
+/// the place may be dropped, and any other change may be kept in its thin form. A deletion may be
+/// dropped if no change to its key is kept. When a key is deleted or put again, the kept changes to
+/// that key may be removed.
 pub fn thinning_change_by_change()
     ensures first { (place : List ℕ) (day : ℕ) → IsThinning place day [] [] }
     ensures elsewhere { (place : List ℕ) (day : ℕ) (all kept : List Change) (change : Change)

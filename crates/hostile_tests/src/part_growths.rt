@@ -81,8 +81,8 @@ fn rebuilt(desk: &Desk, one: &State, at: At) -> Result<State, Memory> {
     made
 }
 
-/// Runs a row with the argument `STATE`. The state, which has one file and one entry, is built anew
-/// from its ledger item and its entry.
+/// Runs a row with the argument `STATE`. The state, which has one ledger item and one entry, is
+/// built anew from its ledger item and its entry.
 pub(crate) fn parts(desk: &Desk, call: &str, words: &[&str]) {
     let [name] = words else {
         return desk.trouble("STATE");
@@ -137,7 +137,7 @@ fn commit(desk: &Desk, own: &mut State, staging: Staging, at: At) -> Result<(), 
 }
 
 /// Runs a row with the arguments `STATE OTHER JOINED`. The first state receives the second state,
-/// which has one file and one entry. The first state must then equal the third state.
+/// which has one ledger item and one entry. The first state must then equal the third state.
 pub(crate) fn staging(desk: &Desk, call: &str, words: &[&str]) {
     let [own, other, wanted] = words else {
         return desk.trouble("STATE OTHER JOINED");

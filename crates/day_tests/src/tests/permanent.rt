@@ -41,7 +41,7 @@ const AA_NEW: &[u8] =
 /// indicator `N`.
 const WORKS_ON_AS_NEW: &[u8] = b"2350  N 4D40 C40001 N   1                C40002  ????   ";
 
-/// The heading of the docker of Ashfeld on 10 June, with its description.
+/// The heading of the docker of Ashfeld on 10 June, with the description of Ashfeld.
 const AT_ASHFIELD_CENTRAL: &[u8] = b"DOCKER ASHFELD 2024-06-10 ASHFIELD CENTRAL              ";
 
 /// The text of the permanent docker for a place and a day.
@@ -165,7 +165,8 @@ fn cancelled_night_train(rt: HostRuntime) {
     keeps(&rt, alloc, files, "COLWELL", "2024-06-10", &[]);
 }
 
-/// A permanent association has its line on a day on which it is cancelled.
+/// On the permanent docker, a permanent association has its line even on a day on which it is
+/// cancelled.
 #[test]
 fn cancelled_association(rt: HostRuntime) {
     let alloc = rt.alloc();
@@ -229,7 +230,7 @@ fn works_on(rt: &impl Abort, alloc: Global, association: &[u8], now: &[u8], want
     keeps(rt, alloc, &[file], "COLWELL", "2024-06-10", wanted);
 }
 
-/// On the permanent docker, the line of an association has the identity of the associated train,
+/// On the permanent docker, the line of an association shows the identity of the associated train,
 /// even if that train is cancelled. A short-term association has no line.
 #[test]
 fn identity_of_a_cancelled_partner(rt: HostRuntime) {

@@ -63,8 +63,7 @@ module _ (place : List ℕ) (P : List Keyed → ExcerptSoFar → Type 0)
 
 -- ---- the entries in `kept` and `run` are a sublist of the entries that the walk has passed
 
--- the result of `kept_after_run` is a sublist of the entries in `kept` followed by the entries in
--- `run`
+-- the result of `kept_after_run` is a sublist of the concatenation of `kept` and `run`
 pub after_run_within : (place : List ℕ) (so_far : ExcerptSoFar) → IsSublist (kept_after_run place so_far) (so_far.kept ++ so_far.run)
 after_run_within place so_far = by (is_run_needed place so_far)
   where

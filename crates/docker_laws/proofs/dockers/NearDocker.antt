@@ -102,7 +102,8 @@ abbrev LinksOver : Table → Table → Type 0
 LinksOver one other =
     (group : Group) (start : ℕ) (key : AssociationKey) (line : List ℕ) → IsAssociated one group start key line → IsAssociated other group start key line
 
--- the two tables have the same schedules that run near the day, and the same associations
+-- the two tables have the same associations, and the same schedules among those that run on a start
+-- day near the day
 record AreAlike (one other : Table) (day : ℕ) : Type 0 where
   runs : RunsOver one other day
   runs_back : RunsOver other one day
@@ -179,8 +180,8 @@ list_over one other place day forth back lines is = record {
 abbrev pub IsLeftOut : ℕ → Table → Key → Type 0
 IsLeftOut day live key = (lines : List (List ℕ)) × (live key ≡ Some (schedule_body lines)) × (runs_near day (first_record lines) ≡ false)
 
--- `part` results from `live` by leaving out schedules that don't run near the day. At each key
--- `part` equals `live`, or `part` has no body and the key may be left out
+-- `part` results from `live` by leaving out schedules that run on no start day near the day. At
+-- each key `part` equals `live`, or `part` has no body and the key may be left out
 abbrev pub IsNearPart : ℕ → Table → Table → Type 0
 IsNearPart day live part = (key : Key) → (part key ≡ live key) ⊎ ((part key ≡ None) × IsLeftOut day live key)
 

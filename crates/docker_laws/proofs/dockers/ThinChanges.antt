@@ -37,7 +37,8 @@ left_by act = body_of (op_of act)
 
 -- ---- thinning commutes with one change
 
--- the body that the thin form of an act leaves is the thinned form of the body that the act leaves
+-- if an act leaves a body at a key, the thin form of the act leaves the thinned form of this body
+-- there
 thin_left : (place : List ℕ) (day : ℕ) (act : Act) → left_by (thin_act place day act) ≡ option_and_then (thin_body place day) (left_by act)
 thin_left place day delete = refl
 thin_left place day (put body) = by (may_count day (put_with body))
@@ -64,7 +65,8 @@ none_or true = refl
 none_or false = refl
 
 module _ (place : List ℕ) (day : ℕ) where
-  -- a change to a key that can't matter at the place leaves the thinned table unchanged
+  -- a change to a key that can't matter to the docker of the place leaves the thinned table
+  -- unchanged
   step_elsewhere : (table : Table) (change : Change) (key : Key) → may_matter place change.key ≡ false
       → thinned place day (after_change table change) key ≡ thinned place day table key
   step_elsewhere table change key no_matter = by (is_of key change) refl
@@ -78,8 +80,9 @@ module _ (place : List ℕ) (day : ℕ) where
           nothing (after_change table change) none ∙ sym (nothing table none)
       by false h = left_at place day (after_change table change) table key (after_there table change key h)
 
-  -- thinning commutes with a change whose key may matter. If `left` is the thinned table, applying
-  -- the thin form of the change to `left` gives the thinned form of the table after the change
+  -- thinning commutes with a change whose key may matter to the docker of the place. If `left` is
+  -- the thinned table, applying the thin form of the change to `left` gives the thinned form of the
+  -- table after the change
   step_kept : (table left : Table) (change : Change) (key : Key) → may_matter place change.key ≡ true → left key ≡ thinned place day table key
       → after_change left (thin_change place day change) key ≡ thinned place day (after_change table change) key
   step_kept table left change key matters same = by (is_of key change) refl
@@ -97,7 +100,7 @@ module _ (place : List ℕ) (day : ℕ) where
 
   -- ---- thinning commutes with all changes of a list
 
-  -- the changes whose keys may matter at the place
+  -- the changes whose keys may matter to the docker of the place
   abbrev matter : List Change → List Change
   matter changes = filter (λ (change : Change). may_matter place change.key) changes
 
@@ -188,12 +191,13 @@ module _ (place : List ℕ) (day : ℕ) where
     all_more : (key : Key) → thinned place day (table_of (changes ++ change ∷ [])) key ≡ thinned place day (after_change (table_of changes) change) key
     all_more key = ap (λ (table : Table). thinned place day table key) (table_more empty_table changes change)
 
-    -- a change to a key that can't matter at the place may be dropped
+    -- a change to a key that can't matter to the docker of the place may be dropped
     enough_elsewhere : may_matter place change.key ≡ false → AreEnough place day (changes ++ change ∷ []) kept
     enough_elsewhere no_matter key =
         so_far key ∙ sym (step_elsewhere place day (table_of changes) change key no_matter) ∙ sym (all_more key)
 
-    -- the thin form of a change may be kept if its key may matter
+    -- if the key of a change may matter to the docker of the place, the thin form of the change may
+    -- be kept
     enough_kept : may_matter place change.key ≡ true → AreEnough place day (changes ++ change ∷ []) (kept ++ thin_change place day change ∷ [])
     enough_kept matters key =
         (λ i. table_more empty_table kept (thin_change place day change) i key)
@@ -277,7 +281,7 @@ sublist_map {A} f (x ∷ xs) (y ∷ ys) is = by (sublist_map f xs ys) (sublist_m
     by both_step skip (inr later) = inr (skip later)
 
 module _ (place : List ℕ) (day : ℕ) where
-  -- the thin forms of all changes whose keys may matter are a thinning
+  -- the thin forms of all changes whose keys may matter to the docker of the place are a thinning
   pub thinning_of_all : (changes : List Change) → IsThinning place day changes (thin_changes place day changes)
   thinning_of_all changes = record {
     some = sublist_map (thin_change place day) (filter (λ (change : Change). may_matter place change.key) changes) changes
@@ -310,14 +314,15 @@ module _ (place : List ℕ) (day : ℕ) where
         (sublist_append others before (thin_change place day change ∷ []) (thin_change place day change ∷ [])
         (sublist_onward others kept before inside is.some) (sublist_itself (thin_change place day change ∷ [])))
 
-    -- a change to a key that can't matter at the place may be dropped
+    -- a change to a key that can't matter to the docker of the place may be dropped
     pub thinning_elsewhere : may_matter place change.key ≡ false → IsThinning place day (changes ++ change ∷ []) kept
     thinning_elsewhere no_matter = record {
       some = still_some kept (sublist_itself kept);
       enough = enough_elsewhere place day changes kept change is.enough no_matter;
     }
 
-    -- the thin form of a change may be kept if its key may matter
+    -- if the key of a change may matter to the docker of the place, the thin form of the change may
+    -- be kept
     pub thinning_kept : may_matter place change.key ≡ true → IsThinning place day (changes ++ change ∷ []) (kept ++ thin_change place day change ∷ [])
     thinning_kept matters = record {
       some = some_more kept (sublist_itself kept);
@@ -346,8 +351,8 @@ module _ (place : List ℕ) (day : ℕ) where
       enough = enough_replaced place day changes kept change is.enough matters;
     }
 
--- a thinning of some changes can be continued with more changes, by keeping the thin form of each
--- further change whose key may matter
+-- a thinning of some changes can be continued with more changes. For each further change whose key
+-- may matter to the docker of the place, the thin form of this change is kept
 pub thinning_more : (place : List ℕ) (day : ℕ) (all kept more : List Change) → IsThinning place day all kept
     → IsThinning place day (all ++ more) (kept ++ thin_changes place day more)
 thinning_more place day all kept [] is =
@@ -378,26 +383,26 @@ thinning_more place day all kept (change ∷ more) is =
 -- ---- the thin form of an act in each case
 
 module _ (place : List ℕ) (day : ℕ) (lines : List (List ℕ)) where
-  -- if a schedule doesn't run near the day, the thin form of its put is a deletion
+  -- if a schedule runs on no start day near the day, the thin form of its put is a deletion
   pub act_far : runs_near day (first_record lines) ≡ false → thin_act place day (put (schedule_body lines)) ≡ delete
   act_far far = λ i. cond (far i) (put (schedule_body (lines_for place lines))) delete
 
   act_near : runs_near day (first_record lines) ≡ true → thin_act place day (put (schedule_body lines)) ≡ put (schedule_body (lines_for place lines))
   act_near near = λ i. cond (near i) (put (schedule_body (lines_for place lines))) delete
 
-  -- if a schedule runs near the day and calls at the place, the thin form of its put is the same
-  -- put
+  -- if a schedule runs on a start day near the day and calls at the place, the thin form of its put
+  -- is the same put
   pub act_calls : runs_near day (first_record lines) ≡ true → calls_at place lines ≡ true
       → thin_act place day (put (schedule_body lines)) ≡ put (schedule_body lines)
   act_calls near calls = act_near near ∙ (λ i. put (schedule_body (cond (calls i) lines (thin_lines lines))))
 
-  -- if a schedule runs near the day but doesn't call at the place, the thin form of its put is a
-  -- put of the thin records
+  -- if a schedule runs on a start day near the day but doesn't call at the place, the thin form of
+  -- its put is a put of the thin records
   pub act_thin : runs_near day (first_record lines) ≡ true → calls_at place lines ≡ false
       → thin_act place day (put (schedule_body lines)) ≡ put (schedule_body (thin_lines lines))
   act_thin near none = act_near near ∙ (λ i. put (schedule_body (cond (none i) lines (thin_lines lines))))
 
--- whether a basic schedule runs near the day doesn't depend on its transaction
+-- whether a basic schedule runs on a start day near the day doesn't depend on its transaction
 pub near_of_new : (day : ℕ) (line : List ℕ) → runs_near day (as_new line) ≡ runs_near day line
 near_of_new day line = λ i. list_any
     (λ start. runs_within (new_columns line 10 15 (omega arith) i) (new_columns line 16 21 (omega arith) i) (new_columns line 22 28 (omega arith) i) start)

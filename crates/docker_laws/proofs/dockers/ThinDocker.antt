@@ -62,7 +62,7 @@ stand_in_by_first place day whole lines same none no_other = record {
     by (inl calls) = absurd (elsewhere whole none calls)
     by (inr calls) = absurd (elsewhere lines no_other calls)
 
--- the records that the docker of the place needs of a schedule may replace the schedule
+-- the records of a schedule that the docker of the place needs may replace the whole schedule
 pub needed_stand_in : (place : List ℕ) (day : ℕ) (lines : List (List ℕ)) → IsStandIn place day lines (lines_for place lines)
 needed_stand_in place day lines = by (calls_at place lines) refl
   where
@@ -70,12 +70,12 @@ needed_stand_in place day lines = by (calls_at place lines) refl
     by true h = record { runs = λ start near. refl; identity = refl; calls = λ either. refl }
     by false h = stand_in_by_first place day lines (thin_lines lines) (first_of_thin lines) h (thin_elsewhere place lines h)
 
--- ---- two tables have the same docker if each has all that the docker needs of the other table
+-- ---- two tables have the same docker if each has all that the docker needs from the other table
 
--- the table `other` has all that the docker needs of the table `one`. For each schedule of `one`
--- that runs near the day, `other` has a schedule that may replace it. Each association of `one` at
--- the place is also in `other`. A schedule of `one` that calls at the place passes midnight at most
--- twice
+-- the table `other` has all that the docker needs from the table `one`. For each schedule of `one`
+-- that runs on a start day near the day, `other` has a schedule that may replace it. Each
+-- association of `one` at the place is also in `other`. A schedule of `one` that calls at the place
+-- passes midnight at most twice
 record Covers (one other : Table) (place : List ℕ) (day : ℕ) : Type 0 where
   runs : (start : ℕ) → IsStartNear day start → (uid : List ℕ) (key : ScheduleKey) (lines : List (List ℕ)) → IsRunning one uid start key lines
       → (others : List (List ℕ)) × IsRunning other uid start key others × IsStandIn place day lines others
@@ -193,7 +193,7 @@ module _ (one other : Table) (place : List ℕ) (day : ℕ) (forth : Covers one 
   line_over line (inl event) = inl (event_line_over one other place day forth back line event)
   line_over line (inr association) = inr (association_line_over line association)
 
--- two tables have the same docker list if each has all that the docker needs of the other table
+-- two tables have the same docker list if each has all that the docker needs from the other table
 list_over : (one other : Table) (place : List ℕ) (day : ℕ) → Covers one other place day → Covers other one place day → (lines : List DockerLine)
     → IsDockerList one place day lines → IsDockerList other place day lines
 list_over one other place day forth back lines is = record {
@@ -263,8 +263,8 @@ module _ (place : List ℕ) (day : ℕ) (live part : Table) (stands : StandsFor 
 -- ---- the thinned table may replace the table
 
 module _ (place : List ℕ) (day : ℕ) (live : Table) where
-  -- if a schedule in the table runs near the day, the thinned table has records of this schedule at
-  -- the same key: the records that the docker needs (`lines_for`)
+  -- if a schedule in the table runs on a start day near the day, the thinned table has records of
+  -- this schedule at the same key: the records that the docker needs (`lines_for`)
   schedule_left : (key : ScheduleKey) (lines : List (List ℕ)) → live (schedule_key key) ≡ Some (schedule_body lines)
       → runs_near day (first_record lines) ≡ true → thinned place day live (schedule_key key) ≡ Some (schedule_body (lines_for place lines))
   schedule_left key lines is_live runs =

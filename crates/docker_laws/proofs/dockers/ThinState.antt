@@ -171,7 +171,7 @@ module _ (place : List ℕ) (day : ℕ) (file : List (List ℕ)) (is_file : IsFi
       subst (λ items. Contains (map (λ (item : LedgerItem). item.stamp) items) (file_stamp_of file)) (sym of.ledger)
       (single-Contains (file_stamp_of file) (file_stamp_of file) refl)
 
-  -- the entry of a kept change is good
+  -- the entry that a kept change leaves is well formed (`IsGoodEntry`)
   entry_good : (change : Change) → Contains kept change → IsGoodEntry state.ledger (entry_of_change file change)
   entry_good change among =
       let told = kept_good place day file is_file few kept is change among in

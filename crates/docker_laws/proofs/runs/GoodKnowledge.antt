@@ -30,11 +30,12 @@ none_good dks_2 = omega arith
 no_files_good : AreFiles []
 no_files_good = (All-nil IsFile, All-nil (λ file. length file ≤ most_records))
 
--- an office that knows no file and no horizon has good knowledge
+-- if an office knows no file and no horizon, its knowledge is good (`IsGoodKnown`)
 pub nothing_good : (format : Format) → IsGoodKnown format nothing
 nothing_good format = (no_files_good, none_good format)
 
--- if what each of two offices knows is good, the union of their knowledge is good
+-- if the knowledge of each of two offices is good (`IsGoodKnown`), so is the union of their
+-- knowledge
 pub united_good : (format : Format) (first second : Known) → IsGoodKnown format first → IsGoodKnown format second → IsGoodKnown format (united first second)
 united_good format first second one two = (
   (All-append IsFile first.files second.files one.0.0 two.0.0, All-append (λ file. length file ≤ most_records) first.files second.files one.0.1 two.0.1),
@@ -42,6 +43,7 @@ united_good format first second one two = (
 )
 
 -- if an office accepts a file under a limit, and knows only this file, its knowledge is good
+-- (`IsGoodKnown`)
 pub file_good : (format : Format) (text : List ℕ) (limit : ℕ) → limit ≤ most_records → IsFileText limit text (lines_of text)
     → IsGoodKnown format (record { files = lines_of text ∷ []; horizon = 0 })
 file_good format text limit low file =
@@ -55,8 +57,8 @@ file_good format text limit low file =
       none_good format,
     )
 
--- if a format allows a horizon, an office that knows only this horizon, and no file, has good
--- knowledge
+-- if a format allows a horizon, and an office knows only this horizon and no file, its knowledge is
+-- good (`IsGoodKnown`)
 pub horizon_good : (format : Format) (day : ℕ) → IsHorizonOf format day → IsGoodKnown format (record { files = []; horizon = day })
 horizon_good format day is = (no_files_good, is)
 
@@ -67,7 +69,7 @@ good_at P [] i d all one = one
 good_at P (x ∷ xs) zero d all one = All-head P x xs all
 good_at P (x ∷ xs) (suc i) d all one = good_at P xs i d (All-tail P x xs all) one
 
--- the knowledge of each office, and the knowledge that each message brings, is good
+-- the knowledge of each office, and the knowledge that each message brings, is good (`IsGoodKnown`)
 abbrev pub AllGood : Format → KnownSets → Type 0
 AllGood format known = All (IsGoodKnown format) known.offices × All (IsGoodKnown format) known.messages
 
@@ -124,8 +126,8 @@ module _ (format : Format) where
       good_along (after_reply known (event, reply)) events replies (good_after known event reply good (All-head (IsGoodEvent format) event events each) are.0)
       (All-tail (IsGoodEvent format) event events each) are.1
 
-  -- after a run of good events, the knowledge of each office, and the knowledge that each message
-  -- brings, is good
+  -- after a run of good events (`IsGoodEvent`), the knowledge of each office, and the knowledge
+  -- that each message brings, is good (`IsGoodKnown`)
   pub good_in_run : (offices : ℕ) (events : List RunEvent) (replies : List Reply) → All (IsGoodEvent format) events
       → AreReplies (none_known offices) events replies
       → AllGood format (known_sets offices events replies)

@@ -1,5 +1,6 @@
--- If an office's knowledge is good for a format, the format can hold the summary of the files that
--- the office knows. The counts in a text of fewer than 2^64 bytes fit in eight bytes.
+-- If an office's knowledge is good for a format (`IsGoodKnown`), the format can hold the summary of
+-- the files that the office knows. The counts in a text of fewer than 2^64 bytes fit in eight
+-- bytes.
 use Rattle.std.proofs.Common.{◌≡◌, ℕ, ◌+◌, ◌^◌, ◌<◌, ◌≤◌, List, [], ◌∷◌, ◌++◌, length, sym, ◌∙◌, ap, subst, arith, length-append}
 use Rattle.std.specs.List.{flat_map}
 use Rattle.std.specs.Int.{w64, to_be_bytes}
@@ -69,8 +70,8 @@ op_told dks_2 horizon act day = any (lapse horizon (op_of act))
     any lapsed = tt
     any (put_with body) = tt
 
--- if knowledge is good for a format, the summary of the known files is a valid state that the
--- format can hold
+-- if an office's knowledge is good for a format (`IsGoodKnown`), the summary of the known files is
+-- a valid state that the format can hold
 pub summary_told : (format : Format) (known : Known) (state : State) → IsGoodKnown format known → IsStateOf known state → IsToldState format state
 summary_told format known state good summary = record {
   valid = summary_is_valid known.files known.horizon state (horizon_day format known.horizon good.1) good.0.0 good.0.1 summary;
