@@ -19,8 +19,8 @@ module _ (there : PlaceDay) (view : RowView) where
   abbrev AddsBack : ℕ → List DockerLine → List DockerLine → Type 0
   AddsBack back before after = Adds (live_in there.timetable) (λ trains links. row_back trains links there.place there.day view back) before after
 
-  -- for the visit whose start day is `back` days before the day, the row's lines for this start day
-  -- are appended
+  -- for the visit whose start day is `back` days before the day, `after` is `before` with the row's
+  -- lines for this start day appended
   adds_back : (back : ℕ) (visit : Option Visit) (before after : List DockerLine) → visit ≡ visit_back there back → AddsIf visit view before after
       → AddsBack back before after
   adds_back back visit before after is adds = by (nat_le back there.day) refl (subst (λ (v : Option Visit). AddsIf v view before after) is adds)
@@ -42,8 +42,8 @@ module _ (there : PlaceDay) (view : RowView) where
       (λ i. cond (leb-zero there.day i) (Some (record { timetable = there.timetable; place = there.place; day = there.day; start = there.day - 0 })) None)
       ∙ (λ i. Some (record { timetable = there.timetable; place = there.place; day = there.day; start = same i }))
 
-  -- for the visit whose start day is the day itself, the row's lines for this start day are
-  -- appended
+  -- for the visit whose start day is the day itself, `after` is `before` with the row's lines for
+  -- this start day appended
   adds_today : (today : Visit) (before after : List DockerLine)
       → today ≡ record { timetable = there.timetable; place = there.place; day = there.day; start = there.day } → AddsAt today view before after
       → AddsBack 0 before after
@@ -54,7 +54,7 @@ module _ (there : PlaceDay) (view : RowView) where
   AddsRow before after = Adds (live_in there.timetable) (λ trains links. view_lines trains links there.place there.day view) before after
 
 module _ (there again : PlaceDay) (view : RowView) (today : Visit) (day_before two_before : Option Visit) where
-  -- for the three visits together, all docker lines of the row are appended
+  -- for the three visits together, `last` is `first` with all docker lines of the row appended
   pub adds_on_visits : (first second third last : List DockerLine) → there ≡ again
       → AreVisits there today day_before two_before → AddsAt today view first second → AddsIf day_before view second third
       → AddsIf two_before view third last → AddsRow again view first last
@@ -64,7 +64,7 @@ module _ (there again : PlaceDay) (view : RowView) (today : Visit) (day_before t
       (adds_back there view 1 day_before second third are.day_before_is two) (adds_back there view 2 two_before third last are.two_before_is three))
 
   -- let `row_under_way` say that the row can't have lines for a train that started before the day.
-  -- Then all lines of the row are appended for the visit whose start day is the day itself
+  -- Then the lines for the visit whose start day is the day itself are all lines of the row
   pub adds_today_alone : (first second : List DockerLine) → there ≡ again → AreVisits there today day_before two_before
       → IsLiveView (live_in again.timetable) view → row_under_way again.place view again.day ≡ false → AddsAt today view first second
       → AddsRow again view first second

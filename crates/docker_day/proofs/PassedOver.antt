@@ -201,8 +201,8 @@ first_back_alone place day view live first second is_live not_so one =
     (λ rows are. nothing second (none_back live rows are place day view is_live not_so).0)
     (λ rows are. nothing second (none_back live rows are place day view is_live not_so).1)
 
--- if `row_runs_recently` says that a row can't have lines on the day, no lines of the row are
--- appended
+-- if `row_runs_recently` says that a row can't have lines on the day, there are no lines of the row
+-- to append
 pub not_recently : (place : List ℕ) (day : ℕ) (view : RowView) (live : Table) (first : List DockerLine) → IsLiveView live view
     → row_runs_recently view day ≡ false → Adds live (λ trains links. view_lines trains links place day view) first first
 not_recently place day view live first is_live not_so =

@@ -68,13 +68,15 @@ pub none_after : (day : ℕ) (all rest fewer : List Row) (so_far : Bool) (found 
 none_after day all rest fewer so_far None left before end after none = passed_again day all rest fewer left (before none) (after (λ bad. cc))
 none_after day all rest fewer so_far (Some may) left before end after none = absurd (end may refl)
 
--- let a walk add the lines of the rows that it passes in each of two steps. Then it has added the lines of all rows that it passed in the two steps
+-- suppose that in each of two steps, a walk appends the lines of the rows that it passes. Then it
+-- has appended the lines of all rows that it passed in the two steps
 pub moved_again : (there again : PlaceDay) (all rest fewer : List Row) (first second third : List DockerLine) → again ≡ there
     → HaveMoved there all rest first second → HaveMoved again rest fewer second third → HaveMoved there all fewer first third
 moved_again there again all rest fewer first second third same one two = λ rows are.
     subst (λ (p : PlaceDay). HaveMoved p rest fewer second third) same two rows are ∙ one rows are
 
--- if a walk has added the lines of all rows that it has passed, this is still true after the walk skips rows without docker lines
+-- if a walk has appended the lines of all rows that it has passed, this is still true after the
+-- walk skips rows without docker lines
 pub moved_over : (there again : PlaceDay) (all rest fewer : List Row) (first second : List DockerLine) → again ≡ there
     → AreLive (live_in again.timetable) rest → HaveMoved there all rest first second → ArePassedOver again.day rest fewer
     → HaveMoved there all fewer first second

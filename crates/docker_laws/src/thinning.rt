@@ -176,9 +176,9 @@ pub fn nothing_kept_of_a_key_above()
 {}
 
 /// A reader may keep the thin forms of only some changes. The table after the kept changes equals
-/// the thinned table after all changes. Applying the thin changes to a thinned table equals
-/// applying all changes to the table and then thinning the result. The kept changes of a file are
-/// well formed.
+/// the thinned table after all changes. Applying the thin changes to a thinned table gives the same
+/// table as applying all changes to the table and then thinning the result. The kept changes of a
+/// file are well formed.
 pub fn kept_changes_make_the_thinned_table()
     ensures table { (place : List ℕ) (day : ℕ) (all kept : List Change) (key : Key)
         → IsThinning place day all kept

@@ -6,20 +6,20 @@ use docker_cmd::{Fault, JobFault, OfficeFault, fault_text, status};
 use docker_office::{StateCause, StateFault};
 use std::process::Abort;
 
-/// Asserts the status and the printed line of a fault.
+/// Asserts the program's status for a fault, and the line that the program prints for it.
 fn reports(rt: &impl Abort, fault: Fault, number: u8, line: &str) {
     same(rt, status(&fault), number);
     let text = fault_text(&fault);
     same(rt, text.as_slice(), line.as_bytes());
 }
 
-/// Asserts the printed line of a file that has a fault at its second record.
+/// Asserts the line that the program prints for a file with a fault at its second record.
 fn reports_file(rt: &impl Abort, cause: FileCause, line: &str) {
     let fault = FileFault { number: 2, cause };
     reports(rt, Fault::Office(OfficeFault::File(fault)), 1, line);
 }
 
-/// Asserts the printed line of a state that has a fault at this offset.
+/// Asserts the line that the program prints for a state with a fault at this offset.
 fn reports_state(rt: &impl Abort, at: u64, cause: StateCause, line: &str) {
     let fault = StateFault { at, cause };
     reports(rt, Fault::Office(OfficeFault::State(fault)), 1, line);

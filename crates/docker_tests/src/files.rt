@@ -6,7 +6,7 @@ use crate::records::*;
 pub(crate) type File = &'static [&'static str];
 
 /// A file that adds a train and then changes its schedule, so that it runs on Friday 14 June only.
-/// So the docker of 10 June can't list the train.
+/// As a result, the docker of 10 June doesn't list the train.
 pub(crate) const PUT_AND_REVISED: File = &[HD, BS, LO, LT, BS_FRIDAY, LO_0905, LT_0935, ZZ];
 
 /// A file that changes a train's schedule so that it runs on Friday 14 June only, and then adds a
@@ -177,7 +177,7 @@ pub(crate) const SAME_DAY: File = two_trains!(BS_C40001, AA_S);
 /// indicator.
 pub(crate) const NO_INDICATOR: File = two_trains!(BS_C40001, AA_BLANK);
 
-/// A file with a train to Colwell and its next working, which starts on the day before.
+/// A file with a train to Colwell and its next working, which starts a day earlier than the train.
 pub(crate) const DAY_BEFORE: File = two_trains!(BS_C40001, AA_P);
 
 /// A file with a train to Colwell and its next working. The association has an unknown date

@@ -272,7 +272,7 @@ pub(crate) const AA_S: &str =
 pub(crate) const AA_BLANK: &str =
     "AANC40001C400022406102406101000000NP COLWELL  TP                               P";
 
-/// An association: C40002 is the next working of C40001, and starts on the day before.
+/// An association: C40002 is the next working of C40001, and starts a day earlier than C40001.
 pub(crate) const AA_P: &str =
     "AANC40001C400022406102406101000000NPPCOLWELL  TP                               P";
 

@@ -41,7 +41,7 @@ fn taken(office: &mut Office, text: &[u8], limit: u16) -> Result<(), OfficeFault
 }
 
 /// Asserts that an office that knows the file `REVISION` refuses the file of this row, and that the
-/// office is then unchanged.
+/// office's state is then unchanged.
 fn is_refused(rt: &impl Abort, alloc: Global, office: &mut Office, row: &Row) {
     let (file, limit, number, cause) = *row;
     let text = text_of(rt, alloc, file);

@@ -48,7 +48,7 @@ fn read_in(
 }
 
 /// Asserts that an office that knows the file `REVISION` refuses this text for this fault, and that
-/// the office is then unchanged.
+/// the office's state is then unchanged.
 fn refuses(rt: &impl Abort, alloc: Global, how: Ask, text: &[u8], limit: u64, fault: StateFault) {
     let mut office = office_of(rt, alloc, &[REVISION]);
     let answer = read_in(rt, alloc, how, &mut office, text, limit);

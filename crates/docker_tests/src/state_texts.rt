@@ -210,7 +210,7 @@ pub(crate) const LONGER_STATE: Parts = &[
 ];
 
 /// The state of an office that knows two files with equal stamps. The state has the greater of the
-/// two entries: the entry whose body has the greater bytes. It has 311 bytes.
+/// two entries: the entry whose body is greater, compared byte by byte. It has 311 bytes.
 pub(crate) const LATER_STATE: Parts = &[
     MARK,
     ONE,

@@ -59,8 +59,8 @@ fn have(rt: &impl Abort, alloc: Global, files: &[File], parts: Parts) {
     has(rt, alloc, &merged(rt, alloc, files), parts);
 }
 
-/// Asserts that an office that takes this row's files in either order has a state with this row's
-/// text, and that the text has this row's number of bytes.
+/// Asserts that an office that takes this row's files, in either order, has a state with this row's
+/// text. Also asserts that the text has this row's number of bytes.
 fn is_state(rt: &impl Abort, alloc: Global, row: &Row) {
     let (files, others, bytes, parts) = *row;
     same(rt, text_of_parts(rt, alloc, parts).len(), bytes);
@@ -113,8 +113,8 @@ fn files_of_states(rt: HostRuntime) {
     }
 }
 
-/// Asserts that an office has the state of the morning train after it has taken this text from a
-/// source that returns at most `step` bytes per read.
+/// Asserts that an office has the state `MORNING_STATE` after it has taken this text. The source of
+/// the text returns at most `step` bytes per read.
 fn is_taken(rt: &impl Abort, alloc: Global, text: &[u8], step: usize)
     requires { 0 < step }
 {

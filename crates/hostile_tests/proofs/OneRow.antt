@@ -1,5 +1,5 @@
--- A state has one ledger item and one entry. Another state gets this item, and a copy of this
--- entry.
+-- A state has one ledger item and one entry. Another state is built from this item and a copy of
+-- this entry.
 use Rattle.std.proofs.Common.{◌≡◌, List, [], ◌∷◌, ◌++◌, map, length, get_or, refl, ap, sym, ◌∙◌, subst, arith}
 use Rattle.docker_model.specs.state.Stamp as stamps
 use Rattle.docker_model.specs.state.State.{State, IsLedger, IsValid, IsGoodEntry}

@@ -45,7 +45,7 @@ pub(crate) fn ask<S: Source>(
     }
 }
 
-/// A limit as a number of records, or `MOST_RECORDS` if the limit is greater.
+/// The limit as a number of records. A limit above `MOST_RECORDS` becomes `MOST_RECORDS`.
 fn records_of(limit: u64) -> u32
     ensures { result < 2 ^ 32 - 1 }
 {

@@ -128,7 +128,7 @@ pub(crate) const STEPS: [Step; 18] = [
     Step::TakeOpen(2),
 ];
 
-/// The reply to an event for which memory runs out.
+/// The reply to an event during which memory runs out.
 const OUT_OF_MEMORY: Reply = Reply::Refused(RunFault::Office(OfficeFault::Memory));
 
 /// What each office knows, and which files each message includes, after the first events of the
@@ -241,8 +241,8 @@ pub(crate) fn is_out_of_memory(reply: &Reply) -> bool {
     *reply == OUT_OF_MEMORY
 }
 
-/// Whether memory may run out for an event that should get this reply. Memory can't run out if the
-/// office or the message doesn't exist.
+/// Whether memory may run out during an event that should get this reply. Memory can't run out if
+/// the office or the message doesn't exist.
 fn is_tried(reply: Reply) -> bool {
     match reply {
         Reply::Done => true,

@@ -76,7 +76,7 @@ fn left_by_run(alloc: Global, files: &Files) -> Result<Exchange, Memory> {
     )
 }
 
-/// What offices know and messages include after a run, computed from the replies of the run.
+/// What offices know, and what messages include, after a run, computed from the replies of the run.
 fn book_of(desk: &Desk, left: &Exchange) -> Book {
     let mut book = Book::new(desk.alloc());
     for (step, reply) in STEPS.iter().zip(left.replies()) {
@@ -182,7 +182,7 @@ pub(crate) fn run_events(desk: &Desk, words: &[&str]) {
     }
 }
 
-/// Prints how a run ended. If memory ran out for an event, also prints whether the result of the
+/// Prints how a run ended. If memory ran out during an event, also prints whether the result of the
 /// run follows from its replies.
 fn report_first(desk: &Desk, left: Result<Exchange, Memory>) {
     match left {

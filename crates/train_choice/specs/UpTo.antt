@@ -5,7 +5,7 @@ use Rattle.docker_model.specs.records.Record.{columns}
 use Rattle.docker_model.specs.file.File.{first_record}
 use Rattle.train_choice.specs.Occurrences.{Occurrence, before_all, occurrences_from}
 
--- whether the place is in columns 3 to 9, where a location record has its TIPLOC
+-- whether the place is in columns 3 to 9 of the line, where a location record has its TIPLOC
 abbrev pub names_place : List ℕ → List ℕ → Bool
 names_place place line = bytes_eq (columns 3 9 line) place
 

@@ -19,7 +19,7 @@ pub(crate) fn up_to_last<'a>(lines: &'a [Line], place: &Tiploc) -> &'a [Line]
     rest
 }
 
-/// Whether the place is in columns 3 to 9, where a location record has its TIPLOC.
+/// Whether the place is in columns 3 to 9 of the line, where a location record has its TIPLOC.
 fn names_place(line: &Line, place: &Tiploc) -> bool
     ensures { result ≡ names_place place.now line.now }
 {

@@ -101,8 +101,8 @@ last_behind : {A : Type 0} (o : Option A) (xs : List A) (x : A) → last_or o (x
 last_behind o [] x = refl
 last_behind o (y ∷ xs) x = last_behind (Some y) xs x
 
--- after one more record is appended to the records, the last change en route is this record if it
--- is a CR record, and otherwise is unchanged
+-- appending a CR record to a list of records makes this record the last change en route. Appending
+-- any other record leaves the last change en route unchanged
 pub change_more : (front : List (List ℕ)) (line : List ℕ) → last_change (front ++ line ∷ []) ≡ cond (has_identity (codes "CR") line) (Some line)
     (last_change front)
 change_more front line =

@@ -237,7 +237,7 @@ pub or_left : (a b : Bool) → a ≡ true → (a || b) ≡ true
 or_left true b h = refl
 or_left false b h = absurd (let bad : false ≡ true = h in cc)
 
--- a key that the docker of the place needs passes the test `is_needed`
+-- if the docker of the place needs a key, the key passes the test `is_needed`
 pub needed_passes : (place : List ℕ) (state : State) (key : Key) → IsNeeded (live_table state) place key → is_needed place state.entries key ≡ true
 needed_passes place state (tiploc_key code) here = (bytes_eq-Decides code place).1 here
 needed_passes place state (association_key key) here = (bytes_eq-Decides key.location place).1 here

@@ -258,8 +258,8 @@ module _ (place : List ℕ) where
   named_more done so_far (tiploc_key code) entry here = named_other done so_far (tiploc_key code, entry) (is_here place (tiploc_key code)) refl here
   named_more done so_far (association_key key) entry here = named_other done so_far (association_key key, entry) (is_here place (association_key key)) refl here
 
-  -- of the entries that the walk has passed, the entries at the place name the same associated
-  -- trains as the entries in `kept`
+  -- the entries that the walk has passed at the place, and the entries in `kept`, name the same
+  -- associated trains
   pub names_so_far : (entries : List Keyed)
       → names_in (kept_so_far place entries).kept ≡ names_in (filter (λ (entry : Keyed). is_here place entry.0) entries)
   names_so_far entries = (all_along place AreNamed (λ done so_far x here. named_more done so_far x.0 x.1 here) (refl, refl) entries).0
@@ -374,8 +374,8 @@ pub or_false : (b : Bool) → (b || false) ≡ b
 or_false true = refl
 or_false false = refl
 
--- `is_run_calling` holds for a list with an entry appended if and only if it holds for the list, or
--- the appended entry is a schedule that calls at the place
+-- `is_run_calling` holds for a list with one more entry if it holds for the list, or if the new
+-- entry is a schedule that calls at the place. Otherwise it doesn't hold
 pub calls_more : (place : List ℕ) (run : List Keyed) (entry : Keyed)
     → is_run_calling place (run ++ entry ∷ []) ≡ (is_run_calling place run || is_call place entry.1.op)
 calls_more place run entry =

@@ -46,7 +46,8 @@ not_itself a less = let tied = tied_itself key_total a in cc
 -- ---- `with_earlier` preserves the key order and all entries of a list
 
 -- after `with_earlier` inserts an entry, each entry of the new list either was in the list before
--- or is the inserted entry. In the second case, the list had no entry with this key before
+-- or is the inserted entry. In the second case, no entry in the list had the inserted entry's key
+-- before
 member_forth : (entry : Keyed) (entries : List Keyed) → AreAscending entries → (z : Keyed) → Contains (with_earlier entry entries) z
     → Contains entries z ⊎ ((entry ≡ z) × NoEntry entries entry.0)
 member_forth entry [] up z among = inr (Contains-single entry z among, λ other inside. nil-Contains (entry.0, other) inside)

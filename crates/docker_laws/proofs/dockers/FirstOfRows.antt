@@ -1,6 +1,6 @@
--- A search in a list finds the value with a property that comes first in an order, under two
--- conditions. The list must have each value with the property, and a value must pass the test of
--- the search if and only if it has the property.
+-- Of all values with a property, a search in a list finds the one that comes first in an order,
+-- under two conditions. The list must have each value with the property, and a value must pass the
+-- test of the search if and only if it has the property.
 use Rattle.std.proofs.Common.{◌≡◌, List, refl, sym, ◌∙◌, Some, None, Bool, true, Contains}
 use Rattle.std.specs.Prelude.{Option, find}
 use Rattle.std.specs.declared.cmp.Ordering.{Ordering}

@@ -1,6 +1,6 @@
--- Suppose that a table is lapsed with a horizon, and that a day isn't before this horizon. Then the
--- same schedules and associations are chosen for the day from the lapsed table as from the table. A
--- schedule or an association that runs on the day doesn't lapse.
+-- Let the rows of a table lapse with a horizon. For each day that isn't before the horizon, the
+-- same schedules and associations are then chosen from the table as before. A schedule or an
+-- association that runs on such a day doesn't lapse.
 use Rattle.std.proofs.Common.{ℕ, ◌≤◌, List, Bool, true, false, cond, arith}
 use Rattle.std.specs.Prelude.{◌↔◌, ◌&&◌, IsTrue, nat_le}
 use Rattle.std.proofs.lemmas.Bool.{leb-true}
@@ -49,7 +49,7 @@ module _ (horizon : ℕ) (bound : horizon ≤ no_end_number) (live : Table) wher
         record { uid_is = is.uid_is; is_live = was_live horizon live (schedule_key key) (schedule_body lines) is.is_live; runs_then = is.runs_then }
 
     -- on a day that isn't before the horizon, the same schedule of a UID is chosen from the table
-    -- and from the lapsed table
+    -- before and after its rows lapse
     pub chosen_iff : (uid : List ℕ) (key : ScheduleKey) (lines : List (List ℕ)) → IsChosen live uid day key lines ↔ IsChosen
         (lapse_table horizon live) uid day key lines
     chosen_iff uid key lines = (
@@ -65,8 +65,8 @@ module _ (horizon : ℕ) (bound : horizon ≤ no_end_number) (live : Table) wher
       },
     )
 
-    -- on a day that isn't before the horizon, the table and the lapsed table have the same train of
-    -- a UID
+    -- on a day that isn't before the horizon, the table has the same train of a UID before and
+    -- after its rows lapse
     pub train_iff : (uid : List ℕ) (key : ScheduleKey) (lines : List (List ℕ)) → TrainRuns live uid day key lines ↔ TrainRuns
         (lapse_table horizon live) uid day key lines
     train_iff uid key lines = (
@@ -91,7 +91,7 @@ module _ (horizon : ℕ) (bound : horizon ≤ no_end_number) (live : Table) wher
         record { group_is = is.group_is; is_live = was_live horizon live (association_key key) (association_body line) is.is_live; runs_then = is.runs_then }
 
     -- on a day that isn't before the horizon, the same association of a group is chosen from the
-    -- table and from the lapsed table
+    -- table before and after its rows lapse
     pub association_iff : (group : Group) (key : AssociationKey) (line : List ℕ) → IsChosenAssociation live group day key line ↔ IsChosenAssociation
         (lapse_table horizon live) group day key line
     association_iff group key line = (

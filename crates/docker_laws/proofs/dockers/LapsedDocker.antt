@@ -1,5 +1,5 @@
--- If a table is lapsed with a horizon, its dockers from the third day after the horizon on are
--- unchanged.
+-- On each day from the third day after a horizon, a table has the same dockers before and after its
+-- rows lapse with the horizon.
 use Rattle.std.proofs.Common.{◌≡◌, ℕ, ◌+◌, ◌-◌, ◌≤◌, List, ◌++◌, inl, inr, ◌⊎◌, refl, ap, sym, ◌∙◌, Bool, true, false, cond, Some, None, arith}
 use Rattle.std.specs.Prelude.{Option, ◌↔◌, ◌==◌, nat_lt, option_and_then, codes}
 use Rattle.std.specs.List.{flat_map}
@@ -204,8 +204,8 @@ module _ (horizon : ℕ) (bound : horizon ≤ no_end_number) (live : Table) wher
         back (inl event) = inl ((event_line_iff line).1 event)
         back (inr association) = inr ((association_line_iff line).1 association)
 
-    -- on each day from the third day after the horizon, a table and the lapsed table have the same
-    -- docker list
+    -- on each day from the third day after the horizon, the table has the same docker list before
+    -- and after its rows lapse
     pub docker_list_iff : (lines : List DockerLine) → IsDockerList live place day lines ↔ IsDockerList (lapse_table horizon live) place day lines
     docker_list_iff lines = (
       lists_along (λ line. IsEventLine live place day line ⊎ IsAssociationLine live place day line)
@@ -232,8 +232,8 @@ module _ (horizon : ℕ) (bound : horizon ≤ no_end_number) (live : Table) wher
     text_stays : (lines : List DockerLine) → docker_text (lapse_table horizon live) place day lines ≡ docker_text live place day lines
     text_stays lines = ap (text_with place day lines) description_stays
 
-    -- on each day from the third day after the horizon, a table and the lapsed table have the same
-    -- docker text
+    -- on each day from the third day after the horizon, the table has the same docker text before
+    -- and after its rows lapse
     pub docker_text_iff : (text : List ℕ) → IsDockerText live place day text ↔ IsDockerText (lapse_table horizon live) place day text
     docker_text_iff text = (
       λ is. (is.0, (docker_list_iff is.0).0 is.1, is.2 ∙ sym (text_stays is.0)),

@@ -121,8 +121,8 @@ module _ (place : List ℕ) (day : ℕ) where
           (λ i. fold after_change left (map (thin_change place day) (cond (h i) (change ∷ matter changes) (matter changes))) key)
           ∙ rest (after_change table change) left (λ k. same k ∙ sym (step_elsewhere table change k h)) key
 
-  -- applying the thin changes to a thinned table equals applying all changes to the table and then
-  -- thinning the result
+  -- applying the thin changes to a thinned table gives the same table as applying all changes to
+  -- the table and then thinning the result
   pub thin_over : (table : Table) (changes : List Change) (key : Key)
       → fold after_change (thinned place day table) (thin_changes place day changes) key ≡ thinned place day (fold after_change table changes) key
   thin_over table changes key = kept_from changes table (thinned place day table) (λ k. refl) key
@@ -134,7 +134,8 @@ module _ (place : List ℕ) (day : ℕ) where
 
 -- ---- a thinning can be made change by change
 
--- applying a list of changes with one change appended equals applying the list and then that change
+-- applying a list of changes with one change appended gives the same table as applying the list and
+-- then that change
 table_more : (table : Table) (changes : List Change) (change : Change)
     → fold after_change table (changes ++ change ∷ []) ≡ after_change (fold after_change table changes) change
 table_more table [] change = refl

@@ -49,8 +49,8 @@ module _ (file : List (List ℕ)) (kept : List Change) (state : State) (of : IsS
   at_least entry other (inr below) greater =
       let less : entry_cmp other entry ≡ Less = (λ i. ordering_then (below i) (op_cmp other.op entry.op)) in cc
 
-  -- the live table of the state equals the table after the kept changes, if of two kept changes to
-  -- one key the later change has the higher record number
+  -- suppose that of two kept changes to one key, the later change has the higher record number.
+  -- Then the live table of the state equals the table after the kept changes
   live_is_made : AllLater Apart kept → (key : Key) → live_table state key ≡ table_of kept key
   live_is_made apart key =
       by (last_there entries empty_table key (later_map_weaker (entry_of_change file) Apart Ascends (within_file file) kept apart)) (find_in state.entries key)

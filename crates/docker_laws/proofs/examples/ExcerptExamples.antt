@@ -92,7 +92,8 @@ runs_by_overlay : ¬ TrainRuns (live_table overlaid) (codes "C40001") 23538 stop
 unfolding days_from_civil day_count days_of_years days_of_months
 runs_by_overlay runs = runs.chosen.first short_key short (record { uid_is = refl; is_live = refl; runs_then = refl }) refl
 
--- without the overlay, the train would run according to the permanent schedule on that day
+-- if there were no overlay, the train would run according to the permanent schedule on the day of
+-- the overlay
 would_stop : TrainRuns (live_table alone) (codes "C40001") 23538 stops_key stops
 unfolding days_from_civil day_count days_of_years days_of_months
 would_stop = record {

@@ -37,14 +37,15 @@ use Rattle.docker_laws.proofs.examples.ExcerptExamples.{place, key_of, stops, sh
 
 -- ---- thin records
 
--- a train that doesn't call at the place keeps only its basic schedule, its origin and its terminus
+-- of a train that doesn't call at the place, only the basic schedule, the origin and the terminus
+-- are kept
 night_elsewhere : lines_for (codes "EASTRIG") night_schedule
     ≡ bs (codes "N") (codes "C20001") (codes "240610") (codes "240610") (codes "1000000") (codes "2B20") (codes "P")
     ∷ lo (codes "ASHFELD") no_text (codes "2355") (codes "2355") (codes "1") (codes "SL")
     ∷ lt (codes "BRAYTON") no_text (codes "0020") (codes "0021") (codes "2") (codes "FL") ∷ []
 night_elsewhere = refl
 
--- a train that calls at the place keeps all its records
+-- of a train that calls at the place, all records are kept
 night_here : lines_for place night_schedule ≡ night_schedule
 night_here = refl
 
@@ -103,7 +104,7 @@ differ whole wrong day line has no_event no_association same = nil-Contains line
 abbrev put_schedule : ℕ → ScheduleKey → List (List ℕ) → Change
 put_schedule number key lines = change_of number (schedule_key key) (put (schedule_body lines))
 
--- a list of one change, which puts the schedule of the train that ends at COLWELL
+-- a list of one change: a put of the schedule of the train that ends at COLWELL
 abbrev stops_alone : List Change
 stops_alone = put_schedule 2 stops_key stops ∷ []
 
@@ -128,7 +129,8 @@ only_stops other others h = by (is_eq (schedule_key_cmp stops_key other)) refl h
     by true same is = same_schedule stops_key other same
     by false same is = none_some (schedule_body others) is
 
--- in the table after `stops_alone`, the train runs and has a docker line
+-- according to the schedules in the table after `stops_alone`, the train runs and has a docker line
+-- at COLWELL
 stops_line : (start : ℕ) → schedule_runs (first_record stops) start ≡ true → event_day start stops arrives ≡ start
     → IsEventLine (table_of stops_alone) place start (line_of_event stops_key start stops arrives)
 stops_line start runs today = record {
@@ -323,14 +325,14 @@ follows_on_key = key_of (codes "C40002") 23539 80
 abbrev partner_alone : List Change
 partner_alone = put_schedule 2 follows_on_key follows_on ∷ []
 
--- for 11 June the train is kept: it may be the associated train of a train on 11 June, and start a
--- day later
+-- for 11 June the train's schedule is kept: the train may be the associated train of a train on 11
+-- June, and start a day later
 partner_is_kept : thin_changes place 23538 partner_alone ≡ partner_alone
 unfolding days_from_civil day_count days_of_years days_of_months
 partner_is_kept = refl
 
--- for 15 June the train is kept too: a train may start on 13 June, pass midnight twice, and have
--- the train of 12 June as its associated train
+-- for 15 June the train's schedule is kept too: a train may start on 13 June, pass midnight twice,
+-- and have the train of 12 June as its associated train
 partner_is_still_kept : thin_changes place 23542 partner_alone ≡ partner_alone
 unfolding days_from_civil day_count days_of_years days_of_months
 partner_is_still_kept = refl

@@ -4,7 +4,8 @@ use Rattle.train_choice.specs.Along.{AreGoodRows, AreLive}
 use Rattle.docker_day.specs.Portions.{HaveMoved}
 use Rattle.docker_day.proofs.portions.add_rows.Given as goal
 
--- the lines that were added, followed by the lines of the remaining rows, are the lines of all rows
+-- the lines so far, followed by the lines of the remaining rows, are the lines at the start,
+-- followed by the lines of all rows
 abbrev pub invariant-portions : goal.invariant-portions
 invariant-portions l = record {
   good : AreGoodRows l.rows;
