@@ -178,7 +178,8 @@ module _ (live : Table) (rows : List Row) (are : AreRowsOf live rows) (place : L
   none_back (Link link) is_live not_so = absurd (true_false not_so)
   none_back Other is_live not_so = absurd (true_false not_so)
 
-  -- if `row_runs_recently` says that a row can't have lines on the day, the row has none for the start days: the day and the two days before it
+  -- if `row_runs_recently` says that a row can't have lines on the day, the row has no lines for
+  -- the three start days: the day and the two days before it
   none_recently : (view : RowView) → IsLiveView live view → row_runs_recently view day ≡ false
       → (lines_back view 0 ≡ []) × (lines_back view 1 ≡ []) × (lines_back view 2 ≡ [])
   none_recently (Train train) is_live not_so =

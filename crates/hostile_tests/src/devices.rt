@@ -193,7 +193,8 @@ fn is_written(desk: &Desk, office: &Office, output: &Output, wanted: &[u8]) -> b
     }
 }
 
-/// Whether a sink that fails at this call has these bytes: one for each call before it.
+/// Whether these bytes are what a sink has after it fails at this call: one byte of the text for
+/// each call before it.
 fn is_front(bytes: &[u8], wanted: &[u8], call: u64) -> bool {
     bytes.len() as u64 == call.saturating_sub(1) && wanted.starts_with(bytes)
 }

@@ -72,8 +72,8 @@ pub(crate) fn feed(desk: &Desk, words: &[&str]) {
     }
 }
 
-/// Runs a row with the arguments `FILE STATE`. A parser that was fed the file finishes, and the
-/// file's state must then equal `STATE`.
+/// Runs a row with the arguments `FILE STATE`. The call finishes a parser that was fed the file,
+/// and the file's state must then equal `STATE`.
 pub(crate) fn finish(desk: &Desk, words: &[&str]) {
     let [name, wanted] = words else {
         return desk.trouble("FILE STATE");

@@ -10,11 +10,11 @@ pub(crate) const OFFICES: usize = 3;
 /// Which of the three files an office knows, or which of them the state in a message includes.
 #[derive(Clone, Copy, PartialEq, Eq)]
 pub(crate) struct Known {
-    /// Whether the update of 5 June is one of these files.
+    /// Whether the update of 5 June is known or included.
     pub(crate) fifth: bool,
-    /// Whether the full extract of 7 June is one of these files.
+    /// Whether the full extract of 7 June is known or included.
     pub(crate) seventh: bool,
-    /// Whether the update of 9 June is one of these files.
+    /// Whether the update of 9 June is known or included.
     pub(crate) ninth: bool,
 }
 

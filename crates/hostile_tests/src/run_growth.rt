@@ -150,8 +150,8 @@ fn report_left(desk: &Desk, left: &Exchange) {
     report_same(desk, left, &book, 0);
 }
 
-/// Prints whether `wanting` events were refused because memory ran out, and whether everything else
-/// follows from the replies.
+/// Prints whether `wanting` events were refused because memory ran out, and whether the offices and
+/// messages have the states that follow from the replies.
 fn report_same(desk: &Desk, left: &Exchange, book: &Book, wanting: u32) {
     let same = book.wanting == wanting && is_left(desk, left, book);
     desk.report(

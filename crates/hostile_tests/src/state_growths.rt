@@ -111,7 +111,7 @@ pub(crate) fn feed(desk: &Desk, words: &[&str]) {
     }
 }
 
-/// Runs a row with the argument `STATE`. A parser that was fed the state's text finishes.
+/// Runs a row with the argument `STATE`. The call finishes a parser that was fed the state's text.
 pub(crate) fn finish(desk: &Desk, words: &[&str]) {
     let [name] = words else {
         return desk.trouble("STATE");

@@ -70,7 +70,7 @@ pub fn is_cancellation(stp: Stp) -> bool
 }
 
 /// Like `train_on`, for the UID of a schedule that is known to run on the day. The walk over the
-/// UID's schedules starts with that schedule as the best.
+/// UID's schedules starts with that schedule as the best so far.
 pub(crate) fn train_from<'a>(
     from: &UidSearch<'a>,
     train: &ScheduleView<'a>,

@@ -1,5 +1,5 @@
 -- If the bodies of a table are well formed, its schedules pass midnight at most twice. So each
--- event is at most two days after the train's start day.
+-- event is at most two days after the start day of its train.
 use Rattle.std.proofs.Common.{◌≡◌, ℕ, ◌+◌, ◌≤◌, List, take, drop, subst, inl, inr, ◌⊎◌, ap, sym, ◌∙◌, Some, arith}
 use Rattle.std.specs.Prelude.{IsTrue}
 use Rattle.std.proofs.lemmas.Bool.{eqb-true}

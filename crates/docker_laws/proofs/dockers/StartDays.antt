@@ -1,5 +1,5 @@
--- The events of a live schedule are on the train's start day or on one of the two days after it. So
--- the trains of one day's docker start on at most three different days.
+-- The events of a live schedule are on the start day of its train or on one of the two days after
+-- it. So the trains of one day's docker start on at most three different days.
 use Rattle.std.proofs.Common.{◌≡◌, ℕ, zero, suc, ◌+◌, ◌-◌, ◌≤◌, List, [], ◌∷◌, subst, inl, inr, ◌⊎◌, Some, Contains, arith}
 use Rattle.std.specs.Prelude.{filter, nat_le}
 use Rattle.std.proofs.lemmas.Bool.{leb-true, le-leb}
@@ -18,7 +18,7 @@ pub few_falls_to : (live : Table) (key : ScheduleKey) (lines : List (List ℕ)) 
     → (number : ℕ) → falls_to lines number ≤ 2
 few_falls_to live key lines good is number = let front = falls_below lines number in let few = bodies_few live good key lines is in omega arith
 
--- an event is on the train's start day or on one of the two days after it
+-- an event is on the start day of its train or on one of the two days after it
 pub event_within : (start : ℕ) (lines : List (List ℕ)) (event : Event) → midnights lines ≤ 2 → (start ≤ event_day start lines event)
     × (event_day start lines event ≤ start + 2)
 event_within start lines event few = let front = falls_below lines event.number in (omega arith, omega arith)

@@ -170,7 +170,7 @@ revision_deletes : thin_changes place 23543 revised ≡ put_schedule 2 stops_key
 unfolding days_from_civil day_count days_of_years days_of_months
 revision_deletes = refl
 
--- for 16 June the earlier put may also be removed, and then no change is kept
+-- for 16 June the put before the revision may also be removed, so that no change is kept
 revision_removes : IsThinning place 23543 revised []
 unfolding days_from_civil day_count days_of_years days_of_months
 revision_removes =
@@ -209,7 +209,7 @@ no_arrival line is =
 no_link : (line : DockerLine) → ¬ IsAssociationLine (table_of revised) place 23543 line
 no_link line is = none_some (association_body is.association) is.chosen.associated.is_live
 
--- if the revision is dropped but not the earlier put, the docker is wrong: a train arrives at
+-- if the revision is dropped, but not the put before it, the docker is wrong: a train arrives at
 -- COLWELL on 16 June
 dropped_revision_is_wrong : ¬ ((lines : List DockerLine) → IsDockerList (table_of revised) place 23543 lines
     ↔ IsDockerList (table_of stops_alone) place 23543 lines)
