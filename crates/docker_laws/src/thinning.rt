@@ -62,10 +62,10 @@ pub fn stand_in_has_one_docker()
         → HasGoodBodies live → StandsFor place day live (thinned place day live) }
 {}
 
-/// For the docker of a place and a day, a schedule may be replaced by those of its records that the
-/// docker needs (`lines_for`). If the schedule doesn't call at the place, it may be replaced by any
-/// records that have the same first record and don't call at the place. The first record followed
-/// by any origin and any terminus with good fields forms a schedule with the same key.
+/// For the docker of a place and a day, a schedule may be replaced by the records that `lines_for`
+/// keeps of it. If the schedule doesn't call at the place, it may be replaced by any records that
+/// have the same first record and don't call at the place. The first record followed by any origin
+/// and any terminus with good fields forms a schedule with the same key.
 pub fn stand_in_of_a_schedule()
     ensures needed { (place : List ℕ) (day : ℕ) (lines : List (List ℕ))
         → IsStandIn place day lines (lines_for place lines) }

@@ -22,8 +22,8 @@ const FIRST_HORIZON: usize = 23537;
 
 const HORIZONS: usize = 16;
 
-/// Returns a random event. One event in twelve is at an office that doesn't exist. An event that
-/// delivers or reloads a message may name a message that was never sent.
+/// Returns a random event. On average, one event in twelve is at an office that doesn't exist. An
+/// event that delivers or reloads a message may name a message that was never sent.
 fn random_step(rt: &impl Abort, dice: &mut Dice, sent: u16) -> Step {
     let office = if dice.roll(12) == 0 {
         OFFICES

@@ -106,8 +106,8 @@ lapses_alike horizon live = λ i key. by (is_permanent key) (live key) i
     by true found = refl
     by false found = refl
 
--- if the program doesn't refuse the dockers of a day because of a horizon, a table has the same
--- permanent dockers of that day before and after its rows lapse with this horizon
+-- suppose that the program doesn't refuse the dockers of a day because of a horizon. Then a table
+-- has the same permanent dockers of that day before and after its rows lapse with this horizon
 lapsed_iff : (horizon : ℕ) (live : Table) (place : List ℕ) (day : ℕ) (text : List ℕ) → IsDay horizon → HasGoodBodies live → ¬ IsDayRefused horizon day
     → IsDockerText (permanent_table live) place day text ↔ IsDockerText (permanent_table (lapse_table horizon live)) place day text
 lapsed_iff horizon live place day text is_day good printed =
@@ -138,8 +138,8 @@ permanent_is_plain files horizon state table place day text are is_day summary p
     subst (λ (t : Table). IsDockerText (permanent_table t) place day text ↔ IsDockerText (permanent_table table) place day text)
     (sym (live_is_lapsed_plain files horizon state table summary plain)) (told.1, told.0)
 
--- if the program doesn't refuse the dockers of a day because of a horizon, a state has the same
--- permanent dockers of that day before and after its entries lapse with this horizon
+-- suppose that the program doesn't refuse the dockers of a day because of a horizon. Then a state
+-- has the same permanent dockers of that day before and after its entries lapse with this horizon
 permanent_stays : (horizon : ℕ) (state : State) (place : List ℕ) (day : ℕ) (text : List ℕ) → IsDay horizon → IsValid state → ¬ IsDayRefused horizon day
     → IsDockerText (permanent_table (live_table state)) place day text → IsDockerText (permanent_table (live_table (lapse_state horizon state))) place day text
 permanent_stays horizon state place day text is_day valid printed is =

@@ -62,8 +62,8 @@ stand_in_by_first place day whole lines same none no_other = record {
     by (inl calls) = absurd (elsewhere whole none calls)
     by (inr calls) = absurd (elsewhere lines no_other calls)
 
--- a schedule may be replaced by those of its records that the docker of the place needs
--- (`lines_for`)
+-- a schedule may be replaced by the records that `lines_for` keeps of it for the docker of the
+-- place
 pub needed_stand_in : (place : List ℕ) (day : ℕ) (lines : List (List ℕ)) → IsStandIn place day lines (lines_for place lines)
 needed_stand_in place day lines = by (calls_at place lines) refl
   where
@@ -264,8 +264,8 @@ module _ (place : List ℕ) (day : ℕ) (live part : Table) (stands : StandsFor 
 -- ---- the thinned table may replace the table
 
 module _ (place : List ℕ) (day : ℕ) (live : Table) where
-  -- if a schedule in the table runs on a start day near the day, the thinned table has records of
-  -- this schedule at the same key: the records that the docker needs (`lines_for`)
+  -- suppose that a schedule in the table runs on a start day near the day. Then the thinned table
+  -- has, at the same key, the records of this schedule that the docker needs (`lines_for`)
   schedule_left : (key : ScheduleKey) (lines : List (List ℕ)) → live (schedule_key key) ≡ Some (schedule_body lines)
       → runs_near day (first_record lines) ≡ true → thinned place day live (schedule_key key) ≡ Some (schedule_body (lines_for place lines))
   schedule_left key lines is_live runs =

@@ -49,7 +49,7 @@ module _ (file : List (List ℕ)) (kept : List Change) (state : State) (of : IsS
   at_least entry other (inr below) greater =
       let less : entry_cmp other entry ≡ Less = (λ i. ordering_then (below i) (op_cmp other.op entry.op)) in cc
 
-  -- suppose that of two kept changes to one key, the later change has the higher record number.
+  -- suppose that, of two kept changes to one key, the later change has the higher record number.
   -- Then the live table of the state equals the table after the kept changes
   live_is_made : AllLater Apart kept → (key : Key) → live_table state key ≡ table_of kept key
   live_is_made apart key =

@@ -50,8 +50,8 @@ greater_prints a b day first second = by (nat_lt a b) refl
     by true h = let below = ltb-true a b h in subst (λ n. ¬ IsDayRefused n day) (sym (max-eq_right (omega arith))) second
     by false h = subst (λ n. ¬ IsDayRefused n day) (sym (max-eq_left (ltb-false a b h))) first
 
--- if the program doesn't refuse the dockers of a day because of a horizon, a state has the same
--- dockers of that day before and after its entries lapse with this horizon
+-- suppose that the program doesn't refuse the dockers of a day because of a horizon. Then a state
+-- has the same dockers of that day before and after its entries lapse with this horizon
 docker_stays : (horizon : ℕ) (state : State) (place : List ℕ) (day : ℕ) (text : List ℕ) → IsDay horizon → IsValid state → ¬ IsDayRefused horizon day
     → IsDockerText (live_table state) place day text → IsDockerText (live_table (lapse_state horizon state)) place day text
 docker_stays horizon state place day text is_day valid printed is = by (nat_lt 0 horizon) (nat_lt day (horizon + 3)) refl refl
