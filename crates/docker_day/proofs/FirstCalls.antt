@@ -80,7 +80,7 @@ first_of_suffix own event before after unkept updates = λ suffix.
     by (Some kept) true is = let bad : true ≡ false = is refl in cc
 
 module _ (place : List ℕ) (event : events.Occurrence) where
-  -- an event at another place leaves the map of first events unchanged
+  -- an event that isn't at the place leaves the map of first events unchanged
   pub elsewhere : (calls : BTreeMap ℕ events.Occurrence) → is_here place event ≡ false → HasEvent place calls event calls
   elsewhere calls away = λ suffix later. λ i.
       kept_or (get nat_cmp calls suffix) (cond (sym away i && (column 10 event.line == suffix)) (Some event) later)

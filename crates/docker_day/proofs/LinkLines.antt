@@ -88,9 +88,8 @@ module _ (place : List ℕ) (day : ℕ) (view : RowView) where
       ∙ three_parts first (row_back trains links place day view 0) (row_back trains links place day view 1) (row_back trains links place day view 2)
       ∙ ap (λ more. first ++ more) (sym (starts_split (row_piece trains links place day view) day) ∙ row_pieces trains links place day view)
 
-  -- suppose that a row's lines are appended to a list: first the lines for the day, then the lines
-  -- for the day before it, and then the lines for two days before it. Then all lines of the row are
-  -- appended
+  -- suppose that a row's lines are appended to a list in three steps: the lines for the day, for
+  -- the day before it, and for two days before it. Then all lines of the row are appended
   pub three_backs : (live : Table) (first second third last : List DockerLine)
       → Adds live (λ trains links. row_back trains links place day view 0) first second
       → Adds live (λ trains links. row_back trains links place day view 1) second third

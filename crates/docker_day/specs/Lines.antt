@@ -76,13 +76,13 @@ lines_there place day start key detail (event ∷ events) =
     (if is_here place event && is_today day start event then line_at_event key start detail event ∷ [] else [])
     ++ lines_there place day start key detail events
 
--- whether the schedule runs on the day or on one of the two days before
+-- whether the schedule runs on the day or on one of the two days before it
 abbrev pub runs_recently : List (List ℕ) → ℕ → Bool
 runs_recently lines day = runs_back lines day 0 || runs_back lines day 1 || runs_back lines day 2
 
 -- whether the schedule's train may be at the place on this day, having started on an earlier day.
--- That is so if the schedule runs on one of the two days before, and its train passes midnight
--- before its last event at the place
+-- That is so if the schedule runs on one of the two days before this day, and its train passes
+-- midnight before its last event at the place
 abbrev pub is_under_way : List ℕ → List (List ℕ) → ℕ → Bool
 is_under_way place lines day = (runs_back lines day 1 || runs_back lines day 2) && some_late (occurrences_to place lines)
 
@@ -107,7 +107,7 @@ abbrev pub schedule_piece : (List ℕ → ℕ → Option Train) → List ℕ →
 schedule_piece trains place day key lines start = if runs_by (trains key.uid start) key then event_lines place day start key lines else []
 
 -- the docker line of an association at an event of the base train, as a list. The list is empty if
--- the event is on another day
+-- the event isn't on the docker's day
 abbrev pub link_line_at : (List ℕ → ℕ → Option Train) → ℕ → ℕ → Link → Occasion → ScheduleKey → Occurrence → List DockerLine
 link_line_at trains day start link occasion base event =
     if is_today day start event

@@ -41,7 +41,7 @@ AreLiveViews live [] = ⊤
 AreLiveViews live (row ∷ rows) = IsLiveView live row × AreLiveViews live rows
 
 -- whether the row may have lines on the day. The result is false only for a schedule that runs
--- neither on the day nor on one of the two days before
+-- neither on the day nor on one of the two days before it
 abbrev pub row_runs_recently : RowView → ℕ → Bool
 row_runs_recently (Train train) day = runs_recently train.lines day
 row_runs_recently (Link link) day = true
@@ -56,7 +56,7 @@ row_under_way place Other day = true
 
 -- whether the row may have lines on the day. The result is false only for two kinds of rows. Either
 -- the row is a schedule that begins after the day. Or it is a schedule whose flags are `0` for the
--- weekday of the day and for the two weekdays before
+-- weekdays of the day and of the two days before it
 abbrev pub row_may_run : RowView → ℕ → Bool
 row_may_run (Train train) day = may_run_recently train.key train.lines day
 row_may_run (Link link) day = true

@@ -41,8 +41,8 @@ pub(crate) fn add_row<'a>(
 }
 
 /// Whether a row may have lines on a day. A schedule has no lines if it runs neither on that day
-/// nor on one of the two days before. The call reads the fields of the schedule once for all three
-/// days.
+/// nor on one of the two days before it. The call reads the fields of the schedule once for all
+/// three days.
 fn row_runs_recently(view: &RowView<'_>, day: Day) -> bool
     ensures { result ≡ row_runs_recently view.now day }
 {

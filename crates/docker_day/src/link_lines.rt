@@ -124,8 +124,8 @@ fn line_by<'a>(
     }
 }
 
-/// The docker line of an association at an event of its base train. Returns `None` if the event is
-/// on another day.
+/// The docker line of an association at an event of its base train. Returns `None` if the event
+/// isn't on the docker's day.
 fn line_at<'a>(
     visit: &mut Visit<'a>,
     link: &LinkView<'a>,

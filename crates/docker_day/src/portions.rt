@@ -90,7 +90,7 @@ fn open_next<'a>(portion: &mut Portion<'a>, rows: &mut TimetableRows<'a>, day: D
 
 /// Whether a row may have lines on a day. The result is false only for two kinds of rows. Either
 /// the row is a schedule that begins after the day. Or it is a schedule whose flags are `0` for the
-/// weekday of the day and for the two weekdays before.
+/// weekdays of the day and of the two days before it.
 fn may_row_run(view: &RowView<'_>, day: Day) -> bool
     ensures { result ≡ row_may_run view.now day }
 {

@@ -9,9 +9,9 @@ use cif_line::{Day, Tiploc};
 use train_choice::{Occurrence, day_back};
 
 /// The start day of the associated train, computed from the base train's start day and the date
-/// indicator. The associated train starts on the next day for `N`, on the day before for `P`, and
-/// otherwise on the same day. Returns `None` if the start day has no day number: day numbers are 0
-/// to 36524.
+/// indicator. The associated train starts on the day after the base train's start day for `N`, on
+/// the day before it for `P`, and otherwise on the base train's start day. Returns `None` if the
+/// start day has no day number: day numbers are 0 to 36524.
 pub(crate) fn partner_start(indicator: u8, start: Day) -> Option<Day>
     ensures { result ≡ partner_start indicator start }
 {

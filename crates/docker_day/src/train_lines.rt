@@ -46,7 +46,7 @@ pub(crate) fn add_schedule<'a>(
     }
 }
 
-/// Whether a schedule runs on a day or on one of the two days before.
+/// Whether a schedule runs on a day or on one of the two days before it.
 pub(crate) fn runs_recently(train: &ScheduleView<'_>, day: Day) -> bool
     ensures { result ≡ runs_recently train.now.lines day }
 {
@@ -54,8 +54,8 @@ pub(crate) fn runs_recently(train: &ScheduleView<'_>, day: Day) -> bool
 }
 
 /// Whether the train of a schedule may be at a place on this day, having started on an earlier day.
-/// That is so if the schedule runs on one of the two days before, and its train passes midnight
-/// before its last event at the place.
+/// That is so if the schedule runs on one of the two days before this day, and its train passes
+/// midnight before its last event at the place.
 pub(crate) fn is_under_way(train: &ScheduleView<'_>, place: &Tiploc, day: Day) -> bool
     ensures { result ≡ is_under_way place.now train.now.lines day }
 {

@@ -12,7 +12,7 @@ use std::marker::Model;
 use train_choice::day_back;
 
 /// The visits for a place and a day. One visit is for the trains that start on that day. The other
-/// visits are for the trains that start one and two days before, if these days exist.
+/// visits are for the trains that start one and two days before it, if these days exist.
 #[derive(Debug, Drop)]
 pub(crate) struct Visits<'a> {
     pub(crate) today: Visit<'a>,

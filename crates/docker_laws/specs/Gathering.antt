@@ -64,7 +64,7 @@ partner_identity trains uid None = codes "????"
 partner_identity trains uid (Some day) = identity_of (trains uid day)
 
 -- the docker line of an association for this event of the base train, as a list of one line. The
--- list is empty if there is no event, or if the event is on another day
+-- list is empty if there is no event, or if the event isn't on the docker's day
 abbrev pub line_at : (List ℕ → ℕ → Option Train) → ℕ → ℕ → AssociationKey → List ℕ → Occasion → Train → Option Event → List DockerLine
 line_at trains day start key line occasion base None = []
 line_at trains day start key line occasion base (Some event) =

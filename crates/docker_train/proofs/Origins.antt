@@ -129,8 +129,8 @@ still_runs horizon table uid day key lines bound from is = record {
   runs_then = is.runs_then;
 }
 
--- on a day that isn't before the horizon, lapsing doesn't change which schedule is chosen: the schedule chosen in `lapse_table horizon table` is also chosen in
--- `table`
+-- on a day that isn't before the horizon, lapsing doesn't change which schedule is chosen: the
+-- schedule chosen from `lapse_table horizon table` is also chosen from `table`
 chosen_unlapsed : (horizon : ℕ) (table : Table) (uid : List ℕ) (day : ℕ) (found : Option Train) → horizon ≤ no_end_number → horizon ≤ day
     → IsChosenOn (lapse_table horizon table) uid day found → IsChosenOn table uid day found
 chosen_unlapsed horizon table uid day None bound from none = λ key lines runs. none key lines (still_runs horizon table uid day key lines bound from runs)
@@ -142,7 +142,7 @@ schedules_are state uid day None is = is
 schedules_are state uid day (Some found) (is, stamp) = is
 
 -- on a day that isn't before the horizon, the schedule found in the summary of a set of files is
--- the schedule chosen in the files' plain table
+-- the schedule chosen from the files' plain table
 pub found_is_plain : (files : List (List (List ℕ))) (horizon : ℕ) (state : State) (table : Table) (uid : List ℕ) (day : ℕ) (found : Option Stamped)
     → IsSummary files horizon state → IsPlainTable files table → IsDay horizon → horizon ≤ day → IsFoundFor state uid day found
     → IsChosenOn table uid day (option_map (λ (it : Stamped). it.schedule) found)

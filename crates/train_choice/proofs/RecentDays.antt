@@ -68,7 +68,8 @@ recent_runs_told key lines line first day recent of line_is first_is are =
     (subst (λ (n : ℕ). AreRecentRuns (runs_back_by_fields (first_record lines) n day) recent) first_is
     (subst (λ (l : List ℕ). AreRecentRuns (runs_back_by_fields l first day) recent) line_is are))
 
--- a schedule that begins after the day runs neither on the day nor on one of the two days before, so three false flags are correct for the schedule
+-- a schedule that begins after the day runs neither on the day nor on one of the two days before
+-- it, so three false flags are correct for the schedule
 pub never_told : (key : ScheduleKey) (lines : List (List ℕ)) (first day : ℕ) (recent : RecentRuns) → IsScheduleOf key lines
     → first ≡ key.runs_from → nat_lt day first ≡ true → AreRecentRuns (λ back. false) recent → AreRecentRuns (runs_back lines day) recent
 never_told key lines first day recent of first_is late are =
@@ -88,7 +89,8 @@ none_of_three false false c none = (refl, refl, none)
 none_of_three false true c none = let bad : true ≡ false = none in cc
 none_of_three true b c none = let bad : true ≡ false = none in cc
 
--- if `may_run_recently` is false, the schedule runs neither on the day nor on one of the two days before
+-- if `may_run_recently` is false, the schedule runs neither on the day nor on one of the two days
+-- before it
 pub idle_recently : (key : ScheduleKey) (lines : List (List ℕ)) (day : ℕ) → IsScheduleOf key lines → may_run_recently key lines day ≡ false
     → (runs_back lines day 0 ≡ false) × (runs_back lines day 1 ≡ false) × (runs_back lines day 2 ≡ false)
 idle_recently key lines day of never = by (nat_lt day key.runs_from) refl

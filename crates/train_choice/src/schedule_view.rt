@@ -109,7 +109,7 @@ impl<'a> ScheduleView<'a> {
         recent_runs_of(self.first(), self.key.runs_from, day)
     }
 
-    /// Whether the schedule may run on a day or on one of the two days before. That is so if its
+    /// Whether the schedule may run on a day or on one of the two days before it. That is so if its
     /// runs-from date isn't after the day, and at least one of the three weekdays is among its days
     /// run. The call reads only the key and three flags, so it costs less than `recent_runs`.
     pub fn may_run_recently(&self, day: Day) -> bool

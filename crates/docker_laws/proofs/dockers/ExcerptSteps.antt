@@ -322,8 +322,8 @@ module _ (place : List ℕ) (so_far : ExcerptSoFar) where
   elsewhere_then x true h none = absurd (let bad : true ≡ false = h in cc)
   elsewhere_then x false h none = let back : [] ≡ so_far.run = sym none in λ i. record { kept = ends_none none i; run = back i }
 
-  -- the TIPLOC of another place, or an association at another place, leaves `kept` and `run`
-  -- unchanged
+  -- the TIPLOC of a place other than the excerpt's place, or an association at such a place, leaves
+  -- `kept` and `run` unchanged
   pub drops_elsewhere : (key : Key) (entry : Entry) → ((uid : List ℕ) → has_uid uid key ≡ false) → is_here place key ≡ false → so_far.run ≡ []
       → next_kept place so_far (key, entry) ≡ so_far
   drops_elsewhere (schedule_key key) entry never elsewhere none = false_true (sym (never key.uid) ∙ (bytes_eq-Decides key.uid key.uid).1 refl)

@@ -114,7 +114,8 @@ module _ (place : List ℕ) (state : State) (kept run : List Keyed) (needed : Bo
     is_needed = refl;
   }
 
-  -- the TIPLOC of another place isn't kept, and neither is an association at another place
+  -- the TIPLOC of a place other than the excerpt's place isn't kept, and neither is an association
+  -- at such a place
   pub kept_elsewhere : (key : Key) (entry : Entry) → IsAboveEntries state key → ((uid : List ℕ) → has_uid uid key ≡ false) → is_here place key ≡ false
       → HasKept place (state.entries ++ (key, entry) ∷ []) kept [] false
   kept_elsewhere key entry above never elsewhere = record {

@@ -316,7 +316,8 @@ pub thin_with_end : (basic : List ℕ) (others : List (List ℕ)) (line : List �
     → thin_lines (basic ∷ others ++ line ∷ []) ≡ thin_lines (basic ∷ others) ++ line ∷ []
 thin_with_end basic others line h = thin_more basic others line true h
 
--- appending any other record to a schedule leaves the thin records unchanged
+-- appending a record that is neither an origin nor a terminus to a schedule leaves the thin records
+-- unchanged
 pub thin_without : (basic : List ℕ) (others : List (List ℕ)) (line : List ℕ) → is_end (kind_of line) ≡ false
     → thin_lines (basic ∷ others ++ line ∷ []) ≡ thin_lines (basic ∷ others)
 thin_without basic others line h = thin_more basic others line false h ∙ append-nil (thin_lines (basic ∷ others))

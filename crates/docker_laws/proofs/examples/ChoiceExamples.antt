@@ -107,7 +107,7 @@ one_of_three other others h = by (in_state three (schedule_key other) (schedule_
         first (inr rest) =
             inr (second (Contains-cons (placed (key_of 23538 79) overlay) (placed (key_of 23541 67) cancellation ∷ []) (schedule_key other, found.0) rest))
 
--- the cancellation doesn't apply on 11 June, since it is for another day
+-- the cancellation doesn't apply on 11 June, since it is for 14 June
 cancelled_not : schedule_runs (first_record cancellation) 23538 ≡ false
 unfolding days_from_civil day_count days_of_years days_of_months
 cancelled_not = refl

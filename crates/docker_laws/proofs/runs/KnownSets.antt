@@ -25,7 +25,7 @@ sets_more offices events replies event reply same =
 
 -- ---- appending an event with an allowed reply leaves all replies of a run allowed
 
--- the number of replies equals the number of events
+-- in a run, the number of replies equals the number of events
 pub replies_long : (known : KnownSets) (events : List RunEvent) (replies : List Reply) → AreReplies known events replies → length events ≡ length replies
 replies_long known [] [] are = refl
 replies_long known [] (reply ∷ replies) are = absurd are
@@ -93,11 +93,11 @@ messages_along known (event ∷ events) (reply ∷ replies) =
         by true = omega arith
         by false = omega arith
 
--- the number of offices is the same as at the start
+-- after a run, the number of offices is the same as at its start
 pub offices_are : (offices : ℕ) (events : List RunEvent) (replies : List Reply) → length (known_sets offices events replies).offices ≡ offices
 offices_are offices events replies = offices_along (none_known offices) events replies ∙ length-replicate offices nothing
 
--- the number of messages equals the number of states that were sent
+-- in a run, the number of messages equals the number of states that were sent
 pub messages_are : (offices : ℕ) (events : List RunEvent) (replies : List Reply)
     → length (known_sets offices events replies).messages ≡ sent_count events replies
 messages_are offices events replies =
