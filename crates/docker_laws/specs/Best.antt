@@ -5,7 +5,7 @@ use Rattle.std.specs.declared.cmp.Ordering.{Ordering}
 use Rattle.std.specs.Ordering.{is_lt}
 use Rattle.docker_model.specs.state.Order.{IsAtMost}
 
--- the option is the best element of the list: the element passes the test, and no other element
+-- the option has the best element of the list: this element passes the test, and no other element
 -- that passes the test comes before it. The option is `None` if no element passes the test
 abbrev pub IsBest : {A : Type 0} → (A → A → Ordering) → (A → Bool) → List A → Option A → Type 0
 IsBest {A} cmp test xs None = (z : A) → Contains xs z → test z ≡ false

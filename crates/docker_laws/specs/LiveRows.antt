@@ -103,7 +103,7 @@ is_link_choice links group day link =
 abbrev pub link_in : List Row → Group → ℕ → Option Link
 link_in rows group day = find (is_link_choice (associations_in rows) group day) (associations_in rows)
 
--- the option is the UID's train that starts on the day, or it is `None` and no train of the UID
+-- the option has the UID's train that starts on the day, or it is `None` and no train of the UID
 -- starts on that day
 abbrev pub IsTrainOn : Table → List ℕ → ℕ → Option Train → Type 0
 IsTrainOn live uid day None = RunsNot live uid day
@@ -114,7 +114,7 @@ IsTrainOn live uid day (Some train) = TrainRuns live uid day train.key train.lin
 abbrev pub TellsTrains : Table → (List ℕ → ℕ → Option Train) → Type 0
 TellsTrains live trains = (uid : List ℕ) (day : ℕ) → IsTrainOn live uid day (trains uid day)
 
--- the option is the chosen association of the group on the day, or it is `None` and no association
+-- the option has the chosen association of the group on the day, or it is `None` and no association
 -- of the group is chosen on that day
 abbrev pub IsLinkOn : Table → Group → ℕ → Option Link → Type 0
 IsLinkOn live group day None = (key : AssociationKey) (line : List ℕ) → ¬ IsChosenAssociation live group day key line

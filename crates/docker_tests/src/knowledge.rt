@@ -126,7 +126,7 @@ impl Step {
     }
 }
 
-/// What an office knows, or what a message brings: files, each by its index in `FILES`, and a
+/// What an office knows, or what a message carries: files, each by its index in `FILES`, and a
 /// horizon.
 #[derive(Clone, Copy)]
 pub(crate) struct Known {
@@ -157,7 +157,7 @@ impl Known {
         }
     }
 
-    /// Adds what another office knows, or what a message brings, to this knowledge.
+    /// Adds what another office knows, or what a message carries, to this knowledge.
     fn join(&mut self, other: &Known) {
         for file in 0..FILES.len() {
             self.files[file] |= other.files[file];
@@ -197,7 +197,7 @@ fn state_of(rt: &impl Abort, alloc: Global, text: &[u8]) -> State {
     State::of_file(alloc, file).expect(rt, "room")
 }
 
-/// What each office knows, and what each message brings.
+/// What each office knows, and what each message carries.
 #[derive(Drop)]
 pub(crate) struct Knowledge {
     pub(crate) offices: [Known; OFFICES],

@@ -1,6 +1,6 @@
 //! A thousand random runs of three offices. At the end of a run, each office's state must have the
 //! text that follows from what the office knows. Each message must have the text that follows from
-//! the knowledge that it brings.
+//! the knowledge that it carries.
 ghost use Rattle.docker_office.specs.RunEnds.{HasGoodLimit};
 ghost use Rattle.docker_office.specs.RunMeaning.{event_meant};
 
@@ -204,7 +204,7 @@ impl Tally {
     }
 }
 
-/// Works out what each office knows, and what each message brings, at the end of a run. Asserts
+/// Works out what each office knows, and what each message carries, at the end of a run. Asserts
 /// that each reply is the expected reply.
 fn known_at_end(
     rt: &impl Abort,
@@ -261,7 +261,7 @@ fn offices_are_of_known(
     }
 }
 
-/// Asserts that each message has the text that follows from the knowledge that the message brings.
+/// Asserts that each message has the text that follows from the knowledge that the message carries.
 fn messages_are_of_known(
     rt: &impl Abort,
     alloc: Global,

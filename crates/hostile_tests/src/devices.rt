@@ -1,5 +1,5 @@
-//! Rows with devices that move one byte per call. An office first uses a device that fails at its
-//! first call, then a device that fails at its second call, and so on.
+//! Rows with devices that transfer one byte per call. An office first uses a device that fails at
+//! its first call, then a device that fails at its second call, and so on.
 ghost use Rattle.std.specs.Prelude.{◌<◌, ◌^◌, ◌-◌};
 
 use crate::answers::Answer;

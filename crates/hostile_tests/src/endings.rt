@@ -14,7 +14,7 @@ pub(crate) enum Ending {
     Done,
     /// The call failed because memory ran out.
     Memory,
-    /// The call was refused for another reason.
+    /// The call was refused, and memory wasn't the reason.
     Other,
 }
 

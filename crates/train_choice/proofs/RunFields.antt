@@ -1,5 +1,5 @@
--- The fields that decide when a basic schedule or an association runs: each is well formed if the
--- record has good fields.
+-- The fields that determine on which days a basic schedule or an association runs. Each of these
+-- fields is well formed if the record has good fields.
 use Rattle.std.proofs.Common.{◌≡◌, ℕ, List, true, false, Bool, cond, [], ◌∷◌, ◌++◌, subst, refl}
 use Rattle.std.specs.Prelude.{ℕ, ◌&&◌}
 use Rattle.std.specs.List.{AllByRecursion}

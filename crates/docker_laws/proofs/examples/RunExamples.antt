@@ -1,4 +1,4 @@
--- An example of a run: what the offices know, and what the messages bring, after the run.
+-- An example of a run: what the offices know, and what the messages carry, after the run.
 use Rattle.std.proofs.Common.{◌≡◌, ℕ, List, [], ◌∷◌, map, refl}
 use Rattle.docker_model.specs.run.Run.{Reply, done, refused, no_office, RunEvent, take_file, send_state}
 use Rattle.docker_model.specs.run.Run.{deliver, reload, horizon_event, Known, KnownSets, known_sets}

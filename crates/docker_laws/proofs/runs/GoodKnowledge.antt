@@ -69,7 +69,8 @@ good_at P [] i d all one = one
 good_at P (x ∷ xs) zero d all one = All-head P x xs all
 good_at P (x ∷ xs) (suc i) d all one = good_at P xs i d (All-tail P x xs all) one
 
--- the knowledge of each office, and the knowledge that each message brings, is good (`IsGoodKnown`)
+-- the knowledge of each office is good (`IsGoodKnown`), and so is the knowledge that each message
+-- carries
 abbrev pub AllGood : Format → KnownSets → Type 0
 AllGood format known = All (IsGoodKnown format) known.offices × All (IsGoodKnown format) known.messages
 
@@ -126,8 +127,8 @@ module _ (format : Format) where
       good_along (after_reply known (event, reply)) events replies (good_after known event reply good (All-head (IsGoodEvent format) event events each) are.0)
       (All-tail (IsGoodEvent format) event events each) are.1
 
-  -- after a run of good events (`IsGoodEvent`), the knowledge of each office, and the knowledge
-  -- that each message brings, is good (`IsGoodKnown`)
+  -- after a run of good events (`IsGoodEvent`), the knowledge of each office is good
+  -- (`IsGoodKnown`), and so is the knowledge that each message carries
   pub good_in_run : (offices : ℕ) (events : List RunEvent) (replies : List Reply) → All (IsGoodEvent format) events
       → AreReplies (none_known offices) events replies
       → AllGood format (known_sets offices events replies)

@@ -131,7 +131,7 @@ module _ (format : Format) (offices others : ℕ) (events more : List RunEvent) 
         (subst (λ h. ¬ IsDayRefused h day) that_state.horizon_is prints_too)
         text other is that
 
-  -- two messages that bring the same knowledge have equal texts
+  -- two messages that carry the same knowledge have equal texts
   pub same_message : IsMessage (sets_of offices events one) i → IsMessage (sets_of others more two) j
       → AreOneKnowledge (message_known (sets_of offices events one) i) (message_known (sets_of others more two) j)
       → message_text one.messages i ≡ message_text two.messages j

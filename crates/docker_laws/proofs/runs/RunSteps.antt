@@ -36,8 +36,8 @@ module _ (format : Format) (known : KnownSets) (states : List State) (messages :
   pub office_good : (office : ℕ) → IsOffice known office → IsGoodKnown format (office_known known office)
   office_good office there = All-get_or (IsGoodKnown format) known.offices office nothing there holds.offices
 
-  -- the knowledge that a message brings is good: its files are CIF files, and the format allows its
-  -- horizon
+  -- the knowledge that a message carries is good: its files are CIF files, and the format allows
+  -- its horizon
   pub message_good : (message : ℕ) → IsMessage known message → IsGoodKnown format (message_known known message)
   message_good message there = All-get_or (IsGoodKnown format) known.messages message nothing there holds.sent
 
