@@ -44,8 +44,8 @@ pub trait Taker {
         ensures refused { IfErr result (λ fault. AfterEach takes self.old (λ terms text.
             refuses self.new terms text piece.now fault)) };
 
-    // Each text that the taker can take has fewer than 2^64 bytes. So the taker refuses a piece of
-    // an endless source.
+    // Each text that the taker can take has fewer than 2^64 bytes. So if a source is endless, the
+    // taker refuses one of its pieces sooner or later.
     ghost bounded: { (taker : Self) (terms : Terms) (text : List ℕ) → takes taker terms text
         → length text < 2 ^ 64 };
 }

@@ -641,7 +641,7 @@ bad_between keeps front records line kind has at is known bad =
       is = told_cause records line between_units (place_cause between_units line) is refl (cause_between line kind known);
     }
 
--- after a complete schedule, a record that begins no unit or has a bad field can't come next
+-- after a complete schedule, a record can't come next if it has a bad field, or if it neither begins a unit nor is the trailer
 pub bad_behind : {K : Type 0} (keeps : Keeps K) (front : Front K) (opened : Opened) (records : Lines) (line : List ℕ) (kind : Kind)
     → HasRecords keeps front records
     → front.stage ≡ InSchedule opened → IsWholeBy opened → IsRecord line → HasKind kind line

@@ -128,8 +128,8 @@ RefusesToReceive read (office.File fault) = ⊥
 RefusesToReceive read office.Lapsed = ⊥
 RefusesToReceive read office.Sink = ⊥
 
--- this is the fault for which a file couldn't be read. If there is no reading, the file couldn't be
--- opened. Otherwise the file was opened, and `Refuses` holds for the reading and the fault
+-- this fault is why a file couldn't be read. If there is no reading, the file couldn't be opened.
+-- Otherwise the file was opened, and `Refuses` holds for the reading and the fault
 abbrev pub IsWhyNot : (Reading → OfficeFault → Type 0) → OfficeFault → Option Reading → Type 0
 IsWhyNot Refuses fault (Some read) = Refuses read fault
 IsWhyNot Refuses fault None = IsWhyUnopened fault

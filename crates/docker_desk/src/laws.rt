@@ -191,7 +191,8 @@ pub fn known_files_fix_lists()
 }
 
 /// If no two files that a desk knows have the same moment, there is a plain table of these files.
-/// The desk lists the timing points of this table without the rows that ended before the horizon.
+/// The desk lists the timing points of this table, after the bodies that ended before the horizon
+/// have lapsed.
 pub fn places_are_of_the_plain_table()
     ensures { (known : Known) (state : State) → IsKnown known state
         → HaveDistinctMoments known.files → (plain : Table) × IsPlainTable known.files plain

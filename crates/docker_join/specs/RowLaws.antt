@@ -168,7 +168,8 @@ pub record ArePickLaws {E : Type 0} (valid : E → Type 0) (picked : E → E →
   pub associates : (a b c : E) → valid a → valid b → valid c → picked (picked a b) c ≡ picked a (picked b c)
   pub itself : (a : E) → valid a → picked a a ≡ a
 
--- a function whose result is always the join that a `Merge` type defines is commutative, associative and idempotent, and its result is valid
+-- if a join has at most one result, which is valid, and is commutative, associative and idempotent, the same is true of a function `picked` that always
+-- returns this join
 pub pick_laws : {E : Type 0} (valid : E → Type 0) (is_join : E → E → E → Type 0) (picked : E → E → E)
     → ((a b c : E) → valid a → valid b → is_join a b c → valid c)
     → ((a b c d : E) → valid a → valid b → is_join a b c → is_join a b d → c ≡ d)

@@ -100,8 +100,9 @@ one_stop format limit text first second one two = by (both_in_line format text f
     by (inr (inl later)) = absurd (one.stops second two.rest later two.whole two.within)
     by (inr (inr later)) = absurd (two.stops first one.rest later one.whole one.within)
 
--- from one stage to a later stage, the text read grows by the width of the next part and the length
--- of the bytes after that part
+-- the length of the text before a later stage is the length of the text before an earlier stage,
+-- plus the width of the part that comes next there, plus the number of bytes from the end of this
+-- part to the later stage
 pub later_size : (format : Format) → (before after : Before) (later : IsLater format before after)
     → length (text_before format before) + width before + length later.more ≡ length (text_before format after)
 later_size format before after later =
