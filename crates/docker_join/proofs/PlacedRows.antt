@@ -134,7 +134,8 @@ module _ {E : Type 0} (picked : E → E → E) where
   walk_row : (rows : List (Key × E)) (row : Key × E) → Above row rows → walk picked rows (row ∷ []) ≡ row ∷ rows
   walk_row rows row above = lower_first picked rows (row ∷ []) [] (above, tt) ∙ ap (λ rest. row ∷ rest) (walk_none picked rows)
 
-  -- if the first table doesn't have the key of the second table's last row, the walk returns this row just before the rows of the first table that have greater keys
+  -- suppose that the first table doesn't have the key of the second table's last row. Then the walk returns this row just before the rows of the first table
+  -- that have greater keys
   none_out : (a r rest : List (Key × E)) (row : Key × E) → AllBelow a (row ∷ []) → Above row r → AllBelow rest (row ∷ [])
       → walk picked (a ++ r) (rest ++ row ∷ []) ≡ walk picked a rest ++ (row ∷ r)
   none_out a r rest row below above rest_below =
