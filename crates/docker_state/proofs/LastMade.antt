@@ -134,8 +134,8 @@ row_more file changes change made after m pushed made_is before =
     ∙ (λ i. before i ++ made_is i ∷ [])
     ∙ sym (map-append (made_by file) changes (change ∷ []))
 
--- suppose that each row made so far has the index of its change, and that the next change's row is appended, with the count of the earlier changes as its
--- index. Then each row still has the index of its change
+-- suppose that each row made so far has the index of its change. Append the next change's row, with the count of the earlier changes as its index. Then each
+-- row still has the index of its change
 pub numbered_more : (file : FileStamp) (changes : List model.Change) (change : model.Change) (made after : List Made) (m : Made)
     → after ≡ made ++ m ∷ [] → row_meant m.0 ≡ made_by file change → m.1 ≡ length (items_put changes)
     → AreNumbered (items_put changes) made → AreNumbered (items_put (changes ++ change ∷ [])) after
