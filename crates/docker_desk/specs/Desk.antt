@@ -30,7 +30,7 @@ pub record DeskView : Type 0 where
   pub state : State
   pub unsaved : Bool
 
--- this is the fault for which a docker is refused: `Lapsed` if its day is refused under the state's
+-- this fault is why a docker is refused: `Lapsed` if its day is refused under the state's
 -- horizon, otherwise `Memory`
 abbrev pub IsDockerRefused : State → ℕ → OfficeFault → Type 0
 IsDockerRefused state day office.Lapsed = IsDayRefused state.horizon day
@@ -61,7 +61,7 @@ IsPermanentAnswer state place day (done_with text) =
 IsPermanentAnswer state place day (refused_for fault) = IsDockerRefused state day fault
 IsPermanentAnswer state place day no_request = ⊥
 
--- this is the fault for which `train` is refused: `Lapsed` if the day is before the horizon,
+-- this fault is why `train` is refused: `Lapsed` if the day is before the horizon,
 -- otherwise `Memory`
 abbrev pub IsTrainRefused : State → ℕ → OfficeFault → Type 0
 IsTrainRefused state day office.Lapsed = day < state.horizon
@@ -98,7 +98,7 @@ IsKnownAnswer state no_request = ⊥
 
 -- ---- how files are read
 
--- this is the fault for which a file can't be opened: `Source` if its device failed, otherwise
+-- this fault is why a file can't be opened: `Source` if its device failed, otherwise
 -- `Memory`
 abbrev pub IsWhyUnopened : OfficeFault → Type 0
 IsWhyUnopened office.Source = ⊤
@@ -108,7 +108,7 @@ IsWhyUnopened (office.State fault) = ⊥
 IsWhyUnopened office.Lapsed = ⊥
 IsWhyUnopened office.Sink = ⊥
 
--- this is the fault for which a file isn't taken: its text is refused, its device failed, or memory
+-- this fault is why a file isn't taken: its text is refused, its device failed, or memory
 -- ran out. If memory ran out, no record that was read before has a fault
 abbrev pub RefusesToTake : Reading → OfficeFault → Type 0
 RefusesToTake read (office.File fault) = RefusesText most_records read.held fault
@@ -118,7 +118,7 @@ RefusesToTake read (office.State fault) = ⊥
 RefusesToTake read office.Lapsed = ⊥
 RefusesToTake read office.Sink = ⊥
 
--- this is the fault for which no state is received from a file: its text is refused, its device
+-- this fault is why no state is received from a file: its text is refused, its device
 -- failed, or memory ran out. If memory ran out, no part that was read before has a fault
 abbrev pub RefusesToReceive : Reading → OfficeFault → Type 0
 RefusesToReceive read (office.State fault) = RefusesState dks_2 most_bytes read.held fault
