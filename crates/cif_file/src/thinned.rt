@@ -48,8 +48,8 @@ impl Thinned {
         self.day
     }
 
-    /// Whether a change to this key was kept. Extracts are nearly in the order of keys, so the key is
-    /// first compared with the greatest kept key, for which no search is needed.
+    /// Whether a change to this key was kept. Most extracts are nearly in the order of keys. So the
+    /// key is first compared with the greatest kept key, which needs no search.
     fn has_kept(&self, key: &Key) -> bool
         ensures { result ≡ has_key self.now.keys key.now }
     {
