@@ -8,8 +8,8 @@ use std::io::{copy, BufRead, BufReader, Error, Result, Seek, SeekFrom, Write};
 
 const ROUNDS: usize = 5;
 
-/// A command: the state that STATE holds before it, its words, and the files that it reads. Also
-/// the total size of the texts of the states that it has in memory.
+/// A command: its words, the state that STATE holds before the command, and the files that the
+/// command reads. Also the total size of the texts of those states that it has in memory.
 struct Job<'a> {
     name: &'static str,
     before: Option<&'a str>,

@@ -1,5 +1,5 @@
-//! Times of the program `desk`, which keeps a state in memory, compared with commands that read the
-//! state each time, and with calls of the library.
+//! Times of the program `desk`, which keeps a state in memory. They are compared with the times of
+//! commands that read the state each time, and of calls to the library.
 
 use crate::measure::{machine, run, Input, Spent};
 use crate::random::Random;
@@ -92,7 +92,7 @@ impl Desk {
         }
     }
 
-    /// Bytes of resident memory: now, and at most so far.
+    /// The number of bytes of resident memory: now, and at its peak so far.
     fn memory(&self) -> Result<[u64; 2]> {
         let text = fs::read_to_string(format!("/proc/{}/status", self.process.id()))?;
         let of = |name: &str| {
@@ -116,8 +116,8 @@ impl Desk {
     }
 }
 
-/// The subjects of requests: the places by the number of records that name them, busiest first;
-/// some UIDs; and the day.
+/// The subjects of requests: the places, some UIDs and the day. The places that the most records
+/// name come first.
 struct Subjects {
     places: Vec<String>,
     uids: Vec<String>,
@@ -202,8 +202,8 @@ pub fn tables(programs: &Programs, extract: &str, update: &str, folder: &str, da
     takes(programs, &files)
 }
 
-/// The first answer of a desk, compared with the commands that print the same, and with the
-/// library's reading of the whole state. Then the dockers of the busiest places.
+/// Measures the first answer of a desk. Compares it with the commands that print the same, and with
+/// the library's reading of the whole state. Then measures the dockers of the busiest places.
 fn first_answers(programs: &Programs, files: &Files, subjects: &Subjects) -> Result<()> {
     let Subjects { places, day, .. } = subjects;
     let place = places.first().ok_or_else(|| Error::other("the extract has no location"))?;
@@ -253,7 +253,8 @@ fn first_answers(programs: &Programs, files: &Files, subjects: &Subjects) -> Res
     Ok(())
 }
 
-/// Random requests to one desk: their times, and the desk's memory in between.
+/// Measures the times of random requests to one desk. Also measures the desk's memory after the
+/// first requests, and after all of them.
 fn random_answers(programs: &Programs, files: &Files, subjects: &Subjects, seed: u64) -> Result<()> {
     let mut desk = Desk::start(&[programs.desk, &files.state])?;
     desk.ask_done("files")?;
@@ -293,8 +294,8 @@ fn random_answers(programs: &Programs, files: &Files, subjects: &Subjects, seed:
     Ok(())
 }
 
-/// `take` of the update by a desk, compared with calls of the library and with the commands. All
-/// have to leave the same state.
+/// Measures `take` of the update by a desk, and compares it with calls to the library and with the
+/// commands. All have to leave the same state.
 fn takes(programs: &Programs, files: &Files) -> Result<()> {
     let Files { update, state, other, own } = files;
     let (mut taken, mut joins, mut making) = (Vec::new(), Vec::new(), Vec::new());

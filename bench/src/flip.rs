@@ -38,8 +38,8 @@ impl Flip {
     /// Draws a byte and its new value, in one of four ways that are equally likely. The first way
     /// draws from all bytes. The second draws a kind of record, and then a byte of such a record.
     /// The third is like the second, but draws only from the columns that decide something in some
-    /// kind of record. The fourth draws from the times of a call after midnight, or from the same
-    /// columns of one of the two next records.
+    /// kind of record. The fourth draws from the times of a call at which midnight passes between
+    /// arrival and departure, or from the same columns of one of the next two records.
     pub fn draw(text: &[u8], random: &mut Random) -> Flip {
         let mut offset = random.below(text.len());
         let identity = *random.pick(&IDENTITIES);
@@ -74,8 +74,8 @@ fn start_of_line(before: &[u8]) -> usize {
     before.iter().rposition(|&byte| byte == b'\n').map_or(0, |at| at + 1)
 }
 
-/// A byte for column 1 or 2 that makes another identity together with the record's other letter. If
-/// there is none, the byte of any identity.
+/// A byte for column 1 or 2 that, together with the record's other letter, makes another identity.
+/// If there is no such byte, this is the byte of any identity in this column.
 fn other_kind(text: &[u8], offset: usize, column: usize, random: &mut Random) -> u8 {
     let other = text.get(if column == 1 { offset + 1 } else { offset - 1 });
     let alike: Vec<u8> =

@@ -63,7 +63,8 @@ impl Extract {
 
     // ------------------------------------------------------------ associations
 
-    /// The association whose base has this UID, if there is one: partner, place and category.
+    /// The association whose base train has this UID, if there is one, with its partner, its place
+    /// and its category.
     fn association(&self, base: usize) -> Option<Association> {
         let mut random = self.plans.random(base, 1);
         let schedule = self.plans.of(base).into_iter().find(|schedule| schedule.stp == b'P')?;
@@ -143,7 +144,7 @@ impl Extract {
         self.out.put(&extra)
     }
 
-    /// A schedule. Another `revision` gives the same schedule other times.
+    /// A schedule. A different `revision` gives the same schedule different times.
     fn schedule(&mut self, transaction: u8, number: usize, schedule: &Schedule, revision: u64) -> Result<()> {
         let route = route(&self.network, &mut self.plans.random(number, 2));
         self.basic(transaction, number, schedule, &route)?;
@@ -189,8 +190,9 @@ impl Extract {
                 self.out.put(&record)?;
                 continue;
             }
-            // 1 to 6 minutes from place to place, in half minutes. Most of the time depends on the
-            // line.
+            // A train takes 1 to 6 minutes from one place to the next. The time is counted in half
+            // minutes. Up to 3.5 minutes depend on the two places, and up to 1.5 minutes are
+            // random.
             let road = u64::from(place) * 7 + u64::from(route.stops[at - 1].0) * 3;
             time += 2 + (road % 8) as i32 + (bits >> 60 & 3) as i32;
             let stays = stays_at.contains(&at);

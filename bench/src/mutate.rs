@@ -181,9 +181,9 @@ struct Bench<'a> {
     states: Vec<Vec<u8>>,
 }
 
-/// Compares this many mutations, half of them of these files and half of their states. Returns
-/// whether all answers are the same. Each mutation depends only on the seed and on its own number,
-/// so it is the same on any number of processors.
+/// Makes this many mutations, half of them of these files and half of their states. Compares the
+/// program's answers with the plain program's, and returns whether all are the same. Each mutation
+/// depends only on the seed and on its own number, so it is the same on any number of processors.
 pub fn compare(program: &str, folder: &str, seed: u64, count: usize, paths: &[&str]) -> Result<bool> {
     let files = paths.iter().map(fs::read).collect::<Result<Vec<_>>>()?;
     let states = states_of(&files).ok_or_else(|| Error::other("a file is refused as it is"))?;
@@ -256,7 +256,8 @@ impl Bench<'_> {
     }
 }
 
-/// The last word of a fault's line, without its column.
+/// What a fault's line refuses, and the first word of the cause, as in `file Field`; `accepted` if
+/// there is no such line.
 fn cause_of(errors: &str) -> String {
     let (kind, cause) = (errors.split(' ').nth(1).unwrap_or("accepted"), errors.rsplit(": ").next().unwrap_or(""));
     format!("{kind} {}", cause.split_whitespace().next().unwrap_or("")).trim_end().to_string()

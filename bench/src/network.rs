@@ -101,7 +101,8 @@ pub fn padded(text: &str) -> [u8; 7] {
     code
 }
 
-/// A place with a code of 4 to 7 letters, made from its name as planners do it.
+/// A place with a code of 4 to 7 letters. The code is made from the name in the same way as
+/// planners make codes.
 pub fn place(random: &mut Random) -> Place {
     let (head, tail, end) = (random.pick(&HEADS), random.pick(&TAILS), random.pick(&ENDS));
     let name = format!("{head}{tail}{end}");

@@ -4,7 +4,7 @@
 use crate::network::Network;
 use crate::random::Random;
 
-/// 2024-06-09, a Sunday. The full extract is of this day, 21:00.
+/// 2024-06-09, a Sunday. The moment of the full extract is 21:00 on this day.
 pub const EXTRACT: i32 = 23536;
 /// The timetable runs from 2024-06-02 to 2024-12-14. The one before began on 2023-12-10.
 const BEGIN: i32 = 23529;
@@ -61,7 +61,7 @@ const DAYS: [(u32, u8); 16] = [
 
 pub struct Plans {
     seed: u64,
-    /// The UIDs of the full extract.
+    /// The number of UIDs in the full extract.
     pub uids: usize,
     /// How many schedules of the last UID are in the full extract.
     last: usize,
@@ -137,8 +137,8 @@ fn permanent(random: &mut Random) -> Vec<Schedule> {
         from = to + 1 + if random.chance(30.0) { random.range(1, 3) * 7 } else { 0 };
     }
     if plan.is_empty() {
-        // If no days run lie within the timetable, the schedule is a single day: the timetable's
-        // last.
+        // If no schedule that was drawn runs within the timetable, the only schedule is for a
+        // single day: the timetable's last.
         let days = 1 << ((END + 4) % 7);
         plan.push(Schedule { first: END, last: END, days, stp: b'P', variant: 0 });
     }
@@ -156,14 +156,14 @@ fn permanent(random: &mut Random) -> Vec<Schedule> {
     plan
 }
 
-/// A change of some days of a schedule, under a key that isn't used yet.
+/// An overlay or a cancellation for some days of a schedule, under a key that isn't used yet.
 fn overlay(plan: &[Schedule], base: &Schedule, stp: u8, random: &mut Random) -> Option<Schedule> {
     let from = random.range(base.first, base.last);
     let to = from + random.weigh(&[(50, 0), (14, 1), (16, 4), (12, 11), (6, 25), (2, 60)]);
     let taken = |day: i32| plan.iter().any(|s| s.stp == stp && s.first == day);
     let first = (from..=base.last).find(|&day| runs(base.days, day) && !taken(day))?;
     let last = to.clamp(first, base.last);
-    // A change of less than a week has only its own days as days run.
+    // If the change covers less than a week, its days run include only weekdays that it covers.
     let week = (first..=last).take(7).fold(0, |days, day| days | 1u8 << ((day + 4) % 7));
     let days = base.days & week;
     let (first, last) = trim(days, first, last)?;
@@ -209,7 +209,8 @@ pub fn route(network: &Network, random: &mut Random) -> Route {
     if random.chance(50.0) {
         stops.reverse();
     }
-    // Out, and part of the way back. A place that is met again has the suffix 2.
+    // Some trains run out and part of the way back. A place that such a train meets again has the
+    // suffix 2.
     if length > 6 && length < 40 && random.chance(1.5) {
         let back = random.range(2, length as i32 / 2) as usize;
         for at in 2..2 + back {

@@ -11,7 +11,7 @@ use std::io::{Error, Result};
 /// About how many records there are per schedule in a file of national shape.
 const NATIONAL: usize = 18;
 
-/// A name of `WIDTH` letters. Each number gives another name.
+/// A name of `WIDTH` letters. Different numbers give different names.
 pub fn letters<const WIDTH: usize>(mut number: usize) -> [u8; WIDTH] {
     let mut name = [b'A'; WIDTH];
     for letter in name.iter_mut().rev() {

@@ -156,8 +156,8 @@ pub fn said_by(spent: &Spent) -> Result<&str> {
     }
 }
 
-/// The seconds that the program printed for a stage. The first line with its name counts, because a
-/// join reads two texts. A walk is made several times, and the least time counts.
+/// The seconds that the program printed for a stage. A join reads two texts, so the first line with
+/// the stage's name counts. A walk is made several times, and the shortest time counts.
 pub fn seconds(said: &str, stage: &str) -> Option<f64> {
     let mut told = said.lines().filter_map(|line| line.strip_prefix(stage)?.strip_prefix(": "));
     let first = told.next()?;

@@ -185,7 +185,8 @@ fn limits() {
     assert_eq!(judged(&text(&small()), 5), counts);
     assert_eq!(judged(&text(&small()[..4]), 4), Err(Fault { record: 5, cause: Cause::NoEnd }));
     assert_eq!(judged(b"", 0), Err(Fault { record: 1, cause: Cause::NoEnd }));
-    // The record is after the trailer and also above the limit. The limit is the fault that counts.
+    // The record comes after the trailer, and its number is above the limit. The fault that is
+    // returned is that the limit is exceeded.
     let longer = [&text(&small())[..], b"x"].concat();
     assert_eq!(judged(&longer, 5), Err(Fault { record: 6, cause: Cause::TooMany }));
 }
@@ -408,7 +409,7 @@ fn lines_of(shape: &str, rows: usize) -> usize {
         "associated trains of one base train, with an earlier call of the base train for each of them" => 2 * rows + 1,
         "calls of one schedule at one place" => rows + 1,
         "calls of one schedule, each at a place of its own" => 1,
-        // The origin and each 64th call.
+        // The origin and every 64th call.
         "calls at places that meet in one slot of the memo" => 1 + rows.div_ceil(64),
         "trains at one place and time"
         | "trains in falling order of UID"

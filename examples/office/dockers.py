@@ -22,10 +22,11 @@ NO_PROGRAM = "there is no program docker: build it by `./docker` or install it b
 
 # A TIPLOC as docker reads it: one to seven bytes from 0x21 to 0x7E, of which the first isn't a hyphen.
 TIPLOC = re.compile(r"[!-,.-~][!-~]{0,6}")
-# A UID as `desk` reads it: six such bytes.
+# A UID as `desk` reads it: six bytes from 0x21 to 0x7E.
 UID = re.compile(r"[!-~]{6}")
-# The columns of each field, first and last, by its name in docs/FORMATS.md. They are for a line of `files` and for the heading of a docker. docs/columns
-# compares them with that page.
+# The first and the last column of each field in a line of `files`, and in the heading of a docker.
+# The fields have the names that docs/FORMATS.md gives them. docs/columns compares the columns with
+# that page.
 FILE = {
     "date of extract": (1, 10), "time of extract": (12, 15), "current file reference": (17, 23), "update indicator": (25, 25), "last file reference": (27, 33),
 }
@@ -37,15 +38,17 @@ VALUE = 14
 KEPT = 64 << 20
 # The number of seconds after which a process that gives no answer is ended.
 PATIENCE = 300
-# The status of an answer if this way of asking doesn't know the request. No program has this status.
+# The status of an answer if the request needs a program `desk` that isn't available. No program has
+# this status.
 UNKNOWN = 5
 # The status with which a desk refuses a line that it doesn't know.
 NO_REQUEST = 2
-# The statuses of an answer which say that the request isn't known, if the words were good.
+# If the words of a request are good, these statuses of its answer say that the request isn't known.
 LACKING = (UNKNOWN, NO_REQUEST)
-# The lists that are requested once until STATE changes. If a desk doesn't know `permanent`, this fact is remembered too.
+# The lists that are requested only once as long as STATE doesn't change. If a desk doesn't know
+# `permanent`, this fact is remembered too.
 LISTS = (("files",), ("known",), ("places",))
-# How many bytes of requests are sent together. Every pipe has room for as many.
+# The most bytes of requests that are sent together. Every pipe has room for this many.
 TOGETHER = 4096
 
 
@@ -367,7 +370,7 @@ class Desk(Reader):
             process.stdin.close()
         except OSError:
             pass
-        # It may still write answers. If nobody could read them, it would end with a fault.
+        # The process may still write answers. If nobody could read them, it would end with a fault.
         try:
             process.wait(timeout=1)
         except subprocess.TimeoutExpired:

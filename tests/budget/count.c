@@ -1,7 +1,8 @@
-// Preloaded into a program that callgrind runs. It counts memory growths, reads and writes. The run
-// is divided into portions: one ends at each read of standard input, and the last at the end of the
-// run. At the end, the file that COUNTED names gets a line for each portion:
-//   the number of growths, and the most bytes in use at a time, without those in use at its start;
+// This library is preloaded into a program that callgrind runs. It counts memory growths, reads and
+// writes. The run is divided into portions: one ends at each read of standard input, and the last
+// ends with the run. At the end, the file that COUNTED names gets a line for each portion:
+//   the number of growths, and the most bytes in use at a time, without the bytes that were in use
+//   when the portion began;
 //   the greatest single request for memory, minus the bytes that were read before the request;
 //   the number of reads and of bytes read, and the number of writes and of bytes written.
 // callgrind counts the instructions of each portion.
@@ -64,7 +65,7 @@ ssize_t write(int to, const void *bytes, size_t size) {
   return took;
 }
 
-// `__write` is another name of `write`.
+// `__write` is another name for `write`.
 ssize_t __write(int to, const void *bytes, size_t size) { return write(to, bytes, size); }
 
 // Looks up the wrapped calls before the program starts, so that the lookups aren't counted.

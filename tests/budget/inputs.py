@@ -14,7 +14,8 @@ LEDGER = 200
 DAY = "2024-06-12"
 HORIZON = "2024-05-01"
 HUB = "ASHFELD"
-# How the text of a state begins: mark and horizon in the new format, the mark in the older one.
+# How the text of a state begins: with the mark and the horizon in the new format, and with the mark
+# in the older one.
 MARK, OLD_MARK = b"DKS2\0\0", b"DKS1"
 # A file's date and time, two bytes each: 2005-09-26 and 01:05.
 LONG_AGO = (16705).to_bytes(2, "big") + (65).to_bytes(2, "big")

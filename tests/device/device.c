@@ -26,7 +26,7 @@
 
 #define NEXT(name) ((__typeof__(&name))dlsym(RTLD_NEXT, #name))
 
-// The lowest file descriptors, for which reads and writes are followed.
+// The number of the lowest file descriptors, for which reads and writes are followed.
 enum { FOLLOWED = 64 };
 
 static long calls;
@@ -119,7 +119,7 @@ ssize_t write(int fd, const void *from, size_t size) {
   return meets(fate) ? -1 : NEXT(write)(fd, from, size);
 }
 
-// `__write` is another name of `write`.
+// `__write` is another name for `write`.
 ssize_t __write(int fd, const void *from, size_t size) { return write(fd, from, size); }
 
 int open(const char *path, int flags, ...) {

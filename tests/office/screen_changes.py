@@ -83,27 +83,33 @@ def twice(uid, indicator, days, *calls):
 
 EXTRACT = extract(
     *(place(code, name) for code, name in (("ASHFELD", "ASHFELD JUNCTION"), ("BRAYTON", "BRAYTON"), ("CORHAM", "CORHAM EXCHANGE"), ("DUNMERE", "DUNMERE TOWN"))),
-    # Train 15 is joined by 16, which is cancelled. Train 17 divides into 18, but not on that day. Train 20 is the next working of 19, which is cancelled.
+    # On 12 June, train 15 is to be joined by train 16, which is cancelled. Train 17 divides into
+    # train 18 on the other days only. Train 20 is the next working of train 19, which is cancelled.
     association("T00015", "T00016", "JJ", "P", ALL), association("T00017", "T00018", "VV", "P", ALL), association("T00017", "T00018", "VV", "C", ONCE),
     association("T00019", "T00020", "NP", "P", ALL),
-    # Train 21 is joined by 22 on that day only. The join of train 23 has an overlay that is the same.
+    # Train 21 is joined by train 22 on 12 June only. The association of train 23 with train 24 has
+    # an overlay that changes nothing.
     association("T00021", "T00022", "JJ", "N", ONCE), association("T00023", "T00024", "JJ", "P", ALL), association("T00023", "T00024", "JJ", "O", ONCE),
     through("T00001", "P", ALL, "0800", "0802"), cancelled("T00001", ONCE),
     through("T00002", "P", ALL, "0810", "0812"), through("T00002", "O", ONCE, "0815H", "0817", "3"),
-    # Train 3 goes round the junction. Train 4 runs on that day only. Train 5 has an overlay with the same call.
+    # On 12 June, train 3 takes a route that avoids the junction. Train 4 runs on this day only.
+    # Train 5 has an overlay with the same call.
     through("T00003", "P", ALL, "0820", "0822"), train("T00003", "O", ONCE, origin("CORHAM", "0730"), passes("DUNMERE", "0821"), end("BRAYTON", "0930")),
     through("T00004", "N", ONCE, "0830", "0832"),
     through("T00005", "P", ALL, "0840", "0842"), through("T00005", "O", ONCE, "0840", "0842"),
-    # Train 6 calls twice, but only once on that day. Train 7 is an hour later at each call. Train 8 has one more call.
+    # Train 6 calls twice, but only once on 12 June. On this day, train 7 is an hour later at each
+    # call, and train 8 has one more call.
     twice("T00006", "P", ALL, ("0850", "1"), ("0950", "1")), twice("T00006", "O", ONCE, ("0951", "1")),
     twice("T00007", "P", ALL, ("1000", "1"), ("1100", "1")), twice("T00007", "O", ONCE, ("1100", "1"), ("1200", "1")),
     twice("T00008", "P", ALL, ("1010", "1")), twice("T00008", "O", ONCE, ("1010", "1"), ("1110", "1")),
-    # On that day, train 9 stops although it permanently passes, train 10 passes although it permanently stops, train 11 ends here, and train 12 starts here.
+    # On 12 June, train 9 stops although it permanently passes, and train 10 passes although it
+    # permanently stops. Train 11 ends here on this day, and train 12 starts here.
     train("T00009", "P", ALL, origin("CORHAM", "1230"), passes("ASHFELD", "1300H"), end("BRAYTON", "1330")), through("T00009", "O", ONCE, "1301", "1302", "2"),
     through("T00010", "P", ALL, "1310", "1312"), train("T00010", "O", ONCE, origin("CORHAM", "1230"), passes("ASHFELD", "1311", ""), end("BRAYTON", "1430")),
     through("T00011", "P", ALL, "1320", "1322"), train("T00011", "O", ONCE, origin("CORHAM", "1230"), end("ASHFELD", "1320", "1")),
     through("T00012", "P", ALL, "1330", "1332"), train("T00012", "O", ONCE, origin("ASHFELD", "1332", "1"), end("BRAYTON", "1430")),
-    # Train 13 has another identity all week. Train 14 is added for the week, and cancelled on that day.
+    # Train 13 has another identity all week. Train 14 is added for the week, and cancelled on
+    # 12 June.
     through("T00013", "P", ALL, "1340", "1342"), through("T00013", "O", WEEK, "1340", "1342", identity="5Z13"),
     through("T00014", "N", WEEK, "1350", "1352"), cancelled("T00014", ONCE),
     short("T00015", "P", ALL, "1400"), train("T00016", "P", ALL, origin("CORHAM", "1300"), end("ASHFELD", "1355", "5")), cancelled("T00016", ONCE),
@@ -119,10 +125,10 @@ EXTRACT = extract(
     train("T00027", "O", WEEK, origin("CORHAM", "2300"), stop("ASHFELD", "0035", "0037", "4"), end("BRAYTON", "0110")),
     # Train 28 arrives before midnight and departs after it, and is cancelled.
     train("T00028", "P", ALL, origin("CORHAM", "2320"), stop("ASHFELD", "2358", "0003"), end("BRAYTON", "0030")), cancelled("T00028", ONCE),
-    # Train 30 permanently passes, and takes another route on that day.
+    # Train 30 permanently passes, and takes another route on 12 June.
     train("T00030", "P", ALL, origin("CORHAM", "1230"), passes("ASHFELD", "1500H"), end("BRAYTON", "1530")),
     train("T00030", "O", ONCE, origin("CORHAM", "1230"), end("BRAYTON", "1530")),
-    # The schedule of train 29 has already ended, but train 29 has a cancellation on that day.
+    # The schedule of train 29 has already ended, but train 29 has a cancellation on 12 June.
     through("T00029", "P", "2406032406101111111", "1500", "1502"), cancelled("T00029", ONCE),
 )
 # What the page shows of the rows that differ: the time, what happens, the UID, and the text of the change.
@@ -152,7 +158,7 @@ TOLD = [
     ("23:50", "arrives", "T00026", "calls here on Thursday 13 June at 00:10"), ("23:51", "departs", "T00026", "calls here on Thursday 13 June at 00:10"),
     ("23:58", "arrives", "T00028", "cancelled"),
 ]
-# The same for the page of the next day, which isn't today.
+# Like `TOLD`, for the page of the next day. To the server, this day is tomorrow, not today.
 TOLD_NEXT = [
     ("00:03", "departs", "T00028", "cancelled"),
     ("00:10", "arrives", "T00026", "was on Wednesday 12 June at 23:50"), ("00:11", "departs", "T00026", "was on Wednesday 12 June at 23:50"),
@@ -464,7 +470,7 @@ class NotPermanent(Changed):
         status, _, body = self.ask(f"/ASHFELD/{DAY}/changes")
         self.assertEqual(status, 501)
         self.assertIn(b"what differs needs a program desk that knows what is permanent", body)
-        # The request is asked once, until STATE changes.
+        # The request is made only once as long as STATE doesn't change.
         self.assertEqual([line.split()[0] for line in (self.folder / "asked").read_text().splitlines()].count("permanent"), 1)
 
 

@@ -122,7 +122,7 @@ class Names(Stated):
             made.open(self.address(f"/ASHFELD/{DAY}"))
             for shown, cell, tip in (("codes", "BRAYTON", "Brayton"), ("names", "Brayton", "BRAYTON")):
                 if is_disabled:
-                    # Without scripts, a link is followed by the keyboard.
+                    # Without scripts, the test follows the link with the keyboard.
                     page = made.cdp("DOM.getDocument")["root"]["nodeId"]
                     made.cdp("DOM.focus", nodeId=made.cdp("DOM.querySelector", nodeId=page, selector="#naming-choice")["nodeId"])
                     made.keys(browser.ENTER)
@@ -218,7 +218,8 @@ def network():
     made = [place(*one) for one in first]
     heads = [head for head in HEADS if head not in ("ASH", "KINGS")]
     made += [place(f"Q{number:05}", drawn.choice(heads) + drawn.choice(TAILS) + drawn.choice(ENDS), stanox=f"{number:05}") for number in range(10000 - len(first))]
-    # Of the two Manchesters, Victoria has more trains; of the places that begin with ASH, the junction has.
+    # Of the two Manchesters, Victoria has more trains. Of the places that begin with ASH, Ashfeld
+    # Junction has the most trains.
     for number, (origin, end) in enumerate([("MNCRVIC", "ASHFELD")] * 3 + [("MNCRPIC", "ASHFELD"), ("CORASH", "FASHION"), ("CORASH", "Q00001")]):
         made.append(schedule(f"C{number:05}", origin, end))
     return extract(*made)
@@ -301,7 +302,7 @@ class Search(Stated):
         self.assertEqual(made.run("return document.activeElement.id"), "text")
         made.keys(browser.DOWN + browser.ENTER)
         self.waited(made, "return location.pathname", "/MNCRPIC")
-        # Going back shows the places found again.
+        # Going back shows again the places that were found.
         made.run("history.back()")
         self.waited(made, "return location.search", "?q=manchester+p")
         self.waited(made, FOUND, ["/MNCRPIC"])
@@ -482,6 +483,6 @@ class OldDesk(Office):
         self.assertEqual((told["name"], told["crs"], told["covers"], told["warnings"]), ("Ashfeld Junction", "", None, []))
         self.assertEqual({line["origin_name"] for line in told["lines"]} | {told["description"]}, {"", "ASHFELD JUNCTION"})
         self.assertEqual(self.ask(f"/train/C00001/{DAY}")[0], 200)
-        # The request is asked once, until STATE changes.
+        # The requests `places` and `known` are each made only once as long as STATE doesn't change.
         asked = (self.folder / "asked").read_text().splitlines()
         self.assertEqual((asked.count("places"), asked.count("known")), (1, 1))

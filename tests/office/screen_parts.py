@@ -17,7 +17,8 @@ from screens import CELLS, DAY, NAMES, REAL, SHOWN, STAND_IN, Office, Seen, know
 
 NEXT = "2024-06-13"
 AHEAD = f"return [...document.querySelectorAll('#next tr[data-at]')].map({CELLS})"
-# The tops of the visible rows of both days, each with its time.
+# The visible rows of both days: for each, its time in half minutes, its time as it is shown, and
+# the position of its bottom edge.
 SEEN = """return [...document.querySelectorAll('#docker tr[data-at]')].filter(row => row.getBoundingClientRect().height)
     .map(row => [Number(row.dataset.at), row.cells[0].textContent, row.getBoundingClientRect().bottom])"""
 WIDTHS = (320, 360, 390, 480, 600, 701, 760, 761, 768, 800, 912, 1000, 1001, 1024, 1280, 1366, 1600, 1920, 2560, 3840)
@@ -228,7 +229,8 @@ class Busy(Office):
 
             key, head = f"{drawn.choice('CGLWY')}{number:05}", f"POO{drawn.randrange(1, 6)}{drawn.choice('ABCFHLMNPS')}{drawn.randrange(100):02}"
             text += [record(f"BSN{key}2406032412131111111 {head}", drawn.choice("PPPPPPPN")), *calls(drawn.randrange(1, 25))]
-            # Of twenty trains, one is cancelled on the day, one is at another platform on the day, and one is at another platform all week.
+            # On average, of twenty trains one is cancelled on the day, one is at another platform
+            # on the day, and one is at another platform all week.
             match drawn.randrange(20):
                 case 0:
                     text.append(record(f"BSN{key}2406122406120010000", "C"))

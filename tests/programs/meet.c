@@ -1,4 +1,4 @@
-// Preloaded into a program, to run something else just before one of its calls of the file system.
+// Preloaded into a program, to run something else just before one of its calls to the file system.
 // The wrapped calls are counted from 1. Before the call whose number is in MEET_AT, the shell runs
 // the line in MEET. The file that CALLS names gets a line for each call, with its name and the
 // names of its files. When the shell has run, the file also gets a line `met` with the shell's
@@ -52,7 +52,7 @@ ssize_t write(int fd, const void *from, size_t size) {
   return NEXT(write)(fd, from, size);
 }
 
-// `__write` is another name of `write`.
+// `__write` is another name for `write`.
 ssize_t __write(int fd, const void *from, size_t size) { return write(fd, from, size); }
 
 int open(const char *path, int flags, ...) {

@@ -1,5 +1,5 @@
 //! How the time of each command grows with hostile shapes. If twice the rows take far more than
-//! twice the time, the work grows with the square.
+//! twice the time, the work grows with the square of the number of rows.
 
 pub mod shapes;
 
@@ -83,7 +83,7 @@ impl Folder<'_> {
         fs::write(self.path("NEXT", rows), &states[1])
     }
 
-    /// Makes a file, and returns its state, by the plain program.
+    /// Makes a file, and returns the state that the plain program makes from it.
     fn taken(&self, word: &str, rows: usize) -> Result<Vec<u8>> {
         let path = self.path(word, rows);
         self.shape.write(rows, word == "NEWER", &path)?;
@@ -107,8 +107,8 @@ impl Folder<'_> {
         }
     }
 
-    /// The number of rows on which a command takes long enough to be measured, but at most the most
-    /// rows of the shape.
+    /// A number of rows on which a command takes long enough to be measured. If no number that is
+    /// tried is large enough, this is the greatest number of rows of the shape.
     fn rows(&mut self, program: &[&str], command: &Command) -> Result<usize> {
         let mut rows = self.shape.least;
         loop {
@@ -122,7 +122,7 @@ impl Folder<'_> {
         }
     }
 
-    /// The least seconds of several rounds, with this many rows and with twice as many.
+    /// The shortest processor times in several rounds, with this many rows and with twice as many.
     fn growth(&mut self, program: &[&str], command: &Command, rows: usize) -> Result<[f64; 2]> {
         let mut least = [f64::INFINITY; 2];
         for round in 0..MOST_ROUNDS {
@@ -193,8 +193,9 @@ fn row(folder: &mut Folder, programs: [&[&str]; 2], command: &Command) -> Result
         rows *= 2;
         own = folder.growth(programs[0], command, rows)?;
     }
-    // A busy moment of the machine doesn't recur with twice the rows. Nor does a step in the time,
-    // such as when an allocator begins to ask the system for each block.
+    // If the ratio is too great, the command is measured again with twice the rows. A busy moment
+    // of the machine doesn't recur then. Nor does a step in the time, for example when an allocator
+    // begins to ask the system for each block.
     if own[1] > RATIO * own[0] {
         rows *= 2;
         own = folder.growth(programs[0], command, rows)?;

@@ -1,5 +1,5 @@
-//! Files and states of hostile shapes. The program accepts all of them, and they would take long if
-//! its work grew with the square.
+//! Files and states of hostile shapes. The program accepts all of them. They would take long if the
+//! program's work grew with the square of the number of rows.
 
 use crate::plan::EXTRACT;
 use crate::records::{Out, Record};
@@ -263,7 +263,8 @@ fn partners(out: &mut Out, rows: usize, suffix: u8) -> Result<()> {
     (0..rows).try_for_each(|number| out.put(&link(&uid(b'A', 0), &uid(b'B', number), 0, suffix, b'P')))
 }
 
-/// A base train that calls at the place after other calls, as many as it has partners.
+/// A base train that makes other calls before it calls at the place. It has as many of these calls
+/// as partners.
 fn behind(out: &mut Out, rows: usize, other: &Record) -> Result<()> {
     partners(out, rows, b'2')?;
     out.put(&basic(&uid(b'A', 0), 0, b'P'))?;

@@ -80,7 +80,8 @@ fn kind_rank(kind: u8) -> usize {
 }
 
 /// The row that is chosen on the day with this index. Of the rows that run, it has the lowest STP
-/// indicator and, among equal ones, the latest first day. None if the chosen row is a cancellation.
+/// indicator. If several have this indicator, it has the latest first day. The result is none if
+/// the chosen row is a cancellation.
 fn chosen<T>(rows: &[T], index: usize, choice: impl Fn(&T) -> (u8, u8, u16)) -> Option<&T> {
     let running = rows.iter().filter(|row| choice(row).0 >> index & 1 == 1);
     let best = running.min_by_key(|row| {

@@ -79,7 +79,8 @@ impl Excerpt {
         Excerpt { partners: Some(HashSet::new()), ..Excerpt::of_file(place, day) }
     }
 
-    /// The associations and the trains in order, each with the last change of its key.
+    /// Puts the associations and the trains in order, and keeps only the row of the last change of
+    /// each key.
     pub fn finish(mut self) -> Excerpt {
         self.close();
         self.links.sort_by(|one, other| one.key.cmp(&other.key));
@@ -96,7 +97,8 @@ impl Excerpt {
         }
     }
 
-    /// The days, as bits, on which a row runs that has this first and last day and these days run.
+    /// The days on which a row runs, as bits. They follow from its first day, its last day and its
+    /// days run.
     fn runs(&self, first: u16, last: u16, marks: &[u8]) -> u8 {
         let mut runs = 0;
         for index in 0..DAYS as u16 {
@@ -155,7 +157,7 @@ impl Excerpt {
     }
 }
 
-/// Whether two rows have the same key. Then the later one replaces the earlier one.
+/// Whether two rows have the same key. If so, the later one replaces the earlier one.
 fn replaces<T, K: PartialEq>(later: &mut T, earlier: &mut T, key: impl Fn(&T) -> K) -> bool {
     let same = key(later) == key(earlier);
     if same {

@@ -8,7 +8,7 @@ use super::Stop;
 use crate::judge::{Judge, LIMIT};
 use std::io::Read;
 
-/// Passes the changes of records that were already judged to a keeper.
+/// Passes to a keeper the changes of records that were already judged.
 struct Changes<'a, K> {
     item: Item,
     record: u32,
@@ -59,8 +59,8 @@ impl<K: Keeper> Changes<'_, K> {
         }
     }
 
-    /// The change of a line that has its end date at this index. The line is kept with the
-    /// transaction of a new record.
+    /// Makes the change of a line whose end date begins at this index. A line that is put is kept
+    /// with the transaction of a new record.
     fn change_or_delete(&mut self, key: &Key, line: &[u8], end_at: usize) {
         if line[2] == b'D' {
             return self.change(key, Act::Delete);

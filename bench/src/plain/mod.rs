@@ -1,5 +1,5 @@
 //! The program written plainly, without proofs: for the same words it gives the same bytes. It
-//! reads each source once. Of a source it keeps nothing, or only an excerpt, if that is enough;
+//! reads each source once. If that is enough, it keeps nothing from a source, or only an excerpt;
 //! otherwise it keeps the entries in one arena. Its answers and its times are compared with the
 //! program's. It doesn't check words, and doesn't read standard input.
 

@@ -1,11 +1,12 @@
-//! Reads bytes piece by piece, to be taken line by line or part by part.
+//! Reads bytes piece by piece. A reader takes them line by line or part by part.
 
 use crate::judge::end_of_line;
 use std::io::{Read, Result};
 
 const ROOM: usize = 1 << 18;
 
-/// How many bytes of a line are looked at, at most. A record has 80, and perhaps a carriage return.
+/// The greatest number of bytes of a line that are looked at. A record has 80, and perhaps a
+/// carriage return.
 const LONGEST: usize = 82;
 
 pub struct Source<R> {
@@ -13,7 +14,7 @@ pub struct Source<R> {
     buffer: Vec<u8>,
     begin: usize,
     end: usize,
-    /// How many bytes were taken so far.
+    /// How many bytes have been taken so far.
     pub used: u64,
 }
 

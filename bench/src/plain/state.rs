@@ -109,8 +109,8 @@ pub struct State {
 }
 
 impl State {
-    /// Joins this state with another one. `read` reads its entries into the same arena, and returns
-    /// its horizon and its ledger.
+    /// Joins this state with another one. `read` reads the other state's entries into the same
+    /// arena, and returns the other state's horizon and ledger.
     pub fn join<E>(
         &mut self,
         read: impl FnOnce(&mut Table) -> std::result::Result<(u16, Vec<Item>), E>,

@@ -37,7 +37,7 @@ pub enum Format {
     Dks2,
 }
 
-/// The most bytes of a text.
+/// The greatest number of bytes that a text may have.
 const LIMIT: u64 = 1 << 40;
 
 struct Reader<R> {

@@ -166,8 +166,8 @@ fn fault_in(parser: &mut StateParser, piece: &[u8], begins: u64) -> Option<State
     }
 }
 
-/// The fault of a text that a parser is fed `step` bytes at a time. If bytes follow the state, the
-/// function returns the fault `Tail`.
+/// The fault that a parser returns when it is fed a text, `step` bytes at a time. If bytes follow
+/// the state, the function returns the fault `Tail`.
 fn fault_fed(alloc: Global, text: &[u8], limit: u64, step: usize) -> Option<StateFault>
     requires { 0 < step }
 {

@@ -138,8 +138,8 @@ judged_ok answer journey lines line has is iff = (
     from None h begins = absurd ((fault_by journey lines line has is h).here begins)
     from (Some next) h begins = iff.1 (λ i. is_some (h i))
 
--- suppose a result is `Ok` if and only if there is a stage after the line, and that otherwise its
--- error is the cause that `cause_by` gives. Then this error is the cause for which the line is
+-- suppose that a result is `Ok` if and only if there is a stage after the line, and that its error
+-- is otherwise the cause that `cause_by` gives. Then this error is the cause for which the line is
 -- refused after the lines that were taken
 pub judged_err : {A : Type 0} (answer : Result A FileCause) (journey : JourneyState) (lines : Lines) (line : List ℕ) (told : fault.FileCause)
     → HasLines journey lines → IsRecord line

@@ -183,7 +183,7 @@ none_row old new piece same_names same_numbers none pushed items key op not_put 
     (none_next new.names.list.items new.numbers.items key op not_put)))
     pushed items has
 
--- if `count` is how many numbers were added, the first `count` added numbers are all the added numbers
+-- if `count` numbers were added, the first `count` of the added numbers are all added numbers
 came_all : (old new : List ℕ) (count : ℕ) → count ≡ length new - length old → take count (drop (length old) new) ≡ drop (length old) new
 came_all old new count is = by (drop (length old) new) (let len = length-drop (length old) new in omega arith)
   where
@@ -379,7 +379,8 @@ picked_noted names numbers items pieces are (n ∷ order) (item ∷ picked) is =
 
 -- ---- indexes past the end of a list
 
--- dropping more elements than a list has drops all of them
+-- limiting `n` to the length of the list doesn't change the elements that remain after `n` elements
+-- are dropped
 pub drop_min : (n : ℕ) (xs : List ℕ) → drop (min n (length xs)) xs ≡ drop n xs
 drop_min n xs = by (cases_lt n (length xs))
   where
@@ -387,7 +388,7 @@ drop_min n xs = by (cases_lt n (length xs))
     by (inl few) = ap (λ k. drop k xs) (omega arith)
     by (inr past) = drop_all (min n (length xs)) xs (omega arith) ∙ sym (drop_all n xs past)
 
--- taking more elements than a list has takes all of them
+-- limiting `n` to the length of the list doesn't change the elements that are taken
 pub take_min : (n : ℕ) (xs : List ℕ) → take (min n (length xs)) xs ≡ take n xs
 take_min n xs = by (cases_lt n (length xs))
   where

@@ -89,7 +89,7 @@ all_five true true false d e told = absurd (let bad : false ≡ true = told in c
 all_five true false c d e told = absurd (let bad : false ≡ true = told in cc)
 all_five false b c d e told = absurd (let bad : false ≡ true = told in cc)
 
--- Says that two lines have the same sixteen bytes at an index and after it.
+-- Says that two lines have the same sixteen bytes from an index on.
 abbrev pub IsSameBlock : List ℕ → List ℕ → ℕ → Type 0
 IsSameBlock xs ys at = take 16 (drop at xs) ≡ take 16 (drop at ys)
 

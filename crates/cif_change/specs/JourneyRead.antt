@@ -89,7 +89,7 @@ progress_meant progress = record {
   last = progress.clock.last;
 }
 
--- whether the terminus was read at this stage, so that the journey is complete
+-- whether the terminus has been read at this stage, so that the journey is complete
 abbrev pub is_over_by : Option place.Stage → Bool
 is_over_by (Some after_journey) = true
 is_over_by _ = false

@@ -44,7 +44,7 @@ impl Lines {
         self.lines.len()
     }
 
-    /// Whether there is no line.
+    /// Whether there are no lines.
     pub fn is_empty(&self) -> bool
         ensures { result ≡ (length self.now == 0) }
     {

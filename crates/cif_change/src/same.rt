@@ -52,7 +52,7 @@ pub(crate) fn is_same_line(own: &Line, other: &Line) -> bool
         & is_same_block(one, two, 4 * BLOCK)
 }
 
-/// Whether two lines have the same sixteen bytes at index `at` and after it.
+/// Whether two lines have the same sixteen bytes from index `at` on.
 #[inline(always)]
 fn is_same_block(one: &[u8], two: &[u8], at: usize) -> bool
     requires one { at + BLOCK ≤ length one.now }

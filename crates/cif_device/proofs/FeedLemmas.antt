@@ -25,7 +25,8 @@ pub at_start : {T Terms : Type 0} (takes : Taking T Terms) (terms : Terms) (text
 at_start takes terms text left taker taken =
     record { bytes = []; size = refl; lost = lost_nothing left; taken = subst (takes taker terms) (sym (append-nil text)) taken }
 
--- if a taker was fed bytes and takes the next piece, it was fed these bytes followed by the piece
+-- if a taker has been fed bytes and then takes the next piece, it has been fed these bytes followed
+-- by the piece
 pub next_turn : {T Terms : Type 0} (takes : Taking T Terms) (fed n : ℕ) (terms : Terms) (text : List ℕ) (initial now next : Option (List ℕ)) (before after : T)
     (piece : List ℕ) → (at : HasFed takes fed terms text initial now before) → length piece ≡ n → Reads now piece next
     → takes after terms ((text ++ at.bytes) ++ piece) → HasFed takes (fed + n) terms text initial next after

@@ -38,8 +38,8 @@ abbrev pub CountsFailure : Type 0 → ℕ → ℕ → Type 0
 CountsFailure failed before after = (failed ↔ (after ≡ before + 1)) × (¬ failed → after ≡ before)
 
 -- a source over a slice. `left` has the bytes that are left, and `step` is the greatest number of
--- bytes that one read returns. The two other fields say whether the source has reported its end,
--- and whether it was read after that
+-- bytes that one read returns. `ended` says whether the source has reported its end, and `passed`
+-- whether the source was read after it had reported its end
 pub record Feed : Type 0 where
   pub left : List ℕ
   pub step : ℕ

@@ -73,8 +73,8 @@ pub trait Sink {
     // The number of failures of the device.
     ghost failures: { Self → ℕ };
 
-    /// Writes some of the first bytes of the piece, at least one, and returns their number. The
-    /// piece must not be empty. If the device fails, returns `Failed`, and the sink takes nothing.
+    /// Writes the first bytes of the piece, at least one, and returns their number. The piece must
+    /// not be empty. If the device fails, returns `Failed`, and the sink takes nothing.
     fn write(&mut self, piece: &[u8]) -> Result<usize, Failed>
         requires failures { failures self.old < 2 ^ 64 - 1 }
         requires piece { 0 < length piece.now }

@@ -374,7 +374,8 @@ pub taken_is : {K : Type 0} (keeps : Keeps K) (old : FileReading K) (limit : ℕ
     → line ≡ strip_carriage_return (open_line text ++ front)
 taken_is keeps old limit text front raw line reading whole strip = strip ∙ ap strip_carriage_return (whole ∙ ap (λ l. l ++ front) reading.partial_is)
 
--- the line that was taken is the line that ends at the line feed
+-- if the line that was taken is the line that ends at a line feed, the parser has read the text up
+-- to and including this line feed
 pub ended_ok : {K : Type 0} (keeps : Keeps K) (old new : FileReading K) (limit : ℕ) (text front line : List ℕ)
     → IsReading keeps old limit text → HasNoFeed front
     → line ≡ strip_carriage_return (open_line text ++ front)
@@ -382,7 +383,8 @@ pub ended_ok : {K : Type 0} (keeps : Keeps K) (old new : FileReading K) (limit :
 ended_ok keeps old new limit text front line reading plain same counted none =
     ended_read keeps old new limit text front reading plain (subst (λ l. HasCounted keeps new.records limit (complete_lines text ++ l ∷ [])) same counted) none
 
--- a fault at the line that was refused is a fault of the text up to the line feed
+-- a fault at the line that was refused is a fault of the text up to and including the line feed
+-- that ends this line
 pub ended_err : {K : Type 0} (keeps : Keeps K) (wants : Type 0) (old : FileReading K) (limit : ℕ) (text front line : List ℕ) (fault : FileFault)
     → IsReading keeps old limit text → HasNoFeed front
     → line ≡ strip_carriage_return (open_line text ++ front) → FaultsNext keeps wants old.records line fault
@@ -408,7 +410,8 @@ some_is_open keeps old limit text reading some =
     let not_none = eqb-false (length old.partial.items) 0 (sym some) in
     above 0 (length (open_line text)) (λ none. not_none (omega (arith, size)))
 
--- at the end of the text, the unfinished line was taken as the last line
+-- if the unfinished line at the end of the text was taken as the last line, all lines of the text
+-- were taken
 pub counted_last : {K : Type 0} (keeps : Keeps K) (old : FileReading K) (records : Records K) (limit : ℕ) (text raw line : List ℕ)
     → IsReading keeps old limit text
     → false ≡ (length old.partial.items == 0) → raw ≡ old.partial.items

@@ -178,7 +178,7 @@ abbrev HasRefusedFile : {K : Type 0} → Keeps K → Type 0 → ℕ → Option (
 HasRefusedFile keeps wants limit initial next reading fault =
     HasRefused (TakesFile keeps) (λ _ n text piece told. RefusesPiece wants n text piece told) 65536 limit [] initial next reading fault
 
--- if a piece was refused with a fault, it is a fault of the text that the source held
+-- if a piece was refused with a fault, this fault is a fault of the text that the source held
 pub refused_before : {K : Type 0} (keeps : Keeps K) (wants : Type 0) {A : Type 0} (limit : ℕ) (initial next : Option (List ℕ)) (reading : FileReading K)
     (fault told : FileFault) (result : ReadFault) → HasRefusedFile keeps wants limit initial next reading fault
     → (fault.cause ≡ Memory → result ≡ read.Memory) → (fault.cause ≢ Memory → result ≡ read.File fault)

@@ -18,7 +18,7 @@ pub record IsEnded {K : Type 0} (keeps : Keeps K) (records : List (List ℕ)) (e
   pub count_is : ended.records ≡ length records
   pub kept : keeps ended.keeper [] (changes records)
 
--- converts an `Ended` to the parts of the file. The keeper keeps all changes
+-- converts the `Ended` of a keeper that keeps all changes to the parts of the file
 abbrev pub parts_ended : Ended FileSoFar → FileParts
 parts_ended ended = record {
   header = ended.header;
@@ -27,12 +27,12 @@ parts_ended ended = record {
   notes = ended.keeper.made.notes;
 }
 
--- converts an `Ended` to the file that was read. The keeper keeps all changes
+-- converts the `Ended` of a keeper that keeps all changes to the file that was read
 abbrev pub file_ended : Ended FileSoFar → FileRead
 file_ended ended = file_of_parts (parts_ended ended)
 
--- converts an `Ended` to the parts of the thin file. The keeper keeps only what the docker of a
--- place on a day needs
+-- converts the `Ended` of a keeper that keeps only what the docker of a place on a day needs. The
+-- result has the parts of the thin file
 abbrev pub thin_parts_ended : {P : Type 0} → Ended (ThinSoFar P) → FileParts
 thin_parts_ended ended = record {
   header = ended.header;
@@ -41,11 +41,11 @@ thin_parts_ended ended = record {
   notes = ended.keeper.thinned.made.notes;
 }
 
--- converts an `Ended` to the thin file. The keeper keeps only what the docker of a place on a day
--- needs
+-- converts the `Ended` of a keeper that keeps only what the docker of a place on a day needs. The
+-- result is the thin file
 abbrev pub thin_ended : {P : Type 0} → Ended (ThinSoFar P) → ThinRead
 thin_ended ended = thin_of_parts ended.keeper.thinned.place ended.keeper.thinned.day ended.keeper.so_far.changes (thin_parts_ended ended)
 
--- converts an `Ended` to the counts of the file. The keeper only counts changes
+-- converts the `Ended` of a keeper that only counts changes to the counts of the file
 abbrev pub count_ended : Ended Tally → FileCounted
 count_ended ended = record { header_line = ended.header; record_count = ended.records; change_count = ended.keeper.changes }

@@ -52,7 +52,7 @@ impl Ended<FileSoFar> {
 impl<P: PlaceDay> Ended<ThinSoFar<P>> {
     ghost use Rattle.std.specs.Prelude.{◌≡◌};
 
-    /// Makes a thin file of what the keeper kept.
+    /// Makes a thin file from what the keeper kept.
     pub(crate) fn into_thin(self) -> ThinFile
         requires { AreThinParts self.keeper.thinned.place self.keeper.thinned.day
             self.keeper.so_far.changes (thin_parts_ended self) }

@@ -9,8 +9,8 @@ use crate::single::SingleChanges;
 use cif_change::{Change, Notes};
 use std::alloc::{AllocError, Global};
 
-/// Changes, in the order in which they were made, and, if places are noted, the notes of the places
-/// that the changes name.
+/// Changes in the order in which they were made. If places are noted, there are also notes of the
+/// places that the changes name.
 #[derive(Debug, Drop)]
 pub(crate) struct Made {
     pub(crate) changes: Vec<Change>,

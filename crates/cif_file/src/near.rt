@@ -43,8 +43,8 @@ fn near_starts(day: Day) -> [u16; 5]
     ]
 }
 
-/// Whether a schedule with these first and last days and these flags runs on a start day. The start
-/// day is from the first day to the last day, and the flag of its weekday is `1`.
+/// Whether a schedule with these first and last days and these flags runs on a start day. It does
+/// if the start day is from the first day to the last day, and the flag of its weekday is `1`.
 fn runs_within(first: u16, last: u16, flags: &[u8; 7], start: u16) -> bool
     ensures { result ≡ (nat_le first start && nat_le start last
         && runs_on_weekday flags.now (weekday_of start)) }

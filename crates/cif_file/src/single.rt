@@ -1,5 +1,5 @@
-//! Records that are units by themselves, TIPLOC records and associations, and the changes that they
-//! make.
+//! Records that are units by themselves, and the changes that they make. These records are TIPLOC
+//! records and associations.
 ghost use Rattle.std.specs.Prelude.{◌≡◌, ℕ, length, [], None, true, false, MatchOption, if◌then◌else◌};
 ghost use Rattle.docker_model.specs.records.Record.{HasKind, columns, tiploc_amend};
 ghost use Rattle.docker_model.specs.records.Field.{is_deletion, as_new};

@@ -48,8 +48,9 @@ impl Thinned {
         self.day
     }
 
-    /// Whether a change to this key was kept. Most extracts are nearly in the order of keys. So the
-    /// key is first compared with the greatest kept key, which needs no search.
+    /// Whether a change to this key was kept. In most extracts the changes are nearly sorted by
+    /// key. So the function first compares the key with the greatest kept key, which needs no
+    /// search.
     fn has_kept(&self, key: &Key) -> bool
         ensures { result ≡ has_key self.now.keys key.now }
     {
@@ -62,8 +63,8 @@ impl Thinned {
         self.keys.contains(key)
     }
 
-    /// Appends a change that is to be kept, and adds its key to the set. The change already has
-    /// only what the docker needs.
+    /// Appends a change that is to be kept, and adds its key to the set. The change already
+    /// contains only what the docker needs.
     fn keep(&mut self, change: Change) -> Result<(), AllocError>
         ensures { OnOk result ((place : List ℕ) (day : ℕ) (whole : model.Change)
             → may_matter place whole.key ≡ true
@@ -76,8 +77,8 @@ impl Thinned {
         }
     }
 
-    /// Keeps the change of a TIPLOC or an association, without altering it, if its key may matter
-    /// at the place. Drops the change otherwise.
+    /// Keeps the change of a TIPLOC or an association unaltered if the change's key may matter at
+    /// the place. Drops the change otherwise.
     fn add(&mut self, change: Change) -> Result<(), AllocError>
         ensures { OnOk result (IsNeverThin (change_meant change)
             → (place : List ℕ) (day : ℕ) → Thins place day self.old (change_meant change) self.new) }

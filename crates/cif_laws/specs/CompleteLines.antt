@@ -7,7 +7,7 @@ use Rattle.docker_model.specs.records.Record.{Lines}
 use Rattle.docker_model.specs.file.Text.{last_piece}
 use Rattle.docker_model.specs.file.FaultSoFar.{last_of}
 
--- the bytes have no line feed
+-- the bytes contain no line feed
 abbrev pub HasNoFeed : List ℕ → Type 0
 HasNoFeed bytes = All (λ b. (b == 10) ≡ false) bytes
 
@@ -34,7 +34,7 @@ open_line text = last_of (pieces_of text)
 abbrev pub complete_lines : List ℕ → Lines
 complete_lines text = map strip_carriage_return (but_last (pieces_of text))
 
--- a list with the line in the last piece of a text: the piece without a carriage return at its end.
--- If the piece is empty, the list is empty
+-- the line that the last piece of a text contains, as a list of one line: the piece without a
+-- carriage return at its end. If the piece is empty, the list is empty
 abbrev pub line_left : List ℕ → Lines
 line_left piece = map strip_carriage_return (last_piece piece)

@@ -1,5 +1,5 @@
--- The cause of the fault at a record, given the reader's `Place` in the file before the record. The
--- causes are tested in the order of their ranks.
+-- The cause of the fault at a record, given the `Place` that a reader has reached just before this
+-- record. The causes are tested in the order of their ranks.
 use Rattle.std.specs.Prelude.{Bool, true, false, ℕ, Some, None, List, length, Option, is_none, ◌==◌, nat_le}
 use Rattle.std.proofs.Common.{cond}
 use Rattle.docker_model.specs.records.Record.{kind_of, leftmost_bad_byte}
@@ -60,7 +60,7 @@ cause_of_long limit count place = cond (nat_le limit count) too_many (cond (is_a
 abbrev pub schedule_cause : Stage → List ℕ → FileCause
 schedule_cause stage line = cond (is_none (kind_of line)) bad_kind (cond (is_none (stage_after stage (kind_of line))) bad_place (field_cause line))
 
--- the reason why a record can't be the first record of a schedule, which must be a basic schedule.
--- The reason is the first of `bad_kind`, `bad_place` and `bad_field` that applies
+-- the reason why a record can't be the first record of a schedule. The first record must be a basic
+-- schedule. The reason is the first of `bad_kind`, `bad_place` and `bad_field` that applies
 abbrev pub first_line_cause : List ℕ → FileCause
 first_line_cause line = cond (is_none (kind_of line)) bad_kind (cond (is_basic_kind (kind_of line)) (field_cause line) bad_place)

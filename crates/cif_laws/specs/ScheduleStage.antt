@@ -1,4 +1,4 @@
--- The stage of a reader in a schedule, after a number of the schedule's records. The stage
+-- The stage that a reader of a schedule has reached after some of the schedule's records. The stage
 -- determines which records may follow, and whether the records are a schedule.
 use Rattle.std.specs.Prelude.{Some, None, ℕ, List, Bool, true, false, [], ◌∷◌, ◌++◌, Option, ◌==◌, ◌||◌, ◌&&◌, nat_le, option_and_then}
 use Rattle.std.proofs.Common.{cond}

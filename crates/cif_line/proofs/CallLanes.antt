@@ -54,7 +54,8 @@ abbrev blank_test : ℕ → ℕ → ℕ → ℕ → ℕ → Bool
 blank_test a b c d e =
     (((nat_eq (above a) 65520 && nat_eq (above b) 65520) && nat_eq (above c) 65520) && nat_eq (above d) 65520) && nat_eq e 32
 
--- the test whether five bytes are a time, as a mask: the bitwise AND of the masks of its single tests
+-- the test whether five bytes are a time, as a mask: the bitwise AND of the masks of the individual
+-- tests
 abbrev time_mask : ℕ → ℕ → ℕ → ℕ → ℕ → ℕ
 time_mask a b c d e =
     bit_and
@@ -125,8 +126,9 @@ spells_is a b ha hb =
     (λ i. ((above_is a ha i * 10) % 65536 + above_is b hb i) % 65536)
     ∙ omega (arith, digit_low a ha, digit_high a ha, digit_low b hb, digit_high b hb)
 
--- a lane combines the tests of a time with AND in another order than the definition does, but the result is the same. The lane's test of the hour has to equal
--- the definition's only if both bytes of the hour are digits. The same is true of the minute
+-- a lane combines the tests of a time with AND in a different order from the definition, but the
+-- result is the same. If both bytes of the hour are digits, the lane's test of the hour has to
+-- equal the definition's test. Otherwise it may differ. The same is true of the minute
 in_order : (a b c d h m : Bool) (x y z : Bool) → (a ≡ true → b ≡ true → h ≡ x) → (c ≡ true → d ≡ true → m ≡ y)
     → ((((((a && b) && c) && d) && h) && m) && z) ≡ ((((a && (b && (c && (d && true)))) && x) && y) && z)
 in_order true true true true h m x y z hour minute = λ i. (hour refl refl i && minute refl refl i) && z

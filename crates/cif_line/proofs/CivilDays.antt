@@ -61,8 +61,8 @@ count_of date days since =
     let count = days_from_civil-day_count date.year date.month date.day in
     omega (arith, signed_arith)
 
--- a date that is `number` days after 1 January 1960 has this day number, and is in the years 1960
--- to 2059
+-- if a date is `number` days after 1 January 1960, its day number is `number`, and its year is from
+-- 1960 to 2059
 pub day_of_date : (date : Date) (number : ℕ) → number ≤ last_day → epoch_day date +ℤ pos 4_371_587 ≡ pos (4_367_934 + number)
     → IsBetween (pos 1960) (pos 2059) date.year × IsDayOf number (unsigned_abs date.year) date.month date.day
 day_of_date date number low since =

@@ -1,5 +1,5 @@
--- The tests of dates and their day numbers, computed from tables of the months, equal the tests and
--- day numbers in the definitions.
+-- The code tests dates and computes their day numbers with tables of the months. The results equal
+-- the tests and the day numbers in the definitions.
 use Rattle.std.proofs.Common.{◌≡◌, ℕ, zero, suc, ◌+◌, ◌-◌, ◌*◌, ◌/◌, ◌<◌, ◌≤◌, nat_lt, Bool, true, false, cond, ◌&&◌, List}
 use Rattle.std.proofs.Common.{[], ◌∷◌, length, slice_index_or, take, refl, sym, pos, ◌∙◌, arith}
 use Rattle.std.specs.Prelude.{◌==◌, ◌||◌, slice_index}

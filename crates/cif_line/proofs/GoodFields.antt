@@ -19,7 +19,7 @@ each_good kind line good = good_fields kind line good.has_kind good.good_fields
 pub header_day : (line : List ℕ) → IsGood header line → is_date_day_first (columns 23 28 line) ≡ true
 header_day line good = (each_good header line good).0
 
--- columns 29 to 32 of a good header, the time of extract, are HHMM
+-- columns 29 to 32 of a good header, the time of extract, are a time HHMM
 pub header_minute : (line : List ℕ) → IsGood header line → is_clock (columns 29 32 line) ≡ true
 header_minute line good = (each_good header line good).1.0
 
@@ -34,7 +34,7 @@ pub ruleset header_fields = (header_day, header_minute, header_extract)
 pub origin_tiploc : (line : List ℕ) → IsGood origin_location line → is_tiploc (columns 3 9 line) ≡ true
 origin_tiploc line good = (each_good origin_location line good).0
 
--- columns 16 to 19 of a good origin, the public departure, are HHMM or blank
+-- columns 16 to 19 of a good origin, the public departure, are a time HHMM or blank
 pub origin_public : (line : List ℕ) → IsGood origin_location line → is_public_time (columns 16 19 line) ≡ true
 origin_public line good = (each_good origin_location line good).1.1.0
 
@@ -45,7 +45,7 @@ pub ruleset origin_fields = (origin_tiploc, origin_public)
 pub terminus_tiploc : (line : List ℕ) → IsGood terminating_location line → is_tiploc (columns 3 9 line) ≡ true
 terminus_tiploc line good = (each_good terminating_location line good).0
 
--- columns 16 to 19 of a good terminus, the public arrival, are HHMM or blank
+-- columns 16 to 19 of a good terminus, the public arrival, are a time HHMM or blank
 pub terminus_public : (line : List ℕ) → IsGood terminating_location line → is_public_time (columns 16 19 line) ≡ true
 terminus_public line good = (each_good terminating_location line good).1.1.0
 
@@ -146,11 +146,11 @@ pub ruleset assoc_fields = (assoc_transaction, assoc_start, assoc_end, assoc_day
 pub call_tiploc : (line : List ℕ) → IsGood intermediate_location line → is_tiploc (columns 3 9 line) ≡ true
 call_tiploc line good = (each_good intermediate_location line good).0
 
--- columns 26 to 29 of a good intermediate location, the public arrival, are HHMM or blank
+-- columns 26 to 29 of a good intermediate location, the public arrival, are a time HHMM or blank
 pub call_public_arrival : (line : List ℕ) → IsGood intermediate_location line → is_public_time (columns 26 29 line) ≡ true
 call_public_arrival line good = (each_good intermediate_location line good).1.1.1.1.0
 
--- columns 30 to 33 of a good intermediate location, the public departure, are HHMM or blank
+-- columns 30 to 33 of a good intermediate location, the public departure, are a time HHMM or blank
 pub call_public_departure : (line : List ℕ) → IsGood intermediate_location line → is_public_time (columns 30 33 line) ≡ true
 call_public_departure line good = (each_good intermediate_location line good).1.1.1.1.1.0
 

@@ -61,7 +61,7 @@ blank_if : (blank present : Bool) → (blank || present) ≡ true → present �
 blank_if true present one absent = refl
 blank_if false present one absent = cc
 
--- a time is below 2880, the number of half minutes in a day
+-- a time in half minutes since midnight is below 2880, the number of half minutes in a day
 half_minutes_bound : (field : List ℕ) → is_present_time field ≡ true → half_minutes field < 2880
 half_minutes_bound field is = by (slice_index field 4 == 72) (hour_bound field clock) (minute_bound field clock)
   where

@@ -1,4 +1,4 @@
--- The character codes of the fields that have one letter.
+-- The character codes of the letters in one-letter fields.
 use Rattle.std.specs.Prelude.{ℕ}
 use Rattle.cif_line.specs.declared.letter.Extract.{Extract}
 use Rattle.cif_line.specs.declared.letter.Extract.TheVariants as extract

@@ -1,4 +1,4 @@
--- Texts that are the code of a timing point.
+-- Texts of TIPLOCs, the codes of timing points.
 use Rattle.std.specs.Prelude.{ℕ, ◌<◌, ◌≤◌, Bool, ◌&&◌, nat_le, List, length}
 use Rattle.std.specs.List.{AllPass}
 

@@ -5,15 +5,15 @@ ghost use Rattle.std.specs.Prelude.{◌≡◌, ◌<◌, ◌≤◌, ◌+◌, true
 ghost use Rattle.jiff.specs.Words.{is_leap_year};
 ghost use Rattle.docker_model.specs.records.Date.{is_calendar_day, day_number, last_day, full_year};
 
-/// The number of days of each month, from 1 to 12, in a year that isn't a leap year. Indexes 0 and
-/// 13 aren't months, and have 0 days.
+/// The number of days in each month, in a year that isn't a leap year. The index is the month, from
+/// 1 to 12. Indexes 0 and 13 aren't months, and have 0 days.
 const LENGTHS: [u16; 14] = [0, 31, 28, 31, 30, 31, 30, 31, 31, 30, 31, 30, 31, 0];
 
-/// The number of days of the year before each month, from 1 to 12, in a year that isn't a leap
-/// year.
+/// The number of days of the year before each month, in a year that isn't a leap year. The index is
+/// the month, from 1 to 12.
 const BEFORE: [u16; 13] = [0, 0, 31, 59, 90, 120, 151, 181, 212, 243, 273, 304, 334];
 
-/// Whether this is a day of the calendar.
+/// Whether a year of two digits, a month and a day are a day of the calendar.
 #[inline(always)]
 pub(crate) fn is_calendar_day(year: u16, month: u16, day: u16) -> bool
     ensures { year < 100 → result ≡ is_calendar_day (full_year year) month day }

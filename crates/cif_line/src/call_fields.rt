@@ -10,10 +10,10 @@ use std::simd::prelude::*;
 /// The character code of `0`.
 const ZERO: u16 = 48;
 
-/// The character code of a space, the last character of a time on the whole minute.
+/// The character code of a space, the last character of a time at a whole minute.
 const SPACE: u16 = 32;
 
-/// The character code of `H`, the last character of a time on the half minute.
+/// The character code of `H`, the last character of a time at a half minute.
 const HALF: u16 = 72;
 
 /// The value stored instead of half minutes if a field has no time.

@@ -18,8 +18,8 @@ const FIRST: u32 = 4_367_934;
 /// The day number of 2059-12-31.
 const LAST: u16 = 36524;
 
-/// A day from 1960-01-01 to 2059-12-31, as its day number: the days since 1960-01-01, from 0 to
-/// 36524.
+/// A day from 1960-01-01 to 2059-12-31, stored as its day number. The day number is the number of
+/// days since 1960-01-01, from 0 to 36524.
 #[derive(Clone, Copy, PartialEq, Eq, PartialOrd, Ord, Debug)]
 pub struct Day {
     number: u16,
@@ -99,7 +99,7 @@ impl Day {
         }
     }
 
-    /// The day with this number. Returns `None` above 36524.
+    /// The day with this number. Returns `None` if the number is above 36524.
     pub fn from_number(number: u16) -> Option<Day>
         ensures { SomeIff result (number ≤ last_day) number }
     {

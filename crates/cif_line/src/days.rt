@@ -57,7 +57,7 @@ impl Days {
     }
 }
 
-/// Whether each byte is `0` or `1`, without a branch per byte.
+/// Whether each byte is `0` or `1`. The test needs no branch for each byte.
 #[inline(always)]
 #[tactic(auto, using(crate::proofs::Dates::seven_flags))]
 pub(crate) fn is_days(field: &[u8; 7]) -> bool

@@ -1,4 +1,4 @@
-//! The kinds of record of the CIF End User Specification.
+//! The kinds of record that the CIF End User Specification defines.
 
 /// The kinds of record, by their names in the CIF End User Specification.
 #[derive(Clone, Copy, PartialEq, Eq, Debug)]

@@ -1,4 +1,4 @@
-//! Fields of one letter in a header (HD), a basic schedule (BS) or an association (AA).
+//! One-letter fields in a header (HD), a basic schedule (BS) or an association (AA).
 ghost use Rattle.std.specs.Prelude.{◌≡◌, ◌↔◌, IsSome, IfSome, IsTrue, [], ◌∷◌};
 ghost use Rattle.docker_model.specs.records.Field.{is_update_indicator, is_transaction, is_stp_letter};
 ghost use Rattle.cif_line.specs.Letter.{extract_letter, transaction_letter, stp_letter};
@@ -76,8 +76,7 @@ impl Transaction {
 
 /// The STP (short term plan) indicator of a basic schedule (BS) or an association (AA). Indicators
 /// are ordered by letter. If several schedules of a train run on a day, the schedule whose
-/// indicator comes first is chosen. Among several associations of one group, the choice is the
-/// same.
+/// indicator comes first is chosen. The same rule chooses one of several associations of a group.
 #[derive(Clone, Copy, PartialEq, Eq, PartialOrd, Ord, Debug)]
 pub enum Stp {
     /// C, a cancellation.

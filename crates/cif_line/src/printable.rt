@@ -18,7 +18,7 @@ fn is_printable_block(bytes: &[u8], at: usize) -> bool
     above_space.simd_gt(u8x16::splat(b'~' - b' ')).to_bitmask() == 0
 }
 
-/// Whether a line may contain all of the 80 bytes. There is no branch for each byte.
+/// Whether a line may contain all of the 80 bytes. The test needs no branch for each byte.
 pub(crate) fn is_printable_line(bytes: &[u8; 80]) -> bool
     ensures { IsTrue result ↔ AllPass is_printable bytes.now }
 {

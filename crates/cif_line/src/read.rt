@@ -41,7 +41,8 @@ pub fn header(line: &Line) -> Result<Header<'_>, FieldFault>
     }
 }
 
-/// The first column of the leftmost bad field in a header. Returns `None` if all are good.
+/// The first column of the leftmost bad field in a header. Returns `None` if all checked fields are
+/// good.
 fn header_fault(line: &Line) -> Option<u8>
     requires kind { HasKind header line.now }
     ensures { result ≡ leftmost_bad_field line.now }
@@ -71,7 +72,8 @@ pub fn tiploc(line: &Line) -> Result<TiplocRecord<'_>, FieldFault>
     }
 }
 
-/// The first column of the leftmost bad field in a TIPLOC record. Returns `None` if all are good.
+/// The first column of the leftmost bad field in a TIPLOC record. Returns `None` if all checked
+/// fields are good.
 fn tiploc_fault(line: &Line) -> Option<u8>
     requires kind { IsTiplocRecord line.now }
     ensures { result ≡ leftmost_bad_field line.now }
@@ -98,8 +100,8 @@ pub fn assoc(line: &Line) -> Result<Assoc<'_>, FieldFault>
     }
 }
 
-/// The first column of the leftmost bad field in an association. Returns `None` if all are good. In
-/// a deletion neither the end date nor the days-run field is checked.
+/// The first column of the leftmost bad field in an association. Returns `None` if all checked
+/// fields are good. In a deletion neither the end date nor the days-run field is checked.
 fn assoc_fault(line: &Line) -> Option<u8>
     requires kind { HasKind association line.now }
     ensures { result ≡ leftmost_bad_field line.now }
@@ -140,8 +142,8 @@ pub fn basic(line: &Line) -> Result<Basic<'_>, FieldFault>
     }
 }
 
-/// The first column of the leftmost bad field in a basic schedule. Returns `None` if all are good.
-/// In a deletion neither the runs-to date nor the days-run field is checked.
+/// The first column of the leftmost bad field in a basic schedule. Returns `None` if all checked
+/// fields are good. In a deletion neither the runs-to date nor the days-run field is checked.
 fn basic_fault(line: &Line) -> Option<u8>
     requires kind { HasKind basic_schedule line.now }
     ensures { result ≡ leftmost_bad_field line.now }

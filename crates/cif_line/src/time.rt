@@ -40,8 +40,8 @@ impl Time {
         }
     }
 
-    /// Reads a scheduled time: HHMM from `0000` to `2359`, then `H` for half a minute or a space.
-    /// Returns `None` for any other field, including a blank one.
+    /// Reads a scheduled time: HHMM from `0000` to `2359`, followed by `H` for a half minute or by
+    /// a space for a whole minute. Returns `None` for any other field, including a blank one.
     pub fn from_field(field: &[u8; 5]) -> Option<Time>
         ensures some { IsSome result ↔ IsTrue (is_present_time field.now) }
         ensures value { IfSome result (λ time. time ≡ half_minutes field.now) }
@@ -113,7 +113,7 @@ impl Time {
         self.half_minutes
     }
 
-    /// The time as HHMM, then `H` if it is on the half minute, or a space if it isn't.
+    /// The time as HHMM, followed by `H` for a half minute or by a space for a whole minute.
     pub fn text(&self) -> [u8; 5]
         ensures { result ≡ time_text self.now }
     {

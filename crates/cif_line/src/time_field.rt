@@ -1,5 +1,5 @@
 //! Time fields, read whether or not they are good. Reading a field needs no branch for each byte.
-//! The result says whether the field is good. A caller joins this answer with the tests of the
+//! The result says whether the field is good. A caller combines this result with the tests of the
 //! record's other fields.
 ghost use Rattle.std.specs.Prelude.{◌≡◌, ◌≤◌, ◌<◌, ◌||◌, length, true, Some, None, if◌then◌else◌};
 ghost use Rattle.docker_model.specs.records.Clock.{is_blank, is_clock, minute_of};

@@ -26,8 +26,8 @@ impl Model for Until {
 }
 
 impl Until {
-    /// The end date in six digits: `999999` for no end, or a day YYMMDD. Returns `None` if it is
-    /// neither.
+    /// The end date in six digits: `999999` for no end, or a day YYMMDD. Returns `None` for any
+    /// other field.
     pub fn from_field(field: &[u8; 6]) -> Option<Until>
         ensures some { IsSome result ↔ IsTrue (is_end_date field.now) }
         ensures value { IfSome result (λ end. end ≡ end_number field.now) }

@@ -16,7 +16,7 @@ use std::process::Abort;
 /// The input of a session that can't begin.
 const INPUT: &[u8] = b"files\nsave\n";
 
-/// The line that reports words that aren't the words of a session.
+/// The usage line, which reports that the words aren't the words of a session.
 const USAGE_LINE: &str = "\
 desk: usage: [--write] STATE, and then a line for each request: print TIPLOC DATE \
 | permanent TIPLOC DATE | train UID DATE | files | places | known | renew \

@@ -42,7 +42,7 @@ DOCKER ASHFELD 2024-06-18
 END                                                     
 ";
 
-/// The answer to a request for a day that is refused under the horizon.
+/// The answer to a request for a docker that is refused because of the horizon.
 pub(crate) const DAY_REFUSED: &str = "\
 1 1 52
 docker: day refused: before horizon plus three days

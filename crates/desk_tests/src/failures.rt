@@ -14,8 +14,8 @@ use docker_host::{Fails, Host};
 use std::alloc::Global;
 use std::process::Abort;
 
-/// Asserts that an output with room for `bytes` bytes gains exactly the first `bytes` bytes of the
-/// answers to two requests, and that the session then reads nothing more.
+/// Asserts that an output with room for `bytes` bytes receives exactly the first `bytes` bytes of
+/// the answers to two requests, and that the session then reads nothing more.
 fn output_has_room_for(rt: &impl Abort, alloc: Global, bytes: usize) {
     let mut host = Host {
         input: Bytes::new(b"files\nprint ASHFELD 2024-06-10\nfiles\n", 1),

@@ -1,4 +1,4 @@
-//! Tests of the requests in lines.
+//! Tests of the requests that lines contain.
 
 use crate::compare::same_in;
 use cif_line::{Bytes, Day, Tiploc};

@@ -85,7 +85,7 @@ fn a_state_is_received(rt: HostRuntime) {
     ends(&rt, alloc, desk, true, BOTH_STATE);
 }
 
-/// Asserts that a desk refuses a state with this text for this fault.
+/// Asserts that a desk refuses a state with this text, and that the desk returns this fault.
 fn refuses_state(rt: &impl Abort, alloc: Global, desk: &mut Desk, text: &[u8], fault: StateFault) {
     let fault = OfficeFault::State(fault);
     same(rt, received(rt, alloc, desk, "S2", text), Err(fault));

@@ -1,5 +1,5 @@
-//! The program `docker`: prints the docker of a timing point from CIF extracts, and keeps what is
-//! known from them in a state.
+//! The program `docker`: prints the docker of a timing point from CIF extracts, and keeps what it
+//! knows from the extracts in a state.
 #![tactic(auto)]
 
 use docker_program::run;

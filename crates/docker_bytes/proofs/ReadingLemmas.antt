@@ -22,7 +22,8 @@ use Rattle.state_text.specs.FaultMeaning.{IsBadHere}
 use Rattle.state_text.specs.Stage.{begins_item, LeadsTo}
 use Rattle.docker_bytes.specs.StateReading.{format_of, before_of, text_of, IsReading, ReadsOn, IsCauseSoFar, IsOpen}
 
--- the bytes of a piece before `rest`. `rest` is the end of the piece that hasn't been read yet
+-- the bytes of a piece before `rest`. `rest` contains the last bytes of the piece, which haven't
+-- been read yet
 abbrev pub before_rest : List ℕ → List ℕ → List ℕ
 before_rest piece rest = take (length piece - length rest) piece
 

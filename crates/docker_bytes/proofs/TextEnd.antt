@@ -1,5 +1,5 @@
--- If no part comes next in a reading, the text that was read is the text of a whole state.
--- Otherwise it isn't.
+-- If a reading has no next part, the text that was read is the text of a whole state. Otherwise it
+-- isn't.
 use Rattle.std.proofs.Common.{◌≡◌, ℕ, ◌<◌, ◌≤◌, List, [], ◌++◌, length, refl, ap, sym, ◌∙◌, subst, inl, inr, ◌⊎◌, arith, append-nil, length-append, None}
 use Rattle.docker_model.specs.state.State.{State}
 use Rattle.docker_model.specs.state.StateText.{Format, state_text}

@@ -63,8 +63,8 @@ pub record WantsPart (format : Format) (most limit : ℕ) (old new : Option (Lis
   pub at : ℕ
   pub wanting : IsWanting format limit text piece at
 
--- says that memory ran out, either before a byte was read or while the reader read a part that ends in the last piece read. No part up to and including this
--- part is bad
+-- says that memory ran out, either before any byte was read or while the reader read a part that
+-- ends in the last piece read. No part up to and including this part is bad
 abbrev pub WantsSoFar : Format → ℕ → ℕ → Option (List ℕ) → Option (List ℕ) → Type 0
 WantsSoFar format most limit old new = Reads old [] new ⊎ WantsPart format most limit old new
 
@@ -80,7 +80,7 @@ pub record JoinsState (format : Format) (limit : ℕ) (left : Option (List ℕ))
   pub read : ReadsState format limit left received
   pub join : IsJoin own received after
 
--- says that memory ran out. It ran out before a byte was read, while the reader read a part that ends in the last piece read, or at the end of a state's text.
--- No part that was read is bad
+-- says that memory ran out. It ran out before any byte was read, while the reader read a part that
+-- ends in the last piece read, or at the end of a state's text. No part that was read is bad
 abbrev pub WantsMemory : Format → ℕ → ℕ → Option (List ℕ) → Option (List ℕ) → Type 0
 WantsMemory format most limit old new = Reads old [] new ⊎ WantsPart format most limit old new ⊎ ((state : State) × ReadsState format limit old state)

@@ -10,7 +10,7 @@ use Rattle.docker_bytes.specs.ParserRead.{ParserState, HasRead}
 use Rattle.docker_bytes.specs.StateReading.{before_of, format_of, IsWanting}
 use Rattle.docker_bytes.specs.SourceRead.{IsFaultOf}
 
--- the terms of a parser: the format of the text, and the limit of its length in bytes. The terms
+-- the terms of a parser: the format of the text, and the limit on its length in bytes. The terms
 -- never change
 pub record StateTerms : Type 0 where
   pub format : Format

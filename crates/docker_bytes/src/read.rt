@@ -46,8 +46,8 @@ impl Error for ReadFault {}
 
 /// Reads a source to its end, or to the first fault, and returns the state whose text the source
 /// held. The call reads pieces of at most 65,536 bytes, and nothing after the piece that determines
-/// the result. So a source that never ends is read at most up to the piece with the byte at the
-/// limit.
+/// the result. So if a source never ends, the call reads at most up to the piece that contains the
+/// byte at offset `limit`.
 pub fn read_state<S: Source>(alloc: Global, source: &mut S, limit: u64) -> Result<State, ReadFault>
     requires { S.failures source.old < 2 ^ 64 - 1 }
     ensures { EndsReading S.left S.failures dks_2 limit
@@ -72,8 +72,8 @@ pub fn read_state_noting<S: Source>(
     read_format(alloc, Format::Dks2, Whole::new(alloc, noted), source, limit)
 }
 
-/// Like `read_state`, for a text in this format. The parts are passed to `keeper`, which hasn't
-/// been given any part yet. Returns the value that the keeper makes from the parts.
+/// Like `read_state`, but reads a text in the given format. Passes the parts to `keeper`, which
+/// hasn't been given any part yet. Returns the value that the keeper makes from the parts.
 pub(crate) fn read_format<S: Source, K: Maker>(
     alloc: Global,
     format: Format,

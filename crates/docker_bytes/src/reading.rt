@@ -133,9 +133,9 @@ impl<K: Keeper> StateReading<K> {
     }
 
     /// Takes the complete lines at the front of a piece, up to but not including the schedule's
-    /// last line. Takes no line if the next part isn't a line, or if some of its bytes have already
-    /// been read. The number of these lines is computed only once. Returns the bytes after these
-    /// lines.
+    /// last line. Computes the number of lines to take only once. Takes no lines if the next part
+    /// isn't a line, or if some bytes of the next part have already been read. Returns the bytes
+    /// after the lines that it took.
     fn take_lines<'a>(&mut self, piece: &'a [u8]) -> Result<&'a [u8], StateFault>
         requires { IsReading self.old }
         ensures rest { IfOk result (λ behind.
@@ -163,8 +163,8 @@ impl<K: Keeper> StateReading<K> {
         Ok(rest)
     }
 
-    /// Takes the head of an entry in one step. If an entry has a body, its head is all parts before
-    /// the body. Takes nothing unless the head lies whole at the front of the piece, is good and
+    /// Takes the head of an entry that has a body, in one step. The head is all parts before the
+    /// body. Takes nothing unless the piece begins with the whole head, and the head is good and
     /// ends within the limit. Returns the bytes after the head, or the whole piece if nothing was
     /// taken.
     fn take_head<'a>(&mut self, piece: &'a [u8]) -> &'a [u8]
@@ -190,8 +190,8 @@ impl<K: Keeper> StateReading<K> {
         behind
     }
 
-    /// Takes a complete part that lies whole in a piece. A line that isn't its schedule's last line
-    /// leaves the stage unchanged.
+    /// Takes a complete part, all of whose bytes are in one piece. The stage stays the same if the
+    /// part is a line, but not its schedule's last line.
     fn judge(&mut self, bytes: &[u8]) -> Result<(), StateFault>
         requires reading { IsReading self.old }
         requires fresh { self.old.partial.items ≡ [] }

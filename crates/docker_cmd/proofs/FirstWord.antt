@@ -1,5 +1,5 @@
--- How `clap` reads a command whose first word is the name of a subcommand. By its definitions,
--- `clap` walks over the words and stops at the subcommand's name.
+-- How `clap` reads a command whose first word is the name of a subcommand. The definitions of
+-- `clap` say that it walks over the words and stops at the subcommand's name.
 use Rattle.std.proofs.Common.{◌≡◌, ◌∙◌, ◌++◌, cond, true, false, refl, sym, ap, ap₂, List, [], ◌∷◌, Some, None, is_some, codes, option_map}
 use Rattle.std.specs.List.{find, fold}
 use Rattle.std.specs.Option.{option_map_or}

@@ -7,8 +7,9 @@ use Rattle.clap.specs.Walk.{Row, first_of}
 use Rattle.docker_cmd.specs.Words.{Text, texts}
 use Rattle.docker_cmd.specs.Grammar.{found_words}
 
--- `found` has the words of the ids before `i`. Looking up all ids returns `found`, followed by the
--- words of the ids from `i` on, or None if one of these ids has no word
+-- `found` contains the words of the ids before index `i`. Looking up all ids returns `found`,
+-- followed by the words of the ids from index `i` on. It returns `None` if one of the ids from
+-- index `i` on has no word
 abbrev pub HasFound : List (Bor Text) → List Row → ℕ → List Text → Type 0
 HasFound ids rows i found = found_words (texts ids) rows ≡ option_map (λ rest. found ++ rest) (found_words (texts (drop i ids)) rows)
 
@@ -20,8 +21,8 @@ none_yet ids rows = by (found_words (texts ids) rows)
     by None = refl
     by (Some words) = refl
 
--- the words found before id `i`, then this word of id `i`, then the words of later ids. None if id
--- `i` or a later id has no word
+-- the words found before id `i`, then this word of id `i`, then the words of later ids, or `None`
+-- if id `i` or a later id has no word
 abbrev with_word : List (Bor Text) → List Row → ℕ → List Text → Option Text → Option (List Text)
 with_word ids rows i found here = option_map (λ rest. found ++ rest)
     (option_and_then (λ word. option_map (λ words. word ∷ words) (found_words (texts (drop (i + 1) ids)) rows)) here)

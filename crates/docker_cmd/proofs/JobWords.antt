@@ -137,8 +137,8 @@ unnamed_judged word words plain none =
       names_none = λ s behind are. no_name word s none (ap first_word are.whole);
     })
 
--- suppose that `clap` accepts or refuses some plain words if the first word isn't the name of any
--- subcommand in a list. Then `clap` accepts or refuses these words in any case
+-- `clap` either accepts or refuses a word followed by plain words (`Judged`). It is enough that
+-- `clap` does so if the first word isn't the name of any subcommand in a list
 by_name : (word : Text) (words : List Text) → list_all is_plain_word words ≡ true → (ss : List Subcommand) → (IsNoneOf word ss → Judged (word ∷ words))
     → Judged (word ∷ words)
 by_name word words plain [] unnamed = unnamed tt

@@ -102,7 +102,8 @@ no_line_full old now new line b first feed good full other = by (is_printable b)
         (omega (arith, length-append line (b ∷ [])))
     by false here = no_line_at old now new line b first feed good here other
 
--- a text determines the line before its first line feed
+-- if two lines of printable bytes, each followed by a line feed, begin the same text, the two lines
+-- are equal
 one_line : (a b r s : List ℕ) → ArePrintable a → ArePrintable b → a ++ 10 ∷ r ≡ b ++ 10 ∷ s → a ≡ b
 one_line [] [] r s a_good b_good same = refl
 one_line [] (z ∷ b) r s a_good b_good same =

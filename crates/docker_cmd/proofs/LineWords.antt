@@ -17,15 +17,15 @@ first_apart piece pieces = by (length piece == 0)
     by true = refl
     by false = refl
 
--- if a line has a space, its words are the bytes before the first space, if there are any, followed
--- by the words of the bytes after this space
+-- if a line has a space, its words are the piece before the first space, followed by the words
+-- after this space. An empty piece isn't a word
 pub words_at_space : (text : List ℕ) → position_or_len is_space text < length text
     → words_in text ≡ word_or_none (before_first is_space text) ++ words_in (after_first is_space text)
 words_at_space text here =
     ap (filter (λ word. not (length word == 0))) (slice_split_first is_space text 0 here)
     ∙ first_apart (before_first is_space text) (slice_split is_space (after_first is_space text))
 
--- if no first space is found in a text, none of its bytes is a space
+-- if a search for the first space of a text finds none, no byte of the text is a space
 no_space : (text : List ℕ) → position_or_len is_space text ≡ length text → AllByRecursion (λ b. is_space b ≡ false) text
 no_space [] none = tt
 no_space (b ∷ text) none = by (is_space b) refl none (no_space text)
@@ -36,7 +36,7 @@ no_space (b ∷ text) none = by (is_space b) refl none (no_space text)
     by true here at_end rest = absurd (omega arith)
     by false here at_end rest = (here, rest (omega arith))
 
--- if a line has no space, it is a single word, or has no word if it is empty
+-- if a line has no space, the whole line is one word, unless the line is empty and has no words
 pub words_without_space : (text : List ℕ) → position_or_len is_space text ≡ length text → words_in text ≡ word_or_none text
 words_without_space text none =
     ap (filter (λ word. not (length word == 0))) (slice_split_none is_space text (All-from_recursion _ text (no_space text none)))

@@ -99,8 +99,8 @@ state_unread first left second fault reads = record { first_few = reads.first_fe
     by office.Lapsed why = why
     by office.Sink why = why
 
--- if the first source held a state and taking a file from the second source ends with a fault, this
--- fault is one for which the sources may be refused
+-- suppose that the first source held a state, and that taking a file from the second source ends
+-- with a fault. Then this fault is one for which the sources may be refused
 pub file_refused : {A : Type 0} (IsMade : A → Type 0) (first left second second_left : DeviceBytes) (fault : OfficeFault) → HoldsSomeState first
     → ReadsFewOfState dks_2 first left → ReadsFewOfFile second second_left → IsTakingOutcome most_records IsMade second second_left (Err fault)
     → ReadsFew state_and_file first left second second_left (IsWhyRefused state_and_file first left second second_left fault)
@@ -119,8 +119,8 @@ file_refused IsMade first left second second_left fault holds few second_few out
     by office.Lapsed why = why
     by office.Sink why = why
 
--- if the first source held a state and reading a state from the second source ends with a fault,
--- this fault is one for which the sources may be refused
+-- suppose that the first source held a state, and that reading a state from the second source ends
+-- with a fault. Then this fault is one for which the sources may be refused
 pub state_refused : (first left second second_left : DeviceBytes) (failed failed_now : ℕ) (fault : OfficeFault) → HoldsSomeState first
     → ReadsFewOfState dks_2 first left
     → StopsReading dks_2 most_bytes second second_left (IsWhyUnread WantsMemory dks_2 most_bytes second second_left (why_unread fault))

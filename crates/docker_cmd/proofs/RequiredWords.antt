@@ -71,7 +71,7 @@ at_new id change missing (r ∷ rows) fresh =
     let parts = neither _ _ fresh in
     ap (λ b. cond b (change r ++ rows) (r ∷ at_row id change missing rows)) parts.0 ∙ ap (λ rest. r ∷ rest) (at_new id change missing rows parts.1)
 
--- if no row has the id of a required word, using the word appends its row
+-- if no row has the id of a required word, `used` appends this word's row to the rows
 used_new : (position : ℕ) (id word : Text) (rows : List Row) → has_row id rows ≡ false → used (placed position id) (word ∷ []) rows ≡ rows ++ row id word ∷ []
 used_new position id word rows fresh =
     ap (with_values id (reading_by (new_rule id)) CommandLine (word ∷ [])) (at_new id (λ _. []) [] rows fresh ∙ append-nil rows)

@@ -154,8 +154,9 @@ leaf_of s = leaf (name_of s) (ids_of s)
 abbrev pub leaves : List Shape
 leaves = map leaf_of subcommands
 
--- the facts about one subcommand. Its ids differ from each other and are in the right positions.
--- `clap` recognises its name. Looking up its words by their ids finds them
+-- the facts about one subcommand. The ids of its words differ from each other and are in the right
+-- positions. `clap` recognises the subcommand's name. If the subcommand's words are looked up by
+-- their ids, they are found
 pub record IsKnown (s : Subcommand) : Type 0 where
   pub fits : Fits (leaf_of s).rules 1 (ids_of s)
   pub fresh : Fresh [] (ids_of s)

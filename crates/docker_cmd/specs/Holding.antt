@@ -7,7 +7,7 @@ use Rattle.docker_cmd.specs.Prepared.{IsWrittenOf, Output, ReadView, docker_writ
 use Rattle.docker_cmd.specs.declared.holding.Holding.{Holding}
 use Rattle.docker_cmd.specs.declared.holding.Holding.TheVariants.{Whole, Place, Ledger}
 
--- the content from which an excerpt was made. That content is a whole state
+-- the content from which an excerpt was made, namely a whole state
 abbrev pub place_read : Excerpt → ReadView
 place_read office = office_read office.state
 

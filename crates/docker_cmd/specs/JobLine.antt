@@ -28,11 +28,11 @@ abbrev pub HasNoLine : Option (List ℕ) → Type 0
 HasNoLine None = ⊤
 HasNoLine (Some text) = (line rest : List ℕ) → ¬ IsJobLine text line rest
 
--- the byte is a space
+-- whether the byte is a space
 abbrev pub is_space : ℕ → Bool
 is_space byte = byte == 32
 
--- a piece of a line as a list of words: the piece itself, or no word if the piece is empty
+-- the words in a piece of a line: the piece itself, or no words if the piece is empty
 abbrev pub word_or_none : List ℕ → List (List ℕ)
 word_or_none piece = if length piece == 0 then [] else piece ∷ []
 

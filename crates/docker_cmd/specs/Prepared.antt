@@ -206,14 +206,14 @@ IsWhyRefused sources first left second second_left office.Memory = WantsFor sour
 IsWhyRefused sources first left second second_left office.Lapsed = ⊥
 IsWhyRefused sources first left second second_left office.Sink = ⊥
 
--- reading the sources ended with this result. Either the result is a value with the property
--- `IsMade`, and each file was read to its end. Or the result is a fault for which the sources may
--- be refused
+-- reading the sources ended with this result. If the result is a value, it has the property
+-- `IsMade`, and each file was read to its end. If the result is a fault, the sources may be refused
+-- for this fault
 abbrev pub EndsReading : {A : Type 0} → (A → Type 0) → Sources → DeviceBytes → DeviceBytes → DeviceBytes → DeviceBytes → Result A OfficeFault → Type 0
 EndsReading IsMade sources first left second second_left (Ok made) = IsMade made × HasReadToEnd sources left second_left
 EndsReading IsMade sources first left second second_left (Err fault) = IsWhyRefused sources first left second second_left fault
 
--- the sources were read in their order, no further than the result needs, and `Ends` holds
+-- the sources were read in order, no further than the result needs, and `Ends` holds
 pub record ReadsFew (sources : Sources) (first left second second_left : DeviceBytes) (Ends : Type 0) : Type 0 where
   pub first_few : ReadsFewOfFirst sources first left
   pub second_few : ReadsFewOfSecond sources first second second_left

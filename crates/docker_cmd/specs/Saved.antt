@@ -27,9 +27,9 @@ pub data Gain : Type 0 where
   version_gained : (number : ℕ) → Gain
   horizon_gained : (day : ℕ) → Gain
 
--- the old state became the new state by gaining one thing. Either it was joined with the state of a
--- file or of a version in `earlier`, whose text a source held. Or its horizon was raised to this
--- day
+-- the old state became the new state by gaining one thing. To gain a file or a version in
+-- `earlier`, whose text a source held, the old state was joined with the state of the file or of
+-- the version. To gain a horizon, the old state's horizon was raised to this day
 abbrev pub Gains : List (List ℕ) → Gain → State → State → Type 0
 Gains earlier (file_gained file) old new =
     (held : DeviceBytes) × HoldsFile held file × TakesFile most_records held old new

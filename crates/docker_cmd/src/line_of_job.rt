@@ -23,7 +23,7 @@ const LONGEST: usize = 255;
 type JobLine = ArrayVec<u8, LONGEST>;
 
 /// The most words that a job line can have. A line of 255 bytes has 128 words if each word is one
-/// byte and a single space separates two words.
+/// byte long and single spaces separate the words.
 const MOST_WORDS: usize = 128;
 
 /// The words of a job line.

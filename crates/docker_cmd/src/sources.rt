@@ -40,7 +40,7 @@ impl Content {
     }
 }
 
-/// Reads these sources in their order, and returns what was read.
+/// Reads these sources in order, and returns what was read.
 pub(crate) fn read_content<S: Source, T: Source>(
     alloc: Global,
     sources: Sources,

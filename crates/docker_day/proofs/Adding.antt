@@ -14,6 +14,6 @@ not_added test more before is = sym (append-nil before) ∙ (λ i. before ++ con
 pub told_if : (test : Bool) (told lines : List DockerLine) → test ≡ true → lines ≡ told → lines ≡ cond test told []
 told_if test told lines is same = same ∙ (λ i. cond (sym is i) told [])
 
--- if the test fails, there are no conditional lines `cond test told []`
+-- if the test fails, the list of the conditional lines `cond test told []` is empty
 pub untold : (test : Bool) (told : List DockerLine) → test ≡ false → [] ≡ cond test told []
 untold test told is = λ i. cond (sym is i) told []

@@ -66,7 +66,7 @@ there_before own event calls is = λ suffix.
     by (Some kept) true is = refl
     by None true is = let bad : false ≡ true = is refl in cc
 
--- if a suffix has no event in the map yet, an event with the suffix is stored there
+-- if a suffix has no event in the map yet, an event with this suffix is stored in the map
 pub first_of_suffix : (own : ℕ) (event : events.Occurrence) (before after : BTreeMap ℕ events.Occurrence) → is_some (get nat_cmp before own) ≡ false
     → Updates nat_cmp before after own (Some event) → HasCall own before event after
 first_of_suffix own event before after unkept updates = λ suffix.
@@ -85,7 +85,7 @@ module _ (place : List ℕ) (event : events.Occurrence) where
   elsewhere calls away = λ suffix later. λ i.
       kept_or (get nat_cmp calls suffix) (cond (sym away i && (column 10 event.line == suffix)) (Some event) later)
 
-  -- an event at the place is stored in the map if its suffix has no event there yet
+  -- an event at the place is stored in the map, unless the map already has an event with its suffix
   pub taken_here : (before after : BTreeMap ℕ events.Occurrence) → is_here place event ≡ true → HasCall (column 10 event.line) before event after
       → HasEvent place before event after
   taken_here before after here has = λ suffix later.
@@ -137,7 +137,8 @@ IsWithBase link occasion visit line =
     (rows : List Row) → AreRowsOf (live_in visit.timetable) rows
     → listed line ≡ link_line_with (train_in rows) visit.day visit.start link (Some occasion) (train_in rows link.key.base visit.start)
 
--- the line made from the first event of the base train's call is the association's line with the base train
+-- the line that is made from the first event of the base train's call is the association's line
+-- with this base train
 pub with_base : {Fault : Type 0} (link : Link) (occasion : Occasion) (event : events.Occurrence) (visit again : Visit)
     (result : Result (Option DockerLine) Fault) → again ≡ visit
     → ((rows : List Row) → AreRowsOf (live_in visit.timetable) rows

@@ -58,7 +58,8 @@ none_of_all : (days : List ℕ) → flat_map (λ (day : ℕ). no_line) days ≡ 
 none_of_all [] = refl
 none_of_all (day ∷ days) = none_of_all days
 
--- the lines of a row are the concatenation of the row's lines for the three start days: the day and the two days before it
+-- the lines of a row are the concatenation of the row's lines for the three start days: the day
+-- itself and the two days before it
 row_pieces : (trains : List ℕ → ℕ → Option choices.Train) (links : Group → ℕ → Option live_rows.Link) (place : List ℕ) (day : ℕ) (view : RowView)
     → flat_map (row_piece trains links place day view) (start_days day) ≡ view_lines trains links place day view
 row_pieces trains links place day (Train train) = refl
@@ -88,8 +89,9 @@ module _ (place : List ℕ) (day : ℕ) (view : RowView) where
       ∙ three_parts first (row_back trains links place day view 0) (row_back trains links place day view 1) (row_back trains links place day view 2)
       ∙ ap (λ more. first ++ more) (sym (starts_split (row_piece trains links place day view) day) ∙ row_pieces trains links place day view)
 
-  -- suppose that a row's lines are appended to a list in three steps: the lines for the day, for
-  -- the day before it, and for two days before it. Then all lines of the row are appended
+  -- suppose that a row's lines are appended to a list in three steps, for three start days. These
+  -- are the day itself, the day before it, and the day two days before it. Then all lines of the
+  -- row are appended
   pub three_backs : (live : Table) (first second third last : List DockerLine)
       → Adds live (λ trains links. row_back trains links place day view 0) first second
       → Adds live (λ trains links. row_back trains links place day view 1) second third

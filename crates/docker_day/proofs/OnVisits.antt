@@ -1,4 +1,5 @@
--- The docker lines of a row are the concatenation of the row's lines for the three visits: one for each start day.
+-- The docker lines of a row are the concatenation of the row's lines for three visits, one for each
+-- start day.
 use Rattle.std.proofs.Common.{◌≡◌, ℕ, ◌-◌, Bool, true, false, cond, List, [], ◌++◌, refl, ap, sym, ◌∙◌, subst, Some, None, append-nil, arith}
 use Rattle.std.specs.Prelude.{Option, nat_le}
 use Rattle.std.proofs.Math.Dec.{leb-zero}
@@ -63,8 +64,9 @@ module _ (there again : PlaceDay) (view : RowView) (today : Visit) (day_before t
       (three_backs there.place there.day view (live_in there.timetable) first second third last (adds_today there view today first second are.today_is one)
       (adds_back there view 1 day_before second third are.day_before_is two) (adds_back there view 2 two_before third last are.two_before_is three))
 
-  -- let `row_under_way` say that the row can't have lines for a train that started before the day.
-  -- Then the lines for the visit whose start day is the day itself are all lines of the row
+  -- suppose that, according to `row_under_way`, the row can't have lines for a train that started
+  -- before the day. Then all lines of the row are the lines for the visit whose start day is the
+  -- day itself
   pub adds_today_alone : (first second : List DockerLine) → there ≡ again → AreVisits there today day_before two_before
       → IsLiveView (live_in again.timetable) view → row_under_way again.place view again.day ≡ false → AddsAt today view first second
       → AddsRow again view first second

@@ -165,7 +165,8 @@ module _ (live : Table) (rows : List Row) (are : AreRowsOf live rows) (place : L
           (no_lines_then place day (day - back) train.key train.lines before early)
           ∙ none_either (runs_by (train_in rows train.key.uid (day - back)) train.key)
 
-  -- if `row_under_way` says that a row can't have lines for a train that started before the day, the row has no lines for a start day before the day
+  -- if, according to `row_under_way`, a row can't have lines for a train that started before the
+  -- day, the row has no lines for a start day before the day
   pub none_back : (view : RowView) → IsLiveView live view → row_under_way place view day ≡ false
       → (lines_back view 1 ≡ []) × (lines_back view 2 ≡ [])
   none_back (Train train) is_live not_so =
@@ -192,8 +193,8 @@ module _ (live : Table) (rows : List Row) (are : AreRowsOf live rows) (place : L
 nothing : (before : List DockerLine) {more : List DockerLine} → more ≡ [] → before ≡ before ++ more
 nothing before none = sym (append-nil before) ∙ ap (λ out. before ++ out) (sym none)
 
--- let `row_under_way` say that a row can't have lines for a train that started before the day. Then all lines of the row are for the train that starts on the
--- day itself
+-- suppose that, according to `row_under_way`, a row can't have lines for a train that started
+-- before the day. Then all lines of the row are for the train that starts on the day itself
 pub first_back_alone : (place : List ℕ) (day : ℕ) (view : RowView) (live : Table) (first second : List DockerLine) → IsLiveView live view
     → row_under_way place view day ≡ false → Adds live (λ trains links. row_back trains links place day view 0) first second
     → Adds live (λ trains links. view_lines trains links place day view) first second

@@ -61,7 +61,8 @@ none_behind day all rest fewer false true left before after none = let bad : tru
 none_behind day all rest fewer false false left before after none =
     passed_again day all rest fewer left (before refl) (after (λ bad. cc))
 
--- if none of the rows read so far may have lines, and no more rows are read, the rows read so far may be skipped
+-- if no row read so far may have lines, and no more rows are read, the rows read so far may be
+-- skipped
 pub none_after : (day : ℕ) (all rest fewer : List Row) (so_far : Bool) (found : Option Bool) → AreLeft all rest
     → (so_far ≡ false → ArePassedOver day all rest) → ((may : Bool) → ¬ (found ≡ Some may)) → (¬ (found ≡ Some true) → ArePassedOver day rest fewer)
     → so_far ≡ false → ArePassedOver day all fewer

@@ -1,5 +1,4 @@
--- A text that is written part by part: the bytes that the sink has gained, and its number of
--- failures.
+-- Writing a text part by part: which bytes the sink has gained, and how often the sink has failed.
 use Rattle.std.proofs.Common.{◌≡◌, ℕ, suc, ◌+◌, ◌<◌, ◌≤◌, List, [], ◌∷◌, ◌++◌, length, take, drop, get_or, refl, ap}
 use Rattle.std.proofs.Common.{sym, ◌∙◌, subst, Some, None, Ok, Err, arith, append_assoc, append-nil, length-append}
 use Rattle.std.specs.Prelude.{◌≢◌, true, false, Option, option_map, Result, IsErr, IsErrAnd, OnOk, OnErr, ⊤}
@@ -67,7 +66,8 @@ pub last_failed : {A E : Type 0} (result : Result A E) (before between after : �
 last_failed result before between after none same more =
     counts_error result before after (on_ok_weaker result (λ is. is ∙ none) same) (on_err_weaker result (λ is. is ∙ ap (λ n. n + 1) none) more)
 
--- the lemmas for a text that consists of three parts: `front`, `middle` and `back`. The written bytes `a`, `b` and `c` equal these three parts
+-- the lemmas for a text that consists of three parts: `front`, `middle` and `back`. The written
+-- bytes `a`, `b` and `c` equal these three parts
 module _ (first second third last : Option (List ℕ)) (a b c front middle back : List ℕ) (a_is : a ≡ front) (b_is : b ≡ middle) (c_is : c ≡ back) where
   -- if the sink gains each of the three parts, it gains the whole text
   pub all_taken : Takes first a second → Takes second b third → Takes third c last → Takes first (front ++ middle ++ back) last

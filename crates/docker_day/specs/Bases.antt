@@ -23,8 +23,8 @@ first_call (Some train) place suffix = find (is_call place suffix) (occurrences 
 abbrev pub meant_if : Option Occurrence → Option events.Occurrence
 meant_if event = option_map occurrence_meant event
 
--- says that the stored calls, if there are any, are correct. For each suffix, the stored event is the first event of the call with this suffix that the UID's
--- train makes at the place
+-- says that the stored calls, if there are any, are correct. For each suffix, the stored event is
+-- the first event of the call with this suffix that the UID's train makes at the place
 abbrev pub AreKnownCalls : Table → List ℕ → ℕ → Option BaseCalls → Type 0
 AreKnownCalls live place day None = ⊤
 AreKnownCalls live place day (Some known) =
@@ -35,14 +35,16 @@ abbrev pub kept_or : Option events.Occurrence → Option events.Occurrence → O
 kept_or None later = later
 kept_or (Some event) later = Some event
 
--- says how one more event of a call changes the map from suffixes to first events. If the event's suffix, `own`, has no event in the map yet, the map then has
--- this event for `own`. The events of all other suffixes are unchanged
+-- says how one more event of a call changes the map from suffixes to first events. If the map has
+-- no event yet for `own`, the event's suffix, the map gets this event for `own`. The events of all
+-- other suffixes are unchanged
 abbrev pub HasCall : ℕ → BTreeMap ℕ events.Occurrence → events.Occurrence → BTreeMap ℕ events.Occurrence → Type 0
 HasCall own before event after =
     (suffix : ℕ) → get nat_cmp after suffix ≡ (if own == suffix then kept_or (get nat_cmp before suffix) (Some event) else get nat_cmp before suffix)
 
--- says how one more event changes the map from suffixes to first events. If a suffix already has an event in the map, that event is unchanged. Otherwise the
--- map then has the new event for the suffix, provided that the new event is at the place and has this suffix
+-- says how one more event changes the map from suffixes to first events. If the map already has an
+-- event for a suffix, that event is unchanged. Otherwise the map gets the new event for the suffix,
+-- provided that the new event is at the place and has this suffix
 abbrev pub HasEvent : List ℕ → BTreeMap ℕ events.Occurrence → events.Occurrence → BTreeMap ℕ events.Occurrence → Type 0
 HasEvent place before event after =
     (suffix : ℕ) (later : Option events.Occurrence)

@@ -36,7 +36,7 @@ location_by_kind kind line = record {
 }
 
 -- the printed public time for an occasion. For any occasion other than an arrival or a departure,
--- the public time is spaces
+-- the public time consists of spaces
 abbrev pub public_at : Occasion → Shown → List ℕ
 public_at arrival shown = shown.arrival
 public_at departure shown = shown.departure

@@ -23,8 +23,8 @@ pub record AreLeft (before after : List Row) : Type 0 where
 abbrev pub AreOpened : List Row → List Row → List (ℕ × RowView) → List (ℕ × RowView) → Type 0
 AreOpened before after portion more = views_in more ++ views_of after ≡ views_in portion ++ views_of before
 
--- says that the rows read between `before` and `after` have no docker line: at any place on the
--- day, `before` and `after` have the same lines
+-- says that the rows that were read between `before` and `after` have no docker lines: at any place
+-- on the day, `before` and `after` have the same lines
 abbrev pub ArePassedOver : ℕ → List Row → List Row → Type 0
 ArePassedOver day before after = (place : List ℕ) (live : Table) → AreLive live before → (rows : List Row) → AreRowsOf live rows
     → gathered (train_in rows) (link_in rows) place day before ≡ gathered (train_in rows) (link_in rows) place day after

@@ -54,9 +54,9 @@ row_under_way place (Train train) day = is_under_way place train.lines day
 row_under_way place (Link link) day = true
 row_under_way place Other day = true
 
--- whether the row may have lines on the day. The result is false only for two kinds of rows. Either
--- the row is a schedule that begins after the day. Or it is a schedule whose flags are `0` for the
--- weekdays of the day and of the two days before it
+-- whether the row may have lines on the day. The result is false only for two kinds of schedules.
+-- One kind begins after the day. The other kind has the flag `0` for the weekdays of the day and of
+-- the two days before it
 abbrev pub row_may_run : RowView → ℕ → Bool
 row_may_run (Train train) day = may_run_recently train.key train.lines day
 row_may_run (Link link) day = true

@@ -15,8 +15,9 @@ pub record Visit : Type 0 where
   pub day : ℕ
   pub start : ℕ
 
--- says that `trains`, `links` and `bases` belong to one visit: each of them has the visit's timetable and start day, and `links` and `bases` have the visit's
--- place. The start day isn't after the day
+-- says that `trains`, `links` and `bases` belong to one visit: each of them has the visit's
+-- timetable and start day, and `links` and `bases` have the visit's place. The start day isn't
+-- after the day
 pub record IsOnePlace (timetable : Timetable) (place : List ℕ) (day start : ℕ) (trains : StartDay) (links bases : PlaceDay) : Type 0 where
   pub past : start ≤ day
   pub trains_are : trains ≡ record { timetable = timetable; day = start }

@@ -136,7 +136,7 @@ impl<'a> DockerLine<'a> {
         self.time
     }
 
-    /// The kind of event or of association.
+    /// The kind of the event or of the association.
     pub fn occasion(&self) -> Occasion
         ensures { occasion_meant result ≡ self.now.occasion }
     {
@@ -179,16 +179,16 @@ impl<'a> DockerLine<'a> {
         self.platform
     }
 
-    /// The line on which the train leaves or passes. The field is spaces at a terminus and in the
-    /// line of an association.
+    /// The line on which the train leaves or passes. The field consists of spaces at a terminus and
+    /// in the line of an association.
     pub fn track(&self) -> &'a [u8; 3]
         ensures { result.now ≡ self.now.track }
     {
         self.track
     }
 
-    /// The path by which the train arrives or passes. The field is spaces at an origin and in the
-    /// line of an association.
+    /// The path by which the train arrives or passes. The field consists of spaces at an origin and
+    /// in the line of an association.
     pub fn path(&self) -> &'a [u8; 3]
         ensures { result.now ≡ self.now.path }
     {
@@ -209,7 +209,7 @@ impl<'a> DockerLine<'a> {
         self.start
     }
 
-    /// The number of the event among the schedule's events, from 1.
+    /// The number of the event among the schedule's events, counted from 1.
     pub fn number(&self) -> u64
         ensures { result ≡ self.now.number }
     {

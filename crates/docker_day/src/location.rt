@@ -8,8 +8,8 @@ ghost use Rattle.docker_day.specs.Locations.{location_meant, location_by_kind, p
 use cif_line::{Kind, Line, kind};
 use train_choice::Occasion;
 
-/// What a docker shows of a location record. A field is spaces if records of this kind don't have
-/// the field.
+/// What a docker shows of a location record. A field consists of spaces if records of this kind
+/// don't have the field.
 #[derive(Clone, Copy, Debug)]
 pub(crate) struct Location<'a> {
     /// The platform.
@@ -26,8 +26,8 @@ pub(crate) struct Location<'a> {
 
 impl<'a> Location<'a> {
     /// What a docker shows of a line. The function is called only with location records, because no
-    /// other line has an event. For any other line the platform would be columns 20 to 22, and all
-    /// other fields spaces.
+    /// other line has an event. For any other line, the platform would be columns 20 to 22, and all
+    /// other fields would consist of spaces.
     pub(crate) fn of(line: &'a Line) -> Location<'a>
         ensures { location_meant result ≡ location_by_kind (kind_of line.entry.now) line.entry.now }
     {
@@ -64,7 +64,7 @@ impl<'a> Location<'a> {
     }
 
     /// The printed public time for an occasion. For any occasion other than an arrival or a
-    /// departure, the public time is spaces.
+    /// departure, the public time consists of spaces.
     pub(crate) fn public_time(&self, occasion: Occasion) -> &'a [u8; 4]
         ensures { result.now ≡ public_at (occasion_meant occasion) (location_meant self.now) }
     {

@@ -88,9 +88,9 @@ fn open_next<'a>(portion: &mut Portion<'a>, rows: &mut TimetableRows<'a>, day: D
     Some(may_run)
 }
 
-/// Whether a row may have lines on a day. The result is false only for two kinds of rows. Either
-/// the row is a schedule that begins after the day. Or it is a schedule whose flags are `0` for the
-/// weekdays of the day and of the two days before it.
+/// Whether a row may have lines on a day. The result is false only for two kinds of schedules. One
+/// kind begins after the day. The other kind has the flag `0` for the weekdays of the day and of
+/// the two days before it.
 fn may_row_run(view: &RowView<'_>, day: Day) -> bool
     ensures { result ≡ row_may_run view.now day }
 {

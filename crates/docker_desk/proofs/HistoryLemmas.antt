@@ -51,7 +51,7 @@ pub then_closed : (name : Text) (held left : Bytes) (old opened_now new : List E
     → new ≡ opened_now ++ closed left ∷ [] → new ≡ old ++ events_of name (record { held = held; left = left })
 then_closed name held left old opened_now new opens closes = then old opened_now new (opened name held ∷ []) (closed left ∷ []) opens closes
 
--- ---- how a saving ends
+-- ---- how `save` ends
 
 -- if the state's text was stored and the file was then looked at, `save` succeeded
 pub saved_then : (names_bytes : Bool) (name : Text) (look : ℕ) (own state : State) (old middle new : List Event)

@@ -128,7 +128,7 @@ skips_before (Some text) (Some left) new b read other line =
 
 -- ---- reading a whole, cut or bad line
 
--- at most 255 printable bytes, followed by a line feed, are a whole line
+-- if at most 255 printable bytes and then a line feed were read, a whole line was read
 pub reads_whole : (old now new : Option (List ℕ)) (line : List ℕ) → Reads old line now → Reads now (10 ∷ []) new → ArePrintable line → length line ≤ 255
     → ReadsNext old (whole_line line) new
 reads_whole old now new line first feed good short = by old new (reads_on old now new line (10 ∷ []) first feed)

@@ -115,8 +115,8 @@ reading_counted before after (Err fault) counted = fault_counted before after fa
 
 -- ---- comparing a file with a state
 
--- if comparing the copy with a state's text gives a result, comparing the bytes that the source
--- held with this text gives the same result
+-- comparing the copy of a source's bytes with a state's text has the same result as comparing the
+-- bytes that the source held with this text
 found_held : (bytes : Bytes) (copy : Option Text) (found : Compared) (state : State) (left : Bytes) → IfSome copy (IsText bytes)
     → ComparesCopy found copy (state_text dks_2 state) → IsFound found state (reading bytes left)
 found_held None copy compared.Same state left held is = tt

@@ -26,7 +26,7 @@ tells_both first second piece behind old middle new one two sound whole tells = 
     by (inl next) = inl (next.0 ∙ sound, both_taken old.taken middle.taken new.taken first second taken next.1)
     by (inr part) = inr (part.0 ∙ ap (λ n. n + 1) sound, part_of_back old.taken middle.taken new.taken first second taken part.1)
 
--- if writing the first text fails partway, only a part of the concatenation was written
+-- if writing the first text failed partway, only a part of the concatenation was written
 pub tells_first : (first second piece : List ℕ) (old new : FaultsView) → piece ≡ first → new.failures ≡ old.failures + 1 → TakesPart old.taken piece new.taken
     → TellsText (first ++ second) old new
 tells_first first second piece old new one failed part =

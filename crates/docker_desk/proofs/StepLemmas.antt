@@ -180,7 +180,7 @@ module _ (setting : Setting) where
     pub read : ReadsFirst input (lines_of steps) input_now
     pub told : Takes output (answers_text steps) output_now
 
-  -- a session without a step ends at its first point
+  -- a session without steps ends at its first point
   so_far_none : (first : SessionView) (input output : DeviceBytes) → IsSoFar 0 first first input input output output
   so_far_none first input output =
       record { steps = []; many = refl; are = refl; read = reads_none input; told = takes_none output }

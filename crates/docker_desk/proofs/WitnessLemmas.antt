@@ -111,7 +111,7 @@ answered output state (refused_for fault) same is takes =
     inr (takes ∙ ap (λ (f : OfficeFault). Some (answer_bytes (refused_for f) ++ [])) is ∙ ap Some (append-nil (answer_bytes (refused_for office.Memory))))
 answered output state no_request same is takes = absurd is
 
--- ---- the file holds the state of no files
+-- ---- the file holds the state without files
 
 -- an opened file holds the text that was last placed under its name on the shelf
 held_there : (text name : Text) (held left : Bytes) → name ≡ codes "S"

@@ -30,15 +30,15 @@ some_word piece some = by (length piece == 0) refl
     by false is = refl
     by true is = let none : length piece ≡ 0 = search (rules, tests) in absurd (omega (arith, some, none))
 
--- if a text has a space, its words are the bytes before the first space, if there are any, followed
--- by the words of the bytes after this space
+-- if a text has a space, its words are the piece before the first space, followed by the words
+-- after this space. An empty piece isn't a word
 at_space : (text : List ℕ) → position_or_len is_space text < length text
     → words_in text ≡ word_or_none (before_first is_space text) ++ words_in (after_first is_space text)
 at_space text here =
     ap (filter (λ word. not (length word == 0))) (slice_split_first is_space text 0 here)
     ∙ first_apart (before_first is_space text) (slice_split is_space (after_first is_space text))
 
--- if no first space is found in a text, none of its bytes is a space
+-- if a search for the first space of a text finds none, no byte of the text is a space
 no_space : (text : List ℕ) → position_or_len is_space text ≡ length text → AllByRecursion (λ b. is_space b ≡ false) text
 no_space [] none = tt
 no_space (b ∷ text) none = by (is_space b) refl none (no_space text)
@@ -49,7 +49,7 @@ no_space (b ∷ text) none = by (is_space b) refl none (no_space text)
     by true here at_end rest = absurd (omega arith)
     by false here at_end rest = (here, rest (omega arith))
 
--- if a text has no space, it is a single word, or has no word if it is empty
+-- if a text has no space, the whole text is one word, unless the text is empty and has no words
 without_space : (text : List ℕ) → position_or_len is_space text ≡ length text → words_in text ≡ word_or_none text
 without_space text none =
     ap (filter (λ word. not (length word == 0))) (slice_split_none is_space text (All-from_recursion _ text (no_space text none)))
@@ -85,8 +85,8 @@ word_leads (b ∷ text) some = by (is_space b) refl some (word_leads text)
 
 -- ---- the first word
 
--- if a space follows the first word, the words are the first word and the words of the bytes after
--- that space
+-- if a space follows the first word of a text, the text's words are the first word, followed by the
+-- words in the text after this space
 pub words_cut : (text : List ℕ) → without_spaces text ≢ [] → position_or_len is_space (without_spaces text) < length (without_spaces text)
     → words_in text ≡ first_word text ∷ words_in (after_word text)
 words_cut text some here =
@@ -135,7 +135,7 @@ words_last_as text rest stripped some end =
     subst (λ r. r ≢ [] → position_or_len is_space r ≡ length r → words_in text ≡ r ∷ words_in []) (sym stripped)
     (λ some end. (words_last text some end).0) some end
 
--- a text that consists of spaces has no word
+-- a text that consists only of spaces has no words
 pub words_none : (text : List ℕ) → without_spaces text ≡ [] → (words_in text ≡ []) × (first_word text ≡ [])
 words_none text none = (words_behind_spaces text ∙ ap words_in none, ap (before_first is_space) none)
 

@@ -22,7 +22,7 @@ answers_of = map (λ step. step.answer)
 abbrev pub answers_text : List Step → List ℕ
 answers_text = flat_map (λ step. answer_bytes step.answer)
 
--- the text begins with these lines, and `rest` are the bytes after them
+-- the text begins with these lines, and the bytes after the lines are `rest`
 abbrev pub AreFirstLines : List ℕ → List LineView → List ℕ → Type 0
 AreFirstLines text [] rest = rest ≡ text
 AreFirstLines text (line ∷ lines) rest =
@@ -120,9 +120,9 @@ abbrev pub StopsAtEnd : Option Ending → Bool → Bool → Bool → Bool → Ty
 StopsAtEnd result ended ended_now passed passed_now =
     ended ≡ false → (passed_now ≡ passed) × (result ≡ None → ended_now ≡ false)
 
--- this is the result of writing an answer on the output. Either the answer was written, and the
--- result is `next`. Or the output failed after a proper prefix of the answer, and the result is
--- `OutputFailed`
+-- writing an answer to the output ended with this result. Two cases are possible: the answer was
+-- written and the result is `next`, or the output failed after a proper prefix of the answer and
+-- the result is `OutputFailed`
 abbrev pub TellsAnswer : List ℕ → Option Ending → DeviceBytes → DeviceBytes → ℕ → ℕ → Option Ending
     → Type 0
 TellsAnswer told next output output_now failures failures_now result =

@@ -8,7 +8,7 @@ line_count [] = 0
 line_count (byte ∷ bytes) = if byte == 10 then 1 + line_count bytes else line_count bytes
 
 -- the header of an answer, in decimal: its status, and the numbers of lines and bytes of its text.
--- For example, `0 1 42` and a line feed is the header for status 0 and one line of 42 bytes
+-- For example, the header for status 0 and one line of 42 bytes is `0 1 42` with a line feed
 abbrev pub header_text : (status lines bytes : ℕ) → List ℕ
 header_text status lines bytes =
     decimal status ++ codes " " ++ decimal lines ++ codes " " ++ decimal bytes ++ codes "\n"

@@ -20,7 +20,7 @@ pub data LineView : Type 0 where
 abbrev pub IsWithoutFeed : List ℕ → Type 0
 IsWithoutFeed = AllByRecursion (λ byte. byte ≢ 10)
 
--- the text begins with a bad line and its line feed, and `rest` are the bytes after them
+-- the text begins with a bad line and its line feed, and the bytes after the line feed are `rest`
 pub record IsBadLine (text rest : List ℕ) : Type 0 where
   pub line : List ℕ
   pub whole : text ≡ line ++ 10 ∷ rest
@@ -32,13 +32,13 @@ pub record IsCutLine (text : List ℕ) : Type 0 where
   pub some : text ≢ []
   pub one : IsWithoutFeed text
 
--- the text begins with this line, and `rest` are the bytes after it
+-- the text begins with this line, and the bytes after the line are `rest`
 abbrev pub IsNextLine : List ℕ → LineView → List ℕ → Type 0
 IsNextLine text (whole_line line) rest = IsJobLine text line rest
 IsNextLine text bad_line rest = IsBadLine text rest
 IsNextLine text cut_line rest = IsCutLine text × (rest ≡ [])
 
--- these are the lines of the text, in their order
+-- these are the lines of the text, in order
 abbrev pub AreLines : List ℕ → List LineView → Type 0
 AreLines text [] = text ≡ []
 AreLines text (line ∷ lines) = (rest : List ℕ) × (IsNextLine text line rest × AreLines rest lines)
@@ -113,8 +113,8 @@ abbrev pub cut_or_end : List ℕ → Option LineView
 cut_or_end [] = None
 cut_or_end (byte ∷ bytes) = Some cut_line
 
--- the text begins with the rest of a line and its line feed, and `left` are the bytes after the
--- line feed
+-- the text begins with the rest of a line and its line feed, and the bytes after the line feed are
+-- `left`
 pub record SkipsTo (text : List ℕ) (left : Option (List ℕ)) : Type 0 where
   pub skipped : List ℕ
   pub rest : List ℕ

@@ -31,8 +31,8 @@ StopsInFile read = ReadsFewOfFile read.held read.left
 abbrev pub StopsInState : Reading → Type 0
 StopsInState read = ReadsFewOfState dks_2 read.held read.left
 
--- the named file was opened once and closed, and `Stops` and `Ends` hold for the reading. Or the
--- file couldn't be opened, and `Ends` holds for `None`. The folder's history has no other new
+-- either the named file was opened once and closed, and `Stops` and `Ends` hold for the reading, or
+-- the file couldn't be opened, and `Ends` holds for `None`. The folder's history has no other new
 -- events
 pub record OpensOnce (name : Text) (Stops : Reading → Type 0) (Ends : Option Reading → Type 0)
     (old new : List Event) : Type 0 where
@@ -41,9 +41,9 @@ pub record OpensOnce (name : Text) (Stops : Reading → Type 0) (Ends : Option R
   pub stops : IfSome read Stops
   pub ends : Ends read
 
--- the named file was looked at. Then it was opened once, read no further than the result needs, and
--- closed, and `Ends` holds for the reading. Or the file couldn't be opened, and `Ends` holds for
--- `None`. The folder's history has no other new events
+-- the named file was looked at before an attempt to open it. If the file was opened, it was opened
+-- once, read no further than the result needs, and closed, and `Ends` holds for the reading. If the
+-- file couldn't be opened, `Ends` holds for `None`. The folder's history has no other new events
 pub record LooksAndOpens (name : Text) (Ends : Option Reading → Type 0) (old new : List Event)
     : Type 0 where
   pub read : Option Reading

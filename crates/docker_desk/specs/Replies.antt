@@ -9,8 +9,8 @@ use Rattle.docker_desk.specs.Requests.{usage_line}
 use Rattle.docker_desk.specs.declared.reply.Answer.{Answer}
 use Rattle.docker_desk.specs.declared.reply.Answer.TheVariants as code
 
--- the answer to a line. Either the line's request succeeded, and its answer has this text. Or the
--- request was refused for this fault. Or the line isn't a request
+-- the answer to a line. There are three cases: the line's request succeeded and its answer has this
+-- text, the request was refused for this fault, or the line isn't a request
 pub data AnswerView : Type 0 where
   done_with : (text : List ℕ) → AnswerView
   refused_for : (fault : OfficeFault) → AnswerView

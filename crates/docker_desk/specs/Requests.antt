@@ -115,7 +115,7 @@ abbrev pub without_spaces : List ℕ → List ℕ
 without_spaces [] = []
 without_spaces (byte ∷ bytes) = if is_space byte then without_spaces bytes else byte ∷ bytes
 
--- the first word of a text; empty if the text has no word
+-- the first word of a text; empty if the text has no words
 abbrev pub first_word : List ℕ → Text
 first_word text = before_first is_space (without_spaces text)
 

@@ -87,7 +87,7 @@ ending_text InputFailed unsaved = device_line ++ unsaved_text unsaved
 ending_text InputEndless unsaved = device_line ++ unsaved_text unsaved
 ending_text OutputFailed unsaved = device_line ++ unsaved_text unsaved
 
--- the session ended in this way and with this exit status, and its end was reported on the sink of
+-- the session ended in this way and with this exit status, and its end was reported to the sink of
 -- faults
 pub record EndsWithStatus (ending : Ending) (unsaved : Bool) (status : ℕ) (old new : FaultsView)
     : Type 0 where

@@ -49,9 +49,9 @@ pub fn known_files_fix_sessions()
         → KnowsAt setting known state → IsKnown known state }
 {}
 
-/// Each point of a session has a look, on which the next draft is based. Either the look directly
-/// precedes an opening of the state's file, whose text was then read. Or the look directly follows
-/// a replacement of the file with the desk's own text. So a text that arrived between the look and
+/// Each point of a session has a look, on which the next draft is based. This look directly
+/// precedes an opening of the state's file, whose text was then read, or directly follows a
+/// replacement of the file with the desk's own text. So a text that arrived between the look and
 /// the reading is never overwritten unread. Either the desk has read that text, or the file was
 /// replaced after the look and the draft is refused.
 pub fn looks_come_before_readings()

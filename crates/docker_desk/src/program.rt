@@ -45,7 +45,7 @@ pub fn serve<S: Source, D: Folder, K: Sink, L: Sink>(
             );
             let unsaved = session.desk.is_unsaved();
             // The program ends here. The state isn't freed piece by piece, because the system takes
-            // back all its memory at once.
+            // back all of the program's memory at once.
             mem::forget(session);
             end_session(ending, named.may_write & unsaved, &mut host.faults)
         }

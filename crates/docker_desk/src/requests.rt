@@ -289,7 +289,7 @@ fn horizon_request(rest: &str) -> Option<Request<'_>>
     Some(Request::Horizon { day })
 }
 
-/// Returns `Some` if the rest of the line has no word.
+/// Returns `Some` if the rest of the line has no words.
 fn alone(rest: &str) -> Option<()>
     ensures alone { IsSome result → words_in rest.now ≡ [] }
     ensures more { IsNone result → words_in rest.now ≢ [] }

@@ -15,9 +15,9 @@ use crate::session_words::SessionWords;
 use cif_line::{Sink, Source};
 use docker_host::Folder;
 
-/// Answers the lines of an input in their order, until the input ends or a device fails. Each
-/// answer is complete in memory before its first byte is written, and is written before the next
-/// line is read. After a cut line, nothing more is read.
+/// Answers the lines of an input in order, until the input ends or a device fails. Each answer is
+/// complete in memory before its first byte is written, and is written before the next line is
+/// read. After a cut line, nothing more is read.
 pub fn serve_lines<S: Source, D: Folder, K: Sink>(
     words: &SessionWords<'_>,
     session: &mut Session<D::Seen>,

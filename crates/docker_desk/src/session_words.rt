@@ -11,7 +11,7 @@ use crate::requests::file_named;
 pub struct SessionWords<'a> {
     /// The name of the state's file.
     pub name: &'a str,
-    /// Whether the desk may take, merge, set a horizon and save.
+    /// Whether the desk may take files, merge states, set a horizon and save.
     pub may_write: bool,
 }
 

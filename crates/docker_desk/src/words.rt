@@ -20,7 +20,7 @@ fn without_spaces(text: &str) -> &str
 }
 
 /// Returns the first word of a text, and the text after it without leading spaces. Returns `None`
-/// if the text has no word.
+/// if the text has no words.
 pub(crate) fn next_word(text: &str) -> Option<(&str, &str)>
     ensures none { IsNone result → (words_in text.now ≡ []) × (first_word text.now ≡ []) }
     ensures word { IfSome result (λ cut. cut.0.now ≡ first_word text.now) }

@@ -20,7 +20,8 @@ use Rattle.state_text.specs.Parts.{last_key}
 use Rattle.docker_excerpt.specs.Values.{with_entries}
 use Rattle.docker_excerpt.specs.Ledger.{IsLedgerOf}
 
--- if the parts that were taken form a valid state and one more entry fits, they form a valid state with this entry too
+-- if the parts that were taken form a valid state, and one more entry fits, these parts form a
+-- valid state with this entry too
 pub valid_with : (parts : State) (last : Option Key) (count : ℕ) (entries : List (model.Key × Entry)) (told : State) → with_entries parts entries ≡ told
     → IsLedgerOf parts last count entries → (key : model.Key) (entry : Entry) → IsStampHere told key entry.stamp → IsOpOf key entry.op
     → (after : List (model.Key × Entry)) → after ≡ told.entries ++ (key, entry) ∷ [] → IsValid (with_entries told after)

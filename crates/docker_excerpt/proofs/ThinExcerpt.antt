@@ -1,5 +1,5 @@
--- Thin changes of a file are made for one place and day. Each docker of the state that they make, for this place and day, is a docker of the state of the whole
--- file.
+-- Thin changes of a file are made for one place and one day, and they make a state. Each docker of
+-- this state, for the place and the day, is a docker of the whole file's state.
 use Rattle.std.proofs.Common.{◌≡◌, ℕ, ◌≤◌, List, [], ◌∷◌, length, map, refl, ap, sym, ◌∙◌, subst, cond, None}
 use Rattle.std.specs.Prelude.{Option, option_and_then, slice_index_or}
 use Rattle.docker_model.specs.file.File.{IsFile, first_record, most_records}
@@ -56,7 +56,8 @@ module _ (place : List ℕ) (day : ℕ) (lines : List (List ℕ)) (is_file : IsF
     list = (thin_state_list place day lines is_file few kept thinning part of (summary_of lines) (summary_is lines) docker.lines).1 made.list;
   }
 
--- take the state that the thin changes make, and replace its entries by the entries of the whole file. The result is the file's state
+-- if the entries of the state that the thin changes make are replaced by the entries of the whole
+-- file, the result is the file's state
 pub given_is_state : (file : FileRead) (lines : List (List ℕ)) → IsOfRecords file lines → (kept : List Change) (part : State)
     → IsStateOfChanges lines kept part → (entries : List (Key × Entry)) → entries ≡ (state_of_read file).entries
     → with_entries part entries ≡ state_of_read file

@@ -1,4 +1,5 @@
--- How each step of the code's walk changes the kept rows, `run` and `names`. `run` has the schedules of one UID, and `names` has the UIDs of associated trains.
+-- How each step of the code's walk changes the kept rows, `run` and `names`. `run` has the
+-- schedules of one UID, and `names` has the UIDs of associated trains.
 use Rattle.std.proofs.Common.{◌≡◌, ℕ, List, [], ◌∷◌, ◌++◌, map, ap, sym, ◌∙◌, subst, Bool, true, false, cond}
 use Rattle.std.specs.Prelude.{Option, Some, None}
 use Rattle.std.specs.Option.{option_to_list}

@@ -1,5 +1,5 @@
--- Properties of a walk that makes an excerpt, which each step of the walk preserves. `run` has the schedules of one UID, and `names` has the UIDs of associated
--- trains.
+-- Each step of a walk that makes an excerpt preserves the properties of the walk that are proved
+-- here. `run` has the schedules of one UID, and `names` has the UIDs of associated trains.
 use Rattle.std.proofs.Common.{◌≡◌, ℕ, List, [], ◌∷◌, ◌++◌, refl, ap, sym, ◌∙◌, subst, inl, inr, ◌⊎◌, Bool, true, false, cond, Contains}
 use Rattle.std.specs.Prelude.{◌||◌, ◌↔◌, Option, Some, None}
 use Rattle.std.specs.Option.{option_to_list}
@@ -24,7 +24,7 @@ Keyed = Key × Entry
 pub no_names : AreNames [] []
 no_names uid = (λ among. among, λ among. among)
 
--- a walk that hasn't passed any entry has kept no entry
+-- a walk that hasn't passed any entries has kept no entries
 pub walk_first : (place : List ℕ) → IsWalk place [] [] [] false []
 walk_first place = record { has_kept = kept_first place; told = no_names; sorted = inl refl }
 
@@ -33,7 +33,8 @@ unneeded : (place : List ℕ) (entries kept run : List Keyed) (needed : Bool) �
 unneeded place entries kept run needed has none =
     sym has.is_needed ∙ ap (λ (r : List Keyed). is_run_needed place (record { kept = kept; run = r })) none
 
--- a single entry has at most one associated train
+-- a list with a single entry names only the UID of the entry's associated train, or no UID if the
+-- entry has no associated train
 names_of_one : (key : Key) (entry : Entry) → names_in ((key, entry) ∷ []) ≡ option_to_list (name_in key entry.op)
 names_of_one key entry = by (name_in key entry.op)
   where
@@ -125,7 +126,8 @@ module _ (place : List ℕ) (state : State) (kept run : List Keyed) (needed : Bo
           ∙ names_stay place state.entries key entry
           ∙ ap (λ (so_far : ExcerptSoFar). names_in so_far.kept) is.has_kept.so_far
 
-  -- sorting the list `names` changes neither the passed entries nor the kept entries of the walk
+  -- sorting the list `names` preserves `IsWalk`: it changes neither the passed entries nor the kept
+  -- entries of the walk
   pub walk_sorted : (after : List (List ℕ)) → IsPermutation names after → IsSorted bytes_cmp after → IsWalk place state.entries kept run needed after
   walk_sorted after moved sorted = record {
     has_kept = is.has_kept;

@@ -9,9 +9,9 @@ use Rattle.cif_change.specs.Meaning.{key_meant}
 use Rattle.state_text.specs.Parts.{last_key}
 use Rattle.docker_excerpt.specs.Values.{with_entries}
 
--- says that `parts` is the ledger of a state with these entries. `parts` itself has no entry. Its
+-- says that `parts` is the ledger of a state with these entries. `parts` itself has no entries. Its
 -- ledger and the entries together form a valid state without a horizon. `last` is the key of the
--- last entry, and `count` the number of entries
+-- last entry, and `count` is the number of entries
 pub record IsLedgerOf (parts : State) (last : Option Key) (count : ℕ) (entries : List (model.Key × Entry)) : Type 0 where
   pub valid : IsValid (with_entries parts entries)
   pub plain : parts.horizon ≡ 0

@@ -26,7 +26,7 @@ pub(crate) struct DayWalk {
 }
 
 impl DayWalk {
-    /// A walk that hasn't passed any entry. The call allocates nothing.
+    /// A walk that hasn't passed any entries yet. The call allocates nothing.
     pub(crate) fn new(alloc: Global, place: Tiploc, day: Day) -> DayWalk
         ensures passed { HasPassed result [] }
         ensures place { result.walk.place ≡ place }

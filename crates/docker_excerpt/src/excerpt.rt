@@ -84,7 +84,8 @@ impl Excerpt {
         ensures state { (records : List (List ℕ)) → IsOfRecords file.file records
             → IfOk result (λ it. it.state ≡ summary_of records) }
     {
-        // This call is made only for its contract, which says that the thin changes are enough.
+        // This call is made only because its contract says that the thin changes may be kept
+        // instead of all changes of the file.
         let _header = file.header();
         let given = given_of(&file);
         let part = State::of_thin(alloc, file)?;

@@ -124,8 +124,8 @@ impl Excerpting {
 
     /// Makes the excerpt of the state whose parts were taken. `horizon` is the state's horizon, if
     /// it has one. Returns `Memory` if memory runs out, or if more than 4,294,967,295 entries or
-    /// places are kept, because entries and places are numbered in 32 bits. After `Memory`, the
-    /// kept entries are dropped.
+    /// places are kept, because entries and places have 32-bit numbers. After `Memory`, the kept
+    /// entries are dropped.
     pub fn finish(self, horizon: Option<Day>) -> Result<Excerpt, Memory>
         requires { IsValid (under (horizon_meant horizon) self.told) }
         ensures { IfOk result (λ excerpt. excerpt ≡ record {

@@ -18,7 +18,7 @@ use std::fmt;
 use std::marker::Model;
 
 /// The ledger of a state whose parts are taken in order: first the ledger items, then the entries.
-/// Only the number of the entries and the last key are kept.
+/// It keeps all ledger items. Of the entries, it keeps only their number and the last key.
 #[derive(Drop)]
 pub struct Ledger {
     // these parts have ledger items and no entries

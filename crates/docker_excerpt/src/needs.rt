@@ -43,7 +43,7 @@ pub(crate) fn goes_on(run: &[(Key, Entry)], uid: &Uid) -> bool
     }
 }
 
-/// Whether a UID is among these sorted UIDs, found by binary search.
+/// Whether a UID is among these sorted UIDs. The function uses binary search.
 pub(crate) fn has_name(names: &[Uid], uid: &Uid) -> bool
     requires { IsSorted bytes_cmp names.now }
     ensures { (result ≡ true) ↔ Contains names.now uid.now }

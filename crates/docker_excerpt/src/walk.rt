@@ -32,7 +32,7 @@ pub(crate) struct ExcerptWalk {
 }
 
 impl ExcerptWalk {
-    /// A walk that hasn't passed any entry. The call allocates nothing.
+    /// A walk that hasn't passed any entries yet. The call allocates nothing.
     pub(crate) fn new(alloc: Global, place: Tiploc) -> ExcerptWalk
         ensures walked { HasWalked result [] }
         ensures place { result.place ≡ place }

@@ -18,7 +18,7 @@ pub data Event : Type 0 where
   opened : (name : Text) (bytes : Bytes) → Event
   -- the named file couldn't be opened
   unopened : (name : Text) → Event
-  -- an opened file was closed when these bytes were still to be read
+  -- an opened file was closed while these bytes were still unread
   closed : (left : Bytes) → Event
   -- a draft for the named file was made. It is based on the look at this position in the history
   drafted : (name : Text) (look : ℕ) → Event

@@ -10,8 +10,8 @@ abbrev pub texts_of : List Place → Texts
 texts_of [] = no_texts
 texts_of (place ∷ places) = with_text (string_bytes place.name) place.text.items (texts_of places)
 
--- the shelf agrees with its history. Each file held, when it was opened, the text that was last
--- placed under its name. Each file now holds the text that was last placed under its name
+-- the shelf agrees with its history. Whenever a file was opened, it held the text that had last
+-- been placed under its name. Each file now holds the text that was last placed under its name
 pub record IsKept (places : List Place) (events : List Event) : Type 0 where
   pub met : AreMet no_texts events
   pub same : (name : Text) → texts_of places name ≡ after_events no_texts events name

@@ -3,9 +3,9 @@ use Rattle.std.specs.Prelude.{◌≡◌, ℕ, min, length, Bool, ⊤, if◌then�
 use Rattle.std.specs.Str.{bytes_eq}
 use Rattle.docker_host.specs.History.{Text, Event, looked, opened, unopened, closed, drafted, undrafted, placed, unplaced, dropped}
 
--- An opened file on a shelf: the bytes left in it, the number of bytes that can be read before a
--- read fails, and its failure count. Also whether the opened file has reported its end, and whether
--- it was read after that.
+-- an opened file on a shelf. `left` has the bytes left in the file, and `sound` is the number of
+-- bytes that can be read before a read fails. `failures` is the file's failure count. `ended` says
+-- whether the file has reported its end, and `passed` says whether it was read after that
 pub record PageView : Type 0 where
   pub left : List ℕ
   pub sound : ℕ

@@ -1,6 +1,6 @@
 //! Drafts, each in the folder of the file that it will replace. A draft is locked while its command
-//! runs, and marked until it has replaced its file. So a marked draft without a lock was left over
-//! by a command that was stopped. The next command removes this draft.
+//! runs, and marked until it has replaced its file. So a marked draft without a lock was left by a
+//! command that was stopped. The next command removes this draft.
 use crate::folder::OpenFault;
 use std::fs::{File, Metadata, Permissions, TryLockError};
 use std::os::unix::fs::{MetadataExt, OpenOptionsExt, PermissionsExt};
@@ -77,8 +77,8 @@ impl DraftPlace {
 }
 
 /// Returns the mark of a draft for the file with this path. If the name of the file ends like the
-/// name of a draft, its draft has no mark. With a mark, the replaced file might look like a draft
-/// that was left over for another file.
+/// name of a draft, the draft gets no mark. A marked draft would still have its mark right after it
+/// replaces the file. So it might look like a draft that a command has left for another file.
 fn draft_bit_of(file: &str) -> u32 {
     if file.ends_with(SUFFIX) { 0 } else { MARK }
 }
@@ -96,8 +96,8 @@ fn stands_under(rt: &HostRuntime, file: &File, name: &str) -> bool {
     held.dev() == there.dev() && held.ino() == there.ino()
 }
 
-/// Removes the file with the name of a draft, if it was left by a command that was stopped. Any
-/// other file is unchanged.
+/// Removes the file with this draft name, if a command that was stopped has left the file. Any
+/// other file stays unchanged.
 fn remove_left_over(rt: &HostRuntime, name: &str) {
     let Ok(there) = fs::symlink_metadata(rt, name) else {
         return;
@@ -123,8 +123,9 @@ fn is_left_over(rt: &HostRuntime, left: &File, name: &str) -> bool {
     has_draft_bit(&held) && stands_under(rt, left, name)
 }
 
-/// Locks a draft that was just made. Fails if another command has locked or removed the draft as
-/// one that was left over. On a file system without locks no draft counts as left over.
+/// Locks a draft that was just made. Another command may regard the new draft as a leftover, and
+/// lock or remove it. The call fails in this case. On a file system without locks, no command
+/// regards a draft as a leftover.
 fn hold(rt: &HostRuntime, made: &File, name: &str) -> Result<(), OpenFault> {
     if let Err(TryLockError::WouldBlock) = made.try_lock() {
         return Err(OpenFault::Failed);

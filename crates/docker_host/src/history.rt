@@ -37,13 +37,13 @@ pub enum Note<'a> {
     OpenedUnnamed(&'a str),
     /// A named file couldn't be opened.
     Unopened(&'a str),
-    /// An opened file was closed when these bytes were still to be read.
+    /// An opened file was closed while these bytes were still unread.
     Closed(&'a [u8]),
     /// An opened file was closed. Contracts can't say which bytes were left in it.
     ClosedUnnamed,
-    /// A draft for a named file was made. It is based on the look at this position of the history.
+    /// A draft for a named file was made. It is based on the look at this position in the history.
     Drafted(&'a str, &'a Position),
-    /// A draft for a named file, based on the look at this position of the history, couldn't be
+    /// A draft for a named file, based on the look at this position in the history, couldn't be
     /// made.
     Undrafted(&'a str, &'a Position),
     /// A draft replaced a named file. From then on the file holds these bytes.

@@ -1,5 +1,5 @@
-//! Folders, each with a history of the calls to the folder and their results. Also one value that
-//! holds all devices of a program.
+//! Folders and hosts. Each folder has a history of the calls to the folder and their results. A
+//! host is one value that holds all devices of a program.
 #![tactic(auto)]
 
 mod draft_file;

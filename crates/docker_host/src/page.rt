@@ -6,7 +6,7 @@ ghost use Rattle.docker_host.specs.Shelf.{page_count};
 use cif_device::{Failed, Source};
 use std::marker::Model;
 
-/// The most bytes that one read returns.
+/// The largest number of bytes that one read returns.
 const STEP: usize = 100;
 
 /// A source that owns its bytes. One read returns at most 100 bytes. After a given number of bytes

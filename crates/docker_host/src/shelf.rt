@@ -87,8 +87,8 @@ fn text_among<'a>(places: &'a [Place], name: &str) -> Option<&'a [u8]>
     None
 }
 
-/// Returns which of the shelf's texts the file with this name has, or `None` if there is no such
-/// file. The texts are numbered from the oldest, so that a new text changes no number.
+/// Returns the number of the text that the file with this name has, or `None` if there is no such
+/// file. The shelf's texts are numbered from the oldest, so that a new text changes no number.
 fn number_among(places: &[Place], name: &str) -> Option<usize> {
     places
         .iter()

@@ -18,8 +18,9 @@ use Rattle.docker_join.proofs.MeantOrder.{ascending_meant, meant_ascending}
 abbrev Row : Type 0
 Row = Key × Entry
 
--- the rows that result from letting all entries lapse, once the first `i` rows are done: the first `i` rows, followed by the results of `lapse_entries` for the
--- other rows
+-- suppose that the entries of the first `i` rows have lapsed already. Then letting all entries
+-- lapse results in the first `i` rows, followed by the results of `lapse_entries` for the other
+-- rows
 abbrev pub lapsed_from : ℕ → ℕ → List (Key × Entry) → List (model.Key × ops.Entry)
 lapsed_from horizon i rows = map row_meant (take i rows) ++ lapse_entries horizon (map row_meant (drop i rows))
 

@@ -66,7 +66,7 @@ module _ {E : Type 0} (picked : E → E → E) where
   walk_above low [] ys above_x above_y = above_y
   walk_above low (x ∷ xs) ys above_x above_y = from_above low x (walk picked xs) above_x.0 (λ zs. walk_above low xs zs above_x.1) ys above_y
 
-  -- the rows that the walk over two tables returns ascend
+  -- the walk over two tables returns ascending rows
   from_ascends : (x : Key × E) (xs : List (Key × E)) → AreAscending (x ∷ xs) → ((ys : List (Key × E)) → AreAscending ys → AreAscending (walk picked xs ys))
       → (ys : List (Key × E)) → AreAscending ys → AreAscending (walk_from picked x (walk picked xs) ys)
   from_ascends x xs up_x behind [] up_y = (walk_above x xs [] up_x.0 tt, behind [] tt)

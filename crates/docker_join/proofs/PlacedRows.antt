@@ -1,4 +1,5 @@
--- Joining two tables by placing rows from the greatest key to the smallest has the same result as the walk of `MergedRows`.
+-- Joining two tables by placing rows, from the greatest key to the smallest, has the same result as
+-- `walk` in `MergedRows`.
 use Rattle.std.proofs.Common.{◌≡◌, ℕ, zero, suc, ◌+◌, ◌-◌, ◌<◌, ◌≤◌, List, [], ◌∷◌, ◌++◌, length, get_or, take, drop, refl, ap, sym}
 use Rattle.std.proofs.Common.{◌∙◌, subst, append_assoc, length-append, length-drop, arith, true, false, Some, None, MatchOption}
 use Rattle.std.specs.Prelude.{Option}
@@ -211,7 +212,7 @@ module _ {E : Type 0} (picked : E → E → E) where
             ∙ sym (joined_is old p (a ++ r) (rest ++ row ∷ []) left old_is left_size);
       }
 
-  -- placing the join of two rows with one key leaves the final join of the tables unchanged
+  -- placing the join of two rows with the same key leaves the final join of the tables unchanged
   level_placed : (p b r : List (Key × E)) (own row : Key × E) (old new : List (Key × E)) (left later : ℕ)
       → old ≡ p ++ (b ++ (own ∷ r)) → left ≡ length (b ++ (own ∷ r)) → new ≡ (own.0, picked own.1 row.1) ∷ (r ++ (p ++ b)) → later ≡ length b
       → row_cmp own row ≡ Equal → WalksOn picked old left row new later
@@ -383,7 +384,7 @@ none_yet {E = E} picked first second rows left same size =
       },
     )
 
--- if no row could be popped from the second table, the table has no row left
+-- if no row could be popped from the second table, the table has no rows left
 pub none_popped : {A : Type 0} (P Q : Type 0) (popped : Option A) (rows : List A) (n : ℕ) → ((x : A) → popped ≡ Some x → ⊥) → n ≡ length rows
     → MatchOption popped ((n ≡ 0) × P) (λ _. Q) → rows ≡ []
 none_popped P Q None [] n never size done = refl

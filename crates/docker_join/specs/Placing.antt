@@ -10,8 +10,8 @@ use Rattle.cif_change.specs.declared.key.Key.{Key}
 use Rattle.cif_change.specs.Meaning.{key_meant}
 use Rattle.docker_join.specs.Rows.{AreAscending, IsJoinOfRows}
 
--- whether a row is above the key, given its distance from the end of `n` rows, which is 1 for the
--- last row
+-- whether a row is above the key. The row is given by its distance `back` from the end of `n` rows.
+-- The distance is 1 for the last row
 abbrev pub is_above_at : {E : Type 0} → model.Key → List (Key × E) → ℕ → ℕ → Key × E → Bool
 is_above_at key rows n back d = is_gt (key_cmp (key_meant (slice_index_or rows (n - back) d).0) key)
 

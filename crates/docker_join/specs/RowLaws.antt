@@ -94,7 +94,7 @@ module _ {E : Type 0} where
   value_here row rows key tied =
       λ i. option_map (λ (r : Key × E). r.1) (cond (is_eq (tied i)) (Some row) (find (λ (r : Key × E). is_eq (key_cmp (key_meant r.0) key)) rows))
 
-  -- at any key but the first row's key, the value is the value that the other rows have there
+  -- at any key other than the first row's key, the value is the same with and without the first row
   pub value_behind : (row : Key × E) (rows : List (Key × E)) (key : model.Key) → ¬ (key_cmp (key_meant row.0) key ≡ Equal)
       → value_at (row ∷ rows) key ≡ value_at rows key
   value_behind row rows key other = by (key_cmp (key_meant row.0) key) refl
@@ -168,8 +168,9 @@ pub record ArePickLaws {E : Type 0} (valid : E → Type 0) (picked : E → E →
   pub associates : (a b c : E) → valid a → valid b → valid c → picked (picked a b) c ≡ picked a (picked b c)
   pub itself : (a : E) → valid a → picked a a ≡ a
 
--- if a join has at most one result, which is valid, and is commutative, associative and idempotent, the same is true of a function `picked` that always
--- returns this join
+-- suppose that the relation `is_join` is commutative, associative and idempotent. Suppose also that
+-- two valid values have at most one join, and that this join is valid. Then `ArePickLaws` holds for
+-- a function `picked` that always returns a join
 pub pick_laws : {E : Type 0} (valid : E → Type 0) (is_join : E → E → E → Type 0) (picked : E → E → E)
     → ((a b c : E) → valid a → valid b → is_join a b c → valid c)
     → ((a b c d : E) → valid a → valid b → is_join a b c → is_join a b d → c ≡ d)

@@ -1,5 +1,5 @@
-//! The rows of tables: how entries lapse that ended before a horizon, and how the rows of two
-//! tables are joined in the memory of the first table.
+//! The rows of tables. Entries lapse if their bodies ended before a horizon. The rows of two tables
+//! are joined in the memory of the first table.
 ghost use Rattle.std.specs.Prelude.{◌≡◌, ◌+◌, ◌<◌, ◌≤◌, true, false, map, vec_len, vec_capacity, MatchOption};
 ghost use Rattle.std.specs.VecDeque.{deque_len, deque_capacity};
 ghost use Rattle.cif_change.specs.Meaning.{key_meant};
@@ -13,8 +13,8 @@ use crate::merge::Pick;
 use cif_change::Key;
 use std::collections::VecDeque;
 
-/// Lets each entry lapse whose body ended before the horizon. Keys and stamps are unchanged, and an
-/// op that lapses loses its body. Returns whether any op has lapsed in this call.
+/// Makes each entry lapse if its body ended before the horizon. Keys and stamps are unchanged, and
+/// an op that lapses loses its body. Returns whether any op has lapsed in this call.
 pub fn lapse_rows(rows: &mut [(Key, Entry)], horizon: u16) -> bool
     ensures lapsed { map row_meant rows.new ≡ lapse_entries horizon (map row_meant rows.old) }
     ensures same { result ≡ false → rows.new ≡ rows.old }
@@ -103,8 +103,8 @@ fn is_level<E>(rows: &VecDeque<(Key, E)>, key: &Key) -> bool
     rows[rows.len() - 1].0.cmp(key).is_eq()
 }
 
-/// Whether a row has a key greater than this key. The row is given by its distance from the end of
-/// the ring buffer, which is 1 for the last row.
+/// Whether a row has a key greater than this key. The row is given by its distance `back` from the
+/// end of the ring buffer. The distance is 1 for the last row.
 fn is_above<E>(rows: &VecDeque<(Key, E)>, back: usize, key: &Key) -> bool
     requires { (0 < back) × (back ≤ deque_len rows.now) }
     ensures { (d : _) → result
@@ -113,9 +113,9 @@ fn is_above<E>(rows: &VecDeque<(Key, E)>, back: usize, key: &Key) -> bool
     rows[rows.len() - back].0.cmp(key).is_gt()
 }
 
-/// How many of the last `left` rows have keys greater than this key. Reads the last row first, and
-/// then each time a row twice as far from the end. Once a row's key isn't greater than this key, a
-/// binary search finds the number.
+/// How many of the last `left` rows have keys greater than this key. This is an exponential search:
+/// it reads the rows at the distances 1, 2, 4 and so on from the end, up to `left`. It stops at a
+/// row whose key isn't greater than this key. Then a binary search finds the number.
 fn run_above<E>(rows: &VecDeque<(Key, E)>, left: usize, key: &Key) -> usize
     requires { left ≤ deque_len rows.now }
     ensures { IsRunAbove (key_meant key.now) rows.now.items (deque_len rows.now) left result }

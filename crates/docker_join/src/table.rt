@@ -16,7 +16,7 @@ use std::marker::Model;
 /// A table: keys, each with one value, such as an entry.
 #[derive(Debug, Drop)]
 pub struct Table<E> {
-    /// The rows: a key and its value, in ascending order of keys.
+    /// The rows, each a key and its value, in ascending order of keys.
     pub rows: Vec<(Key, E)>,
 }
 
@@ -89,7 +89,7 @@ impl<E> Table<E> {
         self.rows.len()
     }
 
-    /// Whether the table has no row.
+    /// Whether the table has no rows.
     pub fn is_empty(&self) -> bool
         ensures { result ≡ (length self.now == 0) }
     {
@@ -108,7 +108,7 @@ impl<E> Table<E> {
 }
 
 impl Table<Entry> {
-    /// Lets each entry lapse whose body ended before the horizon. Keys and stamps are unchanged,
+    /// Makes each entry lapse if its body ended before the horizon. Keys and stamps are unchanged,
     /// and an op that lapses loses its body. Returns whether any op has lapsed in this call.
     pub fn lapse(&mut self, horizon: u16) -> bool
         ensures lapsed { map row_meant self.new ≡ lapse_entries horizon (map row_meant self.old) }

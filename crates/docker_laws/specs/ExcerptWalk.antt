@@ -81,7 +81,8 @@ with_entry_of place so_far key entry =
     if is_here place key then record { kept = kept_after_run place so_far ++ (key, entry) ∷ []; run = [] }
     else record { kept = kept_after_run place so_far; run = [] }
 
--- the fields `kept` and `run` after the walk passes one more entry, which is a pair with its key
+-- the fields `kept` and `run` after the walk passes one more entry. The argument is the pair of the
+-- entry's key and the entry
 abbrev pub next_kept : List ℕ → ExcerptSoFar → Key × Entry → ExcerptSoFar
 next_kept place so_far entry = with_entry_of place so_far entry.0 entry.1
 

@@ -58,7 +58,8 @@ abbrev pub identity_of : Option Train → List ℕ
 identity_of None = codes "????"
 identity_of (Some train) = columns 33 36 (first_record train.lines)
 
--- the identity that is printed for a UID's train on a day, or `????` if there is no day
+-- the identity that is printed for the train of a UID that starts on the given day. The result is
+-- `????` if there is no such train, or if the day is `None`
 abbrev pub partner_identity : (List ℕ → ℕ → Option Train) → List ℕ → Option ℕ → List ℕ
 partner_identity trains uid None = codes "????"
 partner_identity trains uid (Some day) = identity_of (trains uid day)

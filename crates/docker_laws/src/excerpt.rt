@@ -125,8 +125,8 @@ pub fn excerpt_by_entry()
         ≡ record { kept = kept_after_run place so_far; run = (schedule_key key, entry) ∷ [] } }
 {}
 
-/// A run is all entries for the schedules of one UID. At the end of a run, the walk keeps the whole
-/// run if it is needed, and otherwise drops it. A run is needed if its UID belongs to the
+/// A run consists of all entries for the schedules of one UID. At the end of a run, the walk keeps
+/// the whole run if it is needed, and otherwise drops it. A run is needed if its UID belongs to the
 /// associated train of a live association at the place, or if one of its live schedules calls at
 /// the place.
 pub fn run_of_one_uid()
@@ -159,9 +159,9 @@ pub fn run_of_one_uid()
 {}
 
 /// A loop can compute the excerpt from three values: the kept entries, a run, and a flag that says
-/// whether the docker needs the run. The run is all entries for the schedules of the current UID.
-/// At the start the kept entries and the run are empty. At the end the entries of the excerpt are
-/// the kept entries, followed by the run if it is needed.
+/// whether the docker needs the run. The run consists of all entries for the schedules of the
+/// current UID. At the start the kept entries and the run are empty. At the end the entries of the
+/// excerpt are the kept entries, followed by the run if it is needed.
 pub fn excerpt_in_a_loop()
     ensures first { (place : List ℕ) → HasKept place [] [] [] false }
     ensures alone { (place : List ℕ) (state : State) (kept run : List (Key × Entry))

@@ -62,10 +62,10 @@ pub fn stand_in_has_one_docker()
         → HasGoodBodies live → StandsFor place day live (thinned place day live) }
 {}
 
-/// For the docker of a place and a day, a schedule may be replaced by the records that `lines_for`
-/// keeps of it. If the schedule doesn't call at the place, it may be replaced by any records that
-/// have the same first record and don't call at the place. The first record followed by any origin
-/// and any terminus with good fields forms a schedule with the same key.
+/// For the docker of a place and a day, the records of a schedule that `lines_for` keeps may
+/// replace the schedule. If the schedule doesn't call at the place, it may be replaced by any
+/// records that have the same first record and don't call at the place. The first record, followed
+/// by any origin and any terminus with good fields, forms a schedule with the same key.
 pub fn stand_in_of_a_schedule()
     ensures needed { (place : List ℕ) (day : ℕ) (lines : List (List ℕ))
         → IsStandIn place day lines (lines_for place lines) }
@@ -94,8 +94,8 @@ pub fn thin_body_is_of_its_key()
         → calls_at place lines ≡ false → calls_at place (thin_lines lines) ≡ false }
 {}
 
-/// Record by record, a walk can compute the thin records of a schedule, and whether the schedule
-/// calls at a place.
+/// A walk over the records of a schedule can compute the schedule's thin records, and whether the
+/// schedule calls at a place.
 pub fn thin_lines_in_a_walk()
     ensures first { (basic : List ℕ) → thin_lines (basic ∷ []) ≡ basic ∷ [] }
     ensures end { (basic : List ℕ) (others : List (List ℕ)) (line : List ℕ)

@@ -41,7 +41,7 @@ PrintOne one two =
     (place : List ℕ) (day : ℕ) → ¬ IsDayRefused one.horizon day → ¬ IsDayRefused two.horizon day → (text other : List ℕ)
     → IsDockerText (live_table one) place day text → IsDockerText (live_table two) place day other → text ≡ other
 
--- two offices that know the same files print the same dockers, on the days that neither office
+-- two offices that know the same files print the same dockers for each day that neither office
 -- refuses
 pub one_docker : (first second : Known) (one two : State) → EndsWith first one → EndsWith second two → HaveSameFiles first.files second.files
     → PrintOne one two

@@ -12,7 +12,7 @@ use Rattle.docker_model.specs.state.State.{IsGoodItem}
 use Rattle.docker_day.specs.LedgerItem.{LedgerItem}
 use Rattle.docker_day.specs.Meaning.{item_meant}
 
--- the text of the list of the files that these ledger items describe
+-- the text that lists the files of these ledger items, with one line for each file
 abbrev pub text_of : List LedgerItem → List ℕ
 text_of items = files_text (map item_meant items)
 

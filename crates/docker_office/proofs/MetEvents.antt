@@ -218,8 +218,8 @@ module _ (known : KnownSets) (held : Holdings) (holds : AreOf known held) where
         (after_send dks_2 known held.offices.items (texts_of held.messages.items) holds office (is_office office there)));
   }
 
-  -- if memory runs out for a `Send` and no message is appended, the definitions allow the reply
-  -- that memory ran out
+  -- if memory runs out for a `Send` and no message is appended, the definitions allow a reply that
+  -- reports the lack of memory
   pub send_without_memory : (office : ℕ) → office < length held.offices.items → MeetsEvent known (send_state office) (Refused (Office why.Memory)) held
   send_without_memory office there = record {
     told = tt;

@@ -42,14 +42,14 @@ on_ok_with P (Ok a) (Err f) same holds = tt
 on_ok_with P (Err e) (Err f) same holds = tt
 on_ok_with P (Err e) (Ok b) same holds = let never : ⊥ = cc in absurd never
 
--- if two results are both `Ok` or both `Err`, and the second is `Ok`, then the first is `Ok` too.
--- So `P`, which holds if the first is `Ok`, holds
+-- suppose that two results are both `Ok` or both `Err`, and that `P` holds if the first is `Ok`. If
+-- the second is `Ok`, then the first is `Ok` too, so `P` holds
 pub of_ok : {A B E F : Type 0} (P : Type 0) (first : Result A E) (second : Result B F) → is_ok second ≡ is_ok first → OnOk first P → IsOk second → P
 of_ok P (Ok a) second same holds is = holds
 of_ok P (Err e) second same holds is = let never : ⊥ = cc in absurd never
 
--- if two results are both `Ok` or both `Err`, and the second is `Err`, then the first is `Err` too.
--- So `P`, which holds if the first is `Err`, holds
+-- suppose that two results are both `Ok` or both `Err`, and that `P` holds if the first is `Err`.
+-- If the second is `Err`, then the first is `Err` too, so `P` holds
 pub of_err : {A B E F : Type 0} (P : Type 0) (first : Result A E) (second : Result B F) → is_ok second ≡ is_ok first → OnErr first P → (e : F) → second ≡ Err e
     → P
 of_err P (Err e) second same holds fault is = holds
@@ -206,8 +206,8 @@ pub read_refused : {A : Type 0} (wants : Wanting) (format : Format) (limit : ℕ
     → RefusesState format limit left fault
 read_refused wants format limit IsMade left left_now result outcome fault is = subst (IsOutcome wants why_unread format limit IsMade left left_now) is outcome
 
--- if the source's failure count is unchanged, reading a state hasn't ended because the source
--- failed
+-- if the source's failure count is unchanged, reading a state hasn't ended with a failure of the
+-- source
 pub read_unfailed : {A : Type 0} (failures : ℕ) (result : Result A OfficeFault) → CountsOutcome why_unread failures failures result → result ≢ Err office.Source
 read_unfailed failures result counted is =
     let more : failures ≡ failures + 1 = subst (CountsOutcome why_unread failures failures) is counted in absurd (omega arith)
@@ -235,7 +235,8 @@ pub taken_refused : {A : Type 0} (limit : ℕ) (IsMade : A → Type 0) (left lef
     → IsTakingOutcome limit IsMade left left_now result → (fault : FileFault) → result ≡ Err (office.File fault) → RefusesText limit left fault
 taken_refused limit IsMade left left_now result outcome fault is = subst (IsTakingOutcome limit IsMade left left_now) is outcome
 
--- if the source's failure count is unchanged, taking a file hasn't ended because the source failed
+-- if the source's failure count is unchanged, taking a file hasn't ended with a failure of the
+-- source
 pub taken_unfailed : {A : Type 0} (failures : ℕ) (result : Result A OfficeFault) → CountsTaking failures failures result → result ≢ Err office.Source
 taken_unfailed failures result counted is = let more : failures ≡ failures + 1 = subst (CountsTaking failures failures) is counted in absurd (omega arith)
 

@@ -37,8 +37,8 @@ run_at_first offices held many each none = record {
   good = All-nil (IsGoodEvent dks_2);
 }
 
--- if a run is followed by one more event and its reply, all events up to and including this one are
--- a run too
+-- if a run is followed by one more event and its reply, the run and this event together form a run
+-- too
 pub run_with_one_more : (offices : ℕ) (events : List RunEvent) (replies : List Reply) (held after : Holdings) (event : RunEvent) (reply : Reply)
     → HasRun offices events replies held → IsGoodEvent dks_2 event → ((known : model.KnownSets) → AreOf known held → MeetsEvent known event reply after)
     → HasRun offices (events ++ event ∷ []) (replies ++ reply ∷ []) after

@@ -14,8 +14,8 @@ use Rattle.docker_office.specs.declared.fault.OfficeFault.TheVariants.{File, Sta
 
 -- ---- how reading a state ends
 
--- converts an office's fault to the fault for which a state couldn't be read. The result is `None`
--- if the office's fault doesn't come from reading a state
+-- converts an office's fault to the fault with which the reader of a state stopped. The result is
+-- `None` if the office's fault doesn't come from reading a state
 abbrev pub why_unread : OfficeFault → Option ReadFault
 why_unread (State fault) = Some (states.State fault)
 why_unread Source = Some states.Source

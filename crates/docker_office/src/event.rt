@@ -11,10 +11,10 @@ pub enum Event<'a> {
         office: usize,
         /// The text of the file.
         text: &'a [u8],
-        /// The most records that the file may have: at most 4,294,967,294.
+        /// The greatest number of records that the file may have. It is at most 4,294,967,294.
         limit: u32,
     },
-    /// The office sends its state, as a new message.
+    /// The office sends its state as a new message.
     Send {
         /// The number of the office.
         office: usize,

@@ -61,10 +61,10 @@ impl PlaceOffice {
         Ok(PlaceOffice { alloc, excerpt })
     }
 
-    /// Reads a file from a source, and keeps the changes from which the file's docker of a timing
-    /// point and a day is made. A file with more than `limit` records is refused. Every record is
-    /// judged, whether the office keeps a part of it or not. So this call refuses every file that
-    /// `Office::take` refuses, with `File`, `Source` or `Memory`.
+    /// Reads a file from a source, and keeps the changes that are needed to make the file's docker
+    /// for a timing point and a day. A file with more than `limit` records is refused. Every record
+    /// is judged, whether the office keeps a part of it or not. So this call refuses every file
+    /// that `Office::take` refuses, with `File`, `Source` or `Memory`.
     pub fn take<S: Source>(
         alloc: Global,
         place: Tiploc,

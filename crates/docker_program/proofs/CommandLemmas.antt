@@ -221,7 +221,7 @@ written_known task first second (file_read file) text known days reads is allowe
 written_known task first second (office_read state) text known days reads is allowed knows =
     written_of_state task first second state text known days reads is allowed knows
 
--- the words of a requested job are words that its task requires
+-- the words of a requested job name the job's task
 asked_words : (words : List Text) (input rest : Bytes) (job : JobView) → AsksFor words input job rest → AreWordsOf job.task job.words
 asked_words [] input rest job asks = asks.2.required
 asked_words (word ∷ words) input rest job asks = asks.0.required

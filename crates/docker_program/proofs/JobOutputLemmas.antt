@@ -49,8 +49,7 @@ fails_alone taken failures old new prepared name office.Source is ends = elim en
 
 -- ---- a job that writes a file
 
--- if no draft could be made because a device failed, the output wasn't written, as `WritesPart`
--- says
+-- if no draft could be made because a device failed, `WritesPart` holds: the output wasn't written
 pub ends_unmade : (by : Drafting) (written : Written) (prepared : PreparedView) (name : Text) → stored_by prepared.job ≡ Some name
     → IsUndrafted name by.look written.before written.now → written.output_now ≡ written.output → WritesPart by written prepared
 ends_unmade by written prepared name is none kept =
@@ -102,8 +101,8 @@ ends_stored by written prepared name middle empty taken is none gains made put k
       kept,
     )
 
--- if the complete draft couldn't be renamed over the file, the file may or may not hold the output,
--- as `WritesPart` says
+-- if the complete draft couldn't be renamed over the file, `WritesPart` holds: the file may or may
+-- not hold the output
 pub ends_unplaced : (by : Drafting) (written : Written) (prepared : PreparedView) (name : Text) (middle : List Event) (empty taken : Bytes)
     → stored_by prepared.job ≡ Some name → empty ≡ named_if by.names_bytes [] → GainsOutput prepared empty taken
     → middle ≡ written.before ++ drafted name by.look ∷ [] → written.now ≡ middle ++ unplaced name taken ∷ []

@@ -51,8 +51,8 @@ by_reading asked job (Err office.Memory) read = inr (opened_by asked job (Err of
 by_reading asked job (Err office.Lapsed) read = read.reads.ends
 by_reading asked job (Err office.Sink) read = read.reads.ends
 
--- if a file of a job couldn't be opened, `ReadsNamed` allows the fault for which it couldn't be
--- opened as the result
+-- if a file of a job couldn't be opened, `ReadsNamed` allows the fault that names the cause:
+-- `Source` if a device failed, or `Memory` if memory ran out
 by_cause : (asked : Asking) (job : JobView) (cause : OpenFault) → FailsToOpen (names_of job) asked.before asked.now → asked.left ≡ asked.rest
     → ReadsNamed asked job (Err (one_of office.Source office.Memory cause))
 by_cause asked job opening.Failed fails unread = inl (record { fails = fails; unread = unread })
@@ -71,7 +71,7 @@ pub reads_named : (names : SourceNames) (asked : Asking) (job : JobView) (result
 reads_named names asked job result is reads =
     by_result asked job result (subst (λ (names : SourceNames). ReadsBy names asked job result) is reads)
 
--- ---- what is read from each kind of sources
+-- ---- what is read from each kind of source
 
 -- a job without a source reads nothing
 pub reads_none : (history : List Event) (rest first first_left second second_left : Bytes) (job : JobView) (result : Result PreparedView OfficeFault)

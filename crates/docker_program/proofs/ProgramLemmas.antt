@@ -93,7 +93,8 @@ ends_done words names_bytes before old new shown read job rest prepared same see
       };
     })
 
--- a host whose sink of faults now has these bytes and this failure count
+-- the host after its sink of faults has changed: the sink now has these bytes and this failure
+-- count
 abbrev pub with_faults : HostView → Bytes → ℕ → HostView
 with_faults host faults failures = record host { faults = faults; faults_failures = failures }
 

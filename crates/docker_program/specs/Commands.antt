@@ -25,8 +25,8 @@ use Rattle.docker_program.specs.Program.{AsksFor, Performs}
 -- ---- what one command does
 
 -- the history after a command has opened, read and closed its sources. If its job writes a file,
--- the first new event is a look at this file. The openings and closings of the files that the job
--- reads follow
+-- the first new event is a look at this file. The next new events are the openings and closings of
+-- the files that the job reads
 abbrev pub history_read : List Event → JobView → SourcesRead → List Event
 history_read before job read =
     with_files_read (names_of job) read (with_look_at (stored_by job) before)
@@ -175,11 +175,11 @@ WritesKnown migrate_task known text = IsKnownText dks_2 known text
 
 -- ---- versions of STATE files
 
--- how a version of a STATE file was made. Either a command made the version: `new`, `take`,
--- `merge`, `horizon` or `migrate`. Or a desk saved the version, after it read its state from an
--- earlier version and gained files, versions and horizons. A number is the index of an earlier
--- version of any office, counted from 0. `migrate` reads the text of a summary in the format
--- `DKS1`, and `known` has the files and the horizon of that summary
+-- how a version of a STATE file was made. A version is made by a command (`new`, `take`, `merge`,
+-- `horizon` or `migrate`) or saved by a desk. Before a desk saved the version, the desk read its
+-- state from an earlier version, and gained files, versions and horizons. Each number, except
+-- `day`, is the index of an earlier version of any office, counted from 0. `migrate` reads the text
+-- of a summary in the format `DKS1`, and `known` has the files and the horizon of that summary
 pub data Origin : Type 0 where
   begun : Origin
   taken : (own : ℕ) (file : List (List ℕ)) → Origin

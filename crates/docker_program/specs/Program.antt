@@ -16,18 +16,18 @@ use Rattle.docker_program.specs.SourceNames.{stored_by}
 use Rattle.docker_program.specs.Sources.{Asking, IsNotOpened, IsOpened, IsPrepared, RefusesFile, RefusesState, WantsForSources, asking, with_look_at}
 use Rattle.docker_program.specs.Writing.{Drafting, RefusesDay, WantsToWrite, Writes, WritesPart, Written, drafting, written}
 
--- the words name this job; or there are no words, and the first line of standard input names the
--- job. `rest` are the bytes left in standard input once the job was found
+-- if there are words, they name this job. Otherwise the first line of standard input names the job.
+-- `rest` has the bytes that are left in standard input once the job is found
 abbrev pub AsksFor : List Text → Bytes → JobView → Bytes → Type 0
 AsksFor [] input job rest = ReadsJob input job rest
 AsksFor (word ∷ words) input job rest = IsJobOf (word ∷ words) job × (rest ≡ input)
 
--- the words name no job; or there are no words, and the first line of standard input names no job
+-- if there are words, they name no job. Otherwise the first line of standard input names no job
 abbrev pub AskForNone : List Text → Bytes → Type 0
 AskForNone [] input = HasNoJob input
 AskForNone (word ∷ words) input = NameNoJob (word ∷ words)
 
--- the words name a job; or there are no words, and the first line of standard input names a job
+-- if there are words, they name a job. Otherwise the first line of standard input names a job
 abbrev pub AskForSome : List Text → Bytes → Type 0
 AskForSome [] input = HasJob input
 AskForSome (word ∷ words) input = ¬ NameNoJob (word ∷ words)
@@ -147,8 +147,8 @@ abbrev pub failures_of : HostView → ℕ
 failures_of host = host.input_failures + host.folder_failures + host.output_failures
 
 -- the program was started with these words, and ended with this status. The fields give the fault
--- that ended the program, if any, the requests to the folder, and what was written. `names_bytes`
--- says whether contracts can say which bytes were written to the folder's drafts
+-- that ended the program (if there was one), its requests to the folder, and its output.
+-- `names_bytes` says whether contracts can say which bytes were written to the folder's drafts
 pub record Performs (words : List Text) (names_bytes : Bool) (old new : HostView)
     (status : ℕ) : Type 0 where
   pub ending : Option Fault
@@ -161,7 +161,7 @@ pub record Performs (words : List Text) (names_bytes : Bool) (old new : HostView
 abbrev pub IsUsageStatus : List Text → ℕ → Type 0
 IsUsageStatus words status = words ≢ [] → (status ≡ 2) ↔ NameNoJob words
 
--- the fault of a result; None if the call succeeded
+-- the fault of a result, or `None` if the call succeeded
 abbrev pub fault_in : {A : Type 0} → Result A Fault → Option Fault
 fault_in (Ok answer) = None
 fault_in (Err fault) = Some fault

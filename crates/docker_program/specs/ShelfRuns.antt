@@ -20,10 +20,11 @@ abbrev pub both_put : (state extract : List ℕ) → List Event
 both_put state extract = placed state_name (Some state) ∷ placed file_name (Some extract) ∷ []
 
 -- these are the events of a shelf after a STATE file and an extract were added and `take` was run.
--- `take` looked at STATE. Then it opened STATE and the extract, which held the two given texts. It
--- read STATE no further than the result needs, and the extract to its end. Then it stored a text by
--- a draft based on its look, which is event 2, counted from 0. If STATE held the text of the
--- summary of some files, the stored text is the text of the summary of these files and the extract
+-- `take` looked at STATE. This look is event 2, counted from 0. Then `take` opened STATE and the
+-- extract, which held the two given texts. It read STATE no further than the result needs, and the
+-- extract to its end. Then it stored a text: a draft that is based on the look replaced STATE. If
+-- STATE held the text of the summary of some files, the stored text is the text of the summary of
+-- these files and the extract
 pub record IsTaken (state extract : List ℕ) (events : List Event) : Type 0 where
   pub text : List ℕ
   pub left : List ℕ

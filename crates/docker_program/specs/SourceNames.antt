@@ -73,14 +73,14 @@ sources_named reads.two_states output words =
 abbrev pub names_of : JobView → SourceNames
 names_of job = sources_named (sources_of job.task) (output_of job.task) job.words
 
--- the name of the file that is written: the first word if the output is a state; None if the output
--- is printed
+-- the name of the file that is written, or `None` if the output is printed. If the output is a
+-- state, the name is the first word
 abbrev pub file_stored : Output → List Text → Option Text
 file_stored counts_written words = None
 file_stored (docker_written place day) words = None
 file_stored files_written words = None
 file_stored state_written words = Some (first_word words)
 
--- the name of the file that this job writes; None if the job prints
+-- the name of the file that this job writes, or `None` if the job prints
 abbrev pub stored_by : JobView → Option Text
 stored_by job = file_stored (output_of job.task) job.words

@@ -22,7 +22,8 @@ pub record SourcesRead : Type 0 where
   pub second : Bytes
   pub second_left : Bytes
 
--- the history after a look at the file with this name; unchanged if there is no name
+-- the history after a look at the file with this name. If there is no name, the history is
+-- unchanged
 abbrev pub with_look_at : Option Text → List Event → List Event
 with_look_at None history = history
 with_look_at (Some name) history = history ++ looked name ∷ []
@@ -122,8 +123,8 @@ ReadsNamed asked job (Err office.Memory) = IsNotOpened asked job ⊎ WantsForSou
 ReadsNamed asked job (Err office.Lapsed) = ⊥
 ReadsNamed asked job (Err office.Sink) = ⊥
 
--- a file among these sources couldn't be opened, nothing was read, and the result is the fault for
--- which the file couldn't be opened
+-- a file among these sources couldn't be opened, and nothing was read. The result is the fault that
+-- prevented the opening
 pub record AreNotOpened (names : SourceNames) (asked : Asking)
     (result : Result PreparedView OfficeFault) : Type 0 where
   pub cause : OpenFault
@@ -140,7 +141,7 @@ pub record AreRead (names : SourceNames) (asked : Asking) (job : JobView)
   pub others : AreOthers names read asked.rest asked.left
   pub reads : ReadsInOrder job read.first read.first_left read.second read.second_left result
 
--- opening and reading these sources ended with this result. Either a file couldn't be opened; or
+-- opening and reading these sources ended with this result. Either a file couldn't be opened, or
 -- all files were opened, and were closed after the sources were read
 abbrev pub ReadsBy : SourceNames → Asking → JobView → Result PreparedView OfficeFault → Type 0
 ReadsBy names asked job result = AreNotOpened names asked result ⊎ AreRead names asked job result

@@ -21,7 +21,7 @@ pub(crate) fn names(job: &Job) -> SourceNames<'_>
     }
 }
 
-/// Returns the name of the file that the job writes; `None` if the job prints.
+/// Returns the name of the file that the job writes, or `None` if the job prints.
 pub(crate) fn stored_name(job: &Job) -> Option<&str>
     ensures { option_map (λ name. name.now) result ≡ stored_by job.now }
 {

@@ -35,7 +35,7 @@ fn do_job<S: Source, D: Folder, K: Sink, L: Sink>(
     let prepared = read_sources(alloc, &job, &mut host.input, &mut host.folder)?;
     let done = write_output(looked, &prepared, &mut host.folder, &mut host.output);
     // The program ends here. What the program has read isn't freed piece by piece, because the
-    // system takes back all its memory at once.
+    // system takes back all memory of the program at once.
     mem::forget(prepared);
     Ok(done?)
 }

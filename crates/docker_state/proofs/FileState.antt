@@ -92,7 +92,8 @@ made_records all have stamp made made_is = all_members (λ (row : Key × Entry).
 pub file_records : (file : List (List ℕ)) → IsFile file → length file ≤ most_records → HaveRecords (changes file)
 file_records file is_file few change among = op_records change.key (op_of change.act) (file_change file is_file few change among).good.1
 
--- if changes are a thinning of a file's changes, the bodies put by them consist of records
+-- if changes are a thinning of a file's changes, the bodies that the thinning's changes put consist
+-- of records
 pub thin_records : (place : List ℕ) (day : ℕ) (file : List (List ℕ)) → IsFile file → length file ≤ most_records → (all kept : List model.Change)
     → all ≡ changes file → IsThinning place day all kept → HaveRecords kept
 thin_records place day file is_file few all kept all_are thinning change among =
@@ -105,7 +106,8 @@ one_item item before ledger none pushed =
     let all : ledger ≡ item ∷ [] = pushed ∙ ap (λ (xs : List LedgerItem). xs ++ item ∷ []) none in
     ap (map item_meant) all
 
--- if a file stamp is the stamp of a ledger item, the rows that changes make with the file stamp are the rows made with the item's stamp
+-- suppose that a file stamp is the stamp of a ledger item. Then changes make the same rows with the
+-- file stamp as with the item's stamp
 pub made_stamped : (item : LedgerItem) (stamp : code.FileStamp) → file_stamp_meant stamp ≡ (item_meant item).stamp → (all : List model.Change)
     → (made : List (Key × Entry)) → map row_meant made ≡ map (made_by (file_stamp_meant stamp)) all
     → map row_meant made ≡ map (made_by (item_meant item).stamp) all

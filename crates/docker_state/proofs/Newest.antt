@@ -68,7 +68,8 @@ above_each meant items before last stamp file b are up file_is is told item amon
     (subst (λ (one : FileStamp). IsBelow file_stamp_cmp one stamp) file_is (less_is (file_stamp_cmp file stamp) (sym is ∙ told)))
     item (subst (λ (all : List LedgerItem). Contains all item) same among)
 
--- suppose that an entry's file is newer than all files in our ledger. Then the entry has to be staged if and only if it isn't below the floor
+-- suppose that an entry's file is newer than all files in the ledger of the state `own`. Then the
+-- entry has to be staged if and only if it isn't below the floor
 pub newest_tells : (own : State) → IsValid own → (floor : Option FileStamp) (key : Key) (entry : Entry)
     → ((item : LedgerItem) → Contains own.ledger item → IsBelow file_stamp_cmp item.stamp entry.stamp.file)
     → (b : Bool) → IsTrue b ↔ IsKept floor entry.stamp.file → IsTrue b ↔ IsToStage own floor key entry

@@ -1,4 +1,4 @@
--- Lemmas on a state to which joining another state would add nothing.
+-- Lemmas on a join in which the second state adds nothing to the first state.
 use Rattle.std.proofs.Common.{◌≡◌, Bool, true, false, List, [], ◌∷◌, ◌++◌, map, length, refl, ap, sym, ◌∙◌, subst, inl, inr, ◌⊎◌, Contains, arith}
 use Rattle.std.specs.Prelude.{Option, ◌↔◌, IsTrue}
 use Rattle.std.specs.Ordering.{ordering_reverse}

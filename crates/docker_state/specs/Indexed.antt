@@ -31,8 +31,8 @@ HasRoomIfAny rows notes room = IfSome notes (λ noted. IfSome room (HasRoomFor r
 abbrev pub ArePickedNotes : List ℕ → List (model.Key × ops.Entry) → Option Notes → Type 0
 ArePickedNotes order rows notes = IfSome notes (λ noted. (items : List Item) × HasNoted items noted × ArePicked items order (items_of rows))
 
--- Says that the state with this horizon, ledger and rows is valid, and that this is the index of
--- the rows or there is no index.
+-- Says that the state with this horizon, ledger and rows is valid. Says also that this is the index
+-- of the rows, or that there is no index.
 pub record IsIndexed (horizon : ℕ) (ledger : List LedgerItem) (rows : List (Key × Entry)) (index : Option Index) : Type 0 where
   pub valid : IsValid (state_meant horizon ledger rows)
   pub indexed : IsIndexIfAny (map row_meant rows) index

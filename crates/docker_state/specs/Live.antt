@@ -11,7 +11,7 @@ put_before key deleted rest = rest
 put_before key lapsed rest = rest
 put_before key (put_with body) rest = (key, body) ∷ rest
 
--- the keys under which these entries put bodies, with these bodies, in the order of the entries
+-- each key under which an entry puts a body, with this body, in the order of the entries
 abbrev pub live_rows : List (Key × Entry) → List (Key × Body)
 live_rows [] = []
 live_rows (entry ∷ entries) = put_before entry.0 entry.1.op (live_rows entries)

@@ -1,4 +1,4 @@
--- The rows of a UID's schedules, which follow each other in key order.
+-- The rows of a UID's schedules, which are next to each other in key order.
 use Rattle.std.specs.Prelude.{◌≡◌, ℕ, List, ◌++◌, Bool, true, false, Contains}
 use Rattle.std.specs.List.{slice_get}
 use Rattle.std.specs.List.Sorted.{IsPartitionPoint}

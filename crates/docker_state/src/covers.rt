@@ -53,10 +53,10 @@ fn brings_none(own: &State, other: &State, floor: &Option<FileStamp>) -> bool
 }
 
 impl State {
-    /// Whether the join with another state is this state with the greater of the two horizons. True
-    /// only if this state has each ledger item of the other state and, for each entry of the other
-    /// state, an equal or greater entry for the same key. Items and entries below the common floor
-    /// of the two states don't count.
+    /// Whether the join with another state is this state with the greater of the two horizons.
+    /// Returns true only if this state has each ledger item of the other state. For each entry of
+    /// the other state, this state must also have an equal or greater entry for the same key. Items
+    /// and entries below the common floor of the two states don't count.
     pub(crate) fn covers(&self, other: &State) -> bool
         ensures { IsTrue result
             → IsJoin self.now other.now (raise_horizon other.now.horizon self.now) }

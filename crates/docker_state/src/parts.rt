@@ -20,8 +20,9 @@ use state_index::Notes;
 use std::alloc::Global;
 use std::marker::Model;
 
-/// The ledger items that were added so far, and then the entries, both in ascending order. After
-/// each addition they make a valid state.
+/// The ledger items and the entries that have been added so far, both in ascending order. All
+/// ledger items are added before the first entry. After each addition, the items and the entries
+/// make a valid state.
 #[derive(Debug, Drop)]
 pub struct Parts {
     ledger: Vec<LedgerItem>,

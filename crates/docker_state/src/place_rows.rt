@@ -12,7 +12,7 @@ use std::marker::Model;
 /// How the live rows at a place are found.
 #[derive(Clone, Debug, Drop)]
 pub(crate) enum Walk<'a> {
-    /// The rows are found by the postings of an index.
+    /// The rows are found with the postings of an index.
     Numbered(NumberedRows<'a>),
     /// The rows are found by a walk over all rows.
     Sifted(SiftedRows<'a>),
@@ -88,7 +88,8 @@ impl<'a> PlaceRows<'a> {
         }
     }
 
-    /// An iterator over the same rows that also returns each row's index among all rows, from 0.
+    /// An iterator over the same rows that also returns each row's index among all rows, counted
+    /// from 0.
     pub fn numbered(self) -> Numbered<'a>
         ensures { result ≡ self.entry }
     {

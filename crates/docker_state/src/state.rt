@@ -588,7 +588,7 @@ struct OpenedState {
     rows: Vec<(Key, Entry)>,
 }
 
-/// Lets each entry lapse whose body ended before the horizon `other`. Entries whose bodies ended
+/// Makes an entry lapse if its body ended before the horizon `other`. Entries whose bodies ended
 /// before the horizon `own` have lapsed already, so if `other` isn't greater than `own`, no row is
 /// read. The spare memory after the rows is kept.
 fn lapsed_under(mut rows: Vec<(Key, Entry)>, own: u16, other: u16) -> Vec<(Key, Entry)>

@@ -49,8 +49,9 @@ impl<'a> Timetable<'a> {
         Timetable::counting(state, false)
     }
 
-    /// The timetable without the short-term plan. Only the live timing points of a state count, and
-    /// its live schedules and associations with the STP indicator `P`.
+    /// The timetable without the short-term plan. These entries of a state count: its live timing
+    /// points, and its live schedules and associations with the STP indicator `P`. No other entries
+    /// count.
     pub fn permanent(state: &'a State) -> Timetable<'a>
         ensures { result ≡ record { state = state.entry.now; permanent = true } }
     {

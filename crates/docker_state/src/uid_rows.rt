@@ -11,8 +11,9 @@ use cif_line::Uid;
 use docker_join::Entry;
 use std::cmp::Ordering;
 
-/// The rows of a UID's schedules, which follow each other in key order. A walk finds the last of
-/// them: a UID has few schedules, and a binary search would read rows far away in memory.
+/// The rows of a UID's schedules, which are next to each other in key order. A walk finds the last
+/// of these rows, because a UID has few schedules, and a binary search would read rows far away in
+/// memory.
 pub(crate) fn rows_of_uid<'a>(
     rows: &'a [(Key, Entry)],
     uid: &Uid,

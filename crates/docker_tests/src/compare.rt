@@ -1,5 +1,5 @@
-//! Comparisons for tests: each ends the test if two values differ. An assertion in a function of
-//! its own is proved once for all tests.
+//! Comparisons for tests: each ends the test if two values differ. Each assertion is in a function
+//! of its own, so it is proved only once for all tests.
 
 use std::fmt::Debug;
 use std::process::Abort;

@@ -12,7 +12,7 @@ use std::alloc::Global;
 use std::process::Abort;
 
 /// Asserts the result of sending an office's state, and the bytes that the sink then has. The sink
-/// takes one byte per write, and only the write with this number fails, counting from 1.
+/// takes one byte per write. Only the write with this number, counted from 1, fails.
 fn sends(
     rt: &impl Abort,
     alloc: Global,

@@ -1,4 +1,4 @@
-//! The files of the worked examples, each as its records.
+//! The files of the worked examples, each given as the list of its records.
 
 use crate::records::*;
 
@@ -103,8 +103,8 @@ pub(crate) const THREE_NIGHTS: File = &[
     ZZ,
 ];
 
-/// A file with two trains. The first train calls at Colwell twice, and the second train divides
-/// from the first at its second call.
+/// A file with two trains. The first train calls at Colwell twice. At the second of these calls,
+/// the second train divides from the first.
 pub(crate) const DIVISION: File = &[
     HD,
     BS_C30001,
@@ -149,8 +149,8 @@ pub(crate) const HALF: File = &[HD, BS, LO_HALF, LT, ZZ];
 /// A file with a train from Ashfeld to Ashfeld that arrives at the time at which it leaves.
 pub(crate) const ROUND: File = &[HD, BS, LO, LT_ASHFELD_0900, ZZ];
 
-/// A file with a train to Colwell, a train from Colwell past midnight, and then these further
-/// records. `$first` is the basic schedule of the first train.
+/// A file with a train to Colwell, a train that leaves Colwell after midnight, and then these
+/// further records. `$first` is the basic schedule of the first train.
 macro_rules! two_trains {
     ($first:expr, $($more:expr),*) => {
         &[
@@ -184,8 +184,8 @@ pub(crate) const DAY_BEFORE: File = two_trains!(BS_C40001, AA_P);
 /// indicator.
 pub(crate) const UNKNOWN_INDICATOR: File = two_trains!(BS_C40001, AA_X);
 
-/// A file with a train to Colwell, a second train, and an association of these two trains with an
-/// unknown category.
+/// A file with a train to Colwell and a second train. An association with an unknown category links
+/// these two trains.
 pub(crate) const UNKNOWN_CATEGORY: File = two_trains!(BS_C40001, AA_OTHER);
 
 /// A file with a train to Colwell and its next working, on the last day of the calendar.
@@ -204,7 +204,7 @@ pub(crate) const WITHDRAWN: File = &[HD, BS, LO, LT, BS_DELETED, ZZ];
 /// day. The reader doesn't check the origin of a deleted schedule.
 pub(crate) const DELETED_AT_NO_TIME: File = &[HD, BS_DELETED, LO_2400, LT, ZZ];
 
-/// An update of the year 2000, without changes.
+/// An update from the year 2000 that contains no changes.
 pub(crate) const EARLY: File = &[HD_EARLY, ZZ];
 
 /// A file with a train that runs on Wednesdays, according to a schedule without a last day.

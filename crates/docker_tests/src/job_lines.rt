@@ -57,8 +57,8 @@ fn line_of(rt: &impl Abort, alloc: Global, spaces: usize, end: &[u8]) -> Vec<u8>
     line
 }
 
-/// Asserts that the line with this number of spaces and these last bytes is refused for this fault.
-/// If there is no fault, asserts that the line names a job.
+/// Asserts that the line with this number of spaces and these last bytes is refused with this
+/// fault. If there is no fault, asserts that the line names a job.
 fn fault_is(
     rt: &impl Abort,
     alloc: Global,

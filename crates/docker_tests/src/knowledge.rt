@@ -1,5 +1,5 @@
-//! Works out what offices know in a run, only from the events and replies of the run. Also makes
-//! the state that an office with this knowledge must have, without using an office.
+//! Works out what offices know in a run. It uses only the events and the replies of the run. It
+//! also makes the state that an office with this knowledge must have, without using an office.
 
 use crate::files::*;
 use crate::offices::text_of;
@@ -108,7 +108,7 @@ impl Step {
         }
     }
 
-    /// Returns the index of the message that is delivered or reloaded; `None` for other events.
+    /// Returns the index of the message that is delivered or reloaded, or `None` for other events.
     fn message(&self) -> Option<usize> {
         match self {
             Step::Deliver { message, .. } | Step::Reload { message, .. } => Some(*message),
@@ -116,8 +116,8 @@ impl Step {
         }
     }
 
-    /// Returns the fault for which the office refuses the file; `None` if the event doesn't take a
-    /// file that is refused.
+    /// Returns the fault for which the office refuses the file. Returns `None` if the event doesn't
+    /// take a file, or takes a file that isn't refused.
     fn refusal(&self) -> Option<FileFault> {
         match self {
             Step::Take { file, .. } => REFUSED.get(*file).copied(),

@@ -1,5 +1,5 @@
-//! Tests by worked examples that need several crates: what offices print and send, what results
-//! from runs of events, and what commands write. The crate has only tests.
+//! Tests with worked examples that need several crates. They check what offices print and send,
+//! what runs of events result in, and what commands write. The crate has only tests.
 #![tactic(auto)]
 
 #[cfg(test)]

@@ -144,7 +144,7 @@ pub(crate) fn prints_of_file(
     prints_there(rt, alloc, &office, date, docker);
 }
 
-/// Asserts that an office for a place, and for the day with this date, prints this docker.
+/// Asserts that an office for one place and for the day with this date prints this docker.
 fn prints_there(rt: &impl Abort, alloc: Global, office: &PlaceOffice, date: &str, docker: &str) {
     let mut kept = Kept::new(alloc, ROOM).expect(rt, "room");
     let answer = office.print(&mut kept);
@@ -152,8 +152,8 @@ fn prints_there(rt: &impl Abort, alloc: Global, office: &PlaceOffice, date: &str
     same_in(rt, date, kept.bytes(), docker.as_bytes());
 }
 
-/// Asserts that an office refuses to print a docker of Ashfeld on a day. Also asserts that an
-/// office for only this place and day refuses to print this docker.
+/// Asserts that an office refuses to print the docker of Ashfeld for the day with this date. Also
+/// asserts that an office for only this place and day refuses to print this docker.
 pub(crate) fn refuses_day(rt: &impl Abort, alloc: Global, office: &Office, date: &str) {
     let place = place_of(rt, "ASHFELD");
     let day = day_of(rt, date);

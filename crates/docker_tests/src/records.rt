@@ -280,7 +280,7 @@ pub(crate) const AA_P: &str =
 pub(crate) const AA_X: &str =
     "AANC40001C400022406102406101000000NPXCOLWELL  TP                               P";
 
-/// An association of C40001 and C40002 with an unknown category.
+/// An association with an unknown category, which links C40001 and C40002.
 pub(crate) const AA_OTHER: &str =
     "AANC40001C400022406102406101000000XXNCOLWELL  TP                               P";
 

@@ -9,7 +9,7 @@ use docker_office::{LedgerOffice, Office, OfficeFault, PlaceOffice, StateCause, 
 use std::alloc::Global;
 use std::process::Abort;
 
-/// A call by which an office reads a state.
+/// A call that makes an office read a state.
 #[derive(Clone, Copy, PartialEq, Eq, Debug)]
 enum Ask {
     Receive,
@@ -25,7 +25,7 @@ const NEWER: &[Ask] = &[Ask::Receive, Ask::Reload, Ask::Place, Ask::Ledger];
 /// The call that reads a state in the older format.
 const OLDER: &[Ask] = &[Ask::Migrate];
 
-/// Lets an office read a text by this call, with a limit of `limit` bytes, and returns the result.
+/// Lets an office read a text with this call and a limit of `limit` bytes, and returns the result.
 /// The source returns at most 9 bytes per read.
 fn read_in(
     rt: &impl Abort,
@@ -242,8 +242,9 @@ fn items_and_entries_out_of_place(rt: HostRuntime) {
     }
 }
 
-/// Rows: the number of bytes to which a text is cut, and the offset of the item that is cut off. An
-/// item is the mark, the horizon, a number, a ledger item or an entry.
+/// Rows: the number of bytes that are left of a text after it is cut, and the offset of the first
+/// item that is then missing or incomplete. An item is the mark, the horizon, a number, a ledger
+/// item or an entry.
 const CUT: &[(usize, u64)] = &[
     (0, 0),
     (3, 0),
@@ -281,7 +282,8 @@ fn refuses_front(rt: &impl Abort, alloc: Global, ways: &[Ask], text: &[u8], byte
     refuses_by(rt, alloc, ways, front, 1000, found);
 }
 
-/// Asserts that each of these calls refuses a text that is cut as in each of these rows.
+/// For each of these rows, asserts that each of these calls refuses a text that is cut as the row
+/// says.
 fn refuses_cut(rt: &impl Abort, alloc: Global, ways: &[Ask], parts: Parts, cuts: &[(usize, u64)]) {
     let text = text_of_parts(rt, alloc, parts);
     for (bytes, at) in cuts {

@@ -271,8 +271,8 @@ fn lost_left(rt: &impl Abort, alloc: Global) -> Exchange {
     left_by(rt, alloc, 1, events)
 }
 
-/// Returns the result of a run in which an office first loses the revision of the morning train by
-/// a reload. A message with the revision is then delivered to the office.
+/// Returns the result of a run in which a reload first makes an office lose the revision of the
+/// morning train. A message with the revision is then delivered to the office.
 fn found_left(rt: &impl Abort, alloc: Global) -> Exchange {
     let text = text_of(rt, alloc, MORNING);
     let revision = text_of(rt, alloc, REVISION);

@@ -107,8 +107,8 @@ pub(crate) const MORNING_STATE: Parts = train_after!(MARK, ONE, ITEM, ONE);
 /// The state of an office that knows the file `MORNING`, as a text in the older format: 309 bytes.
 pub(crate) const OLD_STATE: Parts = train_after!(OLD_MARK, ONE, ITEM, ONE);
 
-/// The state of an office that knows the file `MORNING`, and a horizon after the last day of its
-/// train: 67 bytes.
+/// The state of an office that knows the file `MORNING` and a horizon: 67 bytes. The horizon is
+/// after the last day of this file's train.
 pub(crate) const LAPSED_STATE: Parts = &[MARK_15, ONE, ITEM, ONE, ENTRY, PASSED];
 
 /// The state of an office that knows only the file `REVISION`: 311 bytes.
@@ -180,8 +180,8 @@ pub(crate) const DELETED_STATE: Parts = &[MARK, TWO, ITEM_8A, ITEM_9B, ONE, ENTR
 /// The state of an office that knows a file that adds a train and then deletes it: 67 bytes.
 pub(crate) const WITHDRAWN_STATE: Parts = &[MARK, ONE, ITEM, ONE, ENTRY_FIFTH, GONE];
 
-/// The state of an office that knows a file with a timing point, and a later file with its new
-/// code: 171 bytes.
+/// The state of an office that knows a file with a timing point, and a later file that gives this
+/// timing point a new code: 171 bytes.
 pub(crate) const RENAMED_STATE: Parts = &[
     MARK,
     TWO,

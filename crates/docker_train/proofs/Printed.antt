@@ -6,8 +6,8 @@ use Rattle.docker_model.specs.state.State.{State}
 use Rattle.docker_train.specs.TrainText.{IsTrainText, Stamped, found_text, heading, heading_with, train_text}
 use Rattle.docker_train.specs.Answer.{Answer, IsAnswerOf, text_of}
 
--- the text that is written for the schedule found in a state is the train text for the state, the
--- UID and the day
+-- for a UID and a day, the text that is written for the schedule found in a state is the state's
+-- train text
 pub printed : (state : State) (uid : List ℕ) (day : ℕ) (answer : Answer) → IsAnswerOf state uid day answer → IsTrainText state uid day (text_of answer)
 printed state uid day answer is = (answer.found, is.is_found, λ i. train_text (is.uid_is i) (is.day_is i) answer.found)
 

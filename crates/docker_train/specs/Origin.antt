@@ -1,4 +1,4 @@
--- The extract that a schedule came from, and the trains of a docker's lines.
+-- The extract that a schedule came from, and the schedules of the trains on a docker's lines.
 use Rattle.std.specs.Prelude.{◌≡◌, ◌≤◌, ℕ, List, Some, Contains}
 use Rattle.docker_model.specs.file.Change.{Change, changes, schedule_key, schedule_body, put}
 use Rattle.docker_model.specs.state.Stamp.{Stamp, file_stamp_of}

@@ -40,7 +40,7 @@ stamp_text stamp =
     day_text stamp.file.moment.day ++ spaces 1 ++ minute_text stamp.file.moment.minute ++ spaces 1 ++ stamp.file.reference ++ spaces 1
     ++ number_text stamp.number
 
--- a word of nine columns: `RUNS`, or `CANCELLED` if the STP indicator is `C`
+-- nine columns: `RUNS` padded with spaces, or `CANCELLED` if the STP indicator is `C`
 abbrev pub running_text : ℕ → List ℕ
 running_text indicator = if is_cancellation indicator then codes "CANCELLED" else codes "RUNS     "
 

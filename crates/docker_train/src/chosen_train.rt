@@ -11,7 +11,7 @@ use docker_join::Stamp;
 use std::marker::Model;
 use train_choice::ScheduleView;
 
-/// A UID, a day, and the schedule that is chosen for them. There is no schedule if none runs.
+/// A UID, a day, and the schedule that is chosen for them, or `None` if no schedule runs.
 #[derive(Debug, Drop)]
 pub struct ChosenTrain<'a> {
     uid: Uid,

@@ -1,4 +1,4 @@
-//! Why the schedule of a UID on a day isn't printed.
+//! Reasons why the schedule chosen for a UID on a day isn't printed.
 use thiserror::Error;
 
 /// Why the schedule chosen for a UID on a day isn't printed.

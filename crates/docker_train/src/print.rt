@@ -25,10 +25,10 @@ use itoa::Buffer;
 /// How many bytes a line has: 80 columns and a line feed.
 const WIDTH: usize = 81;
 
-/// Prints the schedule chosen for a UID on a day, or that no schedule runs. The schedule is found
-/// before the first byte is written. If the day is before the horizon, returns `Lapsed` and writes
-/// nothing. If a write fails, returns `Sink`; the sink has then gained a proper prefix of the text.
-/// The call allocates nothing.
+/// Prints the schedule chosen for a UID on a day. If no schedule runs, the printed heading says so.
+/// The schedule is found before the first byte is written. If the day is before the horizon,
+/// returns `Lapsed` and writes nothing. If a write fails, returns `Sink`; the sink has then gained
+/// a proper prefix of the text. The call allocates nothing.
 pub fn print_train<K: Sink>(
     state: &State,
     uid: &Uid,
@@ -128,7 +128,7 @@ fn text_of_stamped(stamped: &Stamped<'_>) -> [u8; 46]
     whole(text)
 }
 
-/// A word of nine columns: `RUNS`, or `CANCELLED` if the STP indicator is `C`.
+/// Nine columns: `RUNS` padded with spaces, or `CANCELLED` if the STP indicator is `C`.
 fn running(stp: Stp) -> &'static [u8; 9]
     ensures { result.now ≡ running_text (stp_letter stp) }
 {

@@ -47,8 +47,9 @@ impl<'a> Stamped<'a> {
         &self.schedule
     }
 
-    /// The stamp of the change that the schedule comes from: the date, time and reference of its
-    /// extract, and the number of its record in the extract.
+    /// The stamp of the change that the schedule comes from. The stamp has the date, time and
+    /// reference of the schedule's extract, and the number of the schedule's record in this
+    /// extract.
     pub(crate) fn stamp(&self) -> &'a Stamp
         ensures stamp { stamp_meant result.now ≡ self.now.stamp }
         ensures minute { result.now.file.minute < 1440 }

@@ -79,7 +79,8 @@ fn check_header(rt: &impl Abort, file: &CifFile) {
     same(rt, header.extract(), Extract::Update);
 }
 
-/// The lines of the schedule that an act puts. Returns `None` for a deletion or another body.
+/// The lines of the schedule that an act puts. Returns `None` for a deletion, or for a body that
+/// isn't a schedule.
 fn lines_of(act: &Act) -> Option<&Lines> {
     match act {
         Act::Put(Body::Schedule(lines)) => Some(lines),
@@ -290,7 +291,7 @@ fn check_f2_text(rt: &impl Abort, alloc: Global, text: &[u8]) {
     check_f2(rt, file);
 }
 
-/// Asserts that the records of `F2` are read as `F2` with this line end.
+/// Asserts that the records of `F2`, each with this line end, are read as `F2`.
 fn check_f2_ends(rt: &impl Abort, alloc: Global, end: &[u8]) {
     let whole = text(alloc, &F2, end).expect(rt, "room");
     check_f2_text(rt, alloc, whole.as_slice());
@@ -436,9 +437,10 @@ fn a_journey(rt: HostRuntime) {
     same(&rt, journey.complete(), true);
 }
 
-/// The fault that each later call of a parser must return. If an earlier call returned the fault
-/// `wanting`, because memory ran out, the result is `wanting`. Otherwise, if `fed` is a fault, the
-/// result says that memory ran out at the record with this number.
+/// The fault that a parser must return from this call on. `fed` is the fault of this call, if it
+/// failed. If an earlier call returned the fault `wanting` because memory ran out, the result is
+/// `wanting`. Otherwise, if `fed` is a fault, the result says that memory ran out at the record
+/// with this number.
 fn memory_fault_from(
     fed: Option<FileFault>,
     wanting: Option<FileFault>,
@@ -450,9 +452,9 @@ fn memory_fault_from(
     }
 }
 
-/// Ends the input. Returns the file, or `None` if memory ran out. If memory ran out, asserts that
-/// the fault is `wanting`. If there is no `wanting`, asserts that memory ran out at the record with
-/// this number.
+/// Ends the input. Returns the file, or `None` if memory ran out. If `wanting` is a fault, asserts
+/// that the parser returns it again. Otherwise, asserts that a fault, if there is one, says that
+/// memory ran out at the record with this number.
 fn file_at_end(
     rt: &impl Abort,
     parser: FileParser,
@@ -473,9 +475,9 @@ fn file_at_end(
 }
 
 /// Feeds a parser these records one by one, with line feeds between them. Returns the file, or
-/// `None` if memory runs out. Asserts that the fault is returned at the line feed of the record
-/// that needed the memory. If the last record needed it, the fault must be returned at the end.
-/// Each later call must return the same fault.
+/// `None` if memory runs out. If memory runs out, asserts that the parser returns a fault at the
+/// line feed after the record that needed the memory. If the last record needed it, the fault must
+/// be returned at the end of the input. Each later call must return the same fault.
 fn file_or_out_of_memory(
     rt: &impl Abort,
     alloc: Global,

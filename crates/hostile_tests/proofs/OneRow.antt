@@ -45,7 +45,7 @@ good_copy items item other one is rows row next single is_row state items_are ro
     subst (IsGoodEntry (item_meant item ∷ [])) (sym same)
     (good_row items item other one is rows row next single is_row state items_are rows_are valid)
 
--- if the item is pushed to an empty vector, the vector has only this item
+-- if an item is pushed to an empty vector, the vector then has only this item
 pub pushed_item : (item : LedgerItem) (before after : List LedgerItem) → before ≡ [] → after ≡ before ++ item ∷ []
     → map item_meant after ≡ item_meant item ∷ []
 pushed_item item before after none pushed = ap (map item_meant) (pushed ∙ ap (λ (xs : List LedgerItem). xs ++ item ∷ []) none)

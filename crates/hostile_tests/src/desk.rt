@@ -95,8 +95,8 @@ impl<'a> Desk<'a> {
         let _ = println!(self.rt; "  out of memory at record {number}");
     }
 
-    /// Prints the first and the last of several consecutive numbers for which the answer is the
-    /// same. The answer is printed after them.
+    /// Prints a range of consecutive numbers that have the same answer: its first and last number,
+    /// or its only number. The caller then prints the answer.
     pub(crate) fn print_span(&self, from: u64, to: u64) {
         if from == to {
             let _ = print!(self.rt; "  {from}: ");

@@ -32,8 +32,8 @@ pub(crate) fn source(desk: &Desk, words: &[&str]) {
     sources(desk, asked, text.as_slice());
 }
 
-/// Prints the answers for a source that fails at the first read, at the second read, and so on, up
-/// to a source that doesn't fail.
+/// Prints the answers for a source that fails at the first read, for one that fails at the second
+/// read, and so on, up to a source that doesn't fail.
 fn sources(desk: &Desk, asked: Asked<'_>, text: &[u8]) {
     let good = asked.answer_to(desk, text);
     let mut spans = Spans::new();
@@ -115,8 +115,8 @@ pub(crate) fn files(desk: &Desk, words: &[&str]) {
     sinks(desk, own, Output::Files, wanted);
 }
 
-/// Lets an office write to a sink that fails at the first write, at the second write, and so on, up
-/// to a sink that doesn't fail.
+/// Lets an office write to sinks of which one fails at the first write, the next at the second
+/// write, and so on. The last sink doesn't fail.
 fn sinks(desk: &Desk, own: &str, output: Output, wanted: &str) {
     let (before, wanted) = (desk.text(own), desk.text(wanted));
     let office = office_of(desk, before.as_slice());
@@ -124,8 +124,8 @@ fn sinks(desk: &Desk, own: &str, output: Output, wanted: &str) {
     write_all(desk, &office, output, before.as_slice(), wanted.as_slice());
 }
 
-/// Prints the answers for a sink that fails at the first write, at the second write, and so on.
-/// Each answer also says whether the office's state changed.
+/// Prints the answers for a sink that fails at the first write, for one that fails at the second
+/// write, and so on. If the office's state changed, the answer is `Changed`.
 fn write_all(desk: &Desk, office: &Office, output: Output, before: &[u8], wanted: &[u8]) {
     let mut spans = Spans::new();
     for call in 1..=MOST_CALLS {
@@ -194,7 +194,7 @@ fn is_written(desk: &Desk, office: &Office, output: &Output, wanted: &[u8]) -> b
 }
 
 /// Whether these bytes are what a sink has after it fails at this call: one byte of the text for
-/// each call before it.
+/// each earlier call.
 fn is_front(bytes: &[u8], wanted: &[u8], call: u64) -> bool {
     bytes.len() as u64 == call.saturating_sub(1) && wanted.starts_with(bytes)
 }

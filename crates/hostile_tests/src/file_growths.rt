@@ -101,9 +101,9 @@ fn fed(desk: &Desk, pieces: &[&[u8]]) -> Result<CifFile, FileFault> {
     parser.finish()
 }
 
-/// Runs a row with the arguments `FILE STATE`. The call reads the file from pieces, by
-/// `read_pieces` or by a parser. If memory runs out, both calls must report the same record number.
-/// No clause promises that they do.
+/// Runs a row with the arguments `FILE STATE`. The call reads the file in pieces, with
+/// `read_pieces` or with a parser. If memory runs out, the record number is printed. This number
+/// must be the same for `read_pieces` and for the parser, but no clause promises that.
 pub(crate) fn read(desk: &Desk, call: &str, words: &[&str]) {
     let [name, wanted] = words else {
         return desk.trouble("FILE STATE");
@@ -175,7 +175,8 @@ fn of_this_file(desk: &Desk, file: CifFile, text: &[u8], wanted: &str) {
     }
 }
 
-/// Prints whether a file that was returned equals the file with this text.
+/// Prints whether the file that `State::of_file` returned when memory ran out equals the file with
+/// this text.
 fn report_returned(desk: &Desk, back: &CifFile, text: &[u8]) {
     if let Some(file) = file_of(desk, text) {
         desk.report(are_same(back, &file), "the file is handed back");

@@ -46,7 +46,7 @@ fn is_of(job: &Job, words: &[&str]) -> bool {
     are_same(first, name_of(job.subcommand()))
 }
 
-/// Prints whether the status of a fault is 3, for out of memory.
+/// Prints whether the status of a fault is 3, which means that memory ran out.
 fn report_status(desk: &Desk, fault: Fault) {
     desk.report(status(&fault) == 3, "status 3");
 }
@@ -149,7 +149,8 @@ fn has_written(
     None
 }
 
-/// Writes what a job has prepared, once memory no longer runs out.
+/// Writes what a job has prepared. Memory no longer runs out at this point, so the call must not be
+/// refused.
 fn write_again(desk: &Desk, prepared: &Prepared<'_>, wanted: &str) {
     if has_written(desk, prepared, wanted, false).is_some() {
         desk.trouble("refused again");

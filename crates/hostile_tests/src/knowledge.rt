@@ -47,7 +47,7 @@ const NINTH: Known = Known {
 };
 
 impl Known {
-    /// The files in at least one of two sets of files.
+    /// The union of two sets of files.
     fn with(self, other: Known) -> Known {
         Known {
             fifth: self.fifth | other.fifth,

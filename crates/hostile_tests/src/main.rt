@@ -1,7 +1,7 @@
-//! Tests calls with texts that are cut, small limits, sources without end, devices that fail, and
-//! memory that runs out. Each line of standard input is a row of a table. A row names a call, the
-//! texts that the call receives, and the expected text. Files and dockers are made in `records.rt`,
-//! and other texts are in the folder `data`. The program prints the results. If a result isn't the
+//! Tests calls with truncated texts, small limits, endless sources, failing devices, and memory
+//! that runs out. Each line of standard input is a row of a table. A row names a call, the texts
+//! that the call receives, and the expected text. Files and dockers are made in `records.rt`, and
+//! other texts are in the folder `data`. The program prints the results. If a result isn't the
 //! expected text, the program also prints a statement about the difference, so that its output
 //! differs from the file `stdout`.
 //!

@@ -72,8 +72,8 @@ fn before<'a>(lines: &'a [&'a [u8]], open: &'a [u8]) -> Lines<'a> {
     }
 }
 
-/// The lines of the file or docker with this name, or `None` if the text with this name isn't made
-/// of records.
+/// The lines of the file or docker with this name, or `None` if no file or docker with this name is
+/// made here.
 pub(crate) fn lines_of<'a>(name: &str) -> Option<Lines<'a>> {
     match name {
         "train.cif" => Some(fed(TRAIN)),

@@ -4,8 +4,8 @@
 use crate::answers::Answer;
 use crate::desk::Desk;
 
-/// The current span: its first and its last number, and the answer for all its numbers. There is no
-/// answer before the first number.
+/// The current span: its first and its last number, and the answer for all its numbers. The answer
+/// is `None` until the first number is added.
 #[derive(Drop)]
 pub(crate) struct Spans {
     from: u64,

@@ -83,7 +83,8 @@ fn compare_fed(desk: &Desk, parser: StateParser, wanted: &str) {
     }
 }
 
-/// Feeds a text to a new parser, and prints whether the state has the text named `wanted`.
+/// Feeds a text to a new parser, and prints whether the state that the parser returns has the text
+/// named `wanted`.
 fn feed_again(desk: &Desk, text: &[u8], wanted: &str) {
     let mut parser = new_parser(desk);
     match feed_all(&mut parser, text) {
@@ -177,7 +178,7 @@ fn migrated(desk: &Desk, text: &[u8]) -> Result<State, ReadFault> {
 }
 
 /// Runs a row with the arguments `OLDER STATE`. The call reads a text in the older format from a
-/// source, and its state must equal `STATE`.
+/// source. The state of this text must equal `STATE`.
 pub(crate) fn migrate_text(desk: &Desk, words: &[&str]) {
     let [name, wanted] = words else {
         return desk.trouble("OLDER STATE");

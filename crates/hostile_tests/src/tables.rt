@@ -1,5 +1,5 @@
-//! Rows that make many calls, one table for each kind of row: texts that are cut, limits, sources
-//! without end, and devices that fail.
+//! Rows that make many calls. There is one table for each kind of row: truncated texts, limits,
+//! endless sources, and failing devices.
 ghost use Rattle.std.specs.Prelude.{◌<◌, length};
 
 use crate::answers::Answer;

@@ -1,5 +1,5 @@
-//! Worked examples of records: devices, fields, and for each kind of record its view and its
-//! leftmost bad field. This crate has only tests.
+//! Worked examples of devices, fields and records. For each kind of record, they cover its view and
+//! its leftmost bad field. This crate has only tests.
 #![tactic(auto)]
 
 #[cfg(test)]

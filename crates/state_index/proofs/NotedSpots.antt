@@ -1,5 +1,6 @@
--- If postings are made from the notes of rows, which list the rows' places, their spots are exactly the spots of these rows. A spot is a posting with the
--- TIPLOC itself instead of the TIPLOC's index.
+-- The notes of rows list the rows' places. The spots of the postings that are made from these notes
+-- are exactly the spots of the rows. A spot is a posting with the TIPLOC itself instead of the
+-- TIPLOC's index.
 use Rattle.std.proofs.Common.{◌≡◌, ℕ, zero, suc, ◌+◌, ◌≤◌, List, [], ◌∷◌, ◌++◌, map, take, drop, length}
 use Rattle.std.proofs.Common.{refl, ap, sym, ◌∙◌, subst, Bool, true, false, Some, None, arith, get_or}
 use Rattle.std.specs.Prelude.{Option, slice_get, option_map}

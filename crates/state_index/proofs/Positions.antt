@@ -23,7 +23,7 @@ pub some_is : {A : Type 0} (a b : A) → Some a ≡ Some b → a ≡ b
 some_is a b h = cc
 
 module _ {A : Type 0} where
-  -- the element at an index of a list is one of its members
+  -- an element that a list has at some index is a member of the list
   pub at_member : (xs : List A) (i : ℕ) (x : A) → slice_get xs i ≡ Some x → Contains xs x
   at_member [] i x is = absurd (none_some x is)
   at_member (y ∷ ys) zero x is = subst (Contains (y ∷ ys)) (some_is y x is) (cons-Contains-first y ys)

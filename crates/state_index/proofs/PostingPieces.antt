@@ -1,4 +1,4 @@
--- Among ascending postings, all postings of one place follow each other without a gap.
+-- In a list of ascending postings, the postings of one place are consecutive.
 use Rattle.std.proofs.Common.{◌≡◌, ℕ, zero, suc, ◌<◌, ◌≤◌, List, [], ◌∷◌, ◌++◌, take, drop, length, get_or}
 use Rattle.std.proofs.Common.{refl, ap, sym, ◌∙◌, subst, inl, inr, ◌⊎◌, Bool, true, false, Contains, arith}
 use Rattle.std.specs.List.{AllByRecursion}

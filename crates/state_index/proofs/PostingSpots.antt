@@ -68,7 +68,8 @@ module _ (names : List (List ℕ)) (up : IsStrictlyAscending bytes_cmp names) wh
   one_rank : (i j : ℕ) (place : List ℕ) → slice_get names i ≡ Some place → slice_get names j ≡ Some place → i ≡ j
   one_rank i j place is_i is_j = exact_unsigned i j (sym (place_order i j place place is_i is_j) ∙ tied_itself nat_list_cmp_total place)
 
-  -- if `piece` has all postings of a place, the spots made from `piece` (each a TIPLOC and a row's index) are all spots of this place
+  -- if `piece` has all postings of a place, the spots made from `piece` (each a TIPLOC and a row's
+  -- index) are exactly the spots of this place
   pub piece_at : (rank : ℕ) (place : List ℕ) (postings piece : List Posting) → slice_get names rank ≡ Some place → IsPieceOf rank postings piece
       → IsPieceAt place (spots_in names postings) (spots_in names piece)
   piece_at rank place postings piece at is = record {

@@ -55,7 +55,7 @@ impl Index {
         }
     }
 
-    /// Makes the index of these rows from their notes, in memory that was reserved before.
+    /// Makes the index of these rows from their notes, in memory that was reserved beforehand.
     /// Allocates nothing.
     pub fn of_rows(room: Room, notes: Notes, rows: &[(Key, Entry)]) -> Index
         requires room { HasRoomFor (map row_meant rows.now) notes.names.list.items room }
@@ -84,9 +84,9 @@ impl Index {
         }
     }
 
-    /// Updates the index, without making a new one, after a horizon was set and entries have
-    /// lapsed. May allocate one byte per row until it returns. If the allocator refuses, the call
-    /// takes longer but doesn't fail.
+    /// Updates the index in place after a horizon was set and entries have lapsed. While it runs,
+    /// the call may allocate one byte per row. If the allocator refuses, the call takes longer but
+    /// doesn't fail.
     pub fn lapse(&mut self, rows: &[(Key, Entry)])
         ensures { (before : List (model.Key × ops.Entry)) (horizon : ℕ)
             → map row_meant rows.now ≡ lapse_entries horizon before

@@ -37,11 +37,11 @@ abbrev pub IsPutIn : State → List (Key × Entry) → Option FileStamp → Key 
 IsPutIn own staged floor key entry =
     Contains staged (key, entry) ⊎ (Contains own.entries (key, entry) × IsKept floor entry.stamp.file × HasNoEntryOf staged key)
 
--- `after` is the state after a commit. Its horizon is unchanged. Its ledger is the union of the
--- state's ledger and the received items, without the items below the floor of the union. Each key
--- with a staged entry has that entry. A key without a staged entry has the same entry as before the
--- commit, unless that entry is below the floor. Each entry whose body ended before the horizon has
--- lapsed
+-- `after` is the state after a commit. The commit leaves the horizon unchanged. The new ledger is
+-- the union of the old ledger and the received items, without the items below the floor of the
+-- union. Each key with a staged entry has that entry. A key without a staged entry has the same
+-- entry as before the commit, unless that entry is below the floor. Each entry whose body ended
+-- before the horizon has lapsed
 pub record IsCommit (own : State) (items : List LedgerItem) (staged : List (Key × Entry)) (after : State) : Type 0 where
   pub horizon : after.horizon ≡ own.horizon
   pub floor : Option FileStamp

@@ -10,11 +10,12 @@ ghost use Rattle.std.specs.declared.cmp.Ordering.TheVariants.{Less};
 ghost use Rattle.state_laws.specs.Staging.{IsGreaterThan, IsToStage, IsStaged, IsCommit, staged_state};
 ghost use Rattle.state_laws.specs.LawTerms.{HoldsOnceCommitted};
 
-/// A state is received in three steps: all its entries are offered for staging, the staged entries
-/// are committed, and then its horizon is set. The result is the join of the receiving state with
-/// the received state. Before the horizon is set, the result is the join of the receiving state
-/// with the received state without its horizon. Joining only the received ledger items and the
-/// staged entries gives the same result.
+/// A state is received in three steps: all its entries are passed on for staging, the staged
+/// entries are committed, and then its horizon is set. The result is the join of the receiving
+/// state with the received state. Before the horizon is set, the result is the join of the
+/// receiving state with the received state without its horizon. The state after the commit is also
+/// the join of the receiving state with a state that has only the received ledger items and the
+/// staged entries.
 pub fn staging_and_commit_is_join()
     ensures join { (own received : State) (floor : Option FileStamp) (staged : List (Key × Entry))
         (after : State)

@@ -19,7 +19,7 @@ use Rattle.state_lists.specs.Places.{IsPlacesText, place_line, place_text, place
 use Rattle.state_lists.specs.RowLines.{line_by, row_line}
 use Rattle.state_lists.proofs.Counts.{count_is, rows_are}
 
--- the line of one of the code's rows. `rows` are all live rows
+-- the line for a row of the code's type. `rows` are all live rows
 abbrev pub kept_line : List Row → Kept × Held → List ℕ
 kept_line rows row = row_line rows (row_meant row)
 
@@ -57,7 +57,8 @@ module _ (state : State) (valid : IsValid state) (rows : List (Kept × Held)) (a
       → GainsPart (IsPlacesText (live_table state)) old new
   list_begun old new taken = record { text = flat_map (kept_line (live_rows state.entries)) rows; is = is_text; gained = taken }
 
--- the line that is written for a timing point is the line of its key
+-- the line that is written for a timing point equals the result of `place_line` for the timing
+-- point's key and body
 pub line_is : (state : State) → IsValid state → (key : Key) (body : Body) (code details : List ℕ) (count : ℕ) (bytes : List ℕ)
     → key ≡ tiploc_key code → body ≡ tiploc_body details → IsCallingCount (live_table state) code count
     → bytes ≡ ended (place_text code details count) → bytes ≡ place_line (live_rows state.entries) key body

@@ -191,7 +191,8 @@ live_more rows i row below at =
     ∙ live_append (map row_meant (take i rows)) (map row_meant (get_or rows i row ∷ []))
     ∙ ap (λ (it : Kept × Held). live_up_to i rows ++ live_rows (row_meant it ∷ [])) (sym at)
 
--- if a tally is correct for a row's key and op, it is correct for the row
+-- if a tally is correct after a row's key and op are counted, it is also correct after the row is
+-- counted
 pub with_op : (before : List Row) (row : Kept × Held) (op : Op) (tally : Tally) → op_meant row.1.op ≡ op
     → IsTallyOf (before ++ put_before (row_meant row).0 op []) tally → IsTallyOf (before ++ live_rows (row_meant row ∷ [])) tally
 with_op before row op tally is told =

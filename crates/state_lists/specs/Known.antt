@@ -56,7 +56,8 @@ full_line (Some stamp) =
     named_line (codes "FULL        ")
     (day_text stamp.moment.day ++ spaces 1 ++ minute_text stamp.moment.minute ++ spaces 1 ++ stamp.reference)
 
--- the line of the latest of all schedules' last days. There is no line if no schedule has a last day
+-- the line for the latest day on which a schedule ends. There is no line if no schedule has a last
+-- day
 unfoldable pub last_line : Option ℕ → List ℕ
 last_line None = []
 last_line (Some day) = named_line (codes "LAST        ") (day_text day)

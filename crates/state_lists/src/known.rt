@@ -113,7 +113,7 @@ fn full_line(full: Option<FileStamp>) -> ArrayVec<u8, 37>
     text
 }
 
-/// The line of the latest of all schedules' last days, with a line feed. There is no line if no
+/// The line for the latest day on which a schedule ends, with a line feed. There is no line if no
 /// schedule has a last day.
 #[tactic(auto, unfolding(crate::specs::Known::last_line))]
 fn last_line(last: Option<Day>) -> ArrayVec<u8, 24>

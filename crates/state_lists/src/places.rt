@@ -21,9 +21,9 @@ use itoa::Buffer;
 /// A line with its line feed. Its capacity is enough for any count.
 type PlaceLine = ArrayVec<u8, 66>;
 
-/// Prints a line for each live timing point, in the order of their codes: TIPLOC, CRS, STANOX, TPS
-/// description, and the number of live schedules that call there. The call allocates nothing. If a
-/// write fails, the sink has gained a proper prefix of the text.
+/// Prints the live timing points in the order of their codes, one per line: TIPLOC, CRS, STANOX,
+/// TPS description, and the number of live schedules that call there. The call allocates nothing.
+/// If a write fails, the sink has gained a proper prefix of the text.
 pub fn print_places<K: Sink>(state: &State, sink: &mut K) -> Result<(), Failed>
     requires { K.failures sink.old < 2 ^ 64 - 1 }
     ensures whole { OnOk result (Gains (IsPlacesText (live_table state.now))

@@ -12,8 +12,8 @@ use cif_change::{Body, Key};
 use cif_line::Day;
 use docker_join::{Entry, Op};
 
-/// How many schedules, associations and timing points are live, and the latest of the last days of
-/// live schedules. `last` is `None` if no live schedule has a last day.
+/// How many schedules, associations and timing points are live, and the latest day on which a live
+/// schedule ends. `last` is `None` if no live schedule has a last day.
 #[derive(Clone, Copy, Debug)]
 pub(crate) struct Tally {
     pub(crate) schedules: usize,
@@ -22,7 +22,7 @@ pub(crate) struct Tally {
     pub(crate) last: Option<Day>,
 }
 
-/// The tally of all these rows. Of each schedule, only the end date is read.
+/// The tally of all these rows. The function reads only the end date of each schedule.
 pub(crate) fn tally_of(rows: &[(Key, Entry)]) -> Tally
     ensures { IsTallyOf (live_rows (map row_meant rows.now)) result }
 {

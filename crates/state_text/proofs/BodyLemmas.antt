@@ -20,7 +20,8 @@ association_test key line view test is kind fields same tested = (
   (λ of. tested.1 (subst (λ l. HasNewTransaction l × (association_named l ≡ association_key key)) (sym same) (of.new, of.key_is))),
 )
 
--- a line isn't the first line of a schedule with the given key if its transaction isn't N or if it has another key
+-- if the test is false, the line isn't the first line of a schedule with the given key. The test is
+-- true if and only if the transaction is N, columns 10 to 15 are a date, and the line names the key
 pub not_named : (horizon : ℕ) (key : ScheduleKey) (line : List ℕ) (test : Bool)
     → IsTrue test ↔ (HasNewTransaction line × IsTrue (is_date (columns 10 15 line)) × (schedule_named line ≡ schedule_key key)) → test ≡ false
     → ¬ IsFirstOf horizon key line

@@ -87,7 +87,9 @@ module _ {S A E : Type 0} (taken : S → Told) (failures : S → ℕ) where
   flush_gives old new held holds (Err failed) part empty =
       (subst (λ xs. TakesPart (taken old) xs (taken new)) (sym (append-nil held)) part.0, part.1)
 
-  -- if a piece was written through the buffer, and the next piece is written, then the concatenation of both is written
+  -- suppose that a piece was written through the buffer, and that the next piece is to be written.
+  -- If this succeeds, both pieces are written through the buffer. If it fails, writing their
+  -- concatenation fails
   pub then_gives : (old mid new : S) (b p d q h : List ℕ) (result : Result A E) → Gathers (taken old) b p (taken mid) d
       → failures mid ≡ failures old → Gives taken failures mid d q result new h → Gives taken failures old b (p ++ q) result new h
   then_gives old mid new b p d q h (Ok done) first same second =
@@ -106,7 +108,8 @@ module _ {S A E : Type 0} (taken : S → Told) (failures : S → ℕ) where
     part.1,
   )
 
-  -- a write takes all bytes, or takes a part of them and fails
+  -- if a write succeeds, the sink takes all bytes and counts no failure. If it fails, the sink
+  -- takes a proper prefix of the bytes and counts one failure
   pub flushed : (old new : S) (bytes : List ℕ) (result : Result A E) → Flushes taken failures old bytes result new
       → OnOk result (Takes (taken old) bytes (taken new)) × OnErr result (TakesPart (taken old) bytes (taken new))
       × CountsFailure (IsErr result) (failures old) (failures new)

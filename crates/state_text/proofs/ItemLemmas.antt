@@ -27,7 +27,8 @@ range_length bytes from n within =
     let same : from + n - from ≡ n = omega arith in
     ap (λ k. length (take k (drop from bytes))) same ∙ length-take-le n (drop from bytes) size
 
--- if a ledger item is good, the fields read from its bytes are the item's fields
+-- if the fields read from 19 bytes are good, the ledger item in these bytes has these fields and is
+-- good
 pub item_told : (bytes : List ℕ) (day minute : ℕ) (reference : List ℕ) (indicator : ℕ) (last : List ℕ) → length bytes ≡ 19
     → day ≡ from_be_bytes w16 (slice_range bytes 0 2) → minute ≡ from_be_bytes w16 (slice_range bytes 2 4) → reference ≡ slice_range bytes 4 11
     → indicator ≡ slice_index bytes 11 → last ≡ slice_range bytes 12 19

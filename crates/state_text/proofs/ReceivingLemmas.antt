@@ -1,5 +1,5 @@
--- Lemmas on staging the entries that a receiving state is given. Committing the staged entries
--- results in the join.
+-- Lemmas on staging the entries that are given to a receiving state. Committing the staged entries
+-- joins this state with the given entries and ledger items.
 use Rattle.std.proofs.Common.{◌≡◌, ℕ, ◌-◌, List, [], ◌∷◌, ◌++◌, length, refl, ap, sym, ◌∙◌, subst, inl, inr, arith, length-append, All, Some, None}
 use Rattle.std.specs.Prelude.{Option, slice_get}
 use Rattle.docker_model.specs.file.Change.{Key}
@@ -23,8 +23,8 @@ pub above_staged : (own : State) (floor : Option FileStamp) (entries staged : Li
 above_staged own floor entries staged key are above other among =
     member_of (λ (entry : Key × Entry). IsBelow key_cmp entry.0 key) entries other above ((are.members other.0 other.1).0 among).0
 
--- offering one more entry for staging keeps the staging correct: an entry is staged if and only if
--- the state has to take it over
+-- if the staging is correct, it is still correct after it is given one more entry. It is correct if
+-- it contains exactly those given entries that the receiving state has to take over
 pub offered_more : (own : State) (staging after : Staging) (entries : List (Key × Entry)) (key : Key) (entry : Entry) → IsStagedOf own staging entries
     → IsAboveStaged staging.staged key → IsOffered own staging key entry after → IsStagedOf own after (entries ++ (key, entry) ∷ [])
 offered_more own staging after entries key entry are above (inl to) =
@@ -34,7 +34,7 @@ offered_more own staging after entries key entry are above (inr out) =
     subst (λ (s : Staging). IsStagedOf own s (entries ++ (key, entry) ∷ [])) (sym out.1)
     (record { floor = are.floor; staged = one_left_out own staging.floor entries staging.staged key entry are.staged out.0 })
 
--- as long as the receiving state has been given no entry, no entry is staged
+-- a staging with the right floor is correct if no entry was given and no entry is staged
 pub none_staged : (own : State) (staging : Staging) (entries : List (Key × Entry)) → entries ≡ [] → staging.staged ≡ []
     → IsFloor (own.ledger ++ staging.items) staging.floor → IsStagedOf own staging entries
 none_staged own staging entries none empty floor = record {
@@ -43,8 +43,8 @@ none_staged own staging entries none empty floor = record {
       (subst (λ es. IsStaged own staging.floor [] es) (sym empty) (nothing_staged own staging.floor));
 }
 
--- committing the staged entries results in the join with all entries that the receiving state was
--- given
+-- committing the staged entries joins the receiving state with the received ledger items and all
+-- entries that were given
 pub commit_joins : (own after : State) (items : List LedgerItem) (held : Option Staging) (entries : List (Key × Entry)) (staging : Staging) (horizon : ℕ)
     → IsValid own → IsValid (under horizon (given_state (items_of items held) entries)) → items_of items held ≡ staging.items
     → IsStagedOf own staging entries

@@ -57,14 +57,16 @@ incomplete count lines line more complete tells few none is not_one up_to =
     let whole = is.1 (up_to.complete (omega arith)) in
     cc
 
--- a line may come next if more lines follow, or if it completes the schedule
+-- suppose that some schedule begins with the lines so far and the next line. The next line may
+-- come there if it isn't the last line, or if these lines are a whole schedule
 pub begin_up_to : (count : ℕ) (lines : Lines) (line : List ℕ) (more : Bool) → (IsTrue more ↔ (length lines + 1 < count)) → BeginsSchedule (lines ++ line ∷ [])
     → (more ≡ true) ⊎ IsSchedule (lines ++ line ∷ []) → BeginUpTo count (lines ++ line ∷ [])
 begin_up_to count lines line more tells begin (inl is) = record
     { begin = begin; complete = λ all. let size = length-append lines (line ∷ []) in let below = tells.0 is in absurd (omega arith) }
 begin_up_to count lines line more tells begin (inr whole) = record { begin = begin; complete = λ all. whole }
 
--- if more lines follow, a line may come next if some schedule begins with the lines before it and this line
+-- suppose that some schedule begins with the lines so far and the next line. The next line may
+-- come there if it isn't the last of `count` lines
 pub more_up_to : (count : ℕ) (lines : Lines) (line : List ℕ) → length lines + 1 < count → BeginsSchedule (lines ++ line ∷ [])
     → BeginUpTo count (lines ++ line ∷ [])
 more_up_to count lines line more begin = record { begin = begin; complete = λ all. let size = length-append lines (line ∷ []) in absurd (omega arith) }

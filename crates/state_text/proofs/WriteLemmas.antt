@@ -62,7 +62,8 @@ module _ {S A B : Type 0} (taken : S → Option (List ℕ)) (failures : S → �
     given : Gathers (taken old) b (flat_map item_bytes state.ledger) (taken first) d
     given = subst (λ es. Gathers (taken old) b (flat_map item_bytes es) (taken first) d) ledger one
 
-    -- a failure while writing the number of entries counts as a failure while writing the text that begins with this number
+    -- a failure while writing the number of entries counts as a failure while writing the text
+    -- after the number of ledger items, which contains the number of entries
     pub count_fails : {X E : Type 0} (holds : List ℕ) (result : Result X E) (Q : E → Type 0) → IsErrAnd result Q
         → TakesPart (taken first) (d ++ to_be_bytes w64 (length rows)) (taken second) × (failures second ≡ failures first + 1)
         → Gives taken failures old b (body_text state) result second holds
@@ -73,7 +74,9 @@ module _ {S A B : Type 0} (taken : S → Option (List ℕ)) (failures : S → �
         (then_gives {A = X} taken failures old first second b (flat_map item_bytes state.ledger) d (to_be_bytes w64 (length state.entries)) holds
         (Err failed) given same (subst (λ n. TakesPart (taken first) (d ++ to_be_bytes w64 n) (taken second)) many part.0, part.1))
 
-    -- if the number of entries was written through the buffer, writing the entries has the same result as writing the whole text after the head
+    -- suppose that the ledger items and the number of entries were written through the buffer. Then
+    -- writing the entries has the same result as writing all the text after the number of ledger
+    -- items
     pub body_given : {X E : Type 0} (third : S) (f h : List ℕ) (result : Result X E)
         → Gathers (taken first) d (to_be_bytes w64 (length rows)) (taken second) f × (failures second ≡ failures first)
         → Gives taken failures second f (flat_map entry_bytes (map row rows)) result third h

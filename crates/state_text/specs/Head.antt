@@ -34,7 +34,7 @@ pub record BeginsWithParts (Ends : EntryPart → Type 0) (count : ℕ) (state : 
   pub is : stage_meant head.0 state [] ≡ in_entry count state part
   pub fresh : IsFresh head.0 state
 
--- says that the bytes don't begin with such good parts of an entry: for each part for which `Ends`
--- holds, a part before it is missing, incomplete or bad
+-- says that the bytes don't begin with the good parts of an entry that precede a part for which
+-- `Ends` holds. For each such part, a part before it is missing, incomplete or bad
 abbrev pub BeginsWithNoParts : (EntryPart → Type 0) → State → List ℕ → Type 0
 BeginsWithNoParts Ends state bytes = (part : EntryPart) (len : ℕ) → Ends part → ¬ AreParts state (take len bytes) part

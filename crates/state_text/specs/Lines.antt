@@ -23,7 +23,7 @@ IsLineRefusal count lines line _ = ⊥
 abbrev pub AreLinesIn : State → model.ScheduleKey → List (List ℕ) → Type 0
 AreLinesIn state key lines = AreLinesOf key lines × HaveNotToLapse state lines
 
--- like `AreLinesIn`, for a schedule of n lines
+-- like `AreLinesIn`, but for a schedule of n lines
 abbrev pub AreLinesUpToIn : State → model.ScheduleKey → ℕ → List (List ℕ) → Type 0
 AreLinesUpToIn state key n lines = AreLinesUpTo key n lines × HaveNotToLapse state lines
 

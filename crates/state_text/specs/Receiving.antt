@@ -27,13 +27,16 @@ items_of items (Some staging) = staging.items
 abbrev pub given_of : {R : Type 0} → Receiving R → State
 given_of it = given_state (items_of it.items.items it.staging) it.given.entries
 
--- says that the staging is correct. It has the floor of both ledgers together. An entry that was given is staged if and only if this state has to take it over
+-- says that the staging is correct. Its floor is the floor of the receiving state's ledger and the
+-- received ledger items together. A given entry is staged if and only if the receiving state has
+-- to take it over
 pub record IsStagedOf (own : State) (staging : Staging) (entries : List (model.Key × ops.Entry)) : Type 0 where
   pub floor : IsFloor (own.ledger ++ staging.items) staging.floor
   pub staged : IsStaged own staging.floor entries staging.staged
 
--- says that the receiving state is `own` and is valid, and that what it has received agrees with
--- what was given
+-- says that the receiving state is `own` and is valid, and that the given ledger items are a
+-- ledger. `it` has the last key and the number of the given entries. If `it` has a staging, the
+-- staging is correct; otherwise no entry was given
 pub record IsReceiving {R : Type 0} (own : State) (it : Receiving R) : Type 0 where
   pub own_is : it.own ≡ own
   pub valid : IsValid it.own

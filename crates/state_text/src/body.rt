@@ -1,4 +1,4 @@
-//! Reads bodies of TIPLOCs and associations, and first lines of schedules.
+//! Reads the bodies of TIPLOCs and associations, and the first lines of schedules.
 ghost use Rattle.std.specs.Prelude.{◌≡◌, ◌+◌, ◌≤◌, ◌↔◌, length, slice_range, false, IsTrue, MatchOption};
 ghost use Rattle.docker_model.specs.records.Record.{IsRecord, HasKind, columns, IsTextOfLength};
 ghost use Rattle.docker_model.specs.records.Date.{is_date, date_number};
@@ -53,8 +53,8 @@ pub(crate) fn assoc_body(key: &AssocKey, horizon: u16, bytes: &[u8]) -> Option<B
     Some(Body::Assoc(line))
 }
 
-/// Whether the end date that begins at this index of the line is on the horizon or later. Returns
-/// true if the end date can't be read.
+/// Whether the end date that begins at this index in the line is the horizon or a later day.
+/// Returns true if the end date can't be read.
 fn stays(line: &Line, at: usize, horizon: u16) -> bool
     requires { at + 6 ≤ LINE }
     ensures { IsTrue result ↔ (horizon ≤ readable_end (slice_range line.now at (at + 6))) }

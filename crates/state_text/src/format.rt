@@ -53,8 +53,8 @@ pub const LINE_COUNT: usize = 4;
 /// The width of a line. An association's body is a line. No part of the text is wider.
 pub const LINE: usize = 80;
 
-/// The most bytes that an entry has before a schedule's lines: an association's key with its tag, a
-/// stamp, an op and a line.
+/// The greatest width of an entry without a schedule's lines. An association's put has this width:
+/// a key with its tag, a stamp, an op and a line.
 pub const ENTRY_HEAD: usize = 120;
 
 /// The offset of the minute in a file stamp.

@@ -1,5 +1,6 @@
 //! The text of a state: the widths of its parts, how the text is written, and how each part is
-//! judged once the parts before it were read. Re-exports states from the crates below.
+//! judged after the parts before it have been read. Re-exports states and their contents from
+//! `cif_file`, `docker_join` and `docker_state`.
 #![tactic(auto)]
 
 mod body;

@@ -84,14 +84,14 @@ impl Gathered {
         self.lines.len()
     }
 
-    /// Whether no line was read.
+    /// Whether no lines were read.
     fn is_empty(&self) -> bool
         ensures { IsTrue result ↔ (self.now ≡ []) }
     {
         self.lines.is_empty()
     }
 
-    /// Whether more lines follow after the next line, in a schedule of `count` lines.
+    /// Whether more lines follow the next line in a schedule of `count` lines.
     pub fn has_more(&self, count: u32) -> bool
         ensures { IsTrue result ↔ (length self.now + 1 < count) }
     {
@@ -166,8 +166,8 @@ impl Gathered {
         Ok(())
     }
 
-    /// Adds the next line of a schedule of `count` lines when the buffer is full. Returns `Body` if
-    /// the bytes aren't a line, and for the reasons given at `take`.
+    /// Adds the next line of a schedule of `count` lines to a full buffer, which has to grow.
+    /// Returns `Body` if the bytes aren't a line, and for the reasons given at `take`.
     #[cold]
     #[inline(never)]
     fn take_growing(&mut self, bytes: &[u8], count: u32) -> Result<(), StateCause>

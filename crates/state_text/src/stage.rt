@@ -37,8 +37,8 @@ impl Tag {
     }
 }
 
-/// The part that comes next in the text, with those parts before it in the same entry that are
-/// still needed. The first number is the number of all ledger items or all entries in the text. The
+/// The part that comes next in the text, with the parts before it in the same entry that are still
+/// needed. The first number is the number of all ledger items, or of all entries, in the text. The
 /// last number of `Line` is the number of the schedule's lines.
 #[derive(Clone, Copy, Debug)]
 pub enum Stage {

@@ -33,7 +33,7 @@ use cif_line::{Day, Tiploc};
 use docker_join::{Entry, Op, Stamp};
 use std::alloc::Global;
 
-/// The most lines that a schedule may have.
+/// The greatest number of lines that a schedule may have.
 const MOST_LINES: u32 = 4_294_967_294;
 
 /// Whether the bytes are the mark of the format.

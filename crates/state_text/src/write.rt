@@ -117,7 +117,8 @@ fn put_text<K: Sink>(sink: &mut K, state: &State) -> Result<(), Failed>
     flush(sink, &mut buffer)
 }
 
-/// Writes the text of a state. If a write fails, the sink has gained a proper prefix of the text.
+/// Writes the text of a state. If this fails, the sink has taken only a proper prefix of the text,
+/// and has failed once.
 pub fn write_state<K: Sink>(state: &State, sink: &mut K) -> Result<(), Failed>
     requires { K.failures sink.old < 2 ^ 64 - 1 }
     ensures whole { OnOk result

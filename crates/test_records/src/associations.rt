@@ -46,7 +46,7 @@ pub const AA_BLANK: &[u8] =
 pub const AA_X: &[u8] =
     b"AANC40001C400022406102406101000000NPXCOLWELL  TP                               P";
 
-/// An association of C40001 and C40002 at Colwell, with an unknown category.
+/// An association between C40001 and C40002 at Colwell, with an unknown category.
 pub const AA_OTHER: &[u8] =
     b"AANC40001C400022406102406101000000XXNCOLWELL  TP                               P";
 

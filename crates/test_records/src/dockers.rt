@@ -79,7 +79,7 @@ pub const COMES_2350: &[u8] = b"2350  A 4D40 C40001 P   1                ASHFELD
 /// The docker line of an association: C40002 is the next working of C40001 at Colwell.
 pub const WORKS_ON: &[u8] = b"2350  N 4D40 C40001 P   1                C40002  4D42   ";
 
-/// Like `WORKS_ON`, if the train identity of C40002 isn't known.
+/// Like `WORKS_ON`, but the train identity of C40002 isn't known.
 pub const WORKS_ON_UNKNOWN: &[u8] = b"2350  N 4D40 C40001 P   1                C40002  ????   ";
 
 /// The docker line for C50001, which leaves Ashfeld at 12:00.

@@ -68,11 +68,11 @@ pub const LO_COLWELL_1045: &[u8] =
 pub const LI_0000: &[u8] =
     b"LICOLWELL 0000H0000H     000000012  SL FL                                       ";
 
-/// A pass of Dunmere at 00:05.
+/// An intermediate location: the train passes Dunmere at 00:05.
 pub const LI_0005: &[u8] =
     b"LIDUNMERE           0005                                                        ";
 
-/// A pass of Dunmere at 00:10.
+/// An intermediate location: the train passes Dunmere at 00:10.
 pub const LI_0010: &[u8] =
     b"LIDUNMERE           0010                                                        ";
 
@@ -80,7 +80,7 @@ pub const LI_0010: &[u8] =
 pub const LI_1010: &[u8] =
     b"LICOLWELL 1010 1012              3                                              ";
 
-/// A second call at Colwell, from 10:40 to 10:42.
+/// An intermediate location: the train passes Colwell at 12:10.
 pub const LI_1040: &[u8] =
     b"LICOLWELL21040 1042              4                                              ";
 

@@ -56,13 +56,13 @@ falls_there lines number None is = ((λ some. absurd (none_is some)), λ there. 
     none_is some = cc
 falls_there lines number (Some falls) is = ((λ some. (told lines number falls (sym is)).there), λ there. refl)
 
--- if `falls_among` returns a number, the train passes midnight this number of times before the
--- event
+-- if `falls_among` returns a number, the train passes midnight that many times before the event
 pub falls_are : (lines : List (List ℕ)) (number : ℕ) (falls : Option ℕ) → falls ≡ falls_among number (occurrences lines)
     → IfSome falls (λ n. n ≡ falls_to lines number)
 falls_are lines number None is = tt
 falls_are lines number (Some falls) is = (told lines number falls (sym is)).is
 
--- if `falls_among` returns a number, the number is at most two
+-- suppose that the train passes midnight at most twice before any event. If `falls_among` returns
+-- a number, this number is at most two
 pub falls_few : (lines : List (List ℕ)) (number falls : ℕ) → falls_among number (occurrences lines) ≡ Some falls → ((n : ℕ) → falls_to lines n ≤ 2) → falls ≤ 2
 falls_few lines number falls found few = subst (λ (n : ℕ). n ≤ 2) (sym (told lines number falls found).is) (few number)

@@ -84,7 +84,8 @@ at_group key group =
 own_group : (key : AssociationKey) (group : Group) → is_of_group group key ≡ true → group_of key ≡ group
 own_group key group is = exact_group (group_of key) group (eq_is (group_cmp (group_of key) group) (at_group key group ∙ is))
 
--- an association is the chosen association of its group if and only if it is this group's association in the map
+-- suppose that a map has the associations chosen at a place on a day. Then an association at this
+-- place is the chosen association of its group if and only if the map has it for this group
 pub counts_told : (live : Table) (place : List ℕ) (day : ℕ) (best : GroupLinks) (key : AssociationKey) (link : Link) (answer : Bool)
     → AreDayLinks live place day best → key.location ≡ place → Some link ≡ get group_cmp best (group_of key)
     → answer ≡ is_eq (association_key_cmp link.key key)

@@ -26,7 +26,7 @@ details_timeless extra (inl none) = subst (AllByRecursion (λ (line : List ℕ).
 details_timeless extra (inr (line, is, kind)) =
     subst (AllByRecursion (λ (l : List ℕ). times_of l ≡ [])) (sym is) ((λ i. times_by_kind (kind i) line), tt)
 
--- a schedule without an LO, or without an LT, has no event
+-- a schedule without an LO, or without an LT, has no events
 pub no_events : (key : ScheduleKey) (lines : List (List ℕ)) → IsScheduleOf key lines
     → (find (λ line. has_identity (codes "LO") line) lines ≡ None) ⊎ (find (λ line. has_identity (codes "LT") line) lines ≡ None) → occurrences lines ≡ []
 no_events key lines of none = by of.schedule.journey_or_none

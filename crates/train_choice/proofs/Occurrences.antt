@@ -89,8 +89,9 @@ change_by_identity line is =
 change_has_no_times : (line : List ℕ) → has_identity (codes "CR") line ≡ true → times_of line ≡ []
 change_has_no_times line is = ap (λ (kind : Option Kind). times_by_kind kind line) (change_by_identity line is)
 
--- after one more line, the train identity of the walk is the identity of the last change en route
--- up to and including this line
+-- suppose that the train identity of the walk is correct before a line. Then it is also correct
+-- after this line: it is the identity in the last change en route so far or, if there is none, in
+-- the basic schedule
 identity_more : (basic front : List (List ℕ)) (line : List ℕ) (p : Progress) → p.identity ≡ changed_identity (last_change front) (first_record basic)
     → (turned p line).identity ≡ changed_identity (last_change (front ++ line ∷ [])) (first_record basic)
 identity_more basic front line p same =

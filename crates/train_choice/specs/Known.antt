@@ -55,8 +55,9 @@ abbrev pub AreDayLinks : Table → List ℕ → ℕ → GroupLinks → Type 0
 AreDayLinks live place day best =
     (group : Group) → group.location ≡ place → (rows : List Row) → AreRowsOf live rows → get group_cmp best group ≡ link_in rows group day
 
--- says how one more association, `link`, changes the map of best associations. If `link` runs on the day, the map then has for its group the better of the old
--- association and `link`. All other groups are unchanged
+-- says how one more association, `link`, changes the map of best associations. If `link` runs on
+-- the day, the map now has the better of the old association and `link` for the group of `link`.
+-- Otherwise this group is unchanged. All other groups are unchanged
 abbrev pub HasOneMore : ℕ → GroupLinks → Link → GroupLinks → Type 0
 HasOneMore day before link after =
     (group : Group) → get group_cmp after group

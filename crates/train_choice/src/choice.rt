@@ -33,7 +33,7 @@ pub fn chosen<'a>(state: &'a State, uid: &Uid, day: Day) -> Option<ScheduleView<
     chosen_in(&Timetable::of(state), uid, day)
 }
 
-/// Like `chosen`, among the schedules that count in a timetable.
+/// Like `chosen`, but chooses among the schedules that count in a timetable.
 fn chosen_in<'a>(timetable: &Timetable<'a>, uid: &Uid, day: Day) -> Option<ScheduleView<'a>>
     ensures { IsChosenOn (live_in timetable.now) uid.now day result }
 {
@@ -69,8 +69,8 @@ pub fn is_cancellation(stp: Stp) -> bool
     stp == Stp::Cancellation
 }
 
-/// Like `train_on`, for the UID of a schedule that is known to run on the day. The walk over the
-/// UID's schedules starts with that schedule as the best so far.
+/// Like `train_on`, but for the UID of a schedule that is known to run on the day. The walk over
+/// the UID's schedules starts with that schedule as the best so far.
 pub(crate) fn train_from<'a>(
     from: &UidSearch<'a>,
     train: &ScheduleView<'a>,

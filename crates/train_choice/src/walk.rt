@@ -76,7 +76,7 @@ impl<'a> EventWalk<'a> {
         self.identity = identity_after(kind, line, self.identity);
     }
 
-    /// The next event of the current line, or `None` if the line has no further event.
+    /// The next event of the current line, or `None` if the line has no further events.
     pub(crate) fn next_event(&mut self) -> Option<Occurrence<'a>>
         requires room { HasRoom self.old 0 }
         ensures event { YieldsFirstBy occurrence_meant events_here self.old result self.new }

@@ -14,7 +14,7 @@ WORDS = {"cancelled": "cancelled", "absent": "not calling", "altered": "altered"
 COMPARED = tuple(name for name in lines.Line._fields if name not in ("kind", "uid", "stp"))
 # The number of days on which a train may be on its way: it passes midnight at most twice.
 DAYS = 3
-# The order of the kinds of lines at the same time.
+# The kinds of lines, in the order in which lines with the same time are shown.
 ORDER = "APJVND"
 # The word for a missing event of a call.
 EVENTS = {"A": "arrival", "P": "pass", "D": "departure"}

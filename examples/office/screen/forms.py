@@ -12,7 +12,8 @@ import lines
 import names
 import rows
 
-# The fields of a CSV line that a docker doesn't have. If it is known what differs, the permanent line's fields follow.
+# The fields that a line has in CSV but not on a docker. If it is known how the docker differs from
+# the permanent timetable, the fields of the permanent line follow them.
 MORE = ("start", "origin_name", "destination_name")
 WAS = tuple(name for name in lines.Line._fields if name not in ("uid", "stp"))
 

@@ -8,7 +8,7 @@ from typing import NamedTuple
 COLUMNS = {"TIPLOC": (1, 7), "CRS": (9, 11), "STANOX": (13, 17), "description of the TIPLOC": (19, 44), "how many live schedules": (46, 55)}
 
 WORD = re.compile(r"[A-Z]+(?:'[A-Z]+)*")
-# Words that are small within a name, as in Burton-on-Trent or Betws-y-Coed.
+# Words that are written in small letters within a name, as in Burton-on-Trent or Betws-y-Coed.
 SMALL = {"A", "AND", "AT", "BY", "CUM", "DE", "FOR", "IN", "LA", "LE", "NEXT", "OF", "ON", "SUPER", "THE", "TO", "UNDER", "UPON", "WITH", "Y", "YR"}
 # Short forms that are written as words although they have no vowel, such as Jn and St.
 SHORT = {
@@ -43,7 +43,8 @@ def readable(description):
         around = description[max(start - 1, 0):start] + description[end:end + 1]
         if any(letter.isdigit() for letter in around):
             return found[0]
-        # A single letter is small only between hyphens or spaces: Betws-y-Coed, but L.N.W. and PLATFORM A.
+        # A single letter is written small only between hyphens or spaces: Betws-y-Coed, but L.N.W.
+        # and PLATFORM A.
         is_within = start > 0 and description[start - 1] in " -" and description[end:end + 1] in (" ", "-")
         return written(found[0], is_first=not is_within)
 
@@ -82,7 +83,7 @@ class Names:
     known when a docker of the place is read."""
 
     def __init__(self, places, tag=b""):
-        # Changes whenever a name changes.
+        # The tag changes whenever a name changes.
         self.tag = tag
         self.places = {place.tiploc: place for place in places}
         self.written = {}

@@ -6,11 +6,13 @@ import waitress
 import waitress.channel
 import waitress.server
 
-# The number of seconds after which the server ends a connection that has sent no whole request, unless a request is being answered. It also ends a connection
-# if the client doesn't read its answer for this time.
+# The number of seconds that the server waits for a client. The server ends a connection that has
+# sent no whole request for longer than this, unless a request is being answered. It also ends a
+# connection whose client hasn't read its answer for longer than this.
 PATIENCE = 20
-# The most connections. If another client connects, the connection that has waited longest is ended. All connections, with the ones that are ending, need fewer
-# than the 1,024 files that a process may have open.
+# The greatest number of connections. If another client connects, the connection that has waited
+# longest is ended. All connections, including the ones that are ending, need fewer than the 1,024
+# files that a process may have open.
 MOST = 400
 # The number of requests that a client may send before it has read the answers. Browsers send one.
 AT_ONCE = 4

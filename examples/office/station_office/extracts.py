@@ -10,13 +10,15 @@ DAY = datetime.timedelta(days=1)
 # Day number 0 of a state.
 FIRST_DAY = datetime.date(1960, 1, 1)
 MARK = b"DKS2"
-# The number of bytes of a state before its files, of each file, and of the number of entries.
+# The lengths in bytes in a state's text: of what precedes the ledger items, of each item, and of
+# the number of entries.
 HEAD, ITEM, COUNT = 14, 19, 8
 STAMP = 15
 FILE_OF_STAMP = 11
 PUT = 1
-# The length of an entry's key for each tag, and the length of the body of a timing point and of an association. The body of a schedule has its number of lines,
-# and then these lines of 80 bytes.
+# The lengths in bytes of an entry's key for each tag, and of the bodies of timing points and
+# associations. The body of a schedule is the number of its lines, followed by these lines. Each
+# line has 80 bytes.
 KEYS = {1: 7, 2: 23, 3: 9}
 BODIES = {1: 63, 2: 80}
 

@@ -12,7 +12,7 @@ from .faults import Fault
 from .office import digest_of, size_of
 from .withdrawn import known_of
 
-# Letters without vowels, so that no words come out.
+# Only consonants, so that the random letters don't form a word.
 LETTERS = "bcdfghjkmnpqrstvwxz"
 
 

@@ -141,7 +141,8 @@ def test_another_command_meets_a_session(meeting, session):
         return part.saves, "refused" if part.refused() else "both done"
 
     wanted = {(saves, end) for saves in range(len(session.looks)) for end in ENDS}
-    # A save that relies on the look of the save before it is refused at each of its calls.
+    # A save may rely on the look that the previous save made. It is then refused at each of its
+    # calls.
     wanted -= {(saves, "both done") for saves, looks in enumerate(session.looks) if looks == 0}
     assert set(at_each_call(trial)) == wanted
 

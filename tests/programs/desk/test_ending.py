@@ -98,7 +98,8 @@ def test_a_renewal_of_an_older_state_by_a_desk_that_only_reads():
         assert asked.closed() == Ended(0, b"", b"")
 
 
-# If a stream fails while there are unsaved changes, standard error gets a line for each.
+# If a stream fails while there are unsaved changes, standard error gets two lines: one for the
+# failure, and one for the unsaved changes.
 
 BOTH_LINES = DEVICE_LINE + NOT_SAVED
 

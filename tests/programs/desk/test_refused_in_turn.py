@@ -13,8 +13,8 @@ from mirror import Mirror, give_large, given
 from programs import DESK, DEVICE_LINE, MEMORY_LINE, Ended, give, held, run, untried
 from tables import each
 
-# A session with every request. It saves its changes before it ends, and its horizon doesn't refuse
-# any of its days, so the same session can be run again.
+# A session with every request. It saves its changes before it ends, and requests no day that its
+# horizon excludes. So the same session can be run again.
 REQUESTS = [
     ("files",), ("print", "ASHFELD", "2024-06-14"), ("train", "A00001", "2024-06-12"),
     ("places",), ("known",), ("take", "monday"), ("print", "ASHFELD", "2024-06-14"),
@@ -147,7 +147,7 @@ def ran_out(room):
 def test_small_address_spaces_an_eighth_of_a_megabyte_apart():
     counts, room = [], 4096
     with large_given(8000):
-        # The loop ends once eight address spaces in a row were large enough.
+        # The loop ends once eight address spaces in a row have been large enough.
         while len(counts) < 8 or any(counts[-8:]):
             counts.append(ran_out(room))
             room += 128

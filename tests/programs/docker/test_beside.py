@@ -96,8 +96,8 @@ def test_eight_takes_at_once_again_and_again(eight_files):
 
 # These cases show that the ones above detect locks that don't lock anything. Without locks, a
 # command can remove the draft of a running command, which then puts whatever is there in the place
-# of the state. Programs were tried that lock nothing, that don't lock the draft, and that don't
-# lock a left-over draft. Each time one of the first seven pairs failed.
+# of the state. The cases above were also run with programs that lock nothing, that don't lock the
+# draft, or that don't lock a left-over draft. Each time one of the first seven pairs failed.
 
 
 def without_locks(trial, rounds, device):

@@ -41,8 +41,8 @@ def looks_of(meeting, before, words):
     return calls[:calls.index("rename office.new office")].count(LOOK)
 
 
-# Before its first look at STATE a command has read nothing. So whatever happens then happens as if
-# it came first.
+# Before its first look at STATE a command has read nothing. So a change of STATE before this look
+# has the same effect as a change before the command.
 
 
 class Beside:
@@ -216,11 +216,11 @@ def test_take_of_what_a_pipe_gives_into_a_state_that(meeting, name, line):
 # The drafts of other programs. The first look at the draft's name is for a draft that a killed
 # command left.
 #
-# To test these cases, they were run with programs that make the calls of `docker` in the same order
-# but leave one out. It was either lock, the last look at STATE, or one of the three looks at a
-# locked file. Those three are at the draft's name, at the name of the left-over draft, and at its
-# mark. The cases were also run with the last look at STATE before the draft is made, and with the
-# first look after STATE is read. Each time some cases failed.
+# These cases were themselves tested, with programs that make the calls of `docker` in the same
+# order but leave one out. The call left out was one of the two locks, the last look at STATE, or
+# one of the three looks at a locked file. These three looks are at the draft's name, at the name of
+# the left-over draft, and at its mark. The cases were also run with the last look at STATE before
+# the draft is made, and with the first look after STATE is read. Each time some cases failed.
 
 DRAFT_LOOK = "statx office.new"
 TAKE = command_of("take office revised")

@@ -237,7 +237,7 @@ def test_an_output_that_is_taken_in_part():
     assert held("grown") == bytes(1000) + ASHFELD.output[:24]
 
 
-# How much of standard input the program leaves.
+# How much of standard input the program leaves unread.
 
 
 def left_of(source, *words):

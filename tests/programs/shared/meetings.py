@@ -61,7 +61,7 @@ def at_each_call(trial):
         found.append(outcome)
 
 
-# Ways in which a STATE goes away or becomes something else: STATE's name, and a line of the shell.
+# Ways in which a STATE goes away or becomes something else: STATE's name, and a shell command.
 GOES = {
     "goes away": ("office", "rm office"),
     "becomes a folder": ("office", "rm office && mkdir office"),

@@ -7,7 +7,8 @@ PLACES = (
     "ASHFELD", "BRAYTON", "COLWELL", "DUNMERE", "ELM", "FARLEY", "GORSTON", "HEXLEY", "IPSDEN",
     "JESMOND", "KELLING", "LISTON",
 )
-# How many places each leg of a train leads further along. The train's number selects one.
+# How far each leg of a train advances in `PLACES`: by one of these numbers of places. The remainder
+# of the train's number divided by four selects the number.
 STEPS = (1, 5, 7, 11)
 TRAINS = range(1, 151)
 

@@ -17,9 +17,9 @@ STATES = {
     "empty.state": ((), ""),
     "all.state": (tuple(extracts.GOOD), ""),
 }
-# The requests that only a desk that may write allows.
+# The requests that a desk accepts only if it may write.
 WRITING = ("take", "merge", "horizon", "save")
-# A line for each of these requests.
+# A line for each request in `WRITING`.
 WRITING_LINES = ("take monday", "merge monday.state", "horizon 2024-06-12", "save")
 # The folder of the given files and states, and the folder of the states that commands change.
 GIVEN = pathlib.Path("/nonexistent")

@@ -1,4 +1,5 @@
--- Worked examples of how far a reader has come in a file, and of the causes of faults.
+-- Worked examples of the stages and the `Place` that a reader reaches in a file, and of the causes
+-- of faults.
 use Rattle.std.proofs.Common.{◌≡◌, ℕ, List, [], ◌∷◌, ◌++◌, refl, Some, None}
 use Rattle.std.specs.Prelude.{codes}
 use Rattle.docker_model.specs.file.FileFault.{too_many, after_trailer, bad_length, bad_byte, bad_kind, bad_place, bad_field, third_midnight}

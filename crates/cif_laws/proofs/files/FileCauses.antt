@@ -1,5 +1,5 @@
--- The cause of the fault at a record, computed from how far a reader has come in the file before
--- the record. A text that isn't the text of a file has a fault.
+-- The cause of the fault at a record, computed from the `Place` that a reader has reached just
+-- before this record. A text that isn't the text of a file has a fault.
 use Rattle.std.proofs.Common.{◌≡◌, refl, true, [], ◌∷◌, Some, None, ℕ, ◌+◌, List, ◌++◌, sym, ◌∙◌, Bool, false, cond, ◌⊎◌, inl, inr}
 use Rattle.std.proofs.Common.{Contains, ap, subst, ◌<◌, ◌≤◌, length, arith, eqb-true, append_assoc, append-nil, length-append}
 use Rattle.std.specs.Prelude.{Any, Option, is_some, ◌&&◌, ◌||◌, nat_le, is_none, ◌==◌}
@@ -214,8 +214,9 @@ module _ (limit : ℕ) (earlier : Lines) (place : Place) (line : List ℕ) (foun
           (at_begins there.0 (earlier ++ witness kind ∷ [])
           (next_at place earlier (witness kind) there.0 at (witness_next place earlier kind there.0 at there.1)))
 
-  -- suppose that a record has good fields, and that the reader's `Place` allows its kind. If the
-  -- record still can't follow, the schedule passes midnight for the third time at this record
+  -- suppose that a record has good fields, and that its kind is allowed at the reader's `Place`. If
+  -- the record still leads to no next `Place`, its schedule passes midnight for the third time at
+  -- this record
   third : (next : Place) → IsRecord line → place_by_kind place (kind_of line) line ≡ Some next → HasGoodFields line → next_place place line ≡ None
       → HasThirdFall earlier line
   third next is told fields nowhere = by place at unsound
@@ -241,9 +242,10 @@ module _ (limit : ℕ) (earlier : Lines) (place : Place) (line : List ℕ) (foun
           staged None t = let bad : true ≡ false = sym good ∙ t in cc
       by _ here test = let bad : true ≡ false = sym good ∙ test in cc
 
-  -- suppose that neither the limit, the trailer, the record's bytes nor its kind is the reason why
-  -- a record can't follow. Then the cause of the fault is `field_cause`. The lemmas below treat the
-  -- other causes, from the highest rank to the lowest
+  -- suppose that a record leads to no next `Place`, although the limit isn't reached and no earlier
+  -- record is a trailer. Suppose also that the record has 80 printable bytes and a known kind that
+  -- is allowed at the `Place`. Then the cause of the fault is `field_cause`. The lemmas below treat
+  -- the other causes, from the highest rank to the lowest
   field_is : ¬ (limit ≤ length earlier) → ¬ Any (HasKind trailer) earlier → length line ≡ 80 → leftmost_bad_byte line ≡ None → ¬ (kind_of line ≡ None)
       → (next : Place) → place_by_kind place (kind_of line) line ≡ Some next → next_place place line ≡ None → IsCause limit earlier line (field_cause line)
   field_is r0 r1 r2 r3 r4 next told nowhere = by (leftmost_bad_field line) refl

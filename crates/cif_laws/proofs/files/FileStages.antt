@@ -46,8 +46,9 @@ pub record IsWithin (stage : Stage) (lines records : Lines) : Type 0 where
   pub between : IsBetween before
   pub front : IsFront stage lines
 
--- the records have the structure that belongs to this `Place`: no records, a header and complete
--- units, an incomplete schedule after these, or a whole file
+-- the records have the structure that belongs to this `Place`. They are no records, a header and
+-- complete units, a header and complete units followed by the first records of a schedule, or a
+-- whole file
 abbrev pub IsAt : Place → Lines → Type 0
 IsAt before_header records = records ≡ []
 IsAt between_units records = IsBetween records
@@ -302,7 +303,7 @@ next_of_stage stage lines line next found =
       place_is = λ i. in_stage_or (lines ++ line ∷ []) (told.stage_is i) (cond (may_end stage lines) (unit_by_kind (kind_of line) line) None);
     })
 
--- like `next_of_stage`, for a reader whose `Place` belongs to the stage
+-- like `next_of_stage`, for a reader at the `Place` that `place_in` gives for the stage
 next_in : (stage : Stage) (lines : Lines) (line : List ℕ) (next : Stage) → next_stage stage lines line ≡ Some next
     → next_place (place_in stage lines) line ≡ Some (place_in next (lines ++ line ∷ []))
 next_in stage lines line next found = by stage (next_line_by_test stage lines line next found)

@@ -24,7 +24,7 @@ use Rattle.cif_laws.proofs.records.Columns.{IsGoodIn, good_fields, fields_good, 
 use Rattle.cif_laws.proofs.records.Columns.{new_columns, new_column, new_kind, new_record, is_new}
 use Rattle.cif_laws.proofs.records.GoodFields.{date_is_day, tiploc_starts, new_tiploc_starts}
 
--- the key is well formed, and the op that the act leaves is well formed and belongs to the key
+-- the key is well formed, and the act's op is well formed and belongs to the key
 abbrev pub IsGoodAct : Key × Act → Type 0
 IsGoodAct act = IsGoodKey act.0 × IsOpOf act.0 (op_of act.1)
 
@@ -36,8 +36,8 @@ letter_at line is = ap is_stp_letter (sym (one_column line 80 (omega arith))) �
 tiploc_at : (line : List ℕ) → IsRecord line → is_tiploc (columns 3 9 line) ≡ true → IsTiploc (columns 3 9 line)
 tiploc_at line is good = (text_in line 3 9 is (omega arith) (omega arith), tiploc_starts (columns 3 9 line) good)
 
--- those fields of an association's key that are checked are good: the first date, the timing point
--- and the STP indicator
+-- the checked fields of an association's key are good: the first date, the timing point and the STP
+-- indicator
 record AssociationFields (line : List ℕ) : Type 0 where
   pub start : is_date (columns 16 21 line) ≡ true
   pub location : is_tiploc (columns 38 44 line) ≡ true

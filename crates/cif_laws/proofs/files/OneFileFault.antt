@@ -39,7 +39,7 @@ same_place (first ∷ firsts) (second ∷ seconds) line other rest more e =
     by heads (inr (inl told)) = inr (inl (told.0, λ i. sym heads i ∷ told.1 i))
     by heads (inr (inr told)) = inr (inr (told.0, λ i. heads i ∷ told.1 i))
 
--- each prefix of records that begin a file begins a file
+-- if records begin a file, each prefix of these records begins a file
 pub begins_front : (front rest : Lines) → BeginsFile (front ++ rest) → BeginsFile front
 begins_front front rest begins = (rest ++ begins.0, subst IsFile (append_assoc front rest begins.0) begins.1)
 
@@ -81,8 +81,7 @@ cause_again no_end = refl
 pub same_cause : (first second : FileCause) → cause_rank first ≡ cause_rank second → column_of first ≡ column_of second → first ≡ second
 same_cause first second same columns = sym (cause_again first) ∙ (λ i. cause_at (same i) (columns i)) ∙ cause_again second
 
--- the column that the cause of the fault at a line names, computed from the rank of the cause and
--- from the line
+-- the column in the cause of the fault at a line, computed from the cause's rank and the line
 unfoldable pub column_told : ℕ → List ℕ → ℕ
 column_told rank line = if rank == 3 then unwrap_or (leftmost_bad_byte line) 0 else (if rank == 6 then unwrap_or (leftmost_bad_field line) 0 else 0)
 
@@ -112,7 +111,7 @@ one_cause limit earlier line first second is_first is_second = by (cases_order (
     by (inr (inl below)) = absurd (is_second.first first below is_first.holds)
     by (inr (inr above)) = absurd (is_first.first second above is_second.holds)
 
--- in a list of records, at most one fault is the fault of the first record at fault
+-- in a list of records, the first record at fault has only one fault
 record_fault_unique : (limit : ℕ) (records : Lines) (first second : FileFault) → IsRecordFault limit records first → IsRecordFault limit records second
     → first ≡ second
 record_fault_unique limit records first second one two =

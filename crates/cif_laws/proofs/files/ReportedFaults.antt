@@ -291,7 +291,7 @@ fault_so_far_or_passes limit text = by (fault_so_far_or_none limit text)
     by (inr none) = inr (passes_so_far limit text none)
 
 -- suppose that the complete lines in the first bytes of a text begin some file within the limit. If
--- the incomplete line has at most 81 bytes, these bytes determine no fault
+-- the incomplete line has at most 81 bytes, the first bytes of the text determine no fault
 pub passes_no_fault : (limit : ℕ) (text : List ℕ) (fault : FileFault) → PassesSoFar limit text → ¬ IsFaultSoFar limit text fault
 passes_no_fault limit text fault passes told = by told.is.here
   where
@@ -321,8 +321,8 @@ cause_of_length limit count place line apart =
     λ i. cond (nat_le limit count) too_many
     (cond (is_after_end place) after_trailer (cond (ne_eqb (length line) 80 apart i) (byte_cause place line) bad_length))
 
--- suppose that the complete lines are within the limit and lead the reader to a `Place`. If the
--- incomplete line has at most 81 bytes, the bytes determine no fault
+-- suppose that the complete lines of a text are within the limit and lead the reader to a `Place`.
+-- If the incomplete line has at most 81 bytes, the text so far determines no fault
 pub no_fault_told : (limit : ℕ) (text : List ℕ) (place : Place) → IsPlaceOf (complete_lines text) place → length (complete_lines text) ≤ limit
     → length (open_line text) ≤ 81
     → (fault : FileFault) → ¬ IsFaultSoFar limit text fault

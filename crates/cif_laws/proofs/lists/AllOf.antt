@@ -1,5 +1,5 @@
--- Lemmas on properties that all elements of a list have. The properties are defined by recursion on
--- the list.
+-- Lemmas on `AllByRecursion`, which says that all elements of a list have a property. It is defined
+-- by recursion on the list.
 use Rattle.std.proofs.Common.{List, [], ◌∷◌, ◌++◌, map}
 use Rattle.std.specs.List.{AllByRecursion}
 

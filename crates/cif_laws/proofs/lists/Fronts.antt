@@ -1,8 +1,8 @@
 -- Two prefixes of one list that have the same length are equal.
 use Rattle.std.proofs.Common.{◌≡◌, ℕ, List, ◌++◌, length, [], ◌∷◌, ap, refl, arith}
 
--- two prefixes of one list that have the same length are equal, and the rests of the list after
--- them are equal too
+-- two prefixes of one list that have the same length are equal, and what follows them in the list
+-- is equal too
 pub same_front : (xs ys more rest : List ℕ) → length xs ≡ length ys → xs ++ more ≡ ys ++ rest → (xs ≡ ys) × (more ≡ rest)
 same_front [] [] more rest size same = (refl, same)
 same_front [] (y ∷ ys) more rest size same = absurd (omega arith)

@@ -97,8 +97,9 @@ pub later_append_all : {A : Type 0} (R : A → A → Type 0) (xs ys : List A) �
 later_append_all R [] ys left right across = right
 later_append_all R (x ∷ xs) ys left right across = (all_append (R x) xs ys left.0 across.0, later_append_all R xs ys left.1 right across.1)
 
--- suppose that a relation of two values implies another relation of their images. If `AllLater`
--- holds for the first relation and a list, it holds for the second relation and the mapped list
+-- suppose that a relation between two values implies another relation between their images. If
+-- `AllLater` holds for the first relation and a list, it holds for the second relation and the
+-- mapped list
 pub later_map_weaker : {A B : Type 0} (f : A → B) (R : A → A → Type 0) (S : B → B → Type 0) → ((x y : A) → R x y → S (f x) (f y))
     → (xs : List A) → AllLater R xs
     → AllLater S (map f xs)

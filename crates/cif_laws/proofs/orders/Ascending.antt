@@ -27,8 +27,8 @@ module _ {A : Type 0} {cmp : A → A → Ordering} (total : IsTotalOrder cmp) wh
   same_heads x y xs ys above_x above_y (inr inside) (inr among) =
       absurd (not_both x y (below_by_recursion (IsBelow cmp x) xs y above_x among) (below_by_recursion (IsBelow cmp y) ys x above_y inside))
 
-  -- if two ascending lists with the same members have equal first elements, the rests have the same
-  -- members
+  -- if two ascending lists with the same members have equal first elements, their tails have the
+  -- same members
   in_tail : (x y z : A) (xs ys : List A) → x ≡ y → AllByRecursion (IsBelow cmp x) xs → Contains xs z → (y ≡ z) ⊎ Contains ys z → Contains ys z
   in_tail x y z xs ys heads above_x among (inl same) =
       absurd (irreflexive x (subst (IsBelow cmp x) (sym (heads ∙ same)) (below_by_recursion (IsBelow cmp x) xs z above_x among)))

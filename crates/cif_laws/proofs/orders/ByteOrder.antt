@@ -20,8 +20,8 @@ then_assoc Less b c = refl
 then_assoc Equal b c = refl
 then_assoc Greater b c = refl
 
--- two lists whose prefixes have the same length compare by these prefixes, and if the prefixes are
--- equal, by the rests
+-- two lists whose prefixes have the same length compare by these prefixes. If the prefixes are
+-- equal, the lists compare by the bytes after the prefixes
 pub fronts_first : (xs ys more others : List ℕ) (behind : Ordering) → length xs ≡ length ys → bytes_cmp more others ≡ behind
     → bytes_cmp (xs ++ more) (ys ++ others) ≡ ordering_then (bytes_cmp xs ys) behind
 fronts_first [] [] more others behind same is = is

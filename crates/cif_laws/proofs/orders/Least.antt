@@ -14,7 +14,8 @@ use Rattle.cif_laws.proofs.orders.AtMost.{at_most_trans, at_most_itself, at_most
 use Rattle.cif_laws.proofs.lists.FilteredMembers.{find_some, find_none, all_of, all_by}
 
 module _ {A : Type 0} {cmp : A → A → Ordering} (total : IsTotalOrder cmp) (test : A → Bool) where
-  -- whether a value passes the test, and no member that passes the test is below this value
+  -- whether a value is the least: it passes the test, and no member that passes the test is below
+  -- it
   abbrev pub is_least : List A → A → Bool
   is_least xs x = test x && list_all (λ other. not (test other && is_gt (cmp x other))) xs
 

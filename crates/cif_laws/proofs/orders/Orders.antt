@@ -121,8 +121,8 @@ exact_schedule_key a b e =
       indicator = exact_unsigned a.indicator b.indicator q.1 i;
     }
 
--- the code in a TIPLOC key. For another key the result is empty. The functions below are similar,
--- for the other kinds of key
+-- the code in a TIPLOC key, or the empty list for a key of another kind. In the same way, the
+-- functions below return the fields of the other kinds of key
 abbrev code_in : Key → List ℕ
 code_in (tiploc_key code) = code
 code_in _ = []

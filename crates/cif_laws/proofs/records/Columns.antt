@@ -54,7 +54,7 @@ text_in line first last is order within =
       All-take (λ b. is_printable b ≡ true) (last - (first - 1)) (drop (first - 1) line) (All-drop (λ b. is_printable b ≡ true) (first - 1) line is.1),
     )
 
--- the only byte of a field of one column is the byte in that column
+-- the only byte of a one-column field is the byte in that column
 pub one_column : (line : List ℕ) (n : ℕ) → 0 < n → slice_index (columns n n line) 0 ≡ column n line
 one_column line n some =
     get_or-take (n - (n - 1)) (drop (n - 1) line) 0 0 (omega arith) ∙ get_or-drop (n - 1) line 0 0 ∙ (let e : (n - 1) + 0 ≡ n - 1 = omega arith in

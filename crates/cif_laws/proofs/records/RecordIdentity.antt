@@ -47,6 +47,7 @@ by_identity field (pair ∷ pairs) kind all found = by (bytes_eq pair.0 field) r
 pub begins_with : (kind : Kind) (line : List ℕ) → HasKind kind line → columns 1 2 line ≡ identity_of kind
 begins_with kind line is = by_identity (columns 1 2 line) identities kind each_beside is
 
--- a record has a record identity if and only if this is the identity of the record's kind
+-- a record has the record identity `identity` if and only if `identity` is the identity of the
+-- record's kind
 pub has_identity_is : (kind : Kind) (identity line : List ℕ) → HasKind kind line → has_identity identity line ≡ bytes_eq (identity_of kind) identity
 has_identity_is kind identity line is = ap (λ field. bytes_eq field identity) (begins_with kind line is)

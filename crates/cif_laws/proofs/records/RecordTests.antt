@@ -73,8 +73,8 @@ record_iff_test line = (
 -- ---- how often a schedule passes midnight can be computed record by record
 
 -- the number of falls in a concatenation is the sum of two numbers. The first number counts the
--- falls in the first list. The second number counts the falls in the second list after the first
--- list's last time. A fall is a time that is earlier than the time before it
+-- falls in the first list. The second number counts the falls in the second list if it follows the
+-- first list's last time. A fall is a time that is earlier than the time before it
 pub fall_count-append : (times later : List ℕ) → fall_count (times ++ later) ≡ fall_count times + falls_after (last_of times) later
 fall_count-append [] later = omega arith
 fall_count-append (time ∷ []) later = omega arith

@@ -330,8 +330,8 @@ cause_behind_schedule limit count stage lines line under is may anew =
     (field_cause line)))
     ∙ sym (cause_of_record limit count between_units line under refl is)
 
--- if a record is at fault as part of the schedule, it is at fault as part of the file, for the same
--- cause
+-- if a record is at fault as part of the schedule, it is also at fault as part of the file, and the
+-- cause is the same
 pub fault_of_schedule : (limit : ℕ) (earlier : Lines) (stage : Stage) (lines : Lines) (line : List ℕ) (cause : FileCause)
     → IsPlaceOf earlier (in_schedule stage lines) → length earlier < limit → IsRecord line
     → IsOfSchedule stage lines line → IsScheduleFault lines line cause

@@ -351,7 +351,8 @@ midnights_last : (lines : Lines) → AllByRecursion HasGoodFields lines → midn
 midnights_last lines good =
     ap fall_count (times_along-append lines (last_terminus ∷ [])) ∙ falls_last (times_along lines) (small_along lines good)
 
--- the records after the extra details may begin a journey. The definition is by recursion
+-- the records after the extra details are sound, and some journey begins with them. The definition
+-- is by recursion
 abbrev FrontPart : List ℕ → Lines → Type 0
 FrontPart basic [] = ⊤
 FrontPart basic (first ∷ lines) = (HasKind origin_location first × FrontOfCalls lines) × SoundHere basic (first ∷ lines)
@@ -379,8 +380,8 @@ front_here_decided (basic ∷ lines) =
     both_decided (both_decided (records_decided (basic ∷ lines)) (basic_decided basic))
     (either_decided (front_part_decided basic lines) (extra_and_front_decided basic lines))
 
--- each prefix of the rest of a journey satisfies `FrontOfCalls`. The next lemmas are similar, for
--- the other parts of a schedule
+-- each prefix of the rest of a journey satisfies `FrontOfCalls`. The next lemmas state similar
+-- facts about the prefixes of the other parts of a schedule
 front_of_whole : (lines rest : Lines) → WholeCalls (lines ++ rest) → FrontOfCalls lines
 front_of_whole [] rest calls = tt
 front_of_whole (line ∷ lines) rest (inl told) = inl (told.0, nothing lines told.1)

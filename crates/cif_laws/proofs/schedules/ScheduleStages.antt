@@ -150,8 +150,8 @@ test_by_sound_next lines line (inr good) = by (is_deletion (first_record lines))
     by true = refl
     by false = and_true (has_good_fields line) _ (test_by_none (leftmost_bad_field line) good.fields) (le-leb (midnights (lines ++ line ∷ [])) 2 good.falls)
 
--- the test `is_sound_next` can be computed from three values. They are whether the schedule is a
--- deletion, how often the schedule has passed midnight, and the last time
+-- apart from the record itself, three values determine the result of `is_sound_next`: whether the
+-- schedule is a deletion, how often it has passed midnight, and its last time
 pub sound_next_by_count : (lines : Lines) (line : List ℕ)
     → is_sound_next lines line
     ≡ (is_deletion (first_record lines) || (has_good_fields line && nat_le (midnights lines + falls_after (last_of (times_along lines))
@@ -260,8 +260,8 @@ no_stage_of_none after_details = refl
 no_stage_of_none in_journey = refl
 no_stage_of_none after_journey = refl
 
--- suppose that records have the structure of a stage. If one more record leads to a next stage, the
--- records with this record have the structure of the next stage
+-- suppose that records have the structure of a stage. If one more record leads to a next stage,
+-- then, with this record appended, the records have the structure of that next stage
 pub next_front : (stage : Stage) (lines : Lines) (line : List ℕ) (next : Stage) → IsFront stage lines → next_stage stage lines line ≡ Some next
     → IsFront next (lines ++ line ∷ [])
 next_front stage lines line next front test = by (kind_of line) refl (next_line_by_test stage lines line next test)
@@ -295,7 +295,7 @@ next_front stage lines line next front test = by (kind_of line) refl (next_line_
           sound = front.sound;
         }
 
--- ---- records with the structure of a stage at which the schedule may end are a schedule
+-- ---- if records have the structure of a stage at which the schedule may end, they are a schedule
 
 -- if a basic schedule passes the test `may_lack`, its journey may be missing
 pub lack_by_test : (basic : List ℕ) → may_lack basic ≡ true → MayLackJourney basic
@@ -314,7 +314,7 @@ test_by_lack basic (inr letter) = or_right (is_deletion basic) (ap (λ n. n == 6
     or_right true h = refl
     or_right false h = h
 
--- records with the structure of a stage at which the schedule may end are a schedule
+-- if records have the structure of a stage at which the schedule may end, they are a schedule
 pub schedule_of_front : (stage : Stage) (lines : Lines) → IsFront stage lines → may_end stage lines ≡ true → IsSchedule lines
 schedule_of_front stage lines front test = record {
   basic = front.basic;
@@ -455,7 +455,7 @@ witness_front stage lines kind next front after =
       stage_is = ap (stage_after stage) (witness_kind kind) ∙ after;
     }))
 
--- each prefix of records that begin a schedule begins a schedule
+-- if records begin a schedule, each prefix of these records begins a schedule
 pub begins_shorter : (front rest : Lines) → BeginsSchedule (front ++ rest) → BeginsSchedule front
 begins_shorter front rest begins = (rest ++ begins.0, subst IsSchedule (append_assoc front rest begins.0) begins.1)
 
@@ -481,7 +481,7 @@ front_begins stage lines front = by stage lines front
     by in_journey l f = inside l f
     by after_journey l f = ended l f
 
--- ---- the stage after records determines their structure
+-- ---- the stage to which records lead determines their structure
 
 front_from : (rest : Lines) (stage : Stage) (done : Lines) (final : Stage) → IsFront stage done → stage_from stage done rest ≡ Some final
     → IsFront final (done ++ rest)
@@ -492,7 +492,7 @@ front_from (line ∷ rest) stage done final front found =
     subst (IsFront final) (append_assoc done (line ∷ []) rest)
     (front_from rest step.0 (done ++ line ∷ []) final (next_front stage done line step.0 front step.1) step.2)
 
--- if the stage after records is `stage`, the records have the structure of `stage`
+-- if records lead the reader to the stage `stage`, they have the structure of `stage`
 pub front_of_stage : (lines : Lines) (stage : Stage) → stage_of lines ≡ Some stage → IsFront stage lines
 front_of_stage [] stage found = cc
 front_of_stage (basic ∷ rest) stage found = by (is_first_line basic) refl found

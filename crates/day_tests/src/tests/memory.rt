@@ -1,5 +1,6 @@
-//! Tests that make dockers when memory runs out. The state is unchanged, and a second call returns
-//! the docker. The test run decides which allocation is refused. Each call is made at most twice.
+//! Tests in which memory runs out while a docker is made. The state is unchanged, and a second call
+//! returns the docker. The test run decides which allocation is refused. Each call is made at most
+//! twice.
 
 use super::compare::same;
 use super::{day, place, state_of, written};

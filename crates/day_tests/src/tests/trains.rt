@@ -63,7 +63,7 @@ fn identity(rt: HostRuntime) {
     shows(&rt, alloc, files, "BRAYTON", "2024-06-10", &[COMES_AS_5E51]);
 }
 
-/// A schedule without an end runs on the last day of the calendar, a Wednesday.
+/// A schedule without an end date runs on the last day of the calendar, a Wednesday.
 #[test]
 fn without_end(rt: HostRuntime) {
     let alloc = rt.alloc();

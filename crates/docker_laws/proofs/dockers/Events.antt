@@ -125,7 +125,7 @@ at_a_line lines event among = by (Contains-map as_event (enumerate_from 1 (place
         let inside : Contains (placed_times lines) counted.1 = (stands.0, stands.2, stands.3) in
         at counted.1 (sym (ap (λ (e : Event). e.place) same), sym (ap (λ (e : Event). (e.occasion, e.time)) same)) (time_of_placed lines counted.1 inside)
 
--- ---- each event is an arrival, a pass or a departure, at a location record
+-- ---- each event is an arrival, a pass or a departure, and its record is a location record
 
 -- the occasion is an arrival, a pass or a departure
 abbrev pub IsOfTrain : Occasion → Type 0

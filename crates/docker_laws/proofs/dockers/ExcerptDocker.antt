@@ -17,7 +17,7 @@ use Rattle.docker_laws.proofs.dockers.Events.{event_calls}
 use Rattle.docker_laws.proofs.dockers.OneDockerLine.{first_event_is}
 use Rattle.docker_laws.proofs.dockers.LapsedDocker.{text_with}
 
--- ---- two tables with the same schedules of a UID have the same trains of the UID
+-- ---- if two tables have the same schedules for a UID, they have the same trains for this UID
 
 abbrev HaveSameSchedules : Table → Table → List ℕ → Type 0
 HaveSameSchedules one other uid = (key : ScheduleKey) → key.uid ≡ uid → one (schedule_key key) ≡ other (schedule_key key)
@@ -51,7 +51,7 @@ partner_over : (one other : Table) (uid : List ℕ) (day : Option ℕ) (identity
 partner_over one other uid None identity same is = is
 partner_over one other uid (Some day) identity same is = identity_over one other uid identity day same is
 
--- ---- from two tables with the same associations of a group, the same association is chosen
+-- ---- if two tables have the same associations of a group, the same one is chosen from both
 
 abbrev HaveSameAssociations : Table → Table → Group → Type 0
 HaveSameAssociations one other group = (key : AssociationKey) → group_of key ≡ group → one (association_key key) ≡ other (association_key key)

@@ -260,7 +260,8 @@ needed_passes place state (schedule_key key) concerned = by concerned
         or_left (list_any (names_as place key.uid) state.entries) (list_any (calls_as place key.uid) state.entries)
         (any_forth (names_as place key.uid) state.entries (association_key named.key, found.0) found.1 passes)
 
--- the state with only the entries whose keys pass the test `is_needed` is an excerpt
+-- if a state keeps only the entries whose keys pass the test `is_needed`, the result is an excerpt
+-- of the state
 pub passing_is_excerpt : (place : List ℕ) (state : State) → IsExcerptState place state (with_passing (is_needed place state.entries) state)
 passing_is_excerpt place state = record {
   horizon = refl;

@@ -258,8 +258,8 @@ module _ (place : List ℕ) where
   named_more done so_far (tiploc_key code) entry here = named_other done so_far (tiploc_key code, entry) (is_here place (tiploc_key code)) refl here
   named_more done so_far (association_key key) entry here = named_other done so_far (association_key key, entry) (is_here place (association_key key)) refl here
 
-  -- the entries that the walk has passed at the place, and the entries in `kept`, name the same
-  -- associated trains
+  -- the entries at the place that the walk has passed name the same associated trains as the
+  -- entries in `kept`
   pub names_so_far : (entries : List Keyed)
       → names_in (kept_so_far place entries).kept ≡ names_in (filter (λ (entry : Keyed). is_here place entry.0) entries)
   names_so_far entries = (all_along place AreNamed (λ done so_far x here. named_more done so_far x.0 x.1 here) (refl, refl) entries).0
@@ -322,8 +322,8 @@ module _ (place : List ℕ) (so_far : ExcerptSoFar) where
   elsewhere_then x true h none = absurd (let bad : true ≡ false = h in cc)
   elsewhere_then x false h none = let back : [] ≡ so_far.run = sym none in λ i. record { kept = ends_none none i; run = back i }
 
-  -- the TIPLOC of a place other than the excerpt's place, or an association at such a place, leaves
-  -- `kept` and `run` unchanged
+  -- passing the TIPLOC of a place other than the excerpt's place, or an association at such a
+  -- place, leaves `kept` and `run` unchanged
   pub drops_elsewhere : (key : Key) (entry : Entry) → ((uid : List ℕ) → has_uid uid key ≡ false) → is_here place key ≡ false → so_far.run ≡ []
       → next_kept place so_far (key, entry) ≡ so_far
   drops_elsewhere (schedule_key key) entry never elsewhere none = false_true (sym (never key.uid) ∙ (bytes_eq-Decides key.uid key.uid).1 refl)

@@ -23,7 +23,7 @@ or_assoc true b c = refl
 or_assoc false b c = refl
 
 -- before the loop comes to the first entry, the lists `kept` and `run` are empty, and the flag says
--- that the docker needs no schedule
+-- that the docker needs no schedules
 pub kept_first : (place : List ℕ) → HasKept place [] [] [] false
 kept_first place = record { so_far = refl; is_needed = refl }
 

@@ -280,7 +280,7 @@ module _ (place : List ℕ) (all : List Keyed) (order : AllLater Below all) wher
   run_end done kept [] rest at ended = at.kept ∙ ap (filter (λ (entry : Keyed). is_needed place all entry.0)) (sym (append-nil done))
   run_end done kept (first ∷ others) rest at ended = ended_run done kept first others rest at ended
 
-  -- ---- one more entry preserves the invariant
+  -- ---- passing one more entry preserves the invariant
 
   -- each entry in `run` is below the next entry of the walk
   run_below : (done : List Keyed) (so_far : ExcerptSoFar) (x : Keyed) (rest : List Keyed) → IsAt place all done so_far (x ∷ rest) → (r : Keyed)

@@ -1,6 +1,6 @@
--- Let the rows of a table lapse with a horizon. For each day that isn't before the horizon, the
--- same schedules and associations are then chosen from the table as before. A schedule or an
--- association that runs on such a day doesn't lapse.
+-- A horizon may make rows of a table lapse. On each day that isn't before the horizon, the same
+-- schedules and associations are chosen from the table before and after its rows lapse. A schedule
+-- or an association that runs on such a day doesn't lapse.
 use Rattle.std.proofs.Common.{ℕ, ◌≤◌, List, Bool, true, false, cond, arith}
 use Rattle.std.specs.Prelude.{◌↔◌, ◌&&◌, IsTrue, nat_le}
 use Rattle.std.proofs.lemmas.Bool.{leb-true}

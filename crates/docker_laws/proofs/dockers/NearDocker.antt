@@ -23,7 +23,7 @@ use Rattle.docker_laws.proofs.dockers.FewMidnights.{HasFewMidnights}
 use Rattle.docker_laws.proofs.dockers.StartDays.{event_within}
 use Rattle.docker_laws.proofs.dockers.LapsedDocker.{text_with, partner_after, CarriesOver, event_line_over, association_line_over}
 
--- ---- each train of a docker line starts near the day
+-- ---- each train in a docker line starts near the docker's day
 
 -- the start day is near the day: at most three days before the day and at most one day after it
 abbrev pub IsStartNear : ℕ → ℕ → Type 0

@@ -107,7 +107,7 @@ excerpt_on_text place day state text valid =
     let walk = walk_text_iff place (near_state day state) day text (near_valid day state valid) in
     (λ is. walk.0 (near.0 is), λ is. near.1 (walk.1 is))
 
--- ---- `near_entries` decides on each entry by itself
+-- ---- `near_entries` keeps or drops each entry regardless of the other entries
 
 one_kept : (test : Keyed → Bool) (entry : Keyed) (b : Bool) → test entry ≡ b → filter test (entry ∷ []) ≡ cond b (entry ∷ []) []
 one_kept test entry b h = λ i. cond (h i) (entry ∷ []) []

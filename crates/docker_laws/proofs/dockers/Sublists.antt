@@ -7,7 +7,7 @@ use Rattle.cif_laws.proofs.lists.Membership.{Contains-cons, cons-Contains, cons-
 use Rattle.cif_laws.proofs.lists.Membership.{below_by_recursion, each_member, member_of, all_members}
 use Rattle.cif_laws.proofs.lists.Later.{AllLater}
 
--- a sublist of a list is also a sublist of the list with an element put at its front
+-- a sublist of a list is also a sublist of the list with one more element prepended
 pub sublist_behind : {A : Type 0} (xs ys : List A) (y : A) → IsSublist xs ys → IsSublist xs (y ∷ ys)
 sublist_behind [] ys y is = tt
 sublist_behind (x ∷ xs) ys y is = inr is

@@ -260,8 +260,8 @@ thin_of_key key lines is = record {
   key_is = ap schedule_named (first_of_thin lines) ∙ is.key_is;
 }
 
--- if the docker of a place needs only some records of a schedule (`lines_for`), these records form
--- a schedule with the same key
+-- the records of a schedule that the docker of a place needs (`lines_for`) form a schedule with the
+-- same key
 pub needed_of_key : (place : List ℕ) (key : ScheduleKey) (lines : List (List ℕ)) → IsScheduleOf key lines → IsScheduleOf key (lines_for place lines)
 needed_of_key place key lines is = by (calls_at place lines)
   where

@@ -62,8 +62,8 @@ stand_in_by_first place day whole lines same none no_other = record {
     by (inl calls) = absurd (elsewhere whole none calls)
     by (inr calls) = absurd (elsewhere lines no_other calls)
 
--- a schedule may be replaced by the records that `lines_for` keeps of it for the docker of the
--- place
+-- the records of a schedule that the docker of the place needs (`lines_for`) may replace the
+-- schedule
 pub needed_stand_in : (place : List ℕ) (day : ℕ) (lines : List (List ℕ)) → IsStandIn place day lines (lines_for place lines)
 needed_stand_in place day lines = by (calls_at place lines) refl
   where

@@ -113,7 +113,7 @@ thin_op place day key (put body) good = by (may_count day (put_with body))
 
 -- ---- the state made from the kept changes is valid
 
--- a ledger with only one well-formed item is well formed
+-- a ledger that has only one item is well formed if this item is well formed
 ledger_of_one : (item : LedgerItem) → IsGoodItem item → IsLedger (item ∷ [])
 ledger_of_one item good = by good.indicator
   where

@@ -51,7 +51,7 @@ one_day uid identity origin terminus =
 abbrev pub key_of : List ℕ → ℕ → ℕ → ScheduleKey
 key_of uid day letter = record { uid = uid; runs_from = day; indicator = letter }
 
--- ---- an overlay that doesn't call at COLWELL, of a train that calls there on other days
+-- ---- a train that calls at COLWELL, except on the day of an overlay
 
 -- the schedule of a train that ends at COLWELL
 abbrev pub stops : List (List ℕ)
@@ -292,7 +292,8 @@ whole = state_of (
     )
 
 -- the excerpt has the TIPLOC of COLWELL, both associations at COLWELL, the base train with its
--- overlay, the associated train, and the last schedule, which calls at COLWELL
+-- overlay, the associated train, and the lapsed schedule and the live schedule of C40005. The live
+-- schedule of C40005 calls at COLWELL
 walk_leaves : (excerpt_for place whole).entries
     ≡ put_in (tiploc_key (codes "COLWELL")) (tiploc_body (spaces 63)) ∷ put_in (association_key link_key) (association_body link)
     ∷ with_op (association_key gone_key) deleted ∷ put_in (schedule_key stops_key) (schedule_body stops)

@@ -37,7 +37,7 @@ use Rattle.docker_laws.proofs.examples.ExcerptExamples.{place, key_of, stops, sh
 
 -- ---- thin records
 
--- of a train that doesn't call at the place, only the basic schedule, the origin and the terminus
+-- for a train that doesn't call at the place, only the basic schedule, the origin and the terminus
 -- are kept
 night_elsewhere : lines_for (codes "EASTRIG") night_schedule
     ≡ bs (codes "N") (codes "C20001") (codes "240610") (codes "240610") (codes "1000000") (codes "2B20") (codes "P")
@@ -45,7 +45,7 @@ night_elsewhere : lines_for (codes "EASTRIG") night_schedule
     ∷ lt (codes "BRAYTON") no_text (codes "0020") (codes "0021") (codes "2") (codes "FL") ∷ []
 night_elsewhere = refl
 
--- of a train that calls at the place, all records are kept
+-- for a train that calls at the place, all records are kept
 night_here : lines_for place night_schedule ≡ night_schedule
 night_here = refl
 
@@ -87,7 +87,7 @@ kept_of_all = refl
 
 -- ---- two tables with different dockers
 
--- two dockers differ if one has a line on the day and the other has no line
+-- two dockers for a day differ if one of them has a line and the other has none
 differ : (whole wrong : Table) (day : ℕ) (line : DockerLine) → IsEventLine wrong place day line
     → ((other : DockerLine) → ¬ IsEventLine whole place day other) → ((other : DockerLine) → ¬ IsAssociationLine whole place day other)
     → ¬ ((lines : List DockerLine) → IsDockerList whole place day lines ↔ IsDockerList wrong place day lines)

@@ -30,7 +30,7 @@ none_good dks_2 = omega arith
 no_files_good : AreFiles []
 no_files_good = (All-nil IsFile, All-nil (λ file. length file ≤ most_records))
 
--- if an office knows no file and no horizon, its knowledge is good (`IsGoodKnown`)
+-- if an office knows no files and no horizon, its knowledge is good (`IsGoodKnown`)
 pub nothing_good : (format : Format) → IsGoodKnown format nothing
 nothing_good format = (no_files_good, none_good format)
 
@@ -57,8 +57,8 @@ file_good format text limit low file =
       none_good format,
     )
 
--- if a format allows a horizon, and an office knows only this horizon and no file, its knowledge is
--- good (`IsGoodKnown`)
+-- if a format allows a horizon, and an office knows only this horizon and no files, its knowledge
+-- is good (`IsGoodKnown`)
 pub horizon_good : (format : Format) (day : ℕ) → IsHorizonOf format day → IsGoodKnown format (record { files = []; horizon = day })
 horizon_good format day is = (no_files_good, is)
 

@@ -153,7 +153,7 @@ module _ (format : Format) (known : KnownSets) (states : List State) (messages :
       (raised_summary (office_known known office).files (office_known known office).horizon day (office_state states office) (office_is office there)))
 
 -- at the start of a run, states and messages match the knowledge (`Holds`), if each office's state
--- is the state of an office that knows no file and no horizon
+-- is the state of an office that knows no files and no horizon
 pub holds_at_first : (format : Format) (offices : ℕ) (states : List State) → length states ≡ offices → All (IsSummary [] 0) states
     → Holds format (none_known offices) states []
 holds_at_first format offices states long all = record {

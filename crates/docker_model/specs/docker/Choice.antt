@@ -101,7 +101,7 @@ pub record IsChosenAssociation (live : Table) (group : Group) (day : ℕ) (key :
   pub associated : IsAssociated live group day key line
   pub first : (other : AssociationKey) (others : List ℕ) → IsAssociated live group day other others → IsAtMost association_choice_cmp key other
 
--- a schedule by which a train may run: its key and its records
+-- a schedule according to which a train may run: its key and its records
 pub record Train : Type 0 where
   pub key : ScheduleKey
   pub lines : List (List ℕ)

@@ -6,7 +6,7 @@ use Rattle.docker_model.specs.file.Journey.{midnights}
 use Rattle.docker_model.specs.file.File.{IsFile, BeginsFile}
 use Rattle.docker_model.specs.file.Text.{lines_of}
 
--- the cause of a fault. The columns of a bad byte and of a bad field count from 1
+-- the cause of a fault. The columns of a bad byte and of a bad field are counted from 1
 pub data FileCause : Type 0 where
   too_many : FileCause
   after_trailer : FileCause

@@ -16,7 +16,7 @@ pub data Occasion : Type 0 where
   next_working : Occasion
   departure : Occasion
 
--- a list with one pair, the occasion and its time, or the empty list if there is no time
+-- the list with only the pair of the occasion and its time, or the empty list if there is no time
 abbrev pub timed : Occasion → Option ℕ → List (Occasion × ℕ)
 timed occasion None = []
 timed occasion (Some time) = (occasion, time) ∷ []

@@ -28,8 +28,8 @@ is_present_time field = is_clock field && ((slice_index field 4 == 72) || (slice
 abbrev pub is_scheduled_time : List ℕ → Bool
 is_scheduled_time field = is_blank field || is_present_time field
 
--- converts a scheduled time that is present, a field of five bytes, to half minutes since midnight:
--- `0715H` is 871
+-- converts a scheduled time to half minutes since midnight: `0715H` is 871. The field has five
+-- bytes and isn't blank
 abbrev pub half_minutes : List ℕ → ℕ
 half_minutes field = 2 * minute_of field + (if slice_index field 4 == 72 then 1 else 0)
 

@@ -73,7 +73,8 @@ is_end_date field = is_no_end field || is_date field
 abbrev pub end_number : List ℕ → ℕ
 end_number field = if is_no_end field then no_end_number else date_number field
 
--- whether seven bytes are a days-run field: each byte is `0` or `1`, for Monday to Sunday
+-- whether seven bytes are a days-run field: one byte for each day from Monday to Sunday, and each
+-- byte is `0` or `1`
 abbrev pub is_days : List ℕ → Bool
 is_days field = list_all (λ b. (b == 48) || (b == 49)) field
 

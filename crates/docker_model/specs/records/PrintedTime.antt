@@ -32,7 +32,7 @@ minute_text minute = two_digit_text (minute / 60) ++ two_digit_text (minute % 60
 abbrev pub time_text : ℕ → List ℕ
 time_text time = minute_text (time / 2) ++ (if time % 2 == 1 then codes "H" else codes " ")
 
--- converts a public time of four bytes to its printed form: `0000` means no public time, and
--- becomes four spaces
+-- converts a public time of four bytes to its printed form. `0000` means that there is no public
+-- time, and becomes four spaces. Any other time stays as it is
 abbrev pub shown_public : List ℕ → List ℕ
 shown_public field = if bytes_eq field (codes "0000") then spaces 4 else field

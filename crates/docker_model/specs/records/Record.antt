@@ -5,7 +5,7 @@ use Rattle.std.specs.Prelude.{◌-◌, slice_range, slice_index, [], ◌∷◌, 
 use Rattle.std.specs.List.{AllPass}
 use Rattle.std.specs.Str.{bytes_eq}
 
--- whether a record may contain this byte: the byte is from a space to a tilde
+-- whether a record may contain this byte: the byte lies between a space and a tilde, both included
 abbrev pub is_printable : ℕ → Bool
 is_printable b = nat_le 0x20 b && nat_le b 0x7E
 

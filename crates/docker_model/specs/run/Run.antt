@@ -27,7 +27,7 @@ pub data Refusal : Type 0 where
   no_memory : Refusal
   bad_file : (fault : FileFault) → Refusal
 
--- the reply to an event: either the event was carried out, or it was refused and has no effect
+-- the reply to an event: either the event was carried out, or it was refused and had no effect
 pub data Reply : Type 0 where
   done : Reply
   refused : (why : Refusal) → Reply
@@ -72,9 +72,9 @@ with_office known office now = record { offices = slice_set known.offices office
 
 -- the knowledge of all offices and messages after an event that was carried out. Taking a file adds
 -- the file to the office's knowledge. Sending a state makes a message with the office's knowledge.
--- Delivering a message adds the message's knowledge to the office's knowledge, and reloading a
--- message replaces the office's knowledge by the message's. Setting a horizon raises the office's
--- horizon, unless that horizon is already greater
+-- Delivering a message adds the message's knowledge to the office's knowledge. Reloading a message
+-- replaces the office's knowledge with the message's knowledge. Setting a horizon raises the
+-- office's horizon, unless that horizon is already greater
 abbrev pub after_done : KnownSets → RunEvent → KnownSets
 after_done known (take_file office text limit) =
     with_office known office (united (record { files = lines_of text ∷ []; horizon = 0 }) (office_known known office))

@@ -42,7 +42,7 @@ abbrev pub lapse_table : ℕ → Table → Table
 lapse_table horizon table key = option_and_then (unlapsed horizon) (table key)
 
 -- with this horizon, the program refuses to make a docker for the day: there is a horizon, and the
--- day is before the third day after it. For example, with the horizon 100 the first allowed day is
--- 103
+-- day is before the third day after the horizon. For example, with the horizon 100 the first
+-- allowed day is 103
 abbrev pub IsDayRefused : ℕ → ℕ → Type 0
 IsDayRefused horizon day = (0 < horizon) × (day < horizon + 3)

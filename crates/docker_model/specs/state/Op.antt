@@ -13,36 +13,36 @@ use Rattle.docker_model.specs.file.Change.{Body, tiploc_body, association_body, 
 use Rattle.docker_model.specs.state.Order.{bytes_cmp}
 use Rattle.docker_model.specs.state.Stamp.{Stamp, stamp_cmp}
 
--- the tag of a key, which is the first byte of the key in a state's text: 1 TIPLOC, 2 association,
--- 3 schedule
+-- the tag of a key, which is the first byte of the key in a state's text: 1 for a TIPLOC, 2 for an
+-- association, and 3 for a schedule
 abbrev pub key_tag : Key → ℕ
 key_tag (tiploc_key code) = 1
 key_tag (association_key key) = 2
 key_tag (schedule_key key) = 3
 
--- the tag of a body: 1 TIPLOC, 2 association, 3 schedule
+-- the tag of a body: 1 for a TIPLOC, 2 for an association, and 3 for a schedule
 abbrev pub body_tag : Body → ℕ
 body_tag (tiploc_body bytes) = 1
 body_tag (association_body line) = 2
 body_tag (schedule_body lines) = 3
 
 -- the order of association keys: by the base train's UID, the associated train's UID, the first
--- date, the timing point, the suffix and the STP indicator. Two well-formed keys compare like their
--- bytes in a state's text
+-- date, the timing point, the suffix and the STP indicator. Well-formed keys are in the same order
+-- as their bytes in a state's text
 abbrev pub association_key_cmp : AssociationKey → AssociationKey → Ordering
 association_key_cmp a b =
     ordering_then (bytes_cmp a.base b.base) (ordering_then (bytes_cmp a.associated b.associated)
     (ordering_then (nat_cmp a.start b.start) (ordering_then (bytes_cmp a.location b.location)
     (ordering_then (nat_cmp a.suffix b.suffix) (nat_cmp a.indicator b.indicator)))))
 
--- the order of schedule keys: by UID, runs-from date and STP indicator. Two well-formed keys
--- compare like their bytes in a state's text
+-- the order of schedule keys: by UID, runs-from date and STP indicator. Well-formed keys are in the
+-- same order as their bytes in a state's text
 abbrev pub schedule_key_cmp : ScheduleKey → ScheduleKey → Ordering
 schedule_key_cmp a b =
     ordering_then (bytes_cmp a.uid b.uid) (ordering_then (nat_cmp a.runs_from b.runs_from) (nat_cmp a.indicator b.indicator))
 
 -- the order of keys: TIPLOCs, then associations, then schedules. Each kind of key has its own
--- order. Two well-formed keys compare like their bytes in a state's text
+-- order. Well-formed keys are in the same order as their bytes in a state's text
 abbrev pub key_cmp : Key → Key → Ordering
 key_cmp (tiploc_key a) (tiploc_key b) = bytes_cmp a b
 key_cmp (tiploc_key a) (association_key b) = Less

@@ -85,9 +85,8 @@ pub record IsGreatestFull (items : List LedgerItem) (stamp : FileStamp) : Type 0
   pub stamped : full.stamp ≡ stamp
   pub greatest : (item : LedgerItem) → Contains items item → IsFull item → IsAtMost file_stamp_cmp item.stamp stamp
 
--- if the option is a file stamp, it belongs to the newest full extract among the items, and is
--- their floor. Files older than the floor don't count. If the option is `None`, no item is for a
--- full extract
+-- the option is the floor of the items: the file stamp of the newest full extract among them, or
+-- `None` if no item is for a full extract. Files older than the floor don't count
 abbrev pub IsFloor : List LedgerItem → Option FileStamp → Type 0
 IsFloor items None = HasNoFull items
 IsFloor items (Some stamp) = IsGreatestFull items stamp

@@ -89,7 +89,7 @@ pub record IsLedger (ledger : List LedgerItem) : Type 0 where
   pub is_floor : IsFloor ledger floor
   pub kept : All (λ item. IsKept floor item.stamp) ledger
 
--- the stamp's file is in the ledger, and the stamp's record number can be the number of a change:
+-- the stamp's file is in the ledger, and the stamp's record number is one that a change can have:
 -- from 2 to 4,294,967,294
 pub record IsStampIn (ledger : List LedgerItem) (stamp : Stamp) : Type 0 where
   pub in_ledger : Contains (map (λ (item : LedgerItem). item.stamp) ledger) stamp.file

@@ -1,5 +1,5 @@
--- The fault of bytes that aren't the text of a state in the given format: the first bad part, and
--- the cause.
+-- The fault of bytes that aren't the text of a state in the given format: an offset, which locates
+-- the first bad part, and a cause.
 use Rattle.std.specs.Prelude.{ℕ, List, ◌≤◌, ◌≡◌, ◌+◌, [], ◌∷◌, ◌++◌, slice_index, ◌≢◌, length, ◌<◌, ◌⊎◌}
 use Rattle.std.specs.Int.{w32, from_be_bytes, w16}
 use Rattle.docker_model.specs.records.Record.{IsTextOfLength}
@@ -50,9 +50,9 @@ IsBadKey state key bad_body = ¬ IsGoodKey key
 IsBadKey state key bad_order = IsGoodKey key × ¬ IsAboveEntries state key
 IsBadKey state key _ = ⊥
 
--- the bytes are good as the body of an entry for this key. For a schedule they are only the number
--- of its lines, since each line is a separate part. An association must not have ended before the
--- state's horizon
+-- the bytes are a good body part of an entry with this key. The body part of a schedule is only the
+-- number of its lines, since each line is a separate part. An association must not have ended
+-- before the state's horizon
 abbrev pub IsBodyPart : State → Key → List ℕ → Type 0
 IsBodyPart state (tiploc_key code) bytes = IsTextOfLength 63 bytes
 IsBodyPart state (association_key key) bytes = IsAssociationOf key bytes × (state.horizon ≤ body_end (association_body bytes))
@@ -129,8 +129,7 @@ pub record HasTail (format : Format) (limit : ℕ) (text : List ℕ) (fault : St
   pub cause : fault.cause ≡ has_tail
   pub end_at : fault.at ≡ length (state_text format state)
 
--- the text, read as a state in this format, has this fault, if the text may have at most `limit`
--- bytes
+-- the text, read as a state in this format with a limit of `limit` bytes, has this fault
 abbrev pub IsStateFault : Format → ℕ → List ℕ → StateFault → Type 0
 IsStateFault format limit text fault =
     HasBadPart format limit text fault ⊎ IsLong format limit text fault ⊎ IsShort format limit text fault ⊎ HasTail format limit text fault

@@ -74,8 +74,8 @@ text_before format before = items_before format before ++ parts_before before
 abbrev pub key_width : ℕ → ℕ
 key_width tag = if tag == 1 then 7 else (if tag == 2 then 23 else 9)
 
--- the number of bytes of a body under this key. For a schedule the result is 4, since the number of
--- its lines has four bytes
+-- how many bytes the body part of an entry with this key has. For a TIPLOC or an association, this
+-- part is the whole body. For a schedule, it is only the number of lines, which has four bytes
 abbrev pub body_width : Key → ℕ
 body_width (tiploc_key code) = 63
 body_width (association_key key) = 80

@@ -9,7 +9,7 @@ use Rattle.docker_model.specs.state.Stamp.{FileStamp, LedgerItem, Stamp}
 use Rattle.docker_model.specs.state.Op.{Op, deleted, lapsed, put_with, Entry, key_tag}
 use Rattle.docker_model.specs.state.State.{State, IsValid}
 
--- the two formats, named by their marks
+-- the two formats, named after their marks
 pub data Format : Type 0 where
   dks_1 : Format
   dks_2 : Format
@@ -133,8 +133,8 @@ abbrev pub TellsOp : Format → Op → Type 0
 TellsOp dks_1 lapsed = ⊥
 TellsOp _ _ = ⊤
 
--- the op of an entry in this format may begin with this byte. 0 is for deleted, 1 for a put, and in
--- DKS2 also 2 for lapsed
+-- the op of an entry in this format may begin with this byte. The byte is 0 for a deletion and 1
+-- for a put. In DKS2 it may also be 2, for a lapse
 abbrev pub IsOpByte : Format → ℕ → Type 0
 IsOpByte dks_1 byte = (byte ≡ 0) ⊎ (byte ≡ 1)
 IsOpByte dks_2 byte = (byte ≡ 0) ⊎ (byte ≡ 1) ⊎ (byte ≡ 2)

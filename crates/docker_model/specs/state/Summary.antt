@@ -8,8 +8,8 @@ use Rattle.docker_model.specs.state.Op.{Entry, entry_cmp, op_of}
 use Rattle.docker_model.specs.state.Lapse.{lapse_entry}
 use Rattle.docker_model.specs.state.State.{State, AreAscending}
 
--- if the option is a file stamp, it belongs to the newest full extract in the set of files, and is
--- the floor of the set. If the option is `None`, the set has no full extract
+-- the option is the floor of the set of files: the file stamp of the newest full extract in the
+-- set, or `None` if the set has no full extract
 abbrev pub IsFloorOf : List (List (List ℕ)) → Option FileStamp → Type 0
 IsFloorOf files floor = IsFloor (map ledger_item_of files) floor
 

@@ -34,7 +34,8 @@ abbrev pub is_full : List (List ℕ) → Bool
 is_full file = (ledger_item_of file).indicator == 70
 
 -- the last full extract and the files after it, or all files if there is no full extract. For
--- example, of an update, a full extract and another update, the result has the last two
+-- example, if the files are an update, a full extract and another update, the result has the last
+-- two
 abbrev pub from_last_full : List (List (List ℕ)) → List (List (List ℕ))
 from_last_full [] = []
 from_last_full (file ∷ files) = if list_any is_full files then from_last_full files else file ∷ files

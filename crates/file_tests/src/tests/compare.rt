@@ -9,8 +9,8 @@ pub(super) fn same<T: PartialEq + Debug + Drop>(rt: &impl Abort, got: T, wanted:
     assert_eq!(rt; got, wanted);
 }
 
-/// Asserts that two values are equal. If they aren't, the message of the failure shows this name,
-/// which says in which row of a table the values are.
+/// Asserts that two values are equal. If they aren't, the failure message shows this name, which
+/// identifies the row of a table that the values belong to.
 pub(super) fn same_in<T: PartialEq + Debug + Drop>(rt: &impl Abort, name: &str, got: T, wanted: T) {
     assert_eq!(rt; got, wanted, "{name}");
 }

@@ -1,4 +1,4 @@
-//! Tests of which changes of a file are kept for the docker of one place on one day.
+//! Tests that check which changes of a file are kept for the docker of one place on one day.
 
 use super::compare::same_in;
 use cif_file::{Act, Body, read_thin};

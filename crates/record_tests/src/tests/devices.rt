@@ -6,8 +6,8 @@ use super::compare::{prints, same};
 use cif_line::{Bytes, Endless, Failed, Fuse, Kept, Memory, Sink, Source, write_all};
 use std::process::Abort;
 
-// Asserts that a device has failed this many times. The clause then proves that one more failure
-// can be counted, which the contract of the device's next call requires.
+// Asserts that a device has failed this many times. From the clause, the prover concludes that the
+// device can count another failure, which the contract of the device's next call requires.
 fn failures_are(rt: &impl Abort, failures: u64, wanted: u64)
     ensures { failures ≡ wanted }
 {

@@ -33,7 +33,8 @@ fn faults_in_words(rt: HostRuntime) {
     prints(&rt, rt.alloc(), LineFault::Byte(20), "Byte 20");
 }
 
-// Asserts that a byte is printable, or that it isn't, in each of the 80 columns.
+// Asserts that a line may have this byte in each of the 80 columns. If `printable` is false,
+// asserts instead that the byte is refused in each column.
 fn byte_is(rt: &impl Abort, byte: u8, printable: bool) {
     for column in 0..80usize {
         let mut bytes = [b'A'; 80];

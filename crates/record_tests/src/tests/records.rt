@@ -80,8 +80,8 @@ fn terminus_of<'a>(rt: &impl Abort, line: &'a Line) -> Terminus<'a> {
     }
 }
 
-// Asserts the leftmost bad field of the line with this text at its start, this byte in column 80,
-// and spaces between them.
+// Asserts which field is the leftmost bad field of a line. The line has this text at its start,
+// this byte in column 80, and spaces between them.
 fn bad_field_is(rt: &impl Abort, text: &[u8], last: u8, wanted: Option<u8>) {
     let line = record(rt, text, last);
     let fault = match kind(&line) {

@@ -16,8 +16,8 @@ use Rattle.cif_laws.proofs.records.Builders.{f2_basic, f2_schedule}
 use Rattle.state_laws.proofs.examples.StateExamples.{f2_item, end_of_f2}
 use Rattle.state_laws.proofs.examples.SummaryExamples as plain
 
--- the schedule ends on 14 June, day 23541. With the horizon 14 June the schedule is live, and with
--- the horizon 15 June it has lapsed
+-- the schedule in the example file ends on 14 June, day 23541. With the horizon 14 June it is live,
+-- and with the horizon 15 June it has lapsed
 lives : lapse 23541 (put_with (schedule_body f2_schedule)) ≡ put_with (schedule_body f2_schedule)
 unfolding days_from_civil day_count days_of_years days_of_months
 lives = refl
@@ -100,7 +100,8 @@ other_mark = inl (record {
   item_at = refl;
 })
 
--- a text whose horizon is after the last day has the fault `bad_horizon`
+-- a text whose horizon is after 31 December 2059, the last day with a day number (36524), has the
+-- fault `bad_horizon`
 high_horizon : IsStateFault dks_2 1000 (codes "DKS2" ++ 0x8e ∷ 0xad ∷ drop 6 text) (record { at = 4; cause = bad_horizon })
 high_horizon = inl (record {
   before = before_horizon;

@@ -1,6 +1,7 @@
 -- Worked examples of key order and byte order. In three examples the two orders differ. In the
--- first the tag is left out. In the second the low byte of a number comes first. In the third the
--- keys are such that no record can have them.
+-- first example, the bytes of the keys lack the tag, which is the byte for the kind of a key. In
+-- the second, the low byte of a number comes first. In the third, the keys have UIDs of different
+-- lengths, which no record can have.
 use Rattle.std.proofs.Common.{◌≡◌, ℕ, List, ◌∷◌, refl}
 use Rattle.std.specs.Prelude.{codes}
 use Rattle.std.specs.Int.{w16, to_le_bytes}

@@ -55,14 +55,16 @@ empty_text = refl
 length_of_text : length (state_text dks_1 f2_state) ≡ 309
 length_of_text = refl
 
--- the text starts with the mark, the number of ledger items, the item, and the number of entries
+-- the text of the example state starts with the mark, the number of ledger items, the ledger item,
+-- and the number of entries
 start_of_text : take 39 (state_text dks_1 f2_state)
     ≡ codes "DKS1" ++ (0 ∷ 0 ∷ 0 ∷ 0 ∷ 0 ∷ 0 ∷ 0 ∷ 1 ∷ [])
     ++ (0x5b ∷ 0xf0 ∷ 0x04 ∷ 0xec ∷ 0x44 ∷ 0x46 ∷ 0x52 ∷ 0x4f ∷ 0x43 ∷ 0x31 ∷ 0x41 ∷ 0x55 ∷ 0x44 ∷ 0x46 ∷ 0x52 ∷ 0x4f ∷ 0x43 ∷ 0x31 ∷ 0x5a ∷ [])
     ++ (0 ∷ 0 ∷ 0 ∷ 0 ∷ 0 ∷ 0 ∷ 0 ∷ 1 ∷ [])
 start_of_text = refl
 
--- the entry starts with its tag, key, stamp, op and number of lines
+-- in the text of the example state, the entry starts with its tag, key, stamp, op and number of
+-- lines
 start_of_entry : slice_range (state_text dks_1 f2_state) 39 69
     ≡ (3 ∷ 0x43 ∷ 0x31 ∷ 0x30 ∷ 0x30 ∷ 0x30 ∷ 0x31 ∷ 0x5b ∷ 0xf1 ∷ 0x50 ∷ [])
     ++ (0x5b ∷ 0xf0 ∷ 0x04 ∷ 0xec ∷ 0x44 ∷ 0x46 ∷ 0x52 ∷ 0x4f ∷ 0x43 ∷ 0x31 ∷ 0x41 ∷ 0 ∷ 0 ∷ 0 ∷ 2 ∷ [])
@@ -72,7 +74,8 @@ start_of_entry = refl
 lines_in_text : drop 69 (state_text dks_1 f2_state) ≡ concat f2_schedule
 lines_in_text = refl
 
--- the item, the key and the stamp can be decoded from their bytes in the text
+-- the ledger item, the key and the stamp can be decoded from their bytes in the text of the example
+-- state
 item_again : item_in (slice_range (state_text dks_1 f2_state) 12 31) ≡ f2_item
 item_again = refl
 

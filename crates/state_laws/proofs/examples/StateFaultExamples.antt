@@ -147,7 +147,8 @@ op_two = inl (record {
     no_op (inl e) = omega arith
     no_op (inr e) = omega arith
 
--- a text has the fault `too_long` if the limit is one byte before the end of its last line
+-- the example text has the fault `too_long` if the limit is one byte less than the length of the
+-- text
 too_long_by_one : IsStateFault dks_1 308 text (record { at = 308; cause = too_long })
 too_long_by_one = inr (inl (record {
   before = in_entry 1 without_entry (before_line f2_key (record { file = f2_item.stamp; number = 2 }) 3 (f2_basic ∷ f2_origin ∷ []));

@@ -54,7 +54,7 @@ join_from_either own other joined up_own up_other join key = by (entry_at joined
         let told = (join.entries key entry).0 ((entry_at_iff joined join.entries_ascend key entry).0 is) in
         pick told.0 entry is told.3 (lapsed_body joined.horizon told.0.op) (Contains-append_cases own.entries other.entries (key, told.0) told.1.among)
 
--- at each key the lapsed table has the body of the table, or no body
+-- at each key, a table after lapsing has the body that it had before lapsing, or no body
 pub lapse_from_either : (horizon : ℕ) (live : Table) → IsFromEither live live (lapse_table horizon live)
 lapse_from_either horizon live key = by (live key) refl
   where

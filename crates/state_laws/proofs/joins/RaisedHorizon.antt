@@ -88,8 +88,8 @@ none_to_lapse entries = All-from_recursion (λ (entry : Keyed). HasNotToLapse 0 
     each [] = tt
     each (x ∷ xs) = (none_has_to x.1.op, each xs)
 
--- without a horizon, `state` is the summary of the files: for each key it has the greatest entry
--- that the files that count make, and no entry has lapsed
+-- `state` is the summary of the files without a horizon. For each key it has the greatest entry
+-- from the files that aren't below the floor, and no entry has lapsed
 pub record IsPlainSummary (files : List (List (List ℕ))) (state : State) : Type 0 where
   pub no_horizon : state.horizon ≡ 0
   pub floor : Option FileStamp

@@ -1,5 +1,6 @@
--- An office is offered all entries of a received state for staging, and commits the staged entries.
--- The result is the join of its own state with the received state without its horizon.
+-- All entries of a received state are passed to an office for staging, and the office commits the
+-- staged entries. The result is the join of the office's state with the received state without the
+-- received horizon.
 use Rattle.std.proofs.Common.{◌≡◌, ℕ, List, ◌++◌, ap, sym, ◌∙◌, subst, inl, inr, ◌⊎◌, Some, None, Contains}
 use Rattle.std.specs.Prelude.{Option}
 use Rattle.std.specs.declared.cmp.Ordering.TheVariants.{Equal}

@@ -1,5 +1,5 @@
--- Lemmas on how a floor and a horizon affect entries. If an entry isn't below the floor, no entry
--- that is greater than it is below the floor. Lapsing preserves the key order of entries.
+-- Lemmas on how a floor and a horizon affect entries. If an entry isn't below the floor, no greater
+-- entry is below the floor. Lapsing preserves the key order of entries.
 use Rattle.std.proofs.Common.{◌≡◌, ℕ, ◌<◌, ◌≤◌, List, [], ◌∷◌, subst, inl, inr, ◌⊎◌, refl, sym, ◌∙◌, Some, None}
 use Rattle.std.specs.Prelude.{Option}
 use Rattle.std.specs.List.{AllByRecursion}

@@ -146,7 +146,7 @@ lapse_entry_keeps_order horizon a b most = by (stamp_cmp a.stamp b.stamp) most
     by Equal told = lapse_keeps_order horizon a.op b.op told
     by Greater told = told
 
--- ---- lapsing of entries has the same laws as lapsing of ops
+-- ---- the laws for lapsing an op also hold for lapsing an entry
 
 -- lapsing an entry with one horizon and then with another equals lapsing it with the greater of the
 -- two horizons

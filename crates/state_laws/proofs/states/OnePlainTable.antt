@@ -15,7 +15,7 @@ some_plain_table files distinct =
     let order = moment_order files distinct in
     (after_files empty_table (from_last_full order.0), record { ordered = order.0; order = order.1; is = λ key. refl })
 
--- files have at most one plain table
+-- a set of files has at most one plain table
 pub one_plain_table : (files : List (List (List ℕ))) (one two : Table) → IsPlainTable files one → IsPlainTable files two → one ≡ two
 one_plain_table files one two first second =
     let ordered = same_list (on_total moment_of moment_total) first.ordered second.ordered first.order.ascending second.order.ascending

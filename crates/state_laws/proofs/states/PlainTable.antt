@@ -295,7 +295,7 @@ suffix_ascends (first ∷ files) up = by (list_any is_full files) (suffix_ascend
     by true rest = rest
     by false rest = up
 
--- ---- a file isn't below the floor if and only if no full extract is newer
+-- ---- a file isn't below the floor if and only if no full extract is newer than the file
 
 full_item : (file : List (List ℕ)) → is_full file ≡ true → IsFull (ledger_item_of file)
 full_item file full = eqb-true (ledger_item_of file).indicator 70 full
@@ -398,7 +398,7 @@ find_in (first ∷ entries) key = by (is_eq (key_cmp first.0 key)) refl (find_in
         no entry (inl e) = other_key first.0 key h (ap (λ (pair : Keyed). pair.0) e)
         no entry (inr inside) = none.1 entry inside
 
--- entries in key order have at most one entry for each key
+-- a list of entries in key order has at most one entry for each key
 pub one_per_key : (entries : List Keyed) → IsStrictlyAscending (on (λ (entry : Keyed). entry.0) key_cmp) entries → (key : Key) (first second : Entry)
     → Contains entries (key, first) → Contains entries (key, second) → first ≡ second
 one_per_key [] up key first second in_first in_second = absurd (nil-Contains (key, first) in_first)

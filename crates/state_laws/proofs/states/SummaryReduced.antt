@@ -42,8 +42,8 @@ below_kept (Some floor) low high kept = by (at_most_or file_stamp_total floor lo
         (op_cmp low.op high.op)))
 
 module _ (files : List File) (floor : Option FileStamp) (key : Key) where
-  -- if the file stamp of a file isn't below the floor, each entry that its changes make is among
-  -- the entries of all files. The file stamp of this entry isn't below the floor
+  -- if a file isn't below the floor, each entry that the file's changes make is among the entries
+  -- of all files, and the entry isn't below the floor either
   pub entry_in : (entry : Entry) → IsEntryOf files floor key entry → Contains (entries_along files) (key, entry) × IsKept floor entry.stamp.file
   entry_in entry made =
       let pair : entry_of_change made.file made.change ≡ (key, entry) = (λ i. (made.key_is i, made.entry_is i)) in (
@@ -52,8 +52,7 @@ module _ (files : List File) (floor : Option FileStamp) (key : Key) where
         subst (λ (e : Entry). IsKept floor e.stamp.file) made.entry_is made.kept.kept,
       )
 
-  -- if the file stamp of an entry isn't below the floor, a change of a file whose stamp isn't below
-  -- the floor makes this entry
+  -- an entry that isn't below the floor comes from a change of a file that isn't below the floor
   pub entry_out : (entry : Entry) → Contains (entries_along files) (key, entry) → IsKept floor entry.stamp.file → IsEntryOf files floor key entry
   entry_out entry among kept =
       let found = Contains-flat_map entries_of files (key, entry) among in
@@ -68,8 +67,8 @@ module _ (files : List File) (floor : Option FileStamp) (key : Key) where
         entry_is = is;
       }
 
-  -- if an entry is the greatest that the files that count make for a key, it is the greatest that
-  -- any of the files make for the key. It isn't below the floor
+  -- if an entry is a key's greatest entry from the files that aren't below the floor, it is the
+  -- key's greatest entry from all files. It isn't below the floor
   pub greatest_forth : (entry : Entry) → IsGreatestEntryOf files floor key entry → IsGreatestAmong (entries_along files) key entry
       × IsKept floor entry.stamp.file
   greatest_forth entry best =
@@ -81,8 +80,8 @@ module _ (files : List File) (floor : Option FileStamp) (key : Key) where
       by other among (inl kept) = best.greatest other (entry_out other among kept)
       by other among (inr low) = low
 
-  -- if the greatest entry that any of the files make for a key isn't below the floor, it is the
-  -- greatest that the files that count make for the key
+  -- if a key's greatest entry from all files isn't below the floor, it is the key's greatest entry
+  -- from the files that aren't below the floor
   pub greatest_back : (entry : Entry) → IsGreatestAmong (entries_along files) key entry → IsKept floor entry.stamp.file
       → IsGreatestEntryOf files floor key entry
   greatest_back entry best kept = record {

@@ -1,4 +1,4 @@
--- A text has at most one fault. The text of a state within the limit has none.
+-- A text has at most one fault. If a state's text is within the limit, it has no fault.
 use Rattle.std.proofs.Common.{◌≡◌, ℕ, ◌+◌, ◌≤◌, List, [], ◌∷◌, ◌++◌, length, refl, ap, sym, ◌∙◌}
 use Rattle.std.proofs.Common.{subst, inl, inr, arith, append_assoc, append-nil, length-append}
 use Rattle.docker_model.specs.file.Change.{Key}
@@ -13,7 +13,7 @@ use Rattle.docker_model.specs.state.StateFault.{IsBadEntryPart, IsBadPart, HasBa
 use Rattle.cif_laws.proofs.lists.Fronts.{same_front}
 use Rattle.state_laws.proofs.texts.TextsApart.{same_end, IsStopped, one_stop, stop_of_bad, stop_of_long, stop_of_short, stop_at_end}
 
--- a bad item has at most one cause
+-- an item is bad for at most one cause
 one_item_cause : (ledger : List LedgerItem) (item : LedgerItem) (first second : StateCause) → IsBadItem ledger item first → IsBadItem ledger item second
     → first ≡ second
 one_item_cause ledger item bad_item bad_item one two = refl

@@ -101,8 +101,8 @@ lines_front key n front rest some are within =
     by [] low whole done = subst IsSchedule (append-nil front) (done (ap length (append-nil front) ∙ whole))
     by (line ∷ more) low whole done = let size = length-append front (line ∷ more) in absurd (omega arith)
 
--- if the lines of a schedule don't have to lapse, a prefix of these lines that isn't empty doesn't
--- have to lapse either
+-- if the lines of a schedule don't have to lapse, a non-empty prefix of these lines doesn't have to
+-- lapse either
 front_stays : (state : State) (front rest : List (List ℕ)) → 0 < length front → HaveNotToLapse state (front ++ rest) → HaveNotToLapse state front
 front_stays state front rest some stays = subst (λ line. state.horizon ≤ readable_end (columns 16 21 line)) (first_of_front front rest some) stays
 

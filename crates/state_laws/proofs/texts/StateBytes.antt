@@ -1,5 +1,5 @@
--- Decoding bytes and encoding the result gives the same bytes, if the number of bytes is right for
--- what is decoded.
+-- Decoding bytes as a number, a ledger item, a stamp or a key, and encoding the result again, gives
+-- the same bytes. The number of bytes must be the number that such a value has.
 use Rattle.std.proofs.Common.{◌≡◌, ℕ, zero, suc, ◌<◌, ◌^◌, List, [], ◌∷◌, ◌++◌, length, take, drop, get_or, refl, ap, sym, subst, inl, inr, arith}
 use Rattle.std.specs.Prelude.{slice_index, slice_range}
 use Rattle.std.specs.List.{AllByRecursion}

@@ -1,5 +1,5 @@
--- Decoding is inverse to encoding, for ledger items, keys and stamps. The lemmas also say how many
--- bytes an item, a key and a stamp have.
+-- Decoding is the inverse of encoding, for ledger items, keys and stamps. The lemmas also say how
+-- many bytes an item, a key and a stamp have.
 use Rattle.std.proofs.Common.{◌≡◌, ℕ, suc, ◌+◌, ◌-◌, ◌<◌, ◌^◌, List, [], ◌∷◌, ◌++◌, length, take, drop}
 use Rattle.std.proofs.Common.{refl, ap, ◌∙◌, subst, arith, append_assoc, length-append, Contains}
 use Rattle.std.specs.Prelude.{slice_index, slice_range}

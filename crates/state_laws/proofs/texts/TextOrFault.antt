@@ -1,5 +1,5 @@
--- Each text is the text of a state within the limit, or has a fault. The proof walks over the parts
--- of the text.
+-- Each text either has a fault, or is within the limit and is the text of a state. The proof walks
+-- over the parts of the text.
 use Rattle.std.proofs.Common.{◌≡◌, ℕ, zero, suc, ◌+◌, ◌<◌, ◌≤◌, List, [], ◌∷◌, ◌++◌, length, take, drop, refl, ap}
 use Rattle.std.proofs.Common.{sym, ◌∙◌, subst, inl, inr, ◌⊎◌, arith, append_assoc, append-nil, length-append, All}
 use Rattle.std.proofs.lemmas.List.{take-append-drop, length-take-le}
@@ -44,7 +44,7 @@ end_or_part format (before_entry_count horizon ledger) good = inr (omega arith)
 end_or_part format (in_entry count state part) good = inr (part_some state part good.4)
 end_or_part format (at_end state) good = inl (state, refl)
 
--- the text is the text of a state within the limit, or has a fault
+-- the text is within the limit and is the text of a state, or it has a fault
 abbrev pub Answer : (format : Format) → ℕ → List ℕ → Type 0
 Answer format limit text = ((state : State) × IsStateText format limit text state) ⊎ ((fault : StateFault) × IsStateFault format limit text fault)
 
@@ -205,7 +205,7 @@ walk format limit text zero before rest told few = one_step_on format limit text
 walk format limit text (suc steps) before rest told few =
     one_step_on format limit text before rest told (λ after more further less. walk format limit text steps after more further (omega arith))
 
--- each list of bytes is the text of a state within the limit, or has a fault
+-- each list of bytes either is within the limit and is the text of a state, or has a fault
 pub text_or_fault : (format : Format) → (limit : ℕ) (text : List ℕ) → All (λ b. b < 256) text → Answer format limit text
 text_or_fault format limit text small =
     walk format limit text (length text) before_mark text

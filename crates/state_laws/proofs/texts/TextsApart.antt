@@ -100,8 +100,9 @@ one_stop format limit text first second one two = by (both_in_line format text f
     by (inr (inl later)) = absurd (one.stops second two.rest later two.whole two.within)
     by (inr (inr later)) = absurd (two.stops first one.rest later one.whole one.within)
 
--- the text before a later stage has three pieces: the text before the earlier stage, the part that
--- comes next there, and the bytes from there to the later stage. Its length is the sum of theirs
+-- the text before a later stage has three pieces. The first is the text before the earlier stage,
+-- and the second is the part that comes next at the earlier stage. The third has all bytes between
+-- this part and the later stage. The length of the text is the sum of the three lengths
 pub later_size : (format : Format) → (before after : Before) (later : IsLater format before after)
     → length (text_before format before) + width before + length later.more ≡ length (text_before format after)
 later_size format before after later =

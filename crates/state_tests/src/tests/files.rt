@@ -246,8 +246,8 @@ fn joined_again(
     }
 }
 
-/// Makes the state of a file of five records and one change. If memory runs out, makes it from the
-/// file that the call has returned.
+/// Makes the state of a file with five records and one change. If memory runs out, makes it from
+/// the file that the call has returned.
 fn of_file_again(rt: &impl Abort, alloc: Global, file: CifFile) -> State {
     match State::of_file(alloc, file) {
         Ok(state) => state,

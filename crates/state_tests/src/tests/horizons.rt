@@ -93,8 +93,8 @@ fn a_horizon_between_two_files(rt: HostRuntime) {
     lapses(&rt, alloc, (REVISION, none), (OLDER, none), day);
 }
 
-/// What is shown for a deletion and a schedule without an end if the horizon is the last possible
-/// day.
+/// What is shown if the horizon is the last possible day. The file has a timing point, an
+/// association and a schedule without an end, and a deletion.
 const WITHOUT_END: &[&[u8]] = &[
     b"horizon 36524",
     b"item 23536 1260 DFROC1A U DFROC1Z",

@@ -1,4 +1,4 @@
-//! Indexes of rows: which schedules call and which associations are linked at which places, which
+//! Indexes of rows: which schedules call at a place and which associations are there, which
 //! postings a lapse removes, and what the index of a join contains.
 
 use super::compare::same;
@@ -132,8 +132,8 @@ fn indexed(rt: &impl Abort, alloc: Global, table: &Table<Entry>) -> Index {
     Index::of_rows(room, notes, rows)
 }
 
-/// Makes the index of the join of the tables `timetable` and `update`, without the entries below a
-/// floor.
+/// Makes the index of the table `timetable` joined with the table `update`. Entries below the floor
+/// are left out.
 fn joined(rt: &impl Abort, alloc: Global, floor: &Option<FileStamp>) -> Index {
     let own = timetable(rt, alloc);
     let other = update(rt, alloc);
@@ -163,8 +163,8 @@ fn postings_are(rt: &impl Abort, index: &Index, postings: &[Posting], wanted: &[
     }
 }
 
-/// Asserts that an index has these calls, each given as a place and a row. Its only posting of an
-/// association has the place Colwell and the first row.
+/// Asserts that an index has these calls, each given as a place and a row. Also asserts that the
+/// index has only one posting of an association, with the place Colwell and the first row.
 fn index_is(rt: &impl Abort, index: &Index, calls: &[(&str, u32)]) {
     postings_are(rt, index, index.calls.as_slice(), calls);
     postings_are(rt, index, index.links.as_slice(), &[("COLWELL", 0)]);

@@ -9,7 +9,7 @@ use std::alloc::Global;
 use std::process::Abort;
 use test_records::{BS_DELETED, HD, ZZ};
 
-/// Asserts that the entry with this key was added last.
+/// Asserts that the entry added last has this key. For `None`, asserts that no entry was added.
 fn last_is(rt: &impl Abort, parts: &Parts, wanted: Option<Key>) {
     same(rt, parts.last().copied(), wanted);
 }

@@ -21,8 +21,9 @@ fn add_found(rt: &impl Abort, alloc: Global, text: &mut Vec<u8>, key: &Key, body
     add_body(rt, text, body);
 }
 
-/// Appends the rows found at a place to a text. Each row is shown with a word, and with its index
-/// among the rows, from 0. The contracts promise nothing about this index: it is only a hint.
+/// Appends the rows found at a place to a text. Each row is shown with `word`, and with its index
+/// among all rows of the state, counted from 0. The contracts promise nothing about this index: it
+/// is only a hint.
 fn add_place_rows(
     rt: &impl Abort,
     alloc: Global,
@@ -145,7 +146,7 @@ fn places(rt: HostRuntime) {
     found_is(&rt, alloc, &lapsed, "COLWELL", &[]);
 }
 
-/// The state of a file of these records, without an index.
+/// The state of a file with these records, without an index.
 fn unindexed(rt: &impl Abort, alloc: Global, records: &[&[u8]]) -> State {
     let text = text(alloc, records, b"\n").expect(rt, "memory");
     let mut source = Bytes::new(text.as_slice(), 4096);

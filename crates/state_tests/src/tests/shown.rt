@@ -117,7 +117,7 @@ fn add_ledger(rt: &impl Abort, alloc: Global, text: &mut Vec<u8>, ledger: &[Ledg
     }
 }
 
-/// Appends rows to a text, each a key with its entry.
+/// Appends rows, each a key with its entry, to a text.
 fn add_rows(rt: &impl Abort, alloc: Global, text: &mut Vec<u8>, rows: &[(Key, Entry)]) {
     for row in rows {
         add_row(rt, alloc, text, row);

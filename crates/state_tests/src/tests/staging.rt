@@ -82,8 +82,8 @@ fn receive(rt: &impl Abort, alloc: Global, own: &mut State, other: &State) -> u6
     count
 }
 
-/// Receives another state. Asserts how many entries were staged, and how the state is shown after
-/// the commit.
+/// Receives another state into `own`. Asserts how many entries were staged, and how `own` is shown
+/// after the commit.
 fn receive_is(
     rt: &impl Abort,
     alloc: Global,
@@ -96,8 +96,9 @@ fn receive_is(
     state_is(rt, alloc, own, lines);
 }
 
-/// Receives the state of a file twice. Asserts how many entries are staged the first time, that
-/// none is staged the second time, and how the state is shown after each time.
+/// Receives the state of a file into `own` twice. Asserts how many entries are staged the first
+/// time, and that no entry is staged the second time. Also asserts how `own` is shown after each
+/// time.
 fn received_is(
     rt: &impl Abort,
     alloc: Global,

@@ -78,7 +78,7 @@ fn takes(rt: &impl Abort, alloc: Global, state: &State, room: usize, wanted: Opt
     );
 }
 
-/// Five lines of 81 bytes are 405 bytes. A sink with less room gains the prefix that fits.
+/// Five lines of 81 bytes are 405 bytes. A sink with less room takes only the prefix that fits.
 #[test]
 fn full_sink(rt: HostRuntime) {
     let state = joined(&rt, rt.alloc(), &[WEEK]);

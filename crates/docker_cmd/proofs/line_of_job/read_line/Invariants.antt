@@ -3,7 +3,7 @@ use Rattle.cif_device.specs.Device.{Reads}
 use Rattle.docker_cmd.proofs.LineOfJobLemmas.{ArePrintable}
 use Rattle.docker_cmd.proofs.line_of_job.read_line.Given as goal
 
--- the line consists of the bytes read so far, one byte per turn of the loop
+-- the line consists of the bytes read so far, one byte per iteration of the loop
 abbrev pub invariant-loop : goal.invariant-loop
 invariant-loop g l = record {
   so_far : Reads (g.S.Source.left l.fn.source) l.line.items (g.S.Source.left l.source);

@@ -4,7 +4,8 @@ use Rattle.docker_model.specs.state.StateText.{entry_bytes}
 use Rattle.docker_state.specs.Meaning.{row_meant}
 use Rattle.state_text.proofs.length.rows_len.Given as goal
 
--- the sum is the length of the entries before the current entry
+-- `total` is the length in bytes of the text of all entries before the current entry, and is at
+-- most 2 ^ 41 times the number of these entries
 abbrev pub invariant-loop-row : goal.invariant-loop-row
 invariant-loop-row l = record {
   value : l.total ≡ length (flat_map entry_bytes (map row_meant (take l.row-index l.rows)));

@@ -1,4 +1,4 @@
--- A read never fails, so the clauses on failures hold, which every source must satisfy.
+-- A read never fails. So the clauses on failures, which every source must satisfy, hold.
 use Rattle.std.proofs.Common.{Some, ap, refl}
 use Rattle.cif_device.proofs.memory.BytesSource.TheImpl.Goals as goal
 

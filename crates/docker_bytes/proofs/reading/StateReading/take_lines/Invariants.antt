@@ -1,5 +1,6 @@
--- The bytes before the rest have been read, and the next part is a line. The remaining lines lie
--- whole in the rest and within the limit, and the schedule's last line isn't among them.
+-- The bytes before the rest have been read, and the next part is a line. The rest contains all
+-- bytes of the `more` lines that the loop still takes. These lines are within the limit, and the
+-- schedule's last line isn't among them.
 use Rattle.std.proofs.Common.{◌≡◌, ◌+◌, ◌-◌, ◌*◌, ◌≤◌, [], ◌++◌, length}
 use Rattle.docker_bytes.specs.StateReading.{ReadsOn, IsLineOf}
 use Rattle.docker_bytes.proofs.ReadingLemmas.{before_rest}

@@ -1,5 +1,5 @@
--- Thin changes of a file are made for one place and day. Each docker of the state that they make, for this place and day, is a docker of the state of the whole
--- file.
+-- The thin changes of a file are made for one place and one day, and they result in a state. Each
+-- docker of this state for this place and day is also a docker of the whole file's state.
 use Rattle.std.proofs.Common.{ap, sym, ◌∙◌, subst}
 use Rattle.docker_excerpt.specs.Values.{Excerpt, with_entries, StandsAt}
 use Rattle.docker_excerpt.proofs.ThinExcerpt.{given_is_state, state_is_summary, thin_stands}

@@ -1,5 +1,5 @@
--- `then` appends the event of the note to the history. The proof assumes `Logic`, the kit's laws of
--- memory.
+-- `then` takes a note, and appends the event that the note describes to the history. The proof
+-- assumes `Logic`, the kit's laws of memory.
 use Rattle.std.proofs.Common.{[], ◌∷◌, ◌++◌, refl}
 use seplogic.Ra.Ura.{Ura}
 use mir.Syntax.{named}
