@@ -1,4 +1,4 @@
-//! Makes extracts: the full one, and updates of it.
+//! Makes extracts: a full extract, and updates to it.
 
 use crate::network::{self, Network};
 use crate::plan::{route, Plans, Route, Schedule, EXTRACT};

@@ -67,8 +67,8 @@ fn mutate(text: &mut Vec<u8>, subject: Subject, random: &mut Random) -> &'static
     }
 }
 
-/// The starts of records: in a file, the positions after line feeds; in a state, the lines of
-/// bodies.
+/// The offsets at which records start. In a file, each record but the first starts after a line
+/// feed. In a state, the lines of bodies are the records.
 fn records(text: &[u8]) -> Vec<usize> {
     let begins = |at: &usize| {
         let identity = text.get(*at..*at + 2);

@@ -90,7 +90,8 @@ pub enum Stp {
 }
 
 impl Stp {
-    /// The STP indicator for which `C`, `N`, `O` or `P` stands. Returns `None` for any other byte.
+    /// The STP indicator that the letter `C`, `N`, `O` or `P` stands for. Returns `None` for any
+    /// other byte.
     pub fn from_letter(letter: u8) -> Option<Stp>
         ensures some { IsSome result ↔ IsTrue (is_stp_letter letter) }
         ensures value { IfSome result (λ stp. stp_letter stp ≡ letter) }

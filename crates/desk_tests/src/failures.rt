@@ -68,8 +68,8 @@ fn an_input_that_fails(rt: HostRuntime) {
     input_fails_at(&rt, rt.alloc(), 16, &[DONE, both], (1, UNSAVED));
 }
 
-/// Asserts that a session continues if each of its saves fails because the folder fails at this
-/// call.
+/// Asserts that a session continues even if each of its saves fails because the folder fails at the
+/// call that `fails` names.
 fn store_fails(rt: &impl Abort, alloc: Global, fails: Fails) {
     let mut folder = shelf_of_morning(rt, alloc);
     folder.fail(fails);

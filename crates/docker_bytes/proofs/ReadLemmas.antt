@@ -325,8 +325,8 @@ ends_with wants why left failures format limit IsMade IsRead source source_now (
     record { few = ends.few; outcome = of made ends.outcome; failures = ends.failures }
 ends_with wants why left failures format limit IsMade IsRead source source_now (Err fault) of ends = ends
 
--- a keeper makes a value from the parts of a state. If the value is the state itself, it is the
--- state with the text that was read
+-- a keeper makes a value from the parts of a state. If this value is the state itself, the text
+-- that was read is the text of this state
 pub made_itself : (format : Format) (limit : ℕ) (text : List ℕ) (made : State) → IsMadeOf (λ made state. made ≡ state) format limit text made
     → IsStateText format limit text made
 made_itself format limit text made of = subst (IsStateText format limit text) (sym of.made_of) of.is

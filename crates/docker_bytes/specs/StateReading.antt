@@ -83,8 +83,9 @@ IsWhole format limit text = (state : State) × IsStateText format limit text sta
 abbrev pub IsOpen : Format → ℕ → List ℕ → Type 0
 IsOpen format limit text = (fault : model.StateFault) × IsShort format limit text fault
 
--- says what it means that a parser returns this fault at the end of a text: the text ends before the state does. The cause `None` means that memory ran out at
--- the end of a complete text, and that the offset is the end of this text
+-- says what it means for a parser to return this fault at the end of a text: the text ends before
+-- the state does. The cause `None` means that memory ran out at the end of a complete text, and
+-- that the offset is the end of this text
 abbrev pub IsCauseAtEnd : Format → ℕ → List ℕ → ℕ → Option model.StateCause → Type 0
 IsCauseAtEnd format limit text at None = IsWhole format limit text × (at ≡ length text)
 IsCauseAtEnd format limit text at (Some cause) = IsShort format limit text (record { at = at; cause = cause })

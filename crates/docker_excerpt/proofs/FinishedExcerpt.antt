@@ -60,8 +60,8 @@ module _ (place : List ℕ) (day horizon : ℕ) (told : State) (valid : IsValid 
       → part.entries ≡ rows → part ≡ excerpt_on place day (under horizon told)
   part_is part rows is same_horizon same entries = λ i. record { horizon = same_horizon i; ledger = same i; entries = (entries ∙ is) i }
 
-  -- for the place and the day, each docker of the state made from the kept entries is a docker of
-  -- the state whose parts were taken
+  -- for the excerpt's place and day, each docker of the excerpt's state is also a docker of the
+  -- state from which the excerpt was made
   pub is_excerpt_of : (part : State) (rows entries : List (Key × Entry)) → rows ≡ (excerpt_on place day told).entries → part.horizon ≡ horizon
       → part.ledger ≡ told.ledger → part.entries ≡ rows → entries ≡ told.entries → StandsAt place day (with_entries part entries) part
   is_excerpt_of part rows entries is same_horizon same kept given =
@@ -74,7 +74,7 @@ module _ (place : List ℕ) (day horizon : ℕ) (told : State) (valid : IsValid 
         excerpt = walk_is_excerpt place (near_state day (under horizon told)) (near_valid day (under horizon told) valid).entries.1;
       })))
 
-  -- the state in the value of the excerpt is the state whose parts were taken, with its horizon
+  -- the state in the excerpt's value is the state whose parts were taken, under the given horizon
   pub stands_for : (part : State) (entries : List (Key × Entry)) → part.horizon ≡ horizon → part.ledger ≡ told.ledger → entries ≡ told.entries
       → ◌≡◌ {A = Excerpt} (record { place = place; day = day; state = with_entries part entries })
       (record { place = place; day = day; state = under horizon told })

@@ -27,10 +27,10 @@ pub fn lapse_rows(rows: &mut [(Key, Entry)], horizon: u16) -> bool
     some
 }
 
-/// Joins the rows of two tables in the first vector, which must have room for the rows of both
+/// Joins the rows of two tables into the first vector, which must have room for the rows of both
 /// tables. Allocates nothing. The rows of the second table are placed one by one, from the last to
-/// the first. A row of the first table moves only if it comes after a row of the second table.
-/// These rows move in blocks, and only a few keys of each block are compared.
+/// the first. A row of the first table moves only if it comes after a row of the second table. The
+/// rows that move are moved in blocks, and only a few keys of each block are compared.
 pub fn join_rows<E: Pick>(first: Vec<(Key, E)>, mut second: Vec<(Key, E)>) -> Vec<(Key, E)>
     requires first { AreAscending first.items }
     requires second { AreAscending second.items }

@@ -51,8 +51,8 @@ pub record MayStoreOutput (by : Drafting) (written : Written) (prepared : Prepar
   pub is : IsOutputText (output_of prepared.job.task) prepared.read text
   pub history : IsUnplaced by.names_bytes name by.look text written.before written.now
 
--- the job wrote its whole output. If the job prints, the output device gained the output, and the
--- output isn't a docker of a refused day. If the job writes a file, a draft of the output replaced
+-- the job wrote its whole output. If the job prints, the output was added to what the output device
+-- holds, and the output isn't a docker for a day that is refused. If the job writes a file, a draft of the output replaced
 -- the file. Nothing else changed
 abbrev pub WritesTo : Option Text → Drafting → Written → PreparedView → Type 0
 WritesTo None by written prepared =

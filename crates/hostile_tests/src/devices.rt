@@ -47,8 +47,8 @@ fn sources(desk: &Desk, asked: Asked<'_>, text: &[u8]) {
     spans.report(desk);
 }
 
-/// The answer for a source that fails at this read, and whether the source did fail. After a
-/// failure the same call is made with a good source.
+/// The answer of a request whose source fails at read number `call`, and whether the source did
+/// fail. After a failure, the request is repeated with a good source.
 fn fused(desk: &Desk, asked: Asked<'_>, text: &[u8], call: u64, good: Answer) -> (Answer, bool)
     requires { 0 < call }
 {

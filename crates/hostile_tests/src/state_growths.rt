@@ -46,7 +46,8 @@ fn joined(desk: &Desk, one: State, other: State, wanted: &str) -> Result<(), (St
     }
 }
 
-/// Joins the two states that a first join returned.
+/// Joins the two states that the first join returned because memory ran out. This join has enough
+/// memory, so it must return the wanted state.
 fn join_again(desk: &Desk, one: State, other: State, wanted: &str) {
     match one.join(desk.alloc(), other) {
         Ok(state) => compare_state(desk, &state, wanted),

@@ -6,8 +6,8 @@ use Rattle.docker_model.specs.state.Op.{Op, deleted, lapsed, put_with, Entry, ke
 use Rattle.docker_model.specs.state.State.{IsGoodKey, IsOpOf}
 use Rattle.docker_model.specs.state.StateText.{key_bytes, stamp_bytes}
 
--- the bytes of a TIPLOC's or an association's body, or the bytes of the number of a schedule's
--- lines
+-- the bytes after the op of a put. For a TIPLOC or an association they are the body, and for a
+-- schedule they are the number of its lines
 abbrev pub body_head : Body → List ℕ
 body_head (tiploc_body bytes) = bytes
 body_head (association_body line) = line

@@ -42,7 +42,7 @@ def docker(*words, before=(), **options):
     return run([*before, DOCKER, *words], **options)
 
 
-# The words that run a program with less memory.
+# The words that run a program with at most this much memory.
 
 
 def in_memory(kilobytes):

@@ -43,7 +43,7 @@ empty_begins = (f2, f2_is_file)
 pub empty_is_no_file : ¬ IsFile []
 empty_is_no_file file = let whole = file.whole in cc
 
--- the empty text has the fault `no_end`, at the missing record 1
+-- the empty text has the fault `no_end`, at record 1, which is missing
 pub empty_text_unended : IsFileFault 10 [] (record { number = 1; cause = no_end })
 empty_text_unended = inr (record { within = lit≤ tt; begin = empty_begins; unended = empty_is_no_file; number = refl; cause = refl })
 

@@ -25,7 +25,8 @@ HasNotToLapse horizon (put_with body) = horizon ≤ body_end body
 abbrev pub lapse_entry : ℕ → Entry → Entry
 lapse_entry horizon entry = record { stamp = entry.stamp; op = lapse horizon entry.op }
 
--- a key with its entry, after lapsing with this horizon. The key is unchanged
+-- a key with its entry, which has lapsed if its body ended before this horizon. The key is
+-- unchanged
 abbrev pub lapse_keyed : ℕ → Key × Entry → Key × Entry
 lapse_keyed horizon entry = (entry.0, lapse_entry horizon entry.1)
 

@@ -70,8 +70,8 @@ lapse_from_either horizon live key = by (live key) refl
     by (Some body) is = pick body is (below_or horizon body)
 
 module _ (one two live : Table) (from : IsFromEither one two live) where
-  -- suppose that the table `live` has at each key the body of one of two tables `one` and `two`, or
-  -- no body. Then the index of calls of `live` can be computed from the indexes of calls of `one`
+  -- suppose that at each key, the table `live` either has no body or has the body that `one` or
+  -- `two` has there. Then the index of calls of `live` can be computed from the indexes of calls of `one`
   -- and `two`
   pub calling_from_either : (first second index : List CallingRow) → IsCallingIndex one first → IsCallingIndex two second
       → IsStrictlyAscending calling_cmp index
@@ -100,8 +100,8 @@ module _ (one two live : Table) (from : IsFromEither one two live) where
       back place key lines made (inr (inl e)) = inr ((is_second.members place key).1 (lines, record { is_live = sym e ∙ made.is_live; calls = made.calls }), e)
       back place key lines made (inr (inr none)) = none_some (schedule_body lines) (sym none ∙ made.is_live)
 
-  -- suppose that the table `live` has at each key the body of one of two tables `one` and `two`, or
-  -- no body. Then the index of associations of `live` can be computed from the indexes of
+  -- suppose that at each key, the table `live` either has no body or has the body that `one` or
+  -- `two` has there. Then the index of associations of `live` can be computed from the indexes of
   -- associations of `one` and `two`
   pub linked_from_either : (first second index : List LinkedRow) → IsLinkedIndex one first → IsLinkedIndex two second → IsStrictlyAscending linked_cmp index
       → ((row : LinkedRow) → Contains index row ↔ IsLinkedFromEither one two live first second row) → IsLinkedIndex live index

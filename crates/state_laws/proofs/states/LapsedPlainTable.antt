@@ -1,5 +1,6 @@
--- If the files of a set have distinct moments, lapsing their plain table with a horizon gives the
--- live table of their summary with this horizon.
+-- Suppose that the files of a set have distinct moments, and that the bodies which ended before a
+-- horizon are dropped from their plain table. The result is the live table of the files' summary
+-- under this horizon.
 use Rattle.std.proofs.Common.{◌≡◌, ℕ, List, Contains, subst, inl, inr, ◌⊎◌, ap, sym, ◌∙◌, None}
 use Rattle.std.specs.Prelude.{fold, option_and_then}
 use Rattle.std.specs.declared.cmp.Ordering.TheVariants.{Less, Greater}
