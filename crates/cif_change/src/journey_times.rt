@@ -100,8 +100,25 @@ impl LineTimes {
 }
 
 /// The scheduled times of any line after the basic schedule. The error is the first column of the
-/// line's leftmost bad field.
+/// line's leftmost bad field. Most lines are intermediate locations, so they are tested first. For
+/// them the processor needn't predict a jump into a table of kinds.
 pub(crate) fn times_at(kind: Kind, line: &Line) -> Result<LineTimes, FieldFault>
+    requires kind { HasKind (meaning kind) line.now }
+    requires follows { follows_basic (Some (meaning kind)) ≡ true }
+    ensures ok { IsOk result ↔ HasGoodFields line.now }
+    ensures value { IfOk result (AreTimesOf line.now) }
+    ensures err { IfErr result (λ fault. leftmost_bad_field line.now ≡ Some fault.0) }
+{
+    match kind {
+        Kind::IntermediateLocation => call_times(line),
+        _ => times_of_any(kind, line),
+    }
+}
+
+/// The same as `times_at`, for any kind.
+#[cold]
+#[inline(never)]
+fn times_of_any(kind: Kind, line: &Line) -> Result<LineTimes, FieldFault>
     requires kind { HasKind (meaning kind) line.now }
     requires follows { follows_basic (Some (meaning kind)) ≡ true }
     ensures ok { IsOk result ↔ HasGoodFields line.now }
@@ -129,6 +146,7 @@ fn origin_times(line: &Line) -> Result<LineTimes, FieldFault>
 
 /// The times of an intermediate location: its arrival, pass and departure. The number of a blank
 /// field stands for no time. The error is the first column of the leftmost bad field.
+#[inline(always)]
 fn call_times(line: &Line) -> Result<LineTimes, FieldFault>
     requires kind { HasKind intermediate_location line.now }
     ensures ok { IsOk result ↔ HasGoodFields line.now }

@@ -23,8 +23,24 @@ pub(crate) enum ScheduleStage {
 
 impl ScheduleStage {
     /// The stage after a record of this kind. Returns `None` if a record of this kind can't come
-    /// next.
+    /// next. Most records of an extract are intermediate locations, so they are tested first. For
+    /// them the processor needn't predict a jump into a table of stages or kinds.
     pub(crate) fn after(self, kind: Kind) -> Option<ScheduleStage>
+        ensures stage { option_map stage_meant result ≡
+            stage_after (stage_meant self) (Some (meaning kind)) }
+        ensures follows { IsSome result → follows_basic (Some (meaning kind)) ≡ true }
+    {
+        match (self, kind) {
+            (ScheduleStage::InJourney, Kind::IntermediateLocation) => Some(self),
+            _ => self.after_any(kind),
+        }
+    }
+
+    /// The stage after a record of any kind. Returns `None` if a record of this kind can't come
+    /// next.
+    #[cold]
+    #[inline(never)]
+    fn after_any(self, kind: Kind) -> Option<ScheduleStage>
         ensures stage { option_map stage_meant result ≡
             stage_after (stage_meant self) (Some (meaning kind)) }
         ensures follows { IsSome result → follows_basic (Some (meaning kind)) ≡ true }
