@@ -11,8 +11,6 @@ use Rattle.docker_laws.proofs.dockers.ExcerptWalk.{walk_is_excerpt}
 use Rattle.docker_laws.proofs.dockers.ExcerptDocker.{same_where_needed, excerpt_list_iff}
 use Rattle.docker_laws.proofs.dockers.NearDocker.{near_description}
 use Rattle.docker_laws.proofs.dockers.NearState.{near_part, near_valid, near_state_list, excerpt_on_valid}
-use Rattle.docker_day.specs.DockerValue.{Docker}
-use Rattle.docker_day.specs.Dockers.{IsDockerOf}
 use Rattle.state_text.specs.PartsSoFar.{horizon_meant, under}
 use Rattle.docker_excerpt.specs.Values.{Excerpt, with_entries, StandsAt, IsExcerptOf}
 
@@ -29,17 +27,14 @@ horizon_set state raised horizon day plain read valid set =
     ∙ set_last (under day state) (subst (λ (h : Option ℕ). IsValid (under (horizon_meant h) state)) read valid)
     ∙ ap (λ (h : Option ℕ). under (horizon_meant h) state) (sym read)
 
--- a docker of an excerpt, for the excerpt's place and day, is a docker of the whole state
-pub docker_of_whole : (place : List ℕ) (day : ℕ) (state part : State) → IsExcerptOf place day state part → (docker : Docker)
-    → IsDockerOf (live_table part) place day docker → IsDockerOf (live_table state) place day docker
-docker_of_whole place day state part is docker made = record {
-  place_is = made.place_is;
-  day_is = made.day_is;
-  described = made.described
-      ∙ ap description_in (same_where_needed place (live_table (near_state day state)) (live_table part) is.excerpt.live (tiploc_key place) refl)
+-- a docker made from an excerpt's part, for the excerpt's place and day, is correct for the whole
+-- state
+pub docker_of_whole : (place : List ℕ) (day : ℕ) (state part : State) → IsExcerptOf place day state part → StandsAt place day state part
+docker_of_whole place day state part is = record {
+  described = ap description_in (same_where_needed place (live_table (near_state day state)) (live_table part) is.excerpt.live (tiploc_key place) refl)
       ∙ near_description day (live_table state) (live_table (near_state day state)) (near_part day state is.valid.entries.1) place;
-  list = (near_state_list place day state docker.lines is.valid).1
-      ((excerpt_list_iff place (live_table (near_state day state)) (live_table part) is.excerpt.live day docker.lines).1 made.list);
+  list = λ lines listed. (near_state_list place day state lines is.valid).1
+      ((excerpt_list_iff place (live_table (near_state day state)) (live_table part) is.excerpt.live day lines).1 listed);
 }
 
 module _ (place : List ℕ) (day horizon : ℕ) (told : State) (valid : IsValid (under horizon told)) where

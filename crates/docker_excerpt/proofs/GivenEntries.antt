@@ -16,7 +16,7 @@ use Rattle.cif_change.specs.declared.key.Key.{Key}
 use Rattle.cif_change.specs.Meaning.{key_meant}
 use Rattle.state_text.specs.Entry.{Entry as Row}
 use Rattle.docker_join.specs.Meaning.{entry_meant, row_meant}
-use Rattle.state_text.specs.Parts.{last_key}
+use Rattle.docker_state.specs.Parts.{last_key}
 use Rattle.docker_excerpt.specs.Values.{with_entries}
 use Rattle.docker_excerpt.specs.Ledger.{IsLedgerOf}
 

@@ -48,12 +48,9 @@ module _ (place : List ℕ) (day : ℕ) (lines : List (List ℕ)) (is_file : IsF
   -- for the place and the day, each docker of the state that the thin changes make is a docker of
   -- the file's summary
   stands_for_summary : StandsAt place day (summary_of lines) part
-  stands_for_summary docker made = record {
-    place_is = made.place_is;
-    day_is = made.day_is;
-    described = made.described
-        ∙ ap description_in (sym (same_live (tiploc_key place)) ∙ (thinned_stands place day (live_table (summary_of lines)) good).tiploc);
-    list = (thin_state_list place day lines is_file few kept thinning part of (summary_of lines) (summary_is lines) docker.lines).1 made.list;
+  stands_for_summary = record {
+    described = ap description_in (sym (same_live (tiploc_key place)) ∙ (thinned_stands place day (live_table (summary_of lines)) good).tiploc);
+    list = λ listed. (thin_state_list place day lines is_file few kept thinning part of (summary_of lines) (summary_is lines) listed).1;
   }
 
 -- if the entries of the state that the thin changes make are replaced by the entries of the whole

@@ -6,7 +6,7 @@ use Rattle.docker_model.specs.state.Op.{Entry}
 use Rattle.docker_model.specs.state.State.{State, IsValid}
 use Rattle.cif_change.specs.declared.key.Key.{Key}
 use Rattle.cif_change.specs.Meaning.{key_meant}
-use Rattle.state_text.specs.Parts.{last_key}
+use Rattle.docker_state.specs.Parts.{last_key}
 use Rattle.docker_excerpt.specs.Values.{with_entries}
 
 -- says that `parts` is the ledger of a state with these entries. `parts` itself has no entries. Its

@@ -1,7 +1,10 @@
 -- The values of excerpts. For the place and the day of an excerpt, the docker made from the kept
 -- part of a state is the docker of the whole state.
-use Rattle.std.specs.Prelude.{ℕ, List, [], ◌∷◌, map}
-use Rattle.docker_model.specs.file.Change.{Key, Change}
+use Rattle.std.specs.Prelude.{◌≡◌, ℕ, List, [], ◌∷◌, map}
+use Rattle.docker_model.specs.docker.DockerLine.{DockerLine}
+use Rattle.docker_model.specs.docker.DockerList.{IsDockerList}
+use Rattle.docker_model.specs.docker.DockerText.{description_in}
+use Rattle.docker_model.specs.file.Change.{Key, Change, tiploc_key}
 use Rattle.docker_model.specs.state.Stamp.{ledger_item_of}
 use Rattle.docker_model.specs.state.Summary.{entry_of}
 use Rattle.docker_model.specs.state.Op.{Entry}
@@ -10,8 +13,6 @@ use Rattle.docker_laws.specs.Excerpt.{IsExcerptState}
 use Rattle.docker_laws.specs.FileSummary.{latest_entries}
 use Rattle.docker_laws.specs.NearDay.{near_state}
 use Rattle.cif_file.specs.FileRead.{FileRead}
-use Rattle.docker_day.specs.DockerValue.{Docker}
-use Rattle.docker_day.specs.Dockers.{IsDockerOf}
 
 -- the value of an excerpt that isn't finished: its place, its day, and the parts of the state that
 -- were taken. The state's horizon isn't known yet
@@ -39,10 +40,11 @@ state_of_read file = record {
   entries = latest_entries (map (λ (change : Change). (change.key, entry_of (file.header_line ∷ []) change)) file.changes_made);
 }
 
--- says that a docker made from `part` is correct for a state: each docker of `part` for this place
--- and day is a docker of the state
-abbrev pub StandsAt : List ℕ → ℕ → State → State → Type 0
-StandsAt place day state part = (docker : Docker) → IsDockerOf (live_table part) place day docker → IsDockerOf (live_table state) place day docker
+-- says that a docker made from `part` is correct for a state. For this place and day, `part` and the
+-- state give the same description, and each docker list of `part` is a docker list of the state
+pub record StandsAt (place : List ℕ) (day : ℕ) (state part : State) : Type 0 where
+  pub described : description_in (live_table part (tiploc_key place)) ≡ description_in (live_table state (tiploc_key place))
+  pub list : (lines : List DockerLine) → IsDockerList (live_table part) place day lines → IsDockerList (live_table state) place day lines
 
 -- says that the state is valid, and that `part` is the state's excerpt for the place, without the
 -- entries that can't count on the day

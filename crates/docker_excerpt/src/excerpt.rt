@@ -1,8 +1,5 @@
 //! An excerpt of a state for a place and a day.
-ghost use Rattle.std.specs.Prelude.{◌≡◌, ◌↔◌, ℕ, List, IfOk, Err};
-ghost use Rattle.docker_model.specs.state.State.{live_table};
-ghost use Rattle.docker_model.specs.state.Lapse.{IsDayRefused};
-ghost use Rattle.docker_day.specs.Dockers.{IsDockerOf};
+ghost use Rattle.std.specs.Prelude.{◌≡◌, ℕ, List, IfOk};
 ghost use Rattle.docker_laws.specs.FileSummary.{summary_of};
 ghost use Rattle.cif_file.specs.FileRead.{IsOfRecords};
 ghost use Rattle.docker_excerpt.specs.Values.{with_entries, StandsAt};
@@ -10,15 +7,14 @@ ghost use Rattle.docker_excerpt.specs.Values.{with_entries, StandsAt};
 use crate::given_file::given_of;
 use cif_file::ThinFile;
 use cif_line::{Day, Memory, Tiploc};
-use docker_day::{Docker, DockerFault, docker};
 use state_text::{Given, State};
 use std::alloc::Global;
 use std::fmt;
 use std::marker::Model;
 
 /// The part of a state that is kept for the docker of one place and one day. This docker is the
-/// same as the docker of the whole state. An excerpt can't be written, joined or sent, and no
-/// docker of another place or day can be made from it.
+/// same as the docker of the whole state. Contracts say nothing about a docker that is made from
+/// the part for another place or day.
 #[derive(Drop)]
 pub struct Excerpt {
     place: Tiploc,
@@ -92,15 +88,26 @@ impl Excerpt {
         Ok(Excerpt::of(place, day, part, given))
     }
 
-    /// Makes the docker of the place and the day. Returns `Lapsed` if the state has a horizon and
-    /// the day is earlier than three days after the horizon, because lapsed entries may be missing.
-    /// Returns `Memory` if there is no room for the docker.
-    pub fn docker(&self, alloc: Global) -> Result<Docker<'_>, DockerFault>
-        ensures ok { IfOk result
-            (IsDockerOf (live_table self.now.state) self.now.place self.now.day) }
-        ensures lapsed { (result ≡ Err DockerFault.Lapsed)
-            ↔ IsDayRefused self.now.state.horizon self.now.day }
+    /// The place for which the excerpt was made.
+    pub fn place(&self) -> &Tiploc
+        ensures { result.now ≡ self.now.place }
     {
-        docker(alloc, &self.part, &self.place, self.day)
+        &self.place
+    }
+
+    /// The day for which the excerpt was made.
+    pub fn day(&self) -> Day
+        ensures { result ≡ self.now.day }
+    {
+        self.day
+    }
+
+    /// The kept part of the state. The docker of the place and the day is made from it. It has the
+    /// state's horizon.
+    pub fn part(&self) -> &State
+        ensures stands { StandsAt self.now.place self.now.day self.now.state result.now }
+        ensures horizon { result.now.horizon ≡ self.now.state.horizon }
+    {
+        &self.part
     }
 }

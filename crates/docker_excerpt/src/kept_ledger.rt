@@ -1,7 +1,7 @@
 //! The part of a state that is kept to list the state's files.
 ghost use Rattle.std.specs.Prelude.{◌≡◌, map};
 ghost use Rattle.docker_model.specs.state.State.{IsValid};
-ghost use Rattle.docker_day.specs.Meaning.{item_meant};
+ghost use Rattle.docker_state.specs.Meaning.{item_meant};
 ghost use Rattle.state_text.specs.PartsSoFar.{horizon_meant, under};
 
 use crate::ledger::Ledger;

@@ -5,8 +5,8 @@ ghost use Rattle.docker_model.specs.state.State.{IsLedger, IsOpOf, IsValid};
 ghost use Rattle.docker_model.specs.state.StatePart.{IsStampHere};
 ghost use Rattle.cif_change.specs.Meaning.{key_meant};
 ghost use Rattle.docker_join.specs.Meaning.{entry_meant};
-ghost use Rattle.docker_day.specs.Meaning.{item_meant};
-ghost use Rattle.state_text.specs.Parts.{last_key};
+ghost use Rattle.docker_state.specs.Meaning.{item_meant};
+ghost use Rattle.docker_state.specs.Parts.{last_key};
 ghost use Rattle.state_text.specs.PartsSoFar.{with_item};
 ghost use Rattle.docker_excerpt.specs.Values.{with_entries};
 
