@@ -3,6 +3,7 @@
 #![tactic(auto)]
 
 mod event;
+mod excerpt_docker;
 mod exchange;
 mod fault;
 mod files;

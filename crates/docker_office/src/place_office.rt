@@ -10,6 +10,7 @@ ghost use Rattle.docker_office.specs.Faults.{IsOfDocker};
 ghost use Rattle.docker_office.specs.Office.{HoldsState, PrintsDocker, PrintsPart, TakesFile, no_state};
 ghost use Rattle.docker_office.specs.OfficeReads.{EndsReadingState, EndsTakingFile};
 
+use crate::excerpt_docker::docker_of;
 use crate::fault::OfficeFault;
 use cif_file::{MOST_RECORDS, read_thin};
 use cif_line::{Day, Sink, Source, Tiploc};
@@ -106,7 +107,7 @@ impl PlaceOffice {
             (K.failures sink.old) (K.failures sink.new) }
         ensures only { IfErr result IsOfDocker }
     {
-        let docker = self.excerpt.docker(self.alloc)?;
+        let docker = docker_of(self.alloc, &self.excerpt)?;
         write_docker(&docker, sink).map_err(|_| OfficeFault::Sink)
     }
 }
