@@ -126,33 +126,17 @@ find_next() {
   next=
 }
 
-# Sets `jobs` to the words that give a check of rt more jobs, or to no words. A check gets a job for
-# each processor if no other check is running and no other crate can start before it ends. There
-# also has to be twice the memory that a check usually needs. Otherwise rt chooses the number of
-# jobs, and takes at most two.
-find_jobs() {
-  local next
-  jobs=()
-  find_next
-  if ((${#under_way[@]} == 0)) && [ -z "$next" ] && (($(free_memory) >= 2 * memory_of_a_check)); then
-    jobs=(--jobs "$(nproc)")
-  fi
-}
-
 # Starts checks until the lanes are full, memory is short or no crate can start. If no check is
 # running, it starts one in any case.
 begin_more() {
-  local lanes=$1 logs=$2 next crate
-  local -a jobs
+  local lanes=$1 logs=$2 next
   while find_next; [ -n "$next" ] && ((${#under_way[@]} < lanes)); do
     if ((${#under_way[@]} > 0)) && ! has_memory; then
       if [ -z "$pause" ]; then sleep 10 & pause=$!; fi
       return
     fi
-    crate=${waiting[next]}
+    begin "${waiting[next]}" "$logs/${waiting[next]}.log" /dev/null check
     unset 'waiting[next]'
-    find_jobs
-    begin "$crate" "$logs/$crate.log" /dev/null check "${jobs[@]}"
   done
 }
 
