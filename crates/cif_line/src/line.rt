@@ -1,5 +1,5 @@
 //! A line of a CIF file: 80 printable bytes.
-ghost use Rattle.std.specs.Prelude.{◌≡◌, ℕ, ◌↔◌, ◌<◌, length, IsTrue, IsOk, IfOk, Ok, Err, Some, IsNone, IfSome, position, not, ◌≤◌, ◌-◌, ◌+◌, true};
+ghost use Rattle.std.specs.Prelude.{◌≡◌, ℕ, ◌↔◌, ◌<◌, length, IsTrue, IsOk, IfOk, Ok, Err, Some, IsSome, IsNone, IfSome, position, not, ◌≤◌, ◌-◌, ◌+◌, true};
 ghost use Rattle.std.specs.List.{AllPass};
 ghost use Rattle.docker_model.specs.records.Field.{as_new};
 ghost use Rattle.docker_model.specs.records.Record.{IsTextOfLength, IsRecord, leftmost_bad_byte, is_printable, column};
@@ -57,6 +57,23 @@ impl Line {
             return Ok(Line { bytes });
         }
         Err(LineFault::Byte(bad_column(&bytes)))
+    }
+
+    /// Makes a line of these bytes. Returns `None` if there aren't 80 of them, or if one of them
+    /// isn't printable. A caller that needn't know why the bytes aren't a line uses this call
+    /// instead of `new`. It is faster, since the 80 bytes share no memory with a fault and are
+    /// copied only once.
+    pub fn of(bytes: &[u8]) -> Option<Line>
+        ensures some { IsSome result ↔ IsRecord bytes.now }
+        ensures value { IfSome result (λ line. line ≡ bytes.now) }
+    {
+        let Ok(eighty) = <[u8; 80]>::try_from(bytes) else {
+            return None;
+        };
+        if is_printable_line(&eighty) {
+            return Some(Line { bytes: eighty });
+        }
+        None
     }
 
     /// The `N` bytes of the line that begin at column `first`. Columns count from 1.

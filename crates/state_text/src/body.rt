@@ -41,7 +41,7 @@ pub(crate) fn assoc_body(key: &AssocKey, horizon: u16, bytes: &[u8]) -> Option<B
         (λ body. (body_meant body ≡ association_body bytes.now)
         × IsAssociationUnder horizon (assoc_meant key.now) bytes.now) }
 {
-    let Ok(line) = Line::new(bytes) else {
+    let Some(line) = Line::of(bytes) else {
         return None;
     };
     if !is_association_of(key, &line) {

@@ -178,7 +178,7 @@ impl Gathered {
             (cause_meant cause)) }
         ensures kept { (¬ BeginsSchedule (self.old ++ bytes.now ∷ [])) → self.new ≡ self.old }
     {
-        let Ok(line) = Line::new(bytes) else {
+        let Some(line) = Line::of(bytes) else {
             return Err(StateCause::Body);
         };
         self.take(&line, count)
@@ -199,7 +199,7 @@ impl Gathered {
         if at == self.lines.capacity() {
             return self.take_growing(bytes, count);
         }
-        let Ok(line) = Line::new(bytes) else {
+        let Some(line) = Line::of(bytes) else {
             return Err(StateCause::Body);
         };
         self.lines.push_reserved(line);
@@ -247,7 +247,7 @@ pub fn judged_line<K: Keeper>(
     ensures err { IfErr result (λ cause. IsUpToRefusal parts.now
         (schedule_meant key.now) count lines.old bytes.now (cause_meant cause)) }
 {
-    let Ok(line) = Line::new(bytes) else {
+    let Some(line) = Line::of(bytes) else {
         return Err(StateCause::Body);
     };
     if !may_follow(key, parts, lines, &line) {
