@@ -10,7 +10,7 @@ returns-clause-goes_on c = λ done.
     let ok : IsOk c.line.result = search rules in
     let at : c.len-at.result ≡ length c.self.inside.lines.items = search rules in
     let same = written_last c.self.inside.lines.items c.push_reserved.new.self.items c.in-Some.line c.index.result.now c.len-at.result
-    c.push_reserved.ensures.items at c.index.ensures ∙ c.in-Ok.ensures.value in
+    c.push_reserved.ensures.items at c.index.ensures ∙ c.in-Some.ensures.value in
     let here = subst (HasLines c.self.inside.journey) c.self.view_is c.self.invariant in
     more_up_to c.args.count c.args.self.now c.args.bytes.now c.requires
     (subst (λ line. BeginsSchedule (c.args.self.now ++ line ∷ [])) same ((c.line.ensures.ok c.args.self.now here).0 ok))
@@ -20,6 +20,6 @@ returns-clause-kept c = λ none.
     let ok : IsOk c.line.result = search rules in
     let at : c.len-at.result ≡ length c.self.inside.lines.items = search rules in
     let same = written_last c.self.inside.lines.items c.push_reserved.new.self.items c.in-Some.line c.index.result.now c.len-at.result
-    c.push_reserved.ensures.items at c.index.ensures ∙ c.in-Ok.ensures.value in
+    c.push_reserved.ensures.items at c.index.ensures ∙ c.in-Some.ensures.value in
     let here = subst (HasLines c.self.inside.journey) c.self.view_is c.self.invariant in
     absurd (none (subst (λ line. BeginsSchedule (c.args.self.now ++ line ∷ [])) same ((c.line.ensures.ok c.args.self.now here).0 ok)))
