@@ -15,7 +15,7 @@ use std::marker::Brand;
 
 /// Reads a source as `read_state` does, and returns an excerpt of its state: the part from which
 /// the docker of a place and a day is made. All parts of the text are judged, whether they are kept
-/// or not. An excerpt isn't a state: it is never written, joined or sent.
+/// or not. An excerpt isn't a state: no call writes, joins or sends it.
 pub fn read_excerpt<S: Source>(
     alloc: Global,
     source: &mut S,
