@@ -5,7 +5,7 @@ use cif_file::read_pieces;
 use cif_line::{Bytes, Day, Kept, Tiploc};
 use docker_bytes::{
     ReadFault, StateCause, StateFault, StateParser, Step, encoded_len, read_excerpt, read_ledger,
-    read_state, write_state,
+    read_raised, read_state, write_state,
 };
 use docker_state::{Merge, State};
 use pieces::{
@@ -214,6 +214,9 @@ fn refused_by(
     same(rt, read, Some(ReadFault::State(fault)));
     let mut source = Bytes::new(text, step);
     let read = read_ledger(alloc, &mut source, limit).err();
+    same(rt, read, Some(ReadFault::State(fault)));
+    let mut source = Bytes::new(text, step);
+    let read = read_raised(alloc, &mut source, day(rt), limit, false).err();
     same(rt, read, Some(ReadFault::State(fault)));
 }
 

@@ -5,7 +5,7 @@ use Rattle.std.specs.Prelude.{Option, Ok, IfErr, IsOk, OnOk, ◌^◌}
 use Rattle.std.proofs.lemmas.List.{take-append-drop}
 use Rattle.cif_device.specs.Device.{Reads, IsEnd}
 use Rattle.cif_device.specs.Taken.{AfterEach, HasFed, HasRefused, LosesOnePieceMore}
-use Rattle.docker_model.specs.state.State.{State}
+use Rattle.docker_model.specs.state.State.{State, raise_horizon}
 use Rattle.docker_model.specs.state.StateText.{Format}
 use Rattle.docker_model.specs.state.StateFault.{has_tail, IsStateText, HasTail}
 use Rattle.docker_model.specs.state.StateFault as model
@@ -22,7 +22,7 @@ use Rattle.docker_bytes.specs.StateReading.{format_of, IsCauseSoFar, IsFaultRepo
 use Rattle.docker_bytes.specs.ParserRead.{ParserState, HasRead, IsUnread}
 use Rattle.docker_bytes.specs.StateTaken.{RefusesPart, StateTerms, TakesState}
 use Rattle.docker_bytes.specs.SourceRead.{Held, ReadsState, ReadsMade, IsCauseOf, IsFaultOf, RefusesState}
-use Rattle.docker_bytes.specs.SourceRead.{ReadsOnePieceMore, ReadsAll, WantsSoFar, WantsMemory, JoinsState}
+use Rattle.docker_bytes.specs.SourceRead.{ReadsOnePieceMore, ReadsAll, WantsSoFar, WantsMemory, JoinsState, RaisesState}
 use Rattle.docker_bytes.specs.ReadEnds.{as_it_is, CountsOutcome, CountsWhy, EndsReadingBy, EndsText, IsOutcome, IsWhyUnread, StopsReading, Wanting}
 use Rattle.docker_bytes.proofs.TextEnd.{sound_text}
 
@@ -336,6 +336,16 @@ pub read_itself : (format : Format) (limit : ℕ) (initial : Option (List ℕ)) 
     → ReadsState format limit initial made
 read_itself format limit initial made read =
     record { text = read.text; held = read.held; is = made_itself format limit read.text made read.of }
+
+-- if the value that a keeper makes is a state with a raised horizon, it is the state whose text the
+-- source held, after its horizon was raised
+pub read_raised : (format : Format) (limit : ℕ) (initial : Option (List ℕ)) (day : ℕ) (made : State)
+    → ReadsMade (λ made state. made ≡ raise_horizon day state) format limit initial made → RaisesState format limit initial day made
+read_raised format limit initial day made read = record {
+  own = read.of.state;
+  reads = record { text = read.text; held = read.held; is = read.of.is };
+  raised = read.of.made_of;
+}
 
 -- suppose that a source held a text, and that `after` is the join with the state that has this
 -- text. Then `after` is the join with the state whose text the source held

@@ -1,7 +1,7 @@
 -- What the result of reading a source implies for the text that the source held.
 use Rattle.std.specs.Prelude.{◌≡◌, ℕ, ◌≤◌, ◌⊎◌, List, [], ◌++◌, length, Option, Some, None, ⊤}
 use Rattle.cif_device.specs.Device.{Reads}
-use Rattle.docker_model.specs.state.State.{State, IsJoin}
+use Rattle.docker_model.specs.state.State.{State, IsJoin, raise_horizon}
 use Rattle.docker_model.specs.state.StateText.{Format}
 use Rattle.docker_model.specs.state.StateFault.{IsStateFault, IsStateText}
 use Rattle.docker_model.specs.state.StateFault as model
@@ -73,6 +73,13 @@ pub record ReadsAll {K : Type 0} (format : Format) (limit : ℕ) (left : Option 
   pub text : List ℕ
   pub held : Held left text
   pub read : HasRead parser format limit text
+
+-- says that `after` is the state whose text the source held, after its horizon was raised to this
+-- day. The text is in this format, and isn't longer than the limit
+pub record RaisesState (format : Format) (limit : ℕ) (left : Option (List ℕ)) (day : ℕ) (after : State) : Type 0 where
+  pub own : State
+  pub reads : ReadsState format limit left own
+  pub raised : after ≡ raise_horizon day own
 
 -- says that `after` is the join of the state `own` with the state whose text the source held
 pub record JoinsState (format : Format) (limit : ℕ) (left : Option (List ℕ)) (own after : State) : Type 0 where

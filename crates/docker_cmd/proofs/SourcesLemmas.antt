@@ -1,5 +1,5 @@
 -- What a task makes from its sources follows from what was read from them.
-use Rattle.std.proofs.Common.{◌≡◌, ℕ, [], ◌∷◌, ◌⊎◌, Option, None, refl, sym, ◌∙◌, ap, subst, Some}
+use Rattle.std.proofs.Common.{◌≡◌, ℕ, [], ◌∷◌, ◌⊎◌, None, refl, sym, ◌∙◌, ap, subst, Some}
 use Rattle.cif_laws.proofs.lists.Membership.{Contains-single, nil-Contains}
 use Rattle.docker_model.specs.file.File.{most_records}
 use Rattle.docker_model.specs.state.State.{State}
@@ -12,9 +12,8 @@ use Rattle.docker_cmd.specs.Job.{JobView}
 use Rattle.docker_cmd.specs.Tasks.{TaskView, check_task, day_task, files_task, horizon_of, horizon_task, merge_task}
 use Rattle.docker_cmd.specs.Tasks.{migrate_task, new_task, output_of, print_task, sources_of, take_task}
 use Rattle.docker_cmd.specs.Reads.{Sources, checked_file, taken_file}
-use Rattle.docker_cmd.specs.Writes.{Output}
 use Rattle.docker_cmd.specs.Prepared.{DeviceBytes, HasNoSource, HasReadToEnd, HasSecondSource, IsContentOf, IsOfOneFile, IsPreparedFor}
-use Rattle.docker_cmd.specs.Prepared.{IsReadOf, IsStateOf, IsWhyRefused, IsWrittenOf, ReadView, ReadsFew, file_read, office_read, under}
+use Rattle.docker_cmd.specs.Prepared.{IsReadOf, IsStateOf, IsWhyRefused, IsWrittenOf, ReadView, ReadsFew, file_read, office_read}
 
 -- `no_state`, the state without files and without a horizon, is the summary of no files and no
 -- horizon
@@ -76,27 +75,37 @@ checked files_task is = let never : ⊥ = cc in absurd never
 checked (horizon_task day) is = let never : ⊥ = cc in absurd never
 checked migrate_task is = let never : ⊥ = cc in absurd never
 
--- if a task's horizon is set for the state that was read from its sources, the result is the state
--- that the task makes from its sources
-state_of : (task : TaskView) (first second : DeviceBytes) (state : State) → IsStateOf (sources_of task) first second state
-    → IsReadOf task first second (under (horizon_of task) (office_read state))
-state_of new_task first second state is = is
-state_of check_task first second state is = is
-state_of (day_task place day) first second state is = is
-state_of take_task first second state is = is
-state_of merge_task first second state is = is
-state_of (print_task place day) first second state is = is
-state_of files_task first second state is = is
-state_of (horizon_task day) first second state is = record { own = state; reads = is; raised = refl }
-state_of migrate_task first second state is = is
+-- `horizon` is the only task that sets a horizon
+pub raising : (task : TaskView) (day : ℕ) → horizon_of task ≡ Some day → task ≡ horizon_task day
+raising new_task day is = let never : ⊥ = cc in absurd never
+raising check_task day is = let never : ⊥ = cc in absurd never
+raising (day_task place on) day is = let never : ⊥ = cc in absurd never
+raising take_task day is = let never : ⊥ = cc in absurd never
+raising merge_task day is = let never : ⊥ = cc in absurd never
+raising (print_task place on) day is = let never : ⊥ = cc in absurd never
+raising files_task day is = let never : ⊥ = cc in absurd never
+raising (horizon_task other) day is = let same : other ≡ day = cc in ap horizon_task same
+raising migrate_task day is = let never : ⊥ = cc in absurd never
 
--- if a task's horizon is set for the content of its sources, the result is what the task makes from
--- its sources
-read_of : (task : TaskView) (first second : DeviceBytes) (read : ReadView) → IsContentOf (sources_of task) first second read
-    → IsReadOf task first second (under (horizon_of task) read)
-read_of task first second (file_read file) is =
-    subst (λ task. IsReadOf task first second (under (horizon_of task) (file_read file))) (sym (checked task is.0)) (refl, is.1)
-read_of task first second (office_read state) is = state_of task first second state is
+-- if a task sets no horizon, the state that was read from its sources is the state that the task
+-- makes from them
+state_of : (task : TaskView) (first second : DeviceBytes) (state : State) → horizon_of task ≡ None → IsStateOf (sources_of task) first second state
+    → IsReadOf task first second (office_read state)
+state_of new_task first second state none is = is
+state_of check_task first second state none is = is
+state_of (day_task place day) first second state none is = is
+state_of take_task first second state none is = is
+state_of merge_task first second state none is = is
+state_of (print_task place day) first second state none is = is
+state_of files_task first second state none is = is
+state_of (horizon_task other) first second state none is = let never : ⊥ = cc in absurd never
+state_of migrate_task first second state none is = is
+
+-- if a task sets no horizon, the content of its sources is what the task makes from them
+read_of : (task : TaskView) (first second : DeviceBytes) (read : ReadView) → horizon_of task ≡ None → IsContentOf (sources_of task) first second read
+    → IsReadOf task first second read
+read_of task first second (file_read file) none is = (checked task is.0, is.1)
+read_of task first second (office_read state) none is = state_of task first second state none is
 
 -- a task's output can be written from the state that was read from its sources
 state_written_of : (task : TaskView) (first second : DeviceBytes) (state : State) → IsStateOf (sources_of task) first second state
@@ -117,36 +126,25 @@ written_of : (task : TaskView) (first second : DeviceBytes) (read : ReadView) �
 written_of task first second (file_read file) is = ap output_of (checked task is.0)
 written_of task first second (office_read state) is = state_written_of task first second state is
 
--- if an output can be written from what was read, it can still be written after a horizon was set
-still_written : (output : Output) (horizon : Option ℕ) (read : ReadView) → IsWrittenOf output read → IsWrittenOf output (under horizon read)
-still_written output None read is = is
-still_written output (Some day) (file_read file) is = is
-still_written output (Some day) (office_read state) is = is
+-- a task's output can be written from the content of its sources
+pub held_written : (task : TaskView) (sources : Sources) (first second : DeviceBytes) (read : ReadView) → sources ≡ sources_of task
+    → IsContentOf sources first second read → IsWrittenOf (output_of task) read
+held_written task sources first second read same content =
+    written_of task first second read (subst (λ s. IsContentOf s first second read) same content)
 
--- suppose that `made` is the content of a task's sources after the task's horizon was set for it.
--- Then the task's output can be written from `made`
-pub held_written : (task : TaskView) (sources : Sources) (horizon : Option ℕ) (first second : DeviceBytes) (own made : ReadView) → sources ≡ sources_of task
-    → made ≡ under horizon own → IsContentOf sources first second own → IsWrittenOf (output_of task) made
-held_written task sources horizon first second own made same_sources same_made content =
-    subst (λ read. IsWrittenOf (output_of task) read) (sym same_made)
-    (still_written (output_of task) horizon own
-    (written_of task first second own (subst (λ s. IsContentOf s first second own) same_sources content)))
-
--- suppose that `made` is the content of a task's sources after the task's horizon was set for it.
--- Then `made` is what the task makes from its sources
-pub task_read : (task : TaskView) (sources : Sources) (horizon : Option ℕ) (first left second second_left : DeviceBytes) (own made : ReadView)
-    → sources ≡ sources_of task → horizon ≡ horizon_of task → made ≡ under horizon own
-    → ReadsFew sources first left second second_left (IsContentOf sources first second own × HasReadToEnd sources left second_left)
-    → ReadsFew (sources_of task) first left second second_left (IsReadOf task first second made × HasReadToEnd (sources_of task) left second_left)
-task_read task sources horizon first left second second_left own made same_sources same_horizon same_made reads =
-    let is : made ≡ under (horizon_of task) own = same_made ∙ ap (λ h. under h own) same_horizon in
+-- if a task sets no horizon, what was read from its sources is what the task makes from them
+pub task_read : (task : TaskView) (sources : Sources) (first left second second_left : DeviceBytes) (read : ReadView)
+    → sources ≡ sources_of task → horizon_of task ≡ None
+    → ReadsFew sources first left second second_left (IsContentOf sources first second read × HasReadToEnd sources left second_left)
+    → ReadsFew (sources_of task) first left second second_left (IsReadOf task first second read × HasReadToEnd (sources_of task) left second_left)
+task_read task sources first left second second_left read same none reads =
     let moved : ReadsFew (sources_of task) first left second second_left
-    (IsContentOf (sources_of task) first second own × HasReadToEnd (sources_of task) left second_left) =
-    subst (λ s. ReadsFew s first left second second_left (IsContentOf s first second own × HasReadToEnd s left second_left)) same_sources reads in
+    (IsContentOf (sources_of task) first second read × HasReadToEnd (sources_of task) left second_left) =
+    subst (λ s. ReadsFew s first left second second_left (IsContentOf s first second read × HasReadToEnd s left second_left)) same reads in
     record {
       first_few = moved.first_few;
       second_few = moved.second_few;
-      ends = (subst (λ read. IsReadOf task first second read) (sym is) (read_of task first second own moved.ends.0), moved.ends.1);
+      ends = (read_of task first second read none moved.ends.0, moved.ends.1);
     }
 
 -- if `others` equals `sources`, `others` may be refused for any fault for which `sources` may be

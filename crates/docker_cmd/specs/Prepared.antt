@@ -1,5 +1,5 @@
 -- What a job reads, and what it writes.
-use Rattle.std.specs.Prelude.{◌≡◌, ◌≢◌, ℕ, ◌+◌, ◌⊎◌, ⊤, List, [], ◌∷◌, Option, Some, None, Result, Ok, Err}
+use Rattle.std.specs.Prelude.{◌≡◌, ◌≢◌, ℕ, ◌+◌, ◌⊎◌, ⊤, List, [], ◌∷◌, Option, Result, Ok, Err}
 use Rattle.cif_device.specs.Device.{Reads, Takes, TakesPart, IsEnd}
 use Rattle.cif_file.specs.FileRead.{FileCounted}
 use Rattle.cif_file.specs.SourceRead.{Held, CountsText, RefusesText, ReadsNoFurther}
@@ -7,12 +7,12 @@ use Rattle.cif_file.specs.declared.fault.FileFault.{FileFault}
 use Rattle.docker_model.specs.file.File.{most_records}
 use Rattle.docker_model.specs.file.FileFault.{IsFileText}
 use Rattle.docker_model.specs.state.Lapse.{IsDayRefused}
-use Rattle.docker_model.specs.state.State.{State, live_table, raise_horizon}
+use Rattle.docker_model.specs.state.State.{State, live_table}
 use Rattle.docker_model.specs.state.StateText.{Format, dks_2, state_text}
 use Rattle.docker_model.specs.state.Summary.{IsSummary}
 use Rattle.docker_model.specs.state.Table.{IsPlainTable}
 use Rattle.docker_model.specs.docker.DockerText.{IsDockerText, files_text}
-use Rattle.docker_office.specs.SourceRead.{ReadsState, JoinsState, RefusesState, ReadsOnePieceMore, WantsMemory}
+use Rattle.docker_office.specs.SourceRead.{ReadsState, JoinsState, RaisesState, RefusesState, ReadsOnePieceMore, WantsMemory}
 use Rattle.docker_office.specs.StateFault.{StateFault}
 use Rattle.docker_office.specs.declared.fault.OfficeFault.{OfficeFault}
 use Rattle.docker_office.specs.declared.fault.OfficeFault.TheVariants as office
@@ -69,12 +69,6 @@ pub record JoinsBehind (first second : DeviceBytes) (state : State) : Type 0 whe
   pub reads : ReadsState dks_2 most_bytes first own
   pub joins : JoinsState dks_2 most_bytes second own state
 
--- this is the state in the source, after its horizon was raised to this day
-pub record RaisesState (day : ℕ) (first : DeviceBytes) (state : State) : Type 0 where
-  pub own : State
-  pub reads : ReadsState dks_2 most_bytes first own
-  pub raised : state ≡ raise_horizon day own
-
 -- this is the state of an office that has read these sources. If a file was only checked, there is
 -- no state
 abbrev pub IsStateOf : Sources → DeviceBytes → DeviceBytes → State → Type 0
@@ -93,7 +87,7 @@ IsContentOf sources first second (office_read state) = IsStateOf sources first s
 -- this is the state that a task makes from its sources. `horizon` raises the horizon of the state
 -- that was read, and `check` makes no state
 abbrev pub IsStateReadBy : TaskView → DeviceBytes → DeviceBytes → State → Type 0
-IsStateReadBy (horizon_task day) first second state = RaisesState day first state
+IsStateReadBy (horizon_task day) first second state = RaisesState dks_2 most_bytes first day state
 IsStateReadBy task first second state = IsStateOf (sources_of task) first second state
 
 -- this is what a task makes from its sources. For `check`, it is the counts of the file; for any
@@ -101,13 +95,6 @@ IsStateReadBy task first second state = IsStateOf (sources_of task) first second
 abbrev pub IsReadOf : TaskView → DeviceBytes → DeviceBytes → ReadView → Type 0
 IsReadOf task first second (file_read file) = (task ≡ check_task) × CountsText most_records first file
 IsReadOf task first second (office_read state) = IsStateReadBy task first second state
-
--- the content after this horizon was set for its state. If the horizon is None, or the content has
--- no state, the content is unchanged
-abbrev pub under : Option ℕ → ReadView → ReadView
-under None read = read
-under (Some day) (file_read file) = file_read file
-under (Some day) (office_read state) = office_read (raise_horizon day state)
 
 -- the content is the state of the one file whose text the source held. The live table of this state
 -- is the plain table of that file

@@ -5,7 +5,7 @@ ghost use Rattle.docker_cmd.specs.Holding.{IsWrittenFrom, held_meant};
 ghost use Rattle.docker_cmd.specs.Prepared.{CountsSources, HasNoSource, HasSecondSource, HoldsSomeState, ReadsTask, output_of, sources_of};
 
 use crate::jobs::Job;
-use crate::sources::{Content, MOST_BYTES, read_content};
+use crate::sources::{Content, MOST_BYTES, office_raised, read_content};
 use crate::tasks::Task;
 use cif_file::MOST_RECORDS;
 use cif_line::Source;
@@ -76,6 +76,10 @@ fn hold_all<S: Source, T: Source>(
         (T.failures second.old) (T.failures second.new) }
     ensures written { IfOk result (IsWrittenFrom (output_of job.now.task)) }
 {
+    if let Some(day) = job.task().horizon() {
+        let office = office_raised(alloc, first, day)?;
+        return Ok(Holding::Whole(Content::Office(office)));
+    }
     let content = read_content(alloc, job.task().reads(), first, second)?;
-    Ok(Holding::Whole(content.under(job.task().horizon())))
+    Ok(Holding::Whole(content))
 }

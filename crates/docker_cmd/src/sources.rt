@@ -3,9 +3,9 @@ ghost use Rattle.std.specs.Prelude.{◌≡◌, ◌-◌, ◌^◌, ◌<◌, ◌⊎
 ghost use Rattle.docker_cmd.specs.Reads.{sources_meant};
 ghost use Rattle.docker_model.specs.state.StateText.{dks_1, dks_2};
 ghost use Rattle.docker_cmd.specs.Content.{content_meant};
-ghost use Rattle.docker_cmd.specs.Prepared.{CountsSources, DeviceBytes, HasNoSource, HasSecondSource, HoldsSomeState, ReadsContent, checked_file, file_read, most_bytes, office_read, state_and_file, taken_file, two_states, under};
+ghost use Rattle.docker_cmd.specs.Prepared.{CountsSources, DeviceBytes, HasNoSource, HasSecondSource, HoldsSomeState, ReadsContent, checked_file, file_read, most_bytes, office_read, state_and_file, taken_file, two_states};
 ghost use Rattle.docker_office.specs.OfficeReads.{EndsReadingState};
-ghost use Rattle.docker_office.specs.SourceRead.{ReadsState};
+ghost use Rattle.docker_office.specs.SourceRead.{RaisesState, ReadsState};
 
 use crate::reads::Sources;
 use cif_file::{FileCount, MOST_RECORDS, judge_file};
@@ -23,21 +23,6 @@ pub(crate) enum Content {
     File(FileCount),
     /// The office that has read all sources, with its state.
     Office(Office),
-}
-
-impl Content {
-    /// Sets the horizon of the office, if the content is an office. `None` sets no horizon.
-    pub(crate) fn under(self, horizon: Option<Day>) -> Content
-        ensures { content_meant result ≡ under horizon (content_meant self) }
-    {
-        match (self, horizon) {
-            (Content::Office(mut office), Some(day)) => {
-                office.set_horizon(day);
-                Content::Office(office)
-            }
-            (content, _) => content,
-        }
-    }
 }
 
 /// Reads these sources in order, and returns what was read.
@@ -102,6 +87,21 @@ fn office_of_state<S: Source>(alloc: Global, source: &mut S) -> Result<Office, O
 {
     let mut office = Office::unindexed(alloc);
     office.reload(source, MOST_BYTES)?;
+    Ok(office)
+}
+
+/// Returns an office that has reloaded the state in a source and set its horizon to this day.
+pub(crate) fn office_raised<S: Source>(
+    alloc: Global,
+    source: &mut S,
+    day: Day,
+) -> Result<Office, OfficeFault>
+    requires { S.failures source.old < 2 ^ 64 - 1 }
+    ensures { EndsReadingState S.left S.failures dks_2 most_bytes
+        (RaisesState dks_2 most_bytes (S.left source.old) day) source.old source.new result }
+{
+    let mut office = Office::unindexed(alloc);
+    office.reload_under(source, day, MOST_BYTES)?;
     Ok(office)
 }
 

@@ -4,7 +4,7 @@ use Rattle.std.specs.Prelude.{Option, Result, max, IsOk, IfErr, OnOk, OnErr}
 use Rattle.std.specs.Result.{is_ok}
 use Rattle.std.proofs.Math.Nat.{zero-max}
 use Rattle.docker_model.specs.file.File.{most_records}
-use Rattle.docker_model.specs.state.State.{State, IsJoin, IsValid}
+use Rattle.docker_model.specs.state.State.{State, IsJoin, IsValid, raise_horizon}
 use Rattle.docker_model.specs.state.Summary.{IsSummary}
 use Rattle.docker_model.specs.state.StateText.{Format, dks_2}
 use Rattle.state_laws.proofs.joins.JoinLaws.{join_commutes}
@@ -19,7 +19,7 @@ use Rattle.docker_bytes.specs.Excerpts.{IsExcerptAt}
 use Rattle.cif_device.specs.Device.{CountsFailure, IsEnd}
 use Rattle.cif_device.specs.FeedEnds.{most_at_once}
 use Rattle.docker_bytes.specs.ReadEnds.{BytesLeft, CountsOutcome, CountsWhy, IsOutcome, IsWhyUnread, StopsReading, Wanting}
-use Rattle.docker_bytes.specs.SourceRead.{Held, ReadsMade, ReadsState, RefusesState, JoinsState}
+use Rattle.docker_bytes.specs.SourceRead.{Held, RaisesState, ReadsMade, ReadsState, RefusesState, JoinsState}
 use Rattle.docker_bytes.specs.declared.fault.StateFault.{StateFault}
 use Rattle.docker_bytes.specs.Values.{Excerpt}
 use Rattle.docker_laws.specs.FileSummary.{summary_of}
@@ -154,6 +154,13 @@ pub one_read : (format : Format) (limit : ℕ) (left : Option (List ℕ)) (read 
 one_read format limit left read sent reads holds =
     let same : holds.text ≡ reads.text = subst (λ bytes. Held bytes reads.text) holds.told reads.held in
     one_text format read sent reads.is.valid holds.is.valid (sym reads.is.is ∙ sym same ∙ holds.is.is)
+
+-- if contracts can say which bytes a source holds, only one state can be read from the source and
+-- raised to a day
+pub one_raised : (format : Format) (limit : ℕ) (left : Option (List ℕ)) (day : ℕ) (read sent : State) → RaisesState format limit left day read
+    → HoldsState format limit left sent → read ≡ raise_horizon day sent
+one_raised format limit left day read sent raises holds =
+    raises.raised ∙ ap (raise_horizon day) (one_read format limit left raises.own sent raises.reads holds)
 
 -- the join of two summaries is the summary of all their files
 pub joins_summaries : (limit : ℕ) (left : Option (List ℕ)) (old new : State) → JoinsState dks_2 limit left old new

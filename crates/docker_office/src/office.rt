@@ -1,7 +1,7 @@
 //! An office, and its calls.
 ghost use Rattle.std.specs.Prelude.{◌≡◌, ℕ, List, [], ◌-◌, ◌^◌, ◌<◌, ◌≤◌, ◌⊎◌, ◌↔◌, max, IsOk, IsErr, IfErr, OnOk, OnErr, Err};
 ghost use Rattle.cif_device.specs.Device.{CountsFailure, Takes, TakesPart};
-ghost use Rattle.docker_bytes.specs.SourceRead.{JoinsState, ReadsState};
+ghost use Rattle.docker_bytes.specs.SourceRead.{JoinsState, RaisesState, ReadsState};
 ghost use Rattle.docker_model.specs.docker.DockerText.{files_text};
 ghost use Rattle.docker_model.specs.state.Lapse.{IsDayRefused};
 ghost use Rattle.docker_model.specs.state.State as states;
@@ -16,7 +16,7 @@ use crate::fault::OfficeFault;
 use crate::files::write_files;
 use cif_file::{MOST_RECORDS, read_file_noting};
 use cif_line::{Day, Memory, Sink, Source, Tiploc};
-use docker_bytes::{join_state, migrate_noting, read_state_noting, write_state};
+use docker_bytes::{join_state, migrate_noting, read_raised, read_state_noting, write_state};
 use docker_day::{Merge, State, docker, write_docker};
 use std::alloc::Global;
 use std::marker::Model;
@@ -146,6 +146,28 @@ impl Office {
         ensures unchanged { IsErr result → self.new ≡ self.old }
     {
         self.state = read_state_noting(self.alloc, source, limit, self.noted)?;
+        Ok(())
+    }
+
+    /// Like `reload`, but also sets the horizon of the new state, as `set_horizon` does. The entries
+    /// lapse as they are read, so a body that lapses takes no memory afterwards. If the call fails,
+    /// with `State`, `Source` or `Memory`, the office is unchanged.
+    pub fn reload_under<S: Source>(
+        &mut self,
+        source: &mut S,
+        day: Day,
+        limit: u64,
+    ) -> Result<(), OfficeFault>
+        requires { S.failures source.old < 2 ^ 64 - 1 }
+        ensures reads { EndsReadingState S.left S.failures dks_2 limit
+            (λ _. RaisesState dks_2 limit (S.left source.old) day self.new)
+            source.old source.new result }
+        ensures sent { IsOk result → (sent : states.State)
+            → HoldsState dks_2 limit (S.left source.old) sent
+            → self.new ≡ raise_horizon day sent }
+        ensures unchanged { IsErr result → self.new ≡ self.old }
+    {
+        self.state = read_raised(self.alloc, source, day, limit, self.noted)?;
         Ok(())
     }
 

@@ -2,7 +2,7 @@
 ghost use Rattle.std.specs.Prelude.{◌<◌, ◌^◌, ◌-◌};
 
 use crate::texts::MOST_RECORDS;
-use cif_line::Source;
+use cif_line::{Day, Source};
 use docker_office::{Office, OfficeFault};
 
 /// What an office does with a source.
@@ -14,6 +14,8 @@ pub(crate) enum Call {
     Receive,
     /// The office reloads a state.
     Reload,
+    /// The office reloads a state and sets its horizon to 15 June 2024.
+    ReloadUnder,
     /// The office reloads a state whose text is in the older format.
     Migrate,
 }
@@ -24,6 +26,7 @@ pub(crate) fn call_of(name: &str) -> Call {
         "Office::take" => Call::Take,
         "Office::receive" => Call::Receive,
         "Office::reload" => Call::Reload,
+        "Office::reload_under" => Call::ReloadUnder,
         _ => Call::Migrate,
     }
 }
@@ -41,6 +44,10 @@ pub(crate) fn ask<S: Source>(
         Call::Take => office.take(source, records_of(limit)),
         Call::Receive => office.receive(source, limit),
         Call::Reload => office.reload(source, limit),
+        Call::ReloadUnder => match Day::from_number(23_542) {
+            Some(day) => office.reload_under(source, day, limit),
+            None => Err(OfficeFault::Lapsed),
+        },
         Call::Migrate => office.migrate(source, limit),
     }
 }

@@ -36,9 +36,11 @@ fn do_state_row(desk: &Desk, call: &str, words: &[&str]) {
 /// Runs a row that calls a function of an office or of a job.
 fn do_office_row(desk: &Desk, call: &str, words: &[&str]) {
     match call {
-        "Office::take" | "Office::receive" | "Office::reload" | "Office::migrate" => {
-            office_growths::read(desk, call, words)
-        }
+        "Office::take"
+        | "Office::receive"
+        | "Office::reload"
+        | "Office::reload_under"
+        | "Office::migrate" => office_growths::read(desk, call, words),
         "Office::print" => office_growths::print(desk, words),
         "PlaceOffice::read" => office_growths::read_at_place(desk, words),
         "PlaceOffice::print" => office_growths::print_at_place(desk, words),

@@ -12,3 +12,4 @@ pub mod ReceivingLemmas
 pub mod StepLemmas
 pub mod HeadLemmas
 pub mod NoHeadLemmas
+pub mod LapsingLemmas

@@ -3,6 +3,7 @@ pub mod Entries
 pub mod FormatMeaning
 pub mod PartsSoFar
 pub mod Receiving
+pub mod Lapsing
 pub mod Stage
 pub mod Head
 pub mod FaultMeaning

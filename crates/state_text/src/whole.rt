@@ -40,7 +40,7 @@ impl Whole {
 
 /// Starts building a state. No ledger item and no entry has been added yet. If `noted` is true, the
 /// places of the entries will be noted.
-fn no_parts(alloc: Global, noted: bool) -> Parts
+pub(crate) fn no_parts(alloc: Global, noted: bool) -> Parts
     ensures { result ≡ record { horizon = 0; ledger = []; entries = [] } }
 {
     if noted {

@@ -93,6 +93,8 @@ def test_a_renewal_of_a_state_that_holds(names, is_unsaved):
 def test_a_renewal_of_an_older_state_by_a_desk_that_only_reads():
     give(state_of("full", "monday"))
     with Desk("STATE") as asked:
+        # After this answer the desk has read STATE, so it doesn't read the next one half written.
+        assert asked.ask("files").status == 0
         give(state_of("full"))
         assert asked.ask("renew") == DONE
         assert asked.closed() == Ended(0, b"", b"")

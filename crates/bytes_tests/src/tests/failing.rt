@@ -6,8 +6,8 @@ use super::pieces::{FILE, HEAD, ITEM, JOINS, MARK, OLD_MARK, ONE, PUT, SECOND, T
 use super::{day, joined_text, known_state, known_text, place, state, text_is, written};
 use cif_line::{Bytes, Failed, Fuse, Kept};
 use docker_bytes::{
-    ReadFault, StateCause, StateFault, join_state, migrate, read_excerpt, read_ledger, read_state,
-    write_state,
+    ReadFault, StateCause, StateFault, join_state, migrate, read_excerpt, read_ledger, read_raised,
+    read_state, write_state,
 };
 use docker_state::State;
 use std::alloc::Global;
@@ -52,8 +52,8 @@ fn a_sink_that_fails_has_the_bytes_before(rt: HostRuntime) {
     writes(&rt, alloc, &state, 312, Ok(()), known.as_slice());
 }
 
-/// Asserts that neither a state, nor an excerpt, nor a ledger can be read from a source that fails
-/// at this call. Each reader returns this fault.
+/// Asserts that neither a state, nor a state under another horizon, nor an excerpt, nor a ledger can
+/// be read from a source that fails at this call. Each reader returns this fault.
 fn reads_not(rt: &impl Abort, alloc: Global, text: &[u8], call: u64, fault: ReadFault)
     requires { 0 < call }
 {
@@ -65,6 +65,9 @@ fn reads_not(rt: &impl Abort, alloc: Global, text: &[u8], call: u64, fault: Read
     same(rt, read, Some(fault));
     let mut source = Fuse::new(Bytes::new(text, 4096), call);
     let read = read_ledger(alloc, &mut source, 1000).err();
+    same(rt, read, Some(fault));
+    let mut source = Fuse::new(Bytes::new(text, 4096), call);
+    let read = read_raised(alloc, &mut source, day(rt), 1000, false).err();
     same(rt, read, Some(fault));
 }
 

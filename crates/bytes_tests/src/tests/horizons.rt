@@ -1,4 +1,5 @@
 //! Texts of states with a horizon and with lapsed entries.
+ghost use Rattle.std.specs.Prelude.{◌<◌};
 
 use super::compare::same;
 use super::pieces::{
@@ -6,8 +7,8 @@ use super::pieces::{
     PUT, SCHEDULE_HEAD, TOO_LATE,
 };
 use super::{at, goes_round, joined_text, read, refused, state, text_is};
-use cif_line::Day;
-use docker_bytes::{StateCause, StateFault};
+use cif_line::{Bytes, Day};
+use docker_bytes::{StateCause, StateFault, read_raised};
 use docker_state::State;
 use std::alloc::Global;
 use std::process::Abort;
@@ -156,4 +157,66 @@ fn a_state_with_a_horizon_goes_round(rt: HostRuntime) {
     has_under(&rt, alloc, "2024-06-15", AFTER, gone, 67);
     let tiploc = lapsed(&rt, alloc, &[HD, TI, ZZ], "2059-12-31");
     goes_round(&rt, alloc, &tiploc, 128, 7);
+}
+
+/// Reads the state of a text, `step` bytes at a time, and raises its horizon to a day. Asserts that
+/// the state then has the text `wanted`.
+fn is_raised(
+    rt: &impl Abort,
+    alloc: Global,
+    text: &[u8],
+    day: &str,
+    step: usize,
+    noted: bool,
+    wanted: &[u8],
+)
+    requires { 0 < step }
+{
+    let day = Day::from_iso(day).expect(rt, "a day");
+    let mut source = Bytes::new(text, step);
+    let state = read_raised(alloc, &mut source, day, text.len() as u64, noted);
+    text_is(rt, alloc, &state.expect(rt, "a state"), wanted);
+}
+
+/// Asserts that the state of the text `before`, whose horizon is raised to a day while it is read,
+/// has the text `after`. Each of the two texts is a horizon and the parts of one entry.
+fn raised(
+    rt: &impl Abort,
+    alloc: Global,
+    before: (&[u8], &[&[u8]]),
+    day: &str,
+    after: (&[u8], &[&[u8]]),
+) {
+    let text = under(rt, alloc, before.0, before.1);
+    let wanted = under(rt, alloc, after.0, after.1);
+    let (text, wanted) = (text.as_slice(), wanted.as_slice());
+    is_raised(rt, alloc, text, day, 1, true, wanted);
+    is_raised(rt, alloc, text, day, 4096, false, wanted);
+}
+
+/// The entry of C10001's schedule after it has lapsed.
+const SCHEDULE_GONE: &[&[u8]] = &[SCHEDULE_HEAD, LAPSED];
+
+/// The entry of the association between C10001 and C10002 after it has lapsed.
+const ASSOCIATION_GONE: &[&[u8]] = &[JOINS_HEAD, LAPSED];
+
+/// The entry of Ashfeld's TIPLOC.
+const TIPLOC: &[&[u8]] = &[ASHFELD_HEAD, PUT, &BODY_OF_TI];
+
+#[test]
+fn entries_lapse_as_they_are_read(rt: HostRuntime) {
+    let alloc = rt.alloc();
+    let none: &[u8] = b"\0\0";
+    let (last, later) = ("2024-06-14", "2024-06-15");
+    raised(&rt, alloc, (none, SCHEDULE), last, (LAST, SCHEDULE));
+    raised(&rt, alloc, (none, SCHEDULE), later, (AFTER, SCHEDULE_GONE));
+    raised(&rt, alloc, (LAST, SCHEDULE), last, (LAST, SCHEDULE));
+    raised(&rt, alloc, (LAST, SCHEDULE), later, (AFTER, SCHEDULE_GONE));
+    let gone = (AFTER, SCHEDULE_GONE);
+    raised(&rt, alloc, gone, last, gone);
+    raised(&rt, alloc, gone, "2059-12-31", (GREATEST, SCHEDULE_GONE));
+    raised(&rt, alloc, (none, ASSOCIATION), last, (LAST, ASSOCIATION));
+    let joins = (AFTER, ASSOCIATION_GONE);
+    raised(&rt, alloc, (none, ASSOCIATION), later, joins);
+    raised(&rt, alloc, (none, TIPLOC), later, (AFTER, TIPLOC));
 }

@@ -1,0 +1,16 @@
+use Rattle.std.proofs.Common.{ap, sym, subst}
+use Rattle.docker_model.specs.state.Op.{Entry}
+use Rattle.docker_model.specs.state.StatePart.{IsStampHere}
+use Rattle.cif_change.specs.Meaning.{key_meant}
+use Rattle.docker_join.specs.Meaning.{stamp_meant}
+use Rattle.state_text.proofs.LapsingLemmas.{kept_here}
+use Rattle.state_text.proofs.lapsing.LapsingKeeper.entry.Goals as goal
+
+pub entry-requires-clause-here : goal.entry-requires-clause-here
+entry-requires-clause-here g c =
+    let it = c.self.inside in
+    let key = key_meant c.args.key in
+    let stamp = stamp_meant c.args.entry.stamp in
+    subst (IsStampHere it.parts key) (sym (ap (λ (entry : Entry). entry.stamp) c.lapse.ensures.lapsed))
+    (kept_here g.D.HorizonDay.day it.day it.parts it.given.entries c.self.invariant key stamp
+    (subst (λ state. IsStampHere state key stamp) (sym c.self.view_is) c.requires.here))
