@@ -195,6 +195,9 @@ build() {
   local program=$1 logs=$root/crates/$1/out/proving input=/dev/null words
   command -v rt >/dev/null 2>&1 || { say "the program isn't built, and the kit's command rt isn't on the PATH to prove and build it"; return 1; }
   mkdir -p "$logs"
+  # The program gets the time at which its build began. So a source that changes during the build is
+  # newer than the program.
+  touch "$logs/began"
   trap 'stop 130' INT
   trap 'stop 143' TERM
   trap 'stop 129' HUP
@@ -205,7 +208,7 @@ build() {
   begin "$program" "$logs/$program.log" "$input" run -- "${words[@]}"
   wait "${!under_way[@]}" || { say "the program isn't built: see $logs/$program.log"; return 1; }
   trap - INT TERM HUP
-  touch "$root/crates/$program/out/$program"
+  touch -r "$logs/began" "$root/crates/$program/out/$program"
 }
 
 launch() {
