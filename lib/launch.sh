@@ -11,8 +11,12 @@ root=$(dirname "$(dirname "$(readlink -f "${BASH_SOURCE[0]}")")")
 # How many kilobytes of memory the check of one crate may need.
 memory_of_a_check=$((5 * 1024 * 1024))
 
-# The checks that are running: the crate of each process, and the second in which it started.
-declare -A under_way=() began=()
+# The folders in which checks run at the same time, called lanes. While `rt` checks a crate, it
+# locks the folders of this crate and of all crates below it. So each lane has copies of its own.
+declare -a lanes=()
+# The checks that are running: the crate and the lane of each process, and the second in which it
+# started.
+declare -A under_way=() lane_of=() began=()
 # The crates that wait, in the order in which they should start. Then the crates that are proved,
 # the crates that each crate cites, and the checksum of everything on which each crate's proof
 # depends.
@@ -80,12 +84,29 @@ is_old() {
   [ -n "$(find "${folders[@]}" -name out -prune -o \( -name '*.rt' -o -name '*.antt' \) -newer "$program" -print -quit)" ]
 }
 
-# Runs `rt COMMAND..` in a crate's folder. It gets a session of its own, so that it can be stopped
-# together with everything that it started.
+# Whether a check in a copy of this checkout begins with what checks in the checkout have proved.
+# `rt` shares this work among the copies through a folder next to the kit.
+shares_work() {
+  local shared
+  shared=$(dirname "$(dirname "$(rt doc)")")/rattle-kept
+  [ -d "$shared" ] || mkdir -m 700 "$shared" 2>/dev/null
+  [ -d "$shared" ] && [ -O "$shared" ]
+}
+
+# Makes a copy of the sources, or brings an earlier copy up to date. What `rt` keeps in it stays.
+copy_sources() {
+  mkdir -p "$1"
+  find "$1" -name out -prune -o -type f -exec rm {} +
+  (cd "$root" && find crates.txt crates -name out -prune -o -type f -print0 | xargs -0 cp -p --parents -t "$1")
+}
+
+# Runs `rt COMMAND..` for a crate, in the folder of a lane. It gets a session of its own, so that it
+# can be stopped together with everything that it started.
 begin() {
-  local crate=$1 log=$2 input=$3
-  (cd "$root/crates/$crate" && exec setsid rt "${@:4}") <"$input" >"$log" 2>&1 &
+  local crate=$1 lane=$2 log=$3 input=$4
+  (cd "${lanes[lane]}/crates/$crate" && exec setsid rt "${@:5}") <"$input" >"$log" 2>&1 &
   under_way[$!]=$crate
+  lane_of[$!]=$lane
   began[$!]=$SECONDS
 }
 
@@ -126,17 +147,43 @@ find_next() {
   next=
 }
 
+# Finds the first lane in which no check is running. Sets `lane` to its number, or to nothing.
+find_lane() {
+  local process
+  for lane in "${!lanes[@]}"; do
+    for process in "${!lane_of[@]}"; do
+      if ((lane_of[$process] == lane)); then continue 2; fi
+    done
+    return
+  done
+  lane=
+}
+
 # Starts checks until the lanes are full, memory is short or no crate can start. If no check is
 # running, it starts one in any case.
 begin_more() {
-  local lanes=$1 logs=$2 next
-  while find_next; [ -n "$next" ] && ((${#under_way[@]} < lanes)); do
+  local logs=$1 next lane
+  while find_next; find_lane; [ -n "$next" ] && [ -n "$lane" ]; do
     if ((${#under_way[@]} > 0)) && ! has_memory; then
       if [ -z "$pause" ]; then sleep 10 & pause=$!; fi
       return
     fi
-    begin "${waiting[next]}" "$logs/${waiting[next]}.log" /dev/null check
+    begin "${waiting[next]}" "$lane" "$logs/${waiting[next]}.log" /dev/null check
     unset 'waiting[next]'
+  done
+}
+
+# Sets the lanes: the checkout, and copies of it, so that there is one lane for every two
+# processors, and at least two. There is only one lane if the copies would have to prove everything
+# themselves.
+make_lanes() {
+  local logs=$1 lane most=$(($(nproc) / 2))
+  lanes=("$root")
+  if ((${#waiting[@]} < 2)) || ! shares_work; then return; fi
+  ((most >= 2)) || most=2
+  for ((lane = 1; lane < most; lane++)); do
+    lanes[lane]=$logs/lane-$lane
+    copy_sources "${lanes[lane]}"
   done
 }
 
@@ -145,11 +192,11 @@ time_since() {
   if ((seconds < 60)); then echo "$seconds s"; else echo "$((seconds / 60)) min"; fi
 }
 
-# Proves the crates of a program in lanes: one for every two processors, and at least two. A crate
-# starts when the crates that it cites are proved. A crate that an earlier launch has proved is
-# skipped. After a failure no other crate starts, and the running checks are completed.
+# Proves the crates of a program in lanes. A crate starts when the crates that it cites are proved.
+# A crate that an earlier launch has proved is skipped. After a failure no other crate starts, and
+# the running checks are completed.
 prove() {
-  local program=$1 logs=$2 start=$SECONDS failed='' kit crate rest total lanes ended status
+  local program=$1 logs=$2 start=$SECONDS failed='' kit crate rest total ended status
   kit=$(rt version)
   while read -r crate rest; do
     cites[$crate]=$rest
@@ -157,21 +204,21 @@ prove() {
     if was_proved "$crate"; then is_proved[$crate]=yes; else waiting+=("$crate"); fi
   done < <(plan "$program")
   total=$((${#waiting[@]} + ${#is_proved[@]}))
-  lanes=$(($(nproc) / 2))
-  ((lanes >= 2)) || lanes=2
+  make_lanes "$logs"
   say "proving ${#waiting[@]} crates of $total and building the program: the first time up to an hour on four processors, later only what changed"
-  while begin_more "${failed:-$lanes}" "$logs"; ((${#under_way[@]} > 0)); do
+  while begin_more "$logs"; ((${#under_way[@]} > 0)); do
     status=0
     wait -n -p ended || status=$?
     if [ "$ended" = "$pause" ]; then pause= && continue; fi
     crate=${under_way[$ended]}
-    unset "under_way[$ended]"
+    unset "under_way[$ended]" "lane_of[$ended]"
     if ((status == 0)); then
       is_proved[$crate]=yes
       keep_proved "$crate"
       say "$crate is proved (${#is_proved[@]} of $total, $((SECONDS - began[$ended])) s; $(time_since "$start") so far)"
     else
-      failed=0
+      failed=yes
+      lanes=()
       say "$crate isn't proved: see $logs/$crate.log"
       if ((${#under_way[@]} > 0)); then say "no other crate begins; still under way: ${under_way[*]}"; fi
     fi
@@ -202,13 +249,15 @@ build() {
   trap 'stop 143' TERM
   trap 'stop 129' HUP
   prove "$program" "$logs" || return 1
-  # Generates machine code, by a first run.
+  # Generates machine code, by a first run. It begins with what the lanes have proved.
+  lanes=("$root")
   if [ -f "$root/crates/$program/stdin" ]; then input=$root/crates/$program/stdin; fi
   mapfile -t words < <(first_words "$program")
-  begin "$program" "$logs/$program.log" "$input" run -- "${words[@]}"
+  begin "$program" 0 "$logs/$program.log" "$input" run -- "${words[@]}"
   wait "${!under_way[@]}" || { say "the program isn't built: see $logs/$program.log"; return 1; }
   trap - INT TERM HUP
   touch -r "$logs/began" "$root/crates/$program/out/$program"
+  rm -rf "$logs"/lane-*
 }
 
 launch() {

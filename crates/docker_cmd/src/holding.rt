@@ -58,7 +58,8 @@ pub(crate) fn hold<S: Source, T: Source>(
     }
 }
 
-/// Reads a job's sources, and keeps all that was read.
+/// Reads a job's sources, and keeps all that was read. A job of `horizon` keeps the state under its
+/// new horizon.
 fn hold_all<S: Source, T: Source>(
     alloc: Global,
     job: &Job,
