@@ -8,8 +8,9 @@
 
 root=$(dirname "$(dirname "$(readlink -f "${BASH_SOURCE[0]}")")")
 
-# How many kilobytes of memory the check of one crate may need.
+# How many kilobytes of memory the check of one crate may need, and each job of a check.
 memory_of_a_check=$((5 * 1024 * 1024))
+memory_of_a_job=$((3 * 1024 * 1024))
 
 # The folders in which checks run at the same time, called lanes. While `rt` checks a crate, it
 # locks the folders of this crate and of all crates below it. So each lane has copies of its own.
@@ -159,17 +160,30 @@ find_lane() {
   lane=
 }
 
+# Prints the words for a check that runs alone: one job for every processor, if memory allows.
+# Without these words, `rt` runs only one or two jobs for a crate that has many crates below it,
+# because it expects each job to take more memory than was measured.
+words_alone() {
+  local jobs=$(($(free_memory) / memory_of_a_job))
+  ((jobs <= $(nproc))) || jobs=$(nproc)
+  if ((jobs >= 2)); then echo "--jobs $jobs"; fi
+}
+
 # Starts checks until the lanes are full, memory is short or no crate can start. If no check is
 # running, it starts one in any case.
 begin_more() {
-  local logs=$1 next lane
+  local logs=$1 next lane crate words
   while find_next; find_lane; [ -n "$next" ] && [ -n "$lane" ]; do
     if ((${#under_way[@]} > 0)) && ! has_memory; then
       if [ -z "$pause" ]; then sleep 10 & pause=$!; fi
       return
     fi
-    begin "${waiting[next]}" "$lane" "$logs/${waiting[next]}.log" /dev/null check
+    crate=${waiting[next]}
     unset 'waiting[next]'
+    find_next
+    words=()
+    if ((${#under_way[@]} == 0)) && [ -z "$next" ]; then read -ra words < <(words_alone); fi
+    begin "$crate" "$lane" "$logs/$crate.log" /dev/null check "${words[@]}"
   done
 }
 
