@@ -160,10 +160,10 @@ find_lane() {
   lane=
 }
 
-# Prints the words for a check that runs alone: one job for every processor, if memory allows.
-# Without these words, `rt` runs only one or two jobs for a crate that has many crates below it,
-# because it expects each job to take more memory than was measured.
-words_alone() {
+# Prints the words for a check while no other check runs: one job for every processor, if memory
+# allows. Without these words, `rt` runs one or two jobs for a crate that has many crates below it.
+# It expects each job to take more memory than was measured.
+words_of_one() {
   local jobs=$(($(free_memory) / memory_of_a_job))
   ((jobs <= $(nproc))) || jobs=$(nproc)
   if ((jobs >= 2)); then echo "--jobs $jobs"; fi
@@ -182,7 +182,7 @@ begin_more() {
     unset 'waiting[next]'
     find_next
     words=()
-    if ((${#under_way[@]} == 0)) && [ -z "$next" ]; then read -ra words < <(words_alone); fi
+    if ((${#under_way[@]} == 0)) && [ -z "$next" ]; then read -ra words < <(words_of_one); fi
     begin "$crate" "$lane" "$logs/$crate.log" /dev/null check "${words[@]}"
   done
 }
