@@ -12,9 +12,11 @@ root=$(dirname "$(dirname "$(readlink -f "${BASH_SOURCE[0]}")")")
 memory_of_a_check=$((5 * 1024 * 1024))
 memory_of_a_job=$((3 * 1024 * 1024))
 
-# The folders in which checks run at the same time, called lanes. While `rt` checks a crate, it
-# locks the folders of this crate and of all crates below it. So each lane has copies of its own.
+# The folders in which checks run at the same time, called lanes. The first one is the checkout.
+# While `rt` checks a crate, it locks the folders of this crate and of all crates below it. So the
+# other lanes are copies. A crate that was proved in a copy has this lane in `proved_in`.
 declare -a lanes=()
+declare -A proved_in=()
 # The checks that are running: the crate and the lane of each process, and the second in which it
 # started.
 declare -A under_way=() lane_of=() began=()
@@ -94,13 +96,6 @@ shares_work() {
   [ -d "$shared" ] && [ -O "$shared" ]
 }
 
-# Makes a copy of the sources, or brings an earlier copy up to date. What `rt` keeps in it stays.
-copy_sources() {
-  mkdir -p "$1"
-  find "$1" -name out -prune -o -type f -exec rm {} +
-  (cd "$root" && find crates.txt crates -name out -prune -o -type f -print0 | xargs -0 cp -p --parents -t "$1")
-}
-
 # Runs `rt COMMAND..` for a crate, in the folder of a lane. It gets a session of its own, so that it
 # can be stopped together with everything that it started.
 begin() {
@@ -118,6 +113,7 @@ stop() {
   for process in "${!under_way[@]}"; do kill -TERM -- "-$process" "$process"; done 2>/dev/null
   if [ -n "$pause" ]; then kill "$pause" 2>/dev/null; fi
   wait
+  remove_copies
   say "stopped; what is proved is kept"
   exit "$1"
 }
@@ -187,18 +183,34 @@ begin_more() {
   done
 }
 
-# Sets the lanes: the checkout, and copies of it, so that there is one lane for every two
+# Sets the lanes: the checkout, and copies of its sources, so that there is one lane for every two
 # processors, and at least two. There is only one lane if the copies would have to prove everything
-# themselves.
+# themselves. A launch that was killed may have left old copies.
 make_lanes() {
   local logs=$1 lane most=$(($(nproc) / 2))
+  rm -rf "$logs"/lane-*
   lanes=("$root")
   if ((${#waiting[@]} < 2)) || ! shares_work; then return; fi
   ((most >= 2)) || most=2
   for ((lane = 1; lane < most; lane++)); do
     lanes[lane]=$logs/lane-$lane
-    copy_sources "${lanes[lane]}"
+    mkdir "${lanes[lane]}"
+    (cd "$root" && find crates.txt crates -name out -prune -o -type f -print0 | xargs -0 cp -p --parents -t "${lanes[lane]}")
   done
+}
+
+# Moves to the checkout what `rt` keeps of the crates that were proved in copies, and removes the
+# copies.
+remove_copies() {
+  local crate kept to
+  for crate in "${!proved_in[@]}"; do
+    kept=${lanes[${proved_in[$crate]}]}/crates/$crate/out/incremental
+    to=$root/crates/$crate/out
+    if [ -d "$kept" ]; then rm -rf "$to/incremental" && mv "$kept" "$to"; fi
+  done
+  proved_in=()
+  if ((${#lanes[@]} > 1)); then rm -rf "${lanes[@]:1}"; fi
+  lanes=("$root")
 }
 
 time_since() {
@@ -210,7 +222,7 @@ time_since() {
 # A crate that an earlier launch has proved is skipped. After a failure no other crate starts, and
 # the running checks are completed.
 prove() {
-  local program=$1 logs=$2 start=$SECONDS failed='' kit crate rest total ended status
+  local program=$1 logs=$2 start=$SECONDS failed='' kit crate rest total ended lane status
   kit=$(rt version)
   while read -r crate rest; do
     cites[$crate]=$rest
@@ -220,24 +232,26 @@ prove() {
   total=$((${#waiting[@]} + ${#is_proved[@]}))
   make_lanes "$logs"
   say "proving ${#waiting[@]} crates of $total and building the program: the first time up to an hour on four processors, later only what changed"
-  while begin_more "$logs"; ((${#under_way[@]} > 0)); do
+  while [ -n "$failed" ] || begin_more "$logs"; ((${#under_way[@]} > 0)); do
     status=0
     wait -n -p ended || status=$?
     if [ "$ended" = "$pause" ]; then pause= && continue; fi
     crate=${under_way[$ended]}
+    lane=${lane_of[$ended]}
     unset "under_way[$ended]" "lane_of[$ended]"
     if ((status == 0)); then
       is_proved[$crate]=yes
+      if ((lane > 0)); then proved_in[$crate]=$lane; fi
       keep_proved "$crate"
       say "$crate is proved (${#is_proved[@]} of $total, $((SECONDS - began[$ended])) s; $(time_since "$start") so far)"
     else
       failed=yes
-      lanes=()
       say "$crate isn't proved: see $logs/$crate.log"
       if ((${#under_way[@]} > 0)); then say "no other crate begins; still under way: ${under_way[*]}"; fi
     fi
   done
   if [ -n "$pause" ]; then kill "$pause" 2>/dev/null; fi
+  remove_copies
   [ -z "$failed" ]
 }
 
@@ -263,15 +277,13 @@ build() {
   trap 'stop 143' TERM
   trap 'stop 129' HUP
   prove "$program" "$logs" || return 1
-  # Generates machine code, by a first run. It begins with what the lanes have proved.
-  lanes=("$root")
+  # Generates machine code, by a first run.
   if [ -f "$root/crates/$program/stdin" ]; then input=$root/crates/$program/stdin; fi
   mapfile -t words < <(first_words "$program")
   begin "$program" 0 "$logs/$program.log" "$input" run -- "${words[@]}"
   wait "${!under_way[@]}" || { say "the program isn't built: see $logs/$program.log"; return 1; }
   trap - INT TERM HUP
   touch -r "$logs/began" "$root/crates/$program/out/$program"
-  rm -rf "$logs"/lane-*
 }
 
 launch() {
