@@ -239,10 +239,10 @@ impl Desk {
     }
 
     /// Stores the text of the desk's state in the named file. The text is first written to a draft,
-    /// which is based on the look `seen`. On success, looks at the file again, and `seen` becomes the result of the new look. If the
-    /// call fails, the desk and `seen` are unchanged. The fault is `Sink` if the draft can't be
-    /// made or written or can't replace the file, and `Memory` if there is no memory to make the
-    /// draft.
+    /// which is based on the look `seen`. On success, looks at the file again, and `seen` becomes
+    /// the result of the new look. If the call fails, the desk and `seen` are unchanged. The fault
+    /// is `Sink` if the draft can't be made or written or can't replace the file, and `Memory` if
+    /// there is no memory to make the draft.
     pub fn save<D: Folder>(
         &mut self,
         name: &str,

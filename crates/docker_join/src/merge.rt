@@ -7,7 +7,7 @@ use std::alloc::Global;
 /// idempotent, as long as it doesn't run out of memory.
 ///
 /// The programs join only states. The crates also implement the trait, with the same laws, for file
-/// stamps, stamps, entries and tables.
+/// stamps, stamps, entries and tables. A program that uses these crates can join such values, too.
 pub trait Merge: Sized {
     // Says that a value is valid. The laws hold for valid values.
     ghost is_valid: { Self → Type 0 };

@@ -45,6 +45,10 @@ fn lines_of_faults(rt: HostRuntime) {
         4,
         "docker: device failed\n",
     );
+}
+
+#[test]
+fn lines_of_office_faults(rt: HostRuntime) {
     reports(
         &rt,
         Fault::Office(OfficeFault::Memory),
@@ -72,7 +76,7 @@ fn lines_of_faults(rt: HostRuntime) {
 }
 
 #[test]
-fn lines_of_refused_files(rt: HostRuntime) {
+fn lines_of_refused_records(rt: HostRuntime) {
     reports_file(
         &rt,
         FileCause::Length,
@@ -98,6 +102,10 @@ fn lines_of_refused_files(rt: HostRuntime) {
         FileCause::Field(11),
         "docker: file refused: record 2: Field 11\n",
     );
+}
+
+#[test]
+fn lines_of_refused_files(rt: HostRuntime) {
     reports_file(
         &rt,
         FileCause::Midnights,
@@ -152,6 +160,10 @@ fn lines_of_refused_states(rt: HostRuntime) {
         StateCause::Floor,
         "docker: state refused: offset 33: Floor\n",
     );
+}
+
+#[test]
+fn lines_of_refused_entries(rt: HostRuntime) {
     reports_state(
         &rt,
         41,
@@ -170,6 +182,10 @@ fn lines_of_refused_states(rt: HostRuntime) {
         StateCause::Body,
         "docker: state refused: offset 41: Body\n",
     );
+}
+
+#[test]
+fn lines_of_refused_lengths(rt: HostRuntime) {
     reports_state(
         &rt,
         311,

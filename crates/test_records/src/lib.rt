@@ -1,4 +1,4 @@
-//! The records and the printed lines that the tests use, each defined once for all test crates.
+//! The records and the printed lines that the test crates share.
 #![tactic(auto)]
 
 mod associations;
