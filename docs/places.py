@@ -161,6 +161,19 @@ def defined_in(path):
     return {it.name: it for it in definitions() if it.file == path}
 
 
+@functools.cache
+def constructors_in(path):
+    """The constructors of a file's data types, each with the definition of its type."""
+    found, of = {}, None
+    for line in read(path).split("\n") if path.is_file() else ():
+        if not line.startswith(" "):
+            begins = re.match(r"pub data (\w+)", line)
+            of = defined_in(path).get(begins.group(1)) if begins else None
+        elif of and (listed := re.match(r"  (\w+(?: \w+)*) :", line)):
+            found.update(dict.fromkeys(listed.group(1).split(), of))
+    return found
+
+
 def file_of(crate, module):
     """The file of definitions that `Rattle.crate.specs.module` leads to. A crate's `Lib.antt` may name a file of another crate."""
     path = ROOT / "crates" / crate / "specs" / (module.replace(".", "/") + ".antt")
@@ -176,7 +189,8 @@ def taken(text):
     """What a text imports by its `use` lines: names with their definitions, and names of files with the definitions in them."""
     names, files = {}, {}
     for crate, module, listed, other in USE.findall(text):
-        known = defined_in(file_of(crate, module))
+        path = file_of(crate, module)
+        known = constructors_in(path) | defined_in(path)
         for word in filter(None, map(str.strip, listed.split(","))):
             name, _, own = word.partition(" as ")
             if name in known:
