@@ -8,9 +8,8 @@
 
 root=$(dirname "$(dirname "$(readlink -f "${BASH_SOURCE[0]}")")")
 
-# How many kilobytes of memory the check of one crate may need, and each job of a check.
+# How many kilobytes of memory the check of one crate may need.
 memory_of_a_check=$((5 * 1024 * 1024))
-memory_of_a_job=$((3 * 1024 * 1024))
 
 # The folders in which checks run at the same time, called lanes. The first one is the checkout.
 # While `rt` checks a crate, it locks the folders of this crate and of all crates below it. So the
@@ -156,30 +155,17 @@ find_lane() {
   lane=
 }
 
-# Prints the words for a check while no other check runs: one job for every processor, if memory
-# allows. Without these words, `rt` runs one or two jobs for a crate that has many crates below it.
-# It expects each job to take more memory than was measured.
-words_of_one() {
-  local jobs=$(($(free_memory) / memory_of_a_job))
-  ((jobs <= $(nproc))) || jobs=$(nproc)
-  if ((jobs >= 2)); then echo "--jobs $jobs"; fi
-}
-
 # Starts checks until the lanes are full, memory is short or no crate can start. If no check is
 # running, it starts one in any case.
 begin_more() {
-  local logs=$1 next lane crate words
+  local logs=$1 next lane
   while find_next; find_lane; [ -n "$next" ] && [ -n "$lane" ]; do
     if ((${#under_way[@]} > 0)) && ! has_memory; then
       if [ -z "$pause" ]; then sleep 10 & pause=$!; fi
       return
     fi
-    crate=${waiting[next]}
+    begin "${waiting[next]}" "$lane" "$logs/${waiting[next]}.log" /dev/null check
     unset 'waiting[next]'
-    find_next
-    words=()
-    if ((${#under_way[@]} == 0)) && [ -z "$next" ]; then read -ra words < <(words_of_one); fi
-    begin "$crate" "$lane" "$logs/$crate.log" /dev/null check "${words[@]}"
   done
 }
 
