@@ -8,8 +8,9 @@
 
 root=$(dirname "$(dirname "$(readlink -f "${BASH_SOURCE[0]}")")")
 
-# How many kilobytes of memory the check of one crate may need.
+# How many kilobytes of memory the check of one crate may need, and each job of a check.
 memory_of_a_check=$((5 * 1024 * 1024))
+memory_of_a_job=$((3 * 1024 * 1024))
 
 # The folders in which checks run at the same time, called lanes. The first one is the checkout.
 # While `rt` checks a crate, it locks the folders of this crate and of all crates below it. So the
@@ -155,17 +156,32 @@ find_lane() {
   lane=
 }
 
+# Prints the words for the check of a crate while no other check runs. A crate with many functions
+# gets a job for every processor, if memory allows. `rt` chooses one job if many crates are below,
+# since it expects a job to take more memory than was measured. If there are few functions, most of
+# the time goes into one or two of them, and more jobs only read the libraries more often.
+words_for() {
+  local functions jobs=$(($(free_memory) / memory_of_a_job))
+  functions=$(find "$root/crates/$1/src" -name '*.rt' -exec cat {} + | grep -c '\bfn ')
+  ((jobs <= $(nproc))) || jobs=$(nproc)
+  if ((functions >= 100 && jobs >= 2)); then echo "--jobs $jobs"; fi
+}
+
 # Starts checks until the lanes are full, memory is short or no crate can start. If no check is
 # running, it starts one in any case.
 begin_more() {
-  local logs=$1 next lane
+  local logs=$1 next lane crate words
   while find_next; find_lane; [ -n "$next" ] && [ -n "$lane" ]; do
     if ((${#under_way[@]} > 0)) && ! has_memory; then
       if [ -z "$pause" ]; then sleep 10 & pause=$!; fi
       return
     fi
-    begin "${waiting[next]}" "$lane" "$logs/${waiting[next]}.log" /dev/null check
+    crate=${waiting[next]}
     unset 'waiting[next]'
+    find_next
+    words=()
+    if ((${#under_way[@]} == 0)) && [ -z "$next" ]; then read -ra words < <(words_for "$crate"); fi
+    begin "$crate" "$lane" "$logs/$crate.log" /dev/null check "${words[@]}"
   done
 }
 
