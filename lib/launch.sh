@@ -158,8 +158,8 @@ find_lane() {
 
 # Prints the words for the check of a crate while no other check runs. A crate with many functions
 # gets a job for every processor, if memory allows. `rt` chooses one job if many crates are below,
-# since it expects a job to take more memory than was measured. If there are few functions, most of
-# the time goes into one or two of them, and more jobs only read the libraries more often.
+# since it expects a job to take more memory than was measured. In crates with few functions, more
+# jobs were slower.
 words_for() {
   local functions jobs=$(($(free_memory) / memory_of_a_job))
   functions=$(find "$root/crates/$1/src" -name '*.rt' -exec cat {} + | grep -c '\bfn ')
