@@ -10,7 +10,7 @@ use Rattle.std.proofs.lemmas.List.Sums.{position_or_len_is, fails_before_first}
 use Rattle.std.proofs.lemmas.List.{take-append-drop, take-append-le, take_all, get_or-take, length-take-le}
 use Rattle.std.proofs.lemmas.List.Quantifiers.{position-Some}
 use Rattle.docker_model.specs.records.Record.{IsRecord}
-use Rattle.docker_model.specs.file.Text.{lines_of}
+use Rattle.docker_model.specs.file.Text.{lines_of, complete_lines}
 use Rattle.docker_model.specs.file.File.{IsFile, BeginsFile}
 use Rattle.docker_model.specs.file.FaultSoFar.{IsFaultSoFar, sure_lines}
 use Rattle.docker_model.specs.file.FileFault.{IsFileFault, IsUnended, too_many, after_trailer, bad_byte, bad_length, no_end}
@@ -19,7 +19,7 @@ use Rattle.cif_laws.specs.RecordTest.{is_record, has_good_fields}
 use Rattle.cif_laws.specs.FileStage.{Place, after_end, place_at, next_place}
 use Rattle.cif_laws.proofs.files.FileStages.{next_by_test, file_iff_place, begins_iff_place}
 use Rattle.cif_laws.specs.RecordCause.{end_cause, length_cause, is_after_end, cause_of_long}
-use Rattle.cif_laws.specs.CompleteLines.{HasNoFeed, complete_lines, open_line, line_left}
+use Rattle.cif_laws.specs.CompleteLines.{HasNoFeed, open_line, line_left}
 use Rattle.cif_laws.proofs.files.CompleteLines.{lines_of_told, lines_of_ended, lines_of_open, complete_lines_plain, open_line_plain}
 use Rattle.cif_laws.proofs.files.CompleteLines.{complete_lines_ended, open_line_ended, complete_lines_stay, sure_lines_grow}
 use Rattle.cif_laws.proofs.files.ReportedFaults.{cause_of_length, not_80, no_next_place, sure_lines_short, length_at_end}

@@ -1,7 +1,7 @@
 -- Defines what a parser of a CIF file has taken, and what its faults mean.
 use Rattle.std.specs.Prelude.{◌≡◌, ℕ, ◌+◌, ◌<◌, ◌≤◌, ◌⊎◌, List, [], ◌∷◌, ◌++◌, length, take, Option, Some, None, nat_le}
 use Rattle.std.proofs.Common.{cond}
-use Rattle.docker_model.specs.file.Text.{lines_of}
+use Rattle.docker_model.specs.file.Text.{lines_of, complete_lines}
 use Rattle.docker_model.specs.file.FaultSoFar.{IsFaultSoFar, sure_lines}
 use Rattle.docker_model.specs.file.File.{IsFile, BeginsFile}
 use Rattle.docker_model.specs.file.FileFault.{no_end, after_trailer, too_many, IsFileFault, IsFileText}
@@ -9,7 +9,7 @@ use Rattle.docker_model.specs.file.FileFault as model
 use Rattle.cif_laws.specs.FileStage.{next_place, IsPlaceOf}
 use Rattle.cif_laws.specs.FileStage as law
 use Rattle.cif_laws.specs.RecordCause.{cause_of, cause_of_long, is_after_end}
-use Rattle.cif_laws.specs.CompleteLines.{complete_lines, open_line}
+use Rattle.cif_laws.specs.CompleteLines.{open_line}
 use Rattle.cif_file.specs.declared.fault.FileFault.{FileFault}
 use Rattle.cif_change.specs.declared.cause.FileCause.{FileCause}
 use Rattle.cif_change.specs.declared.cause.FileCause.TheVariants.{Memory}

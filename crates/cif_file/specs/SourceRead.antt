@@ -1,10 +1,9 @@
 -- Defines which text a source held, and what reading this text as a CIF file returned.
 use Rattle.std.specs.Prelude.{◌≡◌, ℕ, ◌<◌, ◌≤◌, ◌⊎◌, List, [], ◌++◌, length, Option, Some, None, ⊤}
-use Rattle.docker_model.specs.file.Text.{lines_of}
+use Rattle.docker_model.specs.file.Text.{lines_of, complete_lines}
 use Rattle.docker_model.specs.file.FaultSoFar.{IsFaultSoFar, sure_lines}
 use Rattle.docker_model.specs.file.FileFault.{FileCause, IsFileFault}
 use Rattle.docker_model.specs.file.FileFault as model
-use Rattle.cif_laws.specs.CompleteLines.{complete_lines}
 use Rattle.cif_device.specs.Device.{Reads}
 use Rattle.cif_file.specs.declared.ended.Ended.{Ended}
 use Rattle.cif_file.specs.declared.fault.FileFault.{FileFault}

@@ -1,10 +1,9 @@
--- A text whose bytes are still being read: its complete lines, each ended by a line feed, and the
--- incomplete line after them.
-use Rattle.std.specs.Prelude.{◌≡◌, ℕ, List, false, All, [], ◌∷◌, map, ◌==◌, count_by}
-use Rattle.std.specs.List.{slice_split}
+-- A text whose bytes are still being read: its line feeds, and the incomplete line after the
+-- complete lines.
+use Rattle.std.specs.Prelude.{◌≡◌, ℕ, List, false, All, map, ◌==◌, count_by}
 use Rattle.std.specs.Str.Lines.{strip_carriage_return}
 use Rattle.docker_model.specs.records.Record.{Lines}
-use Rattle.docker_model.specs.file.Text.{last_piece}
+use Rattle.docker_model.specs.file.Text.{pieces_of, last_piece}
 use Rattle.docker_model.specs.file.FaultSoFar.{last_of}
 
 -- the bytes contain no line feed
@@ -15,24 +14,9 @@ HasNoFeed bytes = All (λ b. (b == 10) ≡ false) bytes
 abbrev pub feeds : List ℕ → ℕ
 feeds text = count_by (λ b. b == 10) text
 
--- the pieces of a text between its line feeds. The last piece is empty if the text ends with a line
--- feed
-abbrev pub pieces_of : List ℕ → Lines
-pieces_of text = slice_split (λ b. b == 10) text
-
--- the pieces without the last piece
-abbrev pub but_last : Lines → Lines
-but_last [] = []
-but_last (piece ∷ []) = []
-but_last (piece ∷ next ∷ pieces) = piece ∷ but_last (next ∷ pieces)
-
 -- the incomplete line: the bytes after the last line feed
 abbrev pub open_line : List ℕ → List ℕ
 open_line text = last_of (pieces_of text)
-
--- the complete lines: the lines that end with a line feed
-abbrev pub complete_lines : List ℕ → Lines
-complete_lines text = map strip_carriage_return (but_last (pieces_of text))
 
 -- the line that the last piece of a text contains, as a list of one line: the piece without a
 -- carriage return at its end. If the piece is empty, the list is empty

@@ -4,6 +4,7 @@ pub mod ScheduleStage
 pub mod ScheduleFault
 pub mod FileStage
 pub mod RecordCause
+pub mod RecordText
 pub mod CompleteLines
 pub mod LawTerms
 pub mod UnitChange

@@ -3,7 +3,8 @@
 ghost use Rattle.std.specs.Prelude.{◌≡◌, ℕ, ◌+◌, ◌*◌, List, [], ◌∷◌, ◌++◌, ◌↔◌, ◌≤◌, ◌⊎◌, All, Contains, length};
 ghost use Rattle.std.specs.List.{AllPairs};
 ghost use Rattle.docker_model.specs.records.Record.{IsRecord};
-ghost use Rattle.docker_model.specs.file.Text.{IsTextOf, lines_of};
+ghost use Rattle.docker_model.specs.file.Text.{lines_of};
+ghost use Rattle.cif_laws.specs.RecordText.{IsTextOf};
 ghost use Rattle.docker_model.specs.file.FileFault.{FileCause, FileFault, IsFileFault, IsFileText};
 ghost use Rattle.cif_laws.specs.ScheduleFault.{IsScheduleFault};
 ghost use Rattle.docker_model.specs.file.FaultSoFar.{IsFaultSoFar};

@@ -14,7 +14,7 @@ use Rattle.docker_model.specs.docker.DockerLine.{DockerLine}
 use Rattle.docker_model.specs.file.Change.{ScheduleKey}
 use Rattle.docker_model.specs.file.Journey.{Occasion}
 use Rattle.docker_model.specs.records.Record.{column}
-use Rattle.state_laws.specs.Row.{Row, AreRowsOf}
+use Rattle.docker_model.specs.state.Row.{Row, AreRowsOf}
 use Rattle.docker_model.specs.state.Table.{Table}
 use Rattle.docker_laws.proofs.dockers.TrainOfRows.{trains_tell}
 use Rattle.docker_state.specs.Timetables.{live_in}

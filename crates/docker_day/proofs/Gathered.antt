@@ -8,7 +8,7 @@ use Rattle.docker_laws.proofs.dockers.IndexedWalk.{indexed_walk}
 use Rattle.std.specs.List.Sorted.{IsSorted, IsPermutation}
 use Rattle.docker_model.specs.state.State.{HasGoodBodies}
 use Rattle.docker_model.specs.state.Table.{Table}
-use Rattle.state_laws.specs.Row.{Row, AreRowsOf}
+use Rattle.docker_model.specs.state.Row.{Row, AreRowsOf}
 use Rattle.docker_laws.specs.LiveRows.{Link, train_in, link_in}
 use Rattle.docker_laws.specs.Gathering.{IsWalk, row_lines, gathered}
 use Rattle.docker_model.specs.docker.DockerLine.{DockerLine, docker_line_cmp}

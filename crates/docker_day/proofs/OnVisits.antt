@@ -14,7 +14,7 @@ use Rattle.docker_day.specs.declared.row_view.RowView.{RowView}
 use Rattle.docker_day.specs.Visits.{Visit, visit_back, AreVisits, AddsAt, AddsIf}
 use Rattle.docker_day.proofs.LinkLines.{three_backs}
 use Rattle.docker_day.proofs.PassedOver.{first_back_alone}
-use Rattle.state_laws.specs.Row.{Row}
+use Rattle.docker_model.specs.state.Row.{Row}
 
 module _ (there : PlaceDay) (view : RowView) where
   abbrev AddsBack : ℕ → List DockerLine → List DockerLine → Type 0

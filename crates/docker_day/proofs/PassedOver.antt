@@ -10,7 +10,7 @@ use Rattle.docker_model.specs.file.Change.{Key, tiploc_key, schedule_key, associ
 use Rattle.docker_model.specs.state.Op.{schedule_key_cmp, association_key_cmp}
 use Rattle.docker_model.specs.state.Table.{Table}
 use Rattle.docker_model.specs.state.State.{IsBodyOf}
-use Rattle.state_laws.specs.Row.{Row, AreRowsOf}
+use Rattle.docker_model.specs.state.Row.{Row, AreRowsOf}
 use Rattle.docker_model.specs.docker.Association.{is_date_indicator}
 use Rattle.docker_model.specs.docker.Choice.{schedule_runs, association_runs, group_of}
 use Rattle.docker_model.specs.docker.DockerLine.{DockerLine, Detail, ends, tiploc_of_first}

@@ -5,7 +5,7 @@ use Rattle.std.specs.Prelude.{Option, ◌||◌}
 use Rattle.std.proofs.lemmas.Grind.{flat_map-append}
 use Rattle.std.specs.List.{flat_map}
 use Rattle.docker_model.specs.file.Change.{Key, Body}
-use Rattle.state_laws.specs.Row.{Row, AreRowsOf}
+use Rattle.docker_model.specs.state.Row.{Row, AreRowsOf}
 use Rattle.docker_model.specs.state.State.{IsBodyOf}
 use Rattle.docker_model.specs.state.Table.{Table}
 use Rattle.docker_laws.specs.LiveRows.{train_in, link_in}

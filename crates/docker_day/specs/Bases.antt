@@ -4,7 +4,7 @@ use Rattle.std.specs.BTreeMap.{BTreeMap, get}
 use Rattle.std.specs.Ordering.{nat_cmp}
 use Rattle.docker_model.specs.docker.Choice.{Train}
 use Rattle.docker_laws.specs.LiveRows.{train_in}
-use Rattle.state_laws.specs.Row.{Row, AreRowsOf}
+use Rattle.docker_model.specs.state.Row.{Row, AreRowsOf}
 use Rattle.docker_model.specs.state.Table.{Table}
 use Rattle.train_choice.specs.Occurrences as events
 use Rattle.train_choice.specs.Occurrences.{occurrences}

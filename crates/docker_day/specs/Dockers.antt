@@ -5,7 +5,7 @@ use Rattle.docker_model.specs.state.Table.{Table}
 use Rattle.docker_model.specs.docker.DockerList.{IsDockerList}
 use Rattle.docker_model.specs.docker.DockerText.{description_in}
 use Rattle.docker_model.specs.docker.DockerLine.{DockerLine}
-use Rattle.state_laws.specs.Row.{Row}
+use Rattle.docker_model.specs.state.Row.{Row}
 use Rattle.docker_laws.specs.Gathering.{IsWalk, gathered}
 use Rattle.docker_day.specs.Lines.{Adds}
 use Rattle.docker_day.specs.DockerValue.{Docker}

@@ -13,7 +13,7 @@ use Rattle.docker_model.specs.state.Order.{bytes_cmp}
 use Rattle.std.specs.declared.cmp.Ordering.{Ordering}
 use Rattle.std.specs.Ordering.{nat_cmp, ordering_then}
 use Rattle.docker_model.specs.records.PrintedTime.{spaces}
-use Rattle.state_laws.specs.Row.{Row, AreRowsOf}
+use Rattle.docker_model.specs.state.Row.{Row, AreRowsOf}
 use Rattle.docker_laws.specs.LiveRows.{Link, train_in, link_in}
 use Rattle.docker_model.specs.docker.Association.{category_occasion, partner_start}
 use Rattle.docker_laws.specs.Gathering.{event_lines, runs_by, partner_identity, is_in_force}

@@ -1,6 +1,6 @@
 -- The rows of a walk, read a portion at a time.
 use Rattle.std.specs.Prelude.{◌≡◌, ℕ, List, ◌++◌}
-use Rattle.state_laws.specs.Row.{Row, AreRowsOf}
+use Rattle.docker_model.specs.state.Row.{Row, AreRowsOf}
 use Rattle.docker_model.specs.state.Table.{Table}
 use Rattle.docker_model.specs.docker.DockerLine.{DockerLine}
 use Rattle.docker_laws.specs.LiveRows.{train_in, link_in}

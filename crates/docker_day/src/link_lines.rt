@@ -4,7 +4,7 @@ ghost use Rattle.docker_model.specs.file.Change.{ScheduleKey};
 ghost use Rattle.docker_model.specs.records.Record.{columns, column};
 ghost use Rattle.docker_model.specs.docker.Association.{category_occasion, is_date_indicator, partner_start};
 ghost use Rattle.docker_laws.specs.Gathering.{is_in_force, partner_identity};
-ghost use Rattle.state_laws.specs.Row.{Row, AreRowsOf};
+ghost use Rattle.docker_model.specs.state.Row.{Row, AreRowsOf};
 ghost use Rattle.docker_laws.specs.LiveRows.{train_in, link_in};
 ghost use Rattle.train_choice.specs.Meaning.{occasion_meant};
 ghost use Rattle.train_choice.specs.EventWalk.{occurrence_meant};

@@ -2,7 +2,7 @@
 //! looked up for them.
 ghost use Rattle.std.specs.Prelude.{◌≡◌, ◌≤◌, true, List, IfOk};
 ghost use Rattle.docker_model.specs.file.File.{first_record};
-ghost use Rattle.state_laws.specs.Row.{Row, AreRowsOf};
+ghost use Rattle.docker_model.specs.state.Row.{Row, AreRowsOf};
 ghost use Rattle.docker_model.specs.docker.Choice.{group_of, schedule_runs};
 ghost use Rattle.docker_laws.specs.Gathering.{counts_as, identity_of, runs_by};
 ghost use Rattle.docker_laws.specs.LiveRows.{train_in, link_in};

@@ -3,7 +3,7 @@
 use Rattle.std.specs.Prelude.{ℕ, List, Option}
 use Rattle.std.specs.Ordering.{on}
 use Rattle.docker_model.specs.file.Change.{Key, association_key, schedule_key, Body, association_body, schedule_body}
-use Rattle.state_laws.specs.Row.{Row}
+use Rattle.docker_model.specs.state.Row.{Row}
 use Rattle.docker_model.specs.docker.Choice.{schedule_choice_cmp, association_choice_cmp, Group, Train}
 use Rattle.docker_laws.specs.LiveRows.{Link, schedules_in, associations_in, is_running, is_linked}
 use Rattle.docker_laws.specs.Best.{IsBest, with_one_more}

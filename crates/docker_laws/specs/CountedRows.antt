@@ -4,7 +4,7 @@ use Rattle.std.specs.Prelude.{Bool, if◌then◌else◌, None, List, filter}
 use Rattle.docker_model.specs.file.Change.{Key}
 use Rattle.docker_model.specs.state.State.{HasGoodBodies}
 use Rattle.docker_model.specs.state.Table.{Table}
-use Rattle.state_laws.specs.Row.{Row, AreRowsOf}
+use Rattle.docker_model.specs.state.Row.{Row, AreRowsOf}
 
 -- the table restricted to the keys that pass the test
 abbrev pub counted_table : (Key → Bool) → Table → Table

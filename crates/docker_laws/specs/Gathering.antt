@@ -12,7 +12,7 @@ use Rattle.docker_model.specs.file.File.{first_record}
 use Rattle.docker_model.specs.file.Change.{ScheduleKey, AssociationKey, Key, association_key, schedule_key, Body, association_body, schedule_body}
 use Rattle.docker_model.specs.state.Op.{schedule_key_cmp, association_key_cmp}
 use Rattle.docker_model.specs.state.Table.{Table}
-use Rattle.state_laws.specs.Row.{Row, AreInKeyOrder}
+use Rattle.docker_model.specs.state.Row.{Row, AreInKeyOrder}
 use Rattle.docker_model.specs.docker.Event.{events_of, event_day, event_line, Event, first_event_at}
 use Rattle.docker_model.specs.docker.Choice.{Group, group_of, Train}
 use Rattle.docker_model.specs.docker.DockerLine.{DockerLine, line_of_event, line_of_association}

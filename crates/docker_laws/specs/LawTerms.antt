@@ -3,7 +3,7 @@ use Rattle.std.specs.Prelude.{◌≡◌, ℕ, ◌+◌, ◌≤◌, List, slice_se
 use Rattle.docker_model.specs.state.State.{State}
 use Rattle.docker_model.specs.state.StateText.{Format}
 use Rattle.docker_model.specs.run.Run.{KnownSets, RunEvent, done, after_reply}
-use Rattle.docker_model.specs.run.Knowledge.{Holds}
+use Rattle.docker_laws.specs.RunInvariant.{Holds}
 
 -- the day is the start day or one of the two days after it
 abbrev pub IsNear : ℕ → ℕ → Type 0

@@ -1,3 +1,4 @@
+pub mod RunInvariant
 pub mod LawTerms
 pub mod FileSummary
 pub mod LiveRows
@@ -12,4 +13,3 @@ pub mod StandIn
 pub mod Thinning
 pub mod CountedRows
 pub use Rattle.state_laws.specs.Index
-pub use Rattle.state_laws.specs.Row

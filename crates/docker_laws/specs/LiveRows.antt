@@ -7,7 +7,7 @@ use Rattle.std.specs.Ordering.{is_gt}
 use Rattle.docker_model.specs.file.File.{first_record}
 use Rattle.docker_model.specs.file.Change.{Key, schedule_key, ScheduleKey, Body, schedule_body, association_key, AssociationKey, association_body}
 use Rattle.docker_model.specs.state.Table.{Table}
-use Rattle.state_laws.specs.Row.{Row}
+use Rattle.docker_model.specs.state.Row.{Row}
 use Rattle.docker_model.specs.docker.Choice.{Train, Group, group_of, schedule_runs, schedule_choice_cmp, association_runs}
 use Rattle.docker_model.specs.docker.Choice.{association_choice_cmp, IsRunning, IsChosen, TrainRuns, IsChosenAssociation}
 use Rattle.docker_model.specs.docker.Association.{RunsNot}

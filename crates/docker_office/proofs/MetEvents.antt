@@ -20,7 +20,8 @@ use Rattle.docker_model.specs.state.Summary.{IsSummary}
 use Rattle.docker_model.specs.run.Run as model
 use Rattle.docker_model.specs.run.Run.{RunEvent, take_file, send_state, deliver, reload, horizon_event, refused, no_office, no_message, KnownSets}
 use Rattle.docker_model.specs.run.Run.{IsOffice, IsMessage, IsOfficeReply, IsMessageReply, IsFileReply, IsDoneOrNoMemory, after_done}
-use Rattle.docker_model.specs.run.Knowledge.{Holds, message_text}
+use Rattle.docker_model.specs.run.Knowledge.{message_text}
+use Rattle.docker_laws.specs.RunInvariant.{Holds}
 use Rattle.docker_laws.proofs.runs.RunSteps.{sizes, message_reads, after_take, after_send, after_delivery, after_reload, after_horizon}
 use Rattle.state_laws.proofs.texts.OneStateFault.{no_fault_of_state}
 use Rattle.docker_office.specs.declared.fault.OfficeFault.{OfficeFault}

@@ -4,7 +4,8 @@ use Rattle.std.specs.Prelude.{fold}
 use Rattle.std.specs.List.{zip}
 use Rattle.docker_model.specs.state.StateText.{dks_2}
 use Rattle.docker_model.specs.run.Run.{RunEvent, Reply, Exchange, KnownSets, IsReply, AreReplies, after_reply, none_known}
-use Rattle.docker_model.specs.run.Knowledge.{Holds, sets_of, sent_count}
+use Rattle.docker_model.specs.run.Knowledge.{sets_of, sent_count}
+use Rattle.docker_laws.specs.RunInvariant.{Holds}
 use Rattle.docker_laws.proofs.runs.KnownSets.{replies_long, offices_are, messages_are}
 use Rattle.docker_laws.proofs.runs.RunEnd.{run_holds}
 use Rattle.docker_laws.proofs.runs.RunSteps.{sizes, office_is, message_is}

@@ -6,7 +6,8 @@ use Rattle.docker_model.specs.state.StateText.{dks_2}
 use Rattle.docker_model.specs.state.Summary.{IsSummary}
 use Rattle.docker_model.specs.run.Run.{RunEvent, Exchange, AreReplies, none_known, known_sets, after_reply}
 use Rattle.docker_model.specs.run.Run as model
-use Rattle.docker_model.specs.run.Knowledge.{IsGoodEvent, Holds}
+use Rattle.docker_model.specs.run.Knowledge.{IsGoodEvent}
+use Rattle.docker_laws.specs.RunInvariant.{Holds}
 use Rattle.docker_laws.proofs.runs.KnownSets.{replies_long, replies_more, sets_more}
 use Rattle.docker_laws.proofs.runs.RunEnd.{holds_at_end}
 use Rattle.docker_laws.proofs.runs.RunSteps.{holds_at_first}

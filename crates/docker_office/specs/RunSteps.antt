@@ -1,7 +1,7 @@
 -- One event in the middle of a run: the offices and the messages before and after it.
 use Rattle.docker_model.specs.state.StateText.{dks_2}
 use Rattle.docker_model.specs.run.Run.{RunEvent, KnownSets, IsReply, after_reply}
-use Rattle.docker_model.specs.run.Knowledge.{Holds}
+use Rattle.docker_laws.specs.RunInvariant.{Holds}
 use Rattle.docker_office.specs.declared.reply.Reply.{Reply}
 use Rattle.docker_office.specs.declared.steps.Holdings.{Holdings}
 use Rattle.docker_office.specs.RunMeaning.{IsRunReply, reply_meant, texts_of}

@@ -11,7 +11,7 @@ use Rattle.docker_model.specs.file.Journey.{CallsAt, calls_at}
 use Rattle.docker_model.specs.state.Op.{Op, deleted, lapsed, put_with, Entry, key_cmp, body_of}
 use Rattle.docker_model.specs.state.State.{State, IsValid, live_table}
 use Rattle.cif_laws.proofs.lists.FilteredMembers.{filter_back, filter_forth}
-use Rattle.state_laws.specs.Row.{Row, AreInKeyOrder}
+use Rattle.docker_model.specs.state.Row.{Row, AreInKeyOrder}
 use Rattle.state_laws.specs.Index.{IsCalling, IsLinked, AreCalling, AreLinked}
 use Rattle.state_laws.proofs.indexes.CallsTest.{calls_test}
 use Rattle.state_index.specs.Counts.{IsCallingCount}

@@ -5,7 +5,7 @@ use Rattle.std.specs.Str.{bytes_eq}
 use Rattle.docker_model.specs.file.Change.{Key, tiploc_key, association_key, schedule_key, Body, tiploc_body, association_body, schedule_body}
 use Rattle.docker_model.specs.file.Journey.{calls_at}
 use Rattle.docker_model.specs.state.Op.{Entry, body_of}
-use Rattle.state_laws.specs.Row.{Row}
+use Rattle.docker_model.specs.state.Row.{Row}
 
 -- whether a key is a schedule's, and the schedule with this body calls at the place
 abbrev pub is_call : List ℕ → Key → Body → Bool

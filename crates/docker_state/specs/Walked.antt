@@ -1,6 +1,6 @@
 -- The rows of a walk over the live rows at a place.
 use Rattle.std.specs.Prelude.{List}
-use Rattle.state_laws.specs.Row.{Row}
+use Rattle.docker_model.specs.state.Row.{Row}
 use Rattle.docker_state.specs.declared.place_rows.Walk.{Walk}
 use Rattle.docker_state.specs.declared.place_rows.Walk.TheVariants.{Numbered, Sifted}
 

@@ -41,7 +41,7 @@ pub struct Numbered<'a> {
 
 impl<'a> Model for Numbered<'a> {
     ghost use Rattle.std.specs.Prelude.{List};
-    ghost use Rattle.state_laws.specs.Row.{Row};
+    ghost use Rattle.docker_model.specs.state.Row.{Row};
     ghost use Rattle.docker_state.specs.Walked.{rows_walked};
 
     ghost Value = { List Row };
@@ -71,7 +71,7 @@ pub struct PlaceRows<'a> {
 
 impl<'a> Model for PlaceRows<'a> {
     ghost use Rattle.std.specs.Prelude.{List};
-    ghost use Rattle.state_laws.specs.Row.{Row};
+    ghost use Rattle.docker_model.specs.state.Row.{Row};
 
     ghost Value = { List Row };
 

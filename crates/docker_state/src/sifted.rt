@@ -24,7 +24,7 @@ pub(crate) struct SiftedRows<'a> {
 
 impl<'a> Model for SiftedRows<'a> {
     ghost use Rattle.std.specs.Prelude.{List, map};
-    ghost use Rattle.state_laws.specs.Row.{Row};
+    ghost use Rattle.docker_model.specs.state.Row.{Row};
     ghost use Rattle.docker_state.specs.Meaning.{row_meant};
     ghost use Rattle.docker_state.specs.PlaceRows.{rows_here};
 

@@ -23,7 +23,7 @@ pub struct TimetableRows<'a> {
 
 impl<'a> Model for TimetableRows<'a> {
     ghost use Rattle.std.specs.Prelude.{List};
-    ghost use Rattle.state_laws.specs.Row.{Row};
+    ghost use Rattle.docker_model.specs.state.Row.{Row};
     ghost use Rattle.docker_laws.specs.CountedRows.{counted_rows};
     ghost use Rattle.docker_state.specs.Timetables.{counts};
 
@@ -70,7 +70,7 @@ pub struct UidSchedules<'a> {
 
 impl<'a> Model for UidSchedules<'a> {
     ghost use Rattle.std.specs.Prelude.{List};
-    ghost use Rattle.state_laws.specs.Row.{Row};
+    ghost use Rattle.docker_model.specs.state.Row.{Row};
     ghost use Rattle.docker_laws.specs.CountedRows.{counted_rows};
     ghost use Rattle.docker_state.specs.Timetables.{counts};
 

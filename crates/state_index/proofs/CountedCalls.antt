@@ -8,7 +8,7 @@ use Rattle.docker_model.specs.file.Change.{schedule_body}
 use Rattle.docker_model.specs.state.Op.{body_of}
 use Rattle.docker_model.specs.file.Change as model
 use Rattle.docker_model.specs.state.State.{State, AreAscending, live_table}
-use Rattle.state_laws.specs.Row.{Row}
+use Rattle.docker_model.specs.state.Row.{Row}
 use Rattle.cif_laws.proofs.lists.Membership.{cons-Contains, cons-Contains-first}
 use Rattle.state_index.specs.Counts.{IsCallingCount}
 use Rattle.state_index.specs.SpotOrder.{Spot}

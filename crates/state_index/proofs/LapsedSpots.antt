@@ -6,7 +6,7 @@ use Rattle.std.proofs.lemmas.Option.{slice_get-map}
 use Rattle.docker_model.specs.file.Change.{Key, Body}
 use Rattle.docker_model.specs.state.Op.{Op, deleted, lapsed, put_with, body_of}
 use Rattle.docker_model.specs.state.Lapse.{lapse, lapse_keyed, lapse_entries}
-use Rattle.state_laws.specs.Row.{Row}
+use Rattle.docker_model.specs.state.Row.{Row}
 use Rattle.docker_model.specs.state.Order.{IsStrictlyAscending}
 use Rattle.cif_laws.proofs.lists.Membership.{nil-Contains}
 use Rattle.cif_laws.proofs.lists.FilteredMembers.{filter_back, filter_forth}

@@ -13,7 +13,7 @@ use Rattle.docker_model.specs.file.Change.{Key, tiploc_key, association_key, sch
 use Rattle.docker_model.specs.state.Op.{Op, deleted, lapsed, put_with, Entry, body_of, key_cmp, schedule_key_cmp, association_key_cmp}
 use Rattle.docker_model.specs.state.Order.{bytes_cmp, IsStrictlyAscending}
 use Rattle.docker_model.specs.state.State.{State, AreAscending, entry_at, live_table}
-use Rattle.state_laws.specs.Row.{Row}
+use Rattle.docker_model.specs.state.Row.{Row}
 use Rattle.state_laws.specs.Index.{CallingRow, LinkedRow, calling_keys, linked_keys, IsCalling, IsLinked, IsCallingIndex, IsLinkedIndex, AreCalling, AreLinked}
 use Rattle.docker_model.specs.file.Journey.{CallsAt}
 use Rattle.cif_laws.proofs.lists.Membership.{cons-Contains, cons-Contains-first}

@@ -1,7 +1,7 @@
 -- Defines the number of live schedules that call at a place.
 use Rattle.std.specs.Prelude.{◌≡◌, ℕ, List, length}
 use Rattle.docker_model.specs.state.Table.{Table}
-use Rattle.state_laws.specs.Row.{Row}
+use Rattle.docker_model.specs.state.Row.{Row}
 use Rattle.state_laws.specs.Index.{AreCalling}
 
 -- Says that this many live schedules call at the place.

@@ -5,7 +5,7 @@ use Rattle.std.specs.List.{filter_map}
 use Rattle.std.specs.Option.{is_some}
 use Rattle.docker_model.specs.file.Change.{Key}
 use Rattle.docker_model.specs.state.Op.{Entry, body_of}
-use Rattle.state_laws.specs.Row.{Row}
+use Rattle.docker_model.specs.state.Row.{Row}
 use Rattle.state_index.specs.SpotOrder.{Spot}
 use Rattle.state_index.specs.Turns.{is_put}
 use Rattle.state_index.specs.declared.posting.Posting.{Posting}

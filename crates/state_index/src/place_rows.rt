@@ -30,7 +30,7 @@ pub struct Numbered<'a> {
 
 impl<'a> Model for Numbered<'a> {
     ghost use Rattle.std.specs.Prelude.{List, map};
-    ghost use Rattle.state_laws.specs.Row.{Row};
+    ghost use Rattle.docker_model.specs.state.Row.{Row};
     ghost use Rattle.docker_join.specs.Meaning.{row_meant};
     ghost use Rattle.state_index.specs.PlaceRows.{rows_at_postings};
 
@@ -68,7 +68,7 @@ pub struct PlaceRows<'a> {
 
 impl<'a> Model for PlaceRows<'a> {
     ghost use Rattle.std.specs.Prelude.{List};
-    ghost use Rattle.state_laws.specs.Row.{Row};
+    ghost use Rattle.docker_model.specs.state.Row.{Row};
 
     ghost Value = { List Row };
 

@@ -11,7 +11,7 @@ use Rattle.docker_model.specs.file.Change.{Key, association_key, schedule_key, A
 use Rattle.docker_model.specs.state.Order.{bytes_cmp, IsStrictlyAscending}
 use Rattle.docker_model.specs.state.Op.{schedule_key_cmp, association_key_cmp}
 use Rattle.docker_model.specs.state.Table.{Table}
-use Rattle.state_laws.specs.Row.{Row, AreInKeyOrder}
+use Rattle.docker_model.specs.state.Row.{Row, AreInKeyOrder}
 
 -- a row of the index of calls: a TIPLOC, and the key of a schedule that calls at this TIPLOC
 abbrev pub CallingRow : Type 0

@@ -10,6 +10,11 @@ use Rattle.state_laws.specs.Staging.{IsStaged, IsCommit}
 abbrev pub first_full_stamp : List LedgerItem → Option FileStamp
 first_full_stamp ledger = option_map (λ (item : LedgerItem). item.stamp) (find (λ (item : LedgerItem). item.indicator == 70) ledger)
 
+-- the state with no horizon, but with the same ledger and entries. Entries that have lapsed stay
+-- lapsed
+abbrev pub without_horizon : State → State
+without_horizon state = record { horizon = 0; ledger = state.ledger; entries = state.entries }
+
 -- `Fact` holds if `own` and `received` are valid states, and `after` results from receiving
 -- `received` in two steps. First all entries of `received` are offered for staging to the office
 -- whose state is `own`, with the floor of the two ledgers together. Then the staged entries are

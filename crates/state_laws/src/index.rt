@@ -6,7 +6,7 @@ ghost use Rattle.docker_model.specs.state.Order.{IsStrictlyAscending};
 ghost use Rattle.docker_model.specs.state.State.{State, IsJoin, live_table, AreAscending};
 ghost use Rattle.docker_model.specs.state.Table.{Table};
 ghost use Rattle.docker_model.specs.state.Lapse.{lapse_table};
-ghost use Rattle.state_laws.specs.Row.{Row, AreRowsOf};
+ghost use Rattle.docker_model.specs.state.Row.{Row, AreRowsOf};
 ghost use Rattle.state_laws.specs.Index.{CallingRow, LinkedRow, calling_cmp, linked_cmp, calls_of, links_of, IsCallingIndex, IsLinkedIndex};
 ghost use Rattle.state_laws.specs.Index.{IsFromEither, IsCallingFromEither, IsLinkedFromEither, AreCalling, AreLinked, AreOfUid};
 

@@ -5,10 +5,10 @@ ghost use Rattle.std.specs.Prelude.{◌≡◌, ◌+◌, List, [], ◌∷◌, ◌
 ghost use Rattle.docker_model.specs.file.Change.{Key};
 ghost use Rattle.docker_model.specs.state.Stamp.{LedgerItem, FileStamp, IsFloor, IsKept};
 ghost use Rattle.docker_model.specs.state.Op.{Entry, key_cmp};
-ghost use Rattle.docker_model.specs.state.State.{State, AreAscending, IsValid, IsJoin, raise_horizon, without_horizon, entry_at};
+ghost use Rattle.docker_model.specs.state.State.{State, AreAscending, IsValid, IsJoin, raise_horizon, entry_at};
+ghost use Rattle.state_laws.specs.LawTerms.{without_horizon, HoldsOnceCommitted};
 ghost use Rattle.std.specs.declared.cmp.Ordering.TheVariants.{Less};
 ghost use Rattle.state_laws.specs.Staging.{IsGreaterThan, IsToStage, IsStaged, IsCommit, staged_state};
-ghost use Rattle.state_laws.specs.LawTerms.{HoldsOnceCommitted};
 
 /// A state is received in three steps: all its entries are passed on for staging, the staged
 /// entries are committed, and then its horizon is set. The result is the join of the receiving

@@ -20,7 +20,7 @@ use Rattle.cif_laws.proofs.orders.Ascending.{same_list, ascending_of, later_of}
 use Rattle.cif_laws.proofs.orders.Orders.{key_total}
 use Rattle.cif_change.specs.NamedPlaces.{call_places}
 use Rattle.state_laws.specs.Index.{AreCalling}
-use Rattle.state_laws.specs.Row.{Row, AreInKeyOrder, AreRowsOf}
+use Rattle.docker_model.specs.state.Row.{Row, AreInKeyOrder, AreRowsOf}
 use Rattle.state_index.specs.Counts.{IsCallingCount}
 use Rattle.state_index.proofs.RowPlaces.{Calls, call_back, call_forth}
 use Rattle.docker_state.specs.Live.{live_rows}

@@ -12,7 +12,7 @@ use Rattle.docker_join.specs.declared.entry.Entry.{Entry as Held}
 use Rattle.docker_join.specs.Meaning.{row_meant}
 use Rattle.docker_model.specs.docker.DockerText.{ended}
 use Rattle.state_index.specs.Counts.{IsCallingCount}
-use Rattle.state_laws.specs.Row.{Row}
+use Rattle.docker_model.specs.state.Row.{Row}
 use Rattle.docker_state.specs.Live.{put_before, live_rows}
 use Rattle.state_lists.specs.Gained.{Gains, GainsPart}
 use Rattle.state_lists.specs.Places.{IsPlacesText, place_line, place_text, places_text}

@@ -5,7 +5,7 @@ use Rattle.docker_model.specs.state.State.{State, live_table}
 use Rattle.docker_model.specs.state.Table.{Table}
 use Rattle.cif_laws.proofs.lists.Membership.{nil-Contains}
 use Rattle.state_laws.proofs.states.OneJoin.{floor_unique}
-use Rattle.state_laws.specs.Row.{Row}
+use Rattle.docker_model.specs.state.Row.{Row}
 use Rattle.state_lists.specs.Known.{IsGreatest, IsKnownText, ends_of, known_text}
 use Rattle.state_lists.specs.Places.{IsPlacesText, places_text}
 use Rattle.state_lists.proofs.Counts.{one_rows}

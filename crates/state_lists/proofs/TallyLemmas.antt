@@ -14,7 +14,7 @@ use Rattle.cif_laws.proofs.lists.Membership.{cons-Contains-first, Contains-singl
 use Rattle.cif_change.specs.declared.key.Key.{Key as Kept}
 use Rattle.docker_join.specs.declared.entry.Entry.{Entry as Held}
 use Rattle.docker_join.specs.Meaning.{op_meant, row_meant}
-use Rattle.state_laws.specs.Row.{Row}
+use Rattle.docker_model.specs.state.Row.{Row}
 use Rattle.docker_state.specs.Live.{put_before, live_rows}
 use Rattle.state_lists.specs.Known.{IsGreatest, count_of, day_in, end_of, ends_of}
 use Rattle.state_lists.specs.Tallies.{AreFew, IsTallyOf, with_day}

@@ -9,7 +9,7 @@ use Rattle.docker_model.specs.state.Stamp.{FileStamp, IsFloor}
 use Rattle.docker_model.specs.state.Op.{key_tag, body_end}
 use Rattle.docker_model.specs.state.State.{State, live_table}
 use Rattle.docker_model.specs.docker.DockerText.{ended}
-use Rattle.state_laws.specs.Row.{Row, AreRowsOf}
+use Rattle.docker_model.specs.state.Row.{Row, AreRowsOf}
 
 -- the number of rows with this tag among these rows. The tag is 1 for TIPLOCs, 2 for associations
 -- and 3 for schedules

@@ -9,7 +9,7 @@ use Rattle.docker_model.specs.state.Op.{put_with}
 use Rattle.docker_model.specs.state.Table.{Table}
 use Rattle.docker_model.specs.docker.DockerText.{ended}
 use Rattle.cif_change.specs.NamedPlaces.{call_places}
-use Rattle.state_laws.specs.Row.{Row, AreRowsOf}
+use Rattle.docker_model.specs.state.Row.{Row, AreRowsOf}
 
 -- whether a live row is a schedule that has a location record at the place
 abbrev pub calls_at : List ℕ → Row → Bool

@@ -1,7 +1,7 @@
 -- Tallies of live rows, and the lines that are printed for a tally.
 use Rattle.std.specs.Prelude.{◌≡◌, ℕ, ◌<◌, ◌^◌, List, [], ◌∷◌, ◌++◌, codes, Option, Some, None}
 use Rattle.docker_model.specs.state.Stamp.{FileStamp}
-use Rattle.state_laws.specs.Row.{Row}
+use Rattle.docker_model.specs.state.Row.{Row}
 use Rattle.state_lists.specs.Known.{IsGreatest, count_line, count_of, ends_of, full_line, horizon_line, last_line}
 use Rattle.state_lists.specs.declared.tally.Tally.{Tally}
 

@@ -4,7 +4,7 @@ ghost use Rattle.docker_model.specs.state.Op.{body_end};
 ghost use Rattle.cif_change.specs.Meaning.{body_meant, key_meant};
 ghost use Rattle.docker_join.specs.Meaning.{row_meant};
 ghost use Rattle.docker_state.specs.Live.{live_rows};
-ghost use Rattle.state_laws.specs.Row.{Row};
+ghost use Rattle.docker_model.specs.state.Row.{Row};
 ghost use Rattle.state_lists.specs.Known.{IsGreatest, day_in};
 ghost use Rattle.state_lists.specs.Tallies.{AreFew, IsTallyOf, with_day};
 

@@ -8,7 +8,7 @@ use Rattle.docker_model.specs.file.Change.{Key, tiploc_key, association_key, sch
 use Rattle.docker_model.specs.state.Table.{Table}
 use Rattle.docker_model.specs.docker.Choice.{Group, schedule_runs, schedule_choice_cmp, association_choice_cmp, Train, IsChosenOn}
 use Rattle.docker_laws.specs.Best.{with_one_more}
-use Rattle.state_laws.specs.Row.{Row, AreRowsOf}
+use Rattle.docker_model.specs.state.Row.{Row, AreRowsOf}
 use Rattle.docker_laws.specs.LiveRows.{Link, HasSchedulesOf, HasAssociationsOf, IsLinkOn}
 use Rattle.docker_laws.specs.LiveRows.{unless_cancelled, train_in, link_in, schedule_of, association_of, is_running, is_linked}
 use Rattle.docker_laws.specs.ChoiceWalk.{IsChosenSoFar, IsLinkSoFar, next_chosen, next_link}

@@ -18,7 +18,7 @@ use Rattle.docker_laws.specs.LiveRows.{Link, is_of_group, link_in, train_in}
 use Rattle.docker_model.specs.file.Change.{AssociationKey}
 use Rattle.docker_model.specs.state.Op.{association_key_cmp}
 use Rattle.docker_model.specs.state.Order.{bytes_cmp}
-use Rattle.state_laws.specs.Row.{Row, AreRowsOf}
+use Rattle.docker_model.specs.state.Row.{Row, AreRowsOf}
 use Rattle.docker_model.specs.state.Table.{Table}
 use Rattle.train_choice.specs.Known.{uid_day_cmp, AreIdentities, group_cmp, GroupLinks, AreDayLinks, HasOneMore}
 use Rattle.train_choice.specs.Ranked.{is_better}

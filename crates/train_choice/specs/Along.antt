@@ -6,7 +6,7 @@ use Rattle.docker_model.specs.file.Change.{schedule_key, schedule_body, associat
 use Rattle.docker_model.specs.state.Table.{Table}
 use Rattle.docker_model.specs.state.State.{IsBodyOf}
 use Rattle.docker_model.specs.docker.Choice.{Group, Train}
-use Rattle.state_laws.specs.Row.{Row}
+use Rattle.docker_model.specs.state.Row.{Row}
 use Rattle.docker_laws.specs.LiveRows.{Link}
 use Rattle.docker_laws.specs.ChoiceWalk.{next_chosen, next_link}
 

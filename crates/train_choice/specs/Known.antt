@@ -8,7 +8,7 @@ use Rattle.docker_model.specs.docker.Choice.{Group, association_choice_cmp}
 use Rattle.docker_laws.specs.Gathering.{identity_of}
 use Rattle.docker_laws.specs.LiveRows.{Link, is_linked, link_in, train_in}
 use Rattle.docker_model.specs.state.Order.{bytes_cmp}
-use Rattle.state_laws.specs.Row.{Row, AreRowsOf}
+use Rattle.docker_model.specs.state.Row.{Row, AreRowsOf}
 use Rattle.docker_model.specs.state.Table.{Table}
 use Rattle.docker_state.specs.Timetables.{Timetable}
 use Rattle.train_choice.specs.declared.uid_train.UidTrain.{UidTrain}

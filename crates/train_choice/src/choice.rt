@@ -7,7 +7,7 @@ ghost use Rattle.docker_model.specs.file.File.{first_record};
 ghost use Rattle.docker_model.specs.docker.Choice.{schedule_choice_cmp, schedule_runs, Train, IsChosenOn};
 ghost use Rattle.docker_laws.specs.Best.{with_one_more};
 ghost use Rattle.docker_laws.specs.ChoiceWalk.{next_chosen};
-ghost use Rattle.state_laws.specs.Row.{Row, AreRowsOf};
+ghost use Rattle.docker_model.specs.state.Row.{Row, AreRowsOf};
 ghost use Rattle.docker_laws.specs.LiveRows.{is_running, train_in, unless_cancelled};
 ghost use Rattle.cif_line.specs.Letter.{stp_letter};
 ghost use Rattle.train_choice.specs.Along.{chosen_along, AreGoodRows, IsLiveTrain};

@@ -6,7 +6,7 @@ ghost use Rattle.docker_model.specs.docker.Choice.{Group, group_of};
 ghost use Rattle.docker_laws.specs.ChoiceWalk.{next_link};
 ghost use Rattle.docker_laws.specs.Gathering.{counts_as};
 ghost use Rattle.docker_laws.specs.LiveRows.{link_in};
-ghost use Rattle.state_laws.specs.Row.{Row, AreRowsOf};
+ghost use Rattle.docker_model.specs.state.Row.{Row, AreRowsOf};
 ghost use Rattle.docker_model.specs.state.State.{IsBodyOf};
 ghost use Rattle.train_choice.specs.Along.{link_along, AreGoodRows};
 ghost use Rattle.train_choice.specs.Keys.{association_key_meant};

@@ -1,7 +1,7 @@
 //! The trains that start on a day. The train that was looked up last is remembered.
 ghost use Rattle.std.specs.Prelude.{◌≡◌, true, List, IfSome};
 ghost use Rattle.docker_model.specs.file.File.{first_record};
-ghost use Rattle.state_laws.specs.Row.{Row, AreRowsOf};
+ghost use Rattle.docker_model.specs.state.Row.{Row, AreRowsOf};
 ghost use Rattle.docker_model.specs.docker.Choice.{schedule_runs};
 ghost use Rattle.docker_laws.specs.Gathering.{runs_by};
 ghost use Rattle.docker_laws.specs.LiveRows.{train_in};

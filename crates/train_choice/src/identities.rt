@@ -1,6 +1,6 @@
 //! Train identities, each remembered after it has been looked up.
 ghost use Rattle.std.specs.Prelude.{◌≡◌, List, IfOk};
-ghost use Rattle.state_laws.specs.Row.{Row, AreRowsOf};
+ghost use Rattle.docker_model.specs.state.Row.{Row, AreRowsOf};
 ghost use Rattle.docker_laws.specs.Gathering.{identity_of};
 ghost use Rattle.docker_laws.specs.LiveRows.{train_in};
 ghost use Rattle.docker_state.specs.Timetables.{live_in};

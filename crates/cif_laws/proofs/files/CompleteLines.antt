@@ -9,9 +9,9 @@ use Rattle.std.proofs.lemmas.Bool.{leb-true, le-leb}
 use Rattle.std.proofs.lemmas.List.{map-append, length-map}
 use Rattle.std.proofs.lemmas.List.Splits.{length-slice_split, slice_split-cons_yes, slice_split-cons_no, slice_split_none, slice_split_at}
 use Rattle.docker_model.specs.records.Record.{Lines}
-use Rattle.docker_model.specs.file.Text.{last_piece, without_empty_last, lines_of}
+use Rattle.docker_model.specs.file.Text.{last_piece, without_empty_last, lines_of, but_last, complete_lines, pieces_of}
 use Rattle.docker_model.specs.file.FaultSoFar.{last_of, sure_lines}
-use Rattle.cif_laws.specs.CompleteLines.{but_last, open_line, complete_lines, pieces_of, line_left, feeds, HasNoFeed}
+use Rattle.cif_laws.specs.CompleteLines.{open_line, line_left, feeds, HasNoFeed}
 
 -- ---- how the pieces of a text change when bytes are appended
 

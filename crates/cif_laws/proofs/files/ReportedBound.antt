@@ -10,7 +10,7 @@ use Rattle.docker_model.specs.records.Record.{Lines}
 use Rattle.docker_model.specs.file.FileFault.{FileFault}
 use Rattle.docker_model.specs.file.FaultSoFar.{last_of, IsFaultSoFar}
 use Rattle.cif_laws.specs.FileStage.{Place, next_place, place_from, before_header}
-use Rattle.cif_laws.specs.CompleteLines.{but_last, pieces_of, complete_lines}
+use Rattle.docker_model.specs.file.Text.{but_last, pieces_of, complete_lines}
 use Rattle.cif_laws.proofs.lists.BoolsAndOptions.{then_some}
 use Rattle.cif_laws.proofs.files.FileStages.{next_by_test, begins_iff_place}
 use Rattle.cif_laws.proofs.files.ReportedFaults.{strip_long, TellsNoFault, fault_so_far_or_none}

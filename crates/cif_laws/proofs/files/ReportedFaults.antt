@@ -9,13 +9,13 @@ use Rattle.std.proofs.lemmas.Bool.{cases_lt, leb-true, lt-leb, le-leb, ne_eqb}
 use Rattle.std.proofs.lemmas.List.{length-take-le, take_at}
 use Rattle.docker_model.specs.records.Record.{Lines}
 use Rattle.docker_model.specs.file.File.{BeginsFile}
-use Rattle.docker_model.specs.file.Text.{without_empty_last, lines_of}
+use Rattle.docker_model.specs.file.Text.{without_empty_last, lines_of, complete_lines}
 use Rattle.docker_model.specs.file.FileFault.{FileCause, too_many, after_trailer, bad_length, bad_byte, bad_kind, bad_place, bad_field}
 use Rattle.docker_model.specs.file.FileFault.{third_midnight, no_end, cause_rank, HoldsOf, IsCause, FileFault, IsRecordFault, IsFileFault}
 use Rattle.docker_model.specs.file.FaultSoFar.{IsFaultSoFar, sure_lines, last_of}
 use Rattle.cif_laws.specs.FileStage.{Place, next_place, IsPlaceOf}
 use Rattle.cif_laws.specs.RecordCause.{is_after_end, byte_cause, cause_of, cause_of_long}
-use Rattle.cif_laws.specs.CompleteLines.{open_line, complete_lines, line_left, HasNoFeed}
+use Rattle.cif_laws.specs.CompleteLines.{open_line, line_left, HasNoFeed}
 use Rattle.cif_laws.proofs.files.OneFileFault.{begins_front, one_fault}
 use Rattle.cif_laws.proofs.files.FileStages.{next_by_test, begins_iff_place, begins_next_iff}
 use Rattle.cif_laws.proofs.files.FileCauses.{Pass, HasRecordFault, pass_or_fault, record_fault}

@@ -11,7 +11,8 @@ use Rattle.std.proofs.lemmas.Bool.Decides.{eqb_tells}
 use Rattle.std.proofs.lemmas.List.Elements.{All-from_recursion, recursion_from_All}
 use Rattle.std.proofs.Math.Seq.{take-append_seam, get_or-append_seam}
 use Rattle.docker_model.specs.records.Record.{is_printable, IsRecord}
-use Rattle.docker_model.specs.file.Text.{IsLineEnd, IsLastLineEnd, IsTextOf, without_empty_last, lines_of}
+use Rattle.docker_model.specs.file.Text.{without_empty_last, lines_of}
+use Rattle.cif_laws.specs.RecordText.{IsLineEnd, IsLastLineEnd, IsTextOf}
 
 -- if the last byte of a list is 13, the list consists of the bytes before its last byte, followed
 -- by 13

@@ -5,7 +5,7 @@ use Rattle.std.specs.Ordering.{on}
 use Rattle.std.specs.Cmp.{IsTotalOrder, on_total}
 use Rattle.std.proofs.lemmas.List.Elements.{filter_map-append}
 use Rattle.docker_model.specs.file.Change.{Key, tiploc_key, association_key, schedule_key, Body, tiploc_body, association_body, schedule_body}
-use Rattle.state_laws.specs.Row.{Row}
+use Rattle.docker_model.specs.state.Row.{Row}
 use Rattle.docker_model.specs.docker.Choice.{schedule_choice_cmp, association_choice_cmp, Group, Train}
 use Rattle.docker_laws.specs.LiveRows.{Link, schedule_of, association_of, schedules_in, associations_in, is_running, is_linked}
 use Rattle.docker_laws.specs.Best.{IsBest}

@@ -9,7 +9,7 @@ use Rattle.docker_model.specs.state.Order.{IsBelow}
 use Rattle.docker_model.specs.state.State.{HasGoodBodies}
 use Rattle.docker_model.specs.state.Table.{Table}
 use Rattle.state_laws.specs.Index.{AreCalling, AreLinked, AreOfUid}
-use Rattle.state_laws.specs.Row.{Row, AreInKeyOrder, AreRowsOf}
+use Rattle.docker_model.specs.state.Row.{Row, AreInKeyOrder, AreRowsOf}
 use Rattle.cif_laws.proofs.lists.FilteredMembers.{filter_back, filter_forth}
 use Rattle.cif_laws.proofs.lists.Later.{later_filter}
 use Rattle.cif_laws.proofs.orders.Ascending.{later_of, ascending_of}

@@ -18,7 +18,7 @@ use Rattle.docker_model.specs.state.Order.{IsBelow}
 use Rattle.docker_model.specs.state.Op.{key_cmp}
 use Rattle.docker_model.specs.state.Table.{Table}
 use Rattle.docker_model.specs.state.State.{HasGoodBodies}
-use Rattle.state_laws.specs.Row.{Row, AreInKeyOrder}
+use Rattle.docker_model.specs.state.Row.{Row, AreInKeyOrder}
 use Rattle.docker_model.specs.docker.Choice.{Group, Train}
 use Rattle.docker_model.specs.docker.DockerLine.{DockerLine, docker_line_cmp}
 use Rattle.docker_model.specs.docker.DockerList.{IsDockerList}

@@ -7,7 +7,7 @@ use Rattle.std.specs.Cmp.{IsTotalOrder, on_total}
 use Rattle.std.proofs.lemmas.Slice.Eq.{bytes_eq-Decides}
 use Rattle.docker_model.specs.file.Change.{Key, tiploc_key, association_key, schedule_key, AssociationKey, Body, tiploc_body, association_body, schedule_body}
 use Rattle.docker_model.specs.state.Table.{Table}
-use Rattle.state_laws.specs.Row.{Row, AreRowsOf}
+use Rattle.docker_model.specs.state.Row.{Row, AreRowsOf}
 use Rattle.docker_model.specs.docker.Choice.{association_runs, association_choice_cmp, Group, group_of, IsAssociated}
 use Rattle.docker_laws.specs.LiveRows.{HasAssociationsOf, Link, association_of, associations_in, is_of_group, is_linked, link_in, IsLinkOn, TellsLinks}
 use Rattle.docker_laws.specs.ChoiceWalk.{IsLinkSoFar}

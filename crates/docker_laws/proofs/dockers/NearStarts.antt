@@ -5,7 +5,7 @@ use Rattle.std.specs.Prelude.{◌↔◌}
 use Rattle.docker_model.specs.file.Change.{schedule_key, association_key, schedule_body, association_body}
 use Rattle.docker_model.specs.state.Table.{Table}
 use Rattle.docker_model.specs.state.State.{HasGoodBodies}
-use Rattle.state_laws.specs.Row.{Row, AreRowsOf}
+use Rattle.docker_model.specs.state.Row.{Row, AreRowsOf}
 use Rattle.docker_model.specs.docker.DockerLine.{DockerLine}
 use Rattle.docker_model.specs.docker.Association.{IsAssociationLine}
 use Rattle.docker_model.specs.docker.DockerList.{IsEventLine}

@@ -5,7 +5,7 @@ use Rattle.std.proofs.Common.{ℕ, List, ◌++◌, inl, inr, ◌⊎◌, Contains
 use Rattle.std.proofs.lemmas.List.Elements.{Contains-append_left, Contains-append_right, Contains-append_cases}
 use Rattle.docker_model.specs.file.Change.{schedule_key, association_key, schedule_body, association_body}
 use Rattle.docker_model.specs.state.Table.{Table}
-use Rattle.state_laws.specs.Row.{Row, AreRowsOf}
+use Rattle.docker_model.specs.state.Row.{Row, AreRowsOf}
 use Rattle.docker_model.specs.docker.Choice.{Group}
 use Rattle.docker_laws.specs.LiveRows.{HasSchedulesOf, HasAssociationsOf, HasNoScheduleOf, HasNoAssociationOf}
 

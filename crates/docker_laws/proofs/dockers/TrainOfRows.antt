@@ -8,7 +8,7 @@ use Rattle.std.proofs.lemmas.Slice.Eq.{bytes_eq-Decides}
 use Rattle.docker_model.specs.file.File.{first_record}
 use Rattle.docker_model.specs.file.Change.{Key, tiploc_key, association_key, schedule_key, ScheduleKey, Body, tiploc_body, association_body, schedule_body}
 use Rattle.docker_model.specs.state.Table.{Table}
-use Rattle.state_laws.specs.Row.{Row, AreRowsOf}
+use Rattle.docker_model.specs.state.Row.{Row, AreRowsOf}
 use Rattle.docker_model.specs.docker.Choice.{schedule_runs, schedule_choice_cmp, IsRunning, IsChosen, Train, IsChosenOn}
 use Rattle.docker_laws.specs.LiveRows.{HasSchedulesOf, schedule_of, schedules_in, is_running, chosen_in, unless_cancelled, train_in, IsTrainOn, TellsTrains}
 use Rattle.docker_laws.specs.ChoiceWalk.{IsChosenSoFar}

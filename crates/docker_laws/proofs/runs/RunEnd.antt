@@ -14,7 +14,8 @@ use Rattle.docker_model.specs.state.StateText.{Format, state_text}
 use Rattle.docker_model.specs.docker.DockerText.{IsDockerText, docker_text}
 use Rattle.docker_model.specs.run.Run.{RunEvent, Exchange, IsRun, AreReplies, none_known, IsStateOf, IsMessageOf}
 use Rattle.docker_model.specs.run.Run.{Known, nothing, office_known, message_known, IsOffice, IsMessage}
-use Rattle.docker_model.specs.run.Knowledge.{HaveSameFiles, AreOneKnowledge, IsGoodKnown, IsGoodEvent, Holds, office_state, message_text, sets_of}
+use Rattle.docker_model.specs.run.Knowledge.{HaveSameFiles, AreOneKnowledge, IsGoodKnown, IsGoodEvent, office_state, message_text, sets_of}
+use Rattle.docker_laws.specs.RunInvariant.{Holds}
 use Rattle.state_laws.proofs.states.Lapse.{max_most}
 use Rattle.docker_laws.proofs.dockers.PrintedDocker.{state_text_iff, printed_is_plain}
 use Rattle.state_laws.proofs.joins.RaisedHorizon.{lapsed_already, none_to_lapse}

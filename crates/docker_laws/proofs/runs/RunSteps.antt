@@ -13,7 +13,8 @@ use Rattle.docker_model.specs.state.StateText.{Format, state_text, IsHorizonOf, 
 use Rattle.docker_model.specs.state.StateFault.{IsStateText}
 use Rattle.docker_model.specs.run.Run.{RunEvent, take_file, send_state, deliver, reload, horizon_event, done, refused, Refusal, Known, KnownSets, IsOffice}
 use Rattle.docker_model.specs.run.Run.{IsMessage, IsStateOf, IsMessageOf, nothing, united, office_known, message_known, after_reply, none_known}
-use Rattle.docker_model.specs.run.Knowledge.{IsGoodKnown, Holds, office_state, message_text}
+use Rattle.docker_model.specs.run.Knowledge.{IsGoodKnown, office_state, message_text}
+use Rattle.docker_laws.specs.RunInvariant.{Holds}
 use Rattle.state_laws.proofs.joins.JoinLaws.{join_commutes}
 use Rattle.docker_laws.proofs.runs.GoodKnowledge.{nothing_good, united_good, file_good, horizon_good}
 use Rattle.docker_laws.proofs.runs.MessageTexts.{counts_fit, summary_told}

@@ -1,7 +1,6 @@
 -- The fault that the first bytes of a text determine, whatever bytes follow them.
 use Rattle.std.specs.Prelude.{ℕ, ◌+◌, ◌≤◌, ◌==◌, nat_le, if◌then◌else◌, List, [], ◌∷◌, length, count_by}
-use Rattle.std.specs.List.{slice_split}
-use Rattle.docker_model.specs.file.Text.{lines_of}
+use Rattle.docker_model.specs.file.Text.{pieces_of, lines_of}
 use Rattle.docker_model.specs.file.FileFault.{FileFault, IsRecordFault}
 
 -- the last of these pieces, or no bytes if there are no pieces
@@ -16,7 +15,7 @@ last_of (piece ∷ next ∷ pieces) = last_of (next ∷ pieces)
 -- the text `HD` has no certain line, and `HD` with a line feed has one
 abbrev pub sure_lines : List ℕ → ℕ
 sure_lines text =
-    count_by (λ b. b == 10) text + (if nat_le 82 (length (last_of (slice_split (λ b. b == 10) text))) then 1 else 0)
+    count_by (λ b. b == 10) text + (if nat_le 82 (length (last_of (pieces_of text))) then 1 else 0)
 
 -- these bytes determine this fault: the line at fault is already certain, as counted by
 -- `sure_lines`. Every text that begins with these bytes has the same fault

@@ -1,12 +1,11 @@
--- The invariant of a run, which holds after each event. Every state is the summary of the files
--- that its office knows. Every message is the text of the summary of the files that its sender
--- knew.
+-- What the offices in a run know, and what their messages bring: when two of them have the same
+-- knowledge, which knowledge and which events may be part of a run, and what there is at its end.
 use Rattle.std.specs.Prelude.{◌≡◌, ℕ, ◌≤◌, ◌↔◌, List, All, Contains, slice_index_or, [], length, filter, Bool, true, false, ⊤}
-use Rattle.std.specs.List.{AllZip, zip}
+use Rattle.std.specs.List.{zip}
 use Rattle.docker_model.specs.file.File.{IsFile, most_records}
 use Rattle.docker_model.specs.state.State.{State}
 use Rattle.docker_model.specs.state.StateText.{Format, IsHorizonOf}
-use Rattle.docker_model.specs.run.Run.{Files, Known, KnownSets, Exchange, IsStateOf, IsMessageOf, known_sets, RunEvent}
+use Rattle.docker_model.specs.run.Run.{Files, Known, KnownSets, Exchange, known_sets, RunEvent}
 use Rattle.docker_model.specs.run.Run.{take_file, send_state, deliver, reload, horizon_event, Reply, done, refused}
 
 -- the two lists contain the same files. The order of the files doesn't matter, nor how often a file
@@ -32,15 +31,6 @@ abbrev pub IsGoodEvent : Format → RunEvent → Type 0
 IsGoodEvent format (take_file office text limit) = limit ≤ most_records
 IsGoodEvent format (horizon_event office day) = IsHorizonOf format day
 IsGoodEvent format _ = ⊤
-
--- the states and the texts of the messages match the knowledge. Each state is the summary of the
--- files that its office knows. Each message is the text of the summary of the files that its sender
--- knew. Every known file is a CIF file, and the format allows every known horizon
-pub record Holds (format : Format) (known : KnownSets) (states : List State) (messages : List (List ℕ)) : Type 0 where
-  pub offices : All (IsGoodKnown format) known.offices
-  pub sent : All (IsGoodKnown format) known.messages
-  pub states_are : AllZip IsStateOf known.offices states
-  pub messages_are : AllZip (IsMessageOf format) known.messages messages
 
 -- the state of the office with this number, counted from 0, or an empty state if there is no such
 -- office

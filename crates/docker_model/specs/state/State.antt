@@ -147,11 +147,6 @@ lapse_state horizon state = record { horizon = horizon; ledger = state.ledger; e
 abbrev pub raise_horizon : ℕ → State → State
 raise_horizon horizon state = lapse_state (max state.horizon horizon) state
 
--- the state with no horizon, but with the same ledger and entries. Entries that have lapsed stay
--- lapsed
-abbrev pub without_horizon : State → State
-without_horizon state = record { horizon = 0; ledger = state.ledger; entries = state.entries }
-
 -- `entry` is the greatest of all entries that the list has for this key
 pub record IsGreatestAmong (entries : List (Key × Entry)) (key : Key) (entry : Entry) : Type 0 where
   pub among : Contains entries (key, entry)

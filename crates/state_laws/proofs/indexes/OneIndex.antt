@@ -15,7 +15,7 @@ use Rattle.docker_model.specs.file.Change.{Key, association_key, schedule_key, B
 use Rattle.docker_model.specs.state.Order.{bytes_cmp, IsBelow, IsStrictlyAscending}
 use Rattle.docker_model.specs.state.Op.{key_cmp, schedule_key_cmp, association_key_cmp}
 use Rattle.docker_model.specs.state.Table.{Table}
-use Rattle.state_laws.specs.Row.{Row, AreInKeyOrder}
+use Rattle.docker_model.specs.state.Row.{Row, AreInKeyOrder}
 use Rattle.state_laws.specs.Index.{CallingRow, calling_cmp, LinkedRow, linked_cmp, IsCallingIndex}
 use Rattle.state_laws.specs.Index.{IsLinkedIndex, AreCalling, AreLinked, AreOfUid, calling_keys, linked_keys}
 use Rattle.cif_laws.proofs.orders.Ascending.{same_list, ascending_of, later_of}

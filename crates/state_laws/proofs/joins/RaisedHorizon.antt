@@ -10,7 +10,8 @@ use Rattle.docker_model.specs.state.Order.{IsStrictlyAscending}
 use Rattle.docker_model.specs.state.Stamp.{FileStamp, LedgerItem, ledger_item_cmp, ledger_item_of}
 use Rattle.docker_model.specs.state.Op.{Op, deleted, lapsed, put_with, Entry}
 use Rattle.docker_model.specs.state.Lapse.{lapse_entry, HasNotToLapse}
-use Rattle.docker_model.specs.state.State.{State, AreAscending, HaveLapsed, IsValid, IsJoin, lapse_state, raise_horizon, without_horizon}
+use Rattle.docker_model.specs.state.State.{State, AreAscending, HaveLapsed, IsValid, IsJoin, lapse_state, raise_horizon}
+use Rattle.state_laws.specs.LawTerms.{without_horizon}
 use Rattle.docker_model.specs.state.Summary.{IsFloorOf, IsKeptFile, IsSummary, IsGreatestEntryOf}
 use Rattle.state_laws.proofs.states.PlainTable.{Keyed}
 use Rattle.state_laws.proofs.states.Lapse.{entry_twice, entry_stays, lapse_none}

@@ -9,7 +9,8 @@ use Rattle.docker_model.specs.file.Change.{Key}
 use Rattle.docker_model.specs.state.Order.{IsBelow}
 use Rattle.docker_model.specs.state.Stamp.{FileStamp, IsFloor, IsKept}
 use Rattle.docker_model.specs.state.Op.{Entry, entry_cmp, key_cmp}
-use Rattle.docker_model.specs.state.State.{State, without_horizon, AreAscending, IsValid, IsJoin, raise_horizon, entry_at}
+use Rattle.docker_model.specs.state.State.{State, AreAscending, IsValid, IsJoin, raise_horizon, entry_at}
+use Rattle.state_laws.specs.LawTerms.{without_horizon}
 use Rattle.state_laws.specs.Staging.{IsGreaterThan, IsToStage, IsStaged, IsCommit}
 use Rattle.cif_laws.proofs.lists.BoolsAndOptions.{none_some}
 use Rattle.cif_laws.proofs.lists.Membership.{nil-Contains, Contains-single}

@@ -13,7 +13,8 @@ use Rattle.docker_model.specs.state.Order.{IsAtMost, IsBelow}
 use Rattle.docker_model.specs.state.Stamp.{FileStamp, LedgerItem, file_stamp_cmp, IsKept}
 use Rattle.docker_model.specs.state.Op.{Entry, entry_cmp, op_cmp}
 use Rattle.docker_model.specs.state.Lapse.{lapse_entry}
-use Rattle.docker_model.specs.state.State.{State, without_horizon, IsJoin, IsValid, IsGoodEntry, IsGreatestAmong}
+use Rattle.docker_model.specs.state.State.{State, IsJoin, IsValid, IsGoodEntry, IsGreatestAmong}
+use Rattle.state_laws.specs.LawTerms.{without_horizon}
 use Rattle.state_laws.specs.Staging.{HasNoEntryOf, IsToStage, IsStaged, IsPutIn, IsCommit}
 use Rattle.cif_laws.proofs.orders.Orders.{entry_total, file_stamp_total, key_total, ledger_item_total}
 use Rattle.cif_laws.proofs.orders.Ascending.{same_list}

@@ -4,7 +4,7 @@ use Rattle.docker_model.specs.records.Record.{columns}
 use Rattle.docker_model.specs.docker.Association.{category_occasion}
 use Rattle.docker_laws.specs.LiveRows.{train_in}
 use Rattle.docker_model.specs.file.Journey.{Occasion}
-use Rattle.state_laws.specs.Row.{Row, AreRowsOf}
+use Rattle.docker_model.specs.state.Row.{Row, AreRowsOf}
 use Rattle.docker_state.specs.Timetables.{live_in}
 use Rattle.train_choice.specs.Meaning.{occasion_meant}
 use Rattle.docker_day.specs.Lines.{listed, link_line_with}

@@ -2,8 +2,7 @@
 use Rattle.std.proofs.Common.{ap, subst, ◌∙◌}
 use Rattle.std.proofs.lemmas.Result.{IfOk-weaker}
 use Rattle.std.specs.Str.Lines.{strip_carriage_return}
-use Rattle.cif_laws.specs.CompleteLines.{complete_lines}
-use Rattle.docker_model.specs.file.Text.{lines_of}
+use Rattle.docker_model.specs.file.Text.{complete_lines, lines_of}
 use Rattle.cif_file.specs.ParserRead.{IsFaultNext}
 use Rattle.cif_file.proofs.AnswerLemmas.{if_err_by}
 use Rattle.cif_file.proofs.ParserLemmas.{counted_last, counted_ended, end_fault, file_at_end, no_end_at_end}

@@ -2,7 +2,7 @@
 -- pieces.
 use Rattle.std.proofs.Common.{◌++◌, sym, ap, ◌∙◌}
 use Rattle.std.proofs.lemmas.Bool.{false≢true}
-use Rattle.cif_laws.specs.CompleteLines.{complete_lines}
+use Rattle.docker_model.specs.file.Text.{complete_lines}
 use Rattle.cif_file.proofs.AnswerLemmas.{if_err_by}
 use Rattle.cif_file.proofs.FrontLemmas.{on_ok_one}
 use Rattle.cif_file.proofs.ParserLemmas.{ended_ok, ended_err, ended_long, ended_many, taken_is, empty_is, later_next, later_long}

@@ -2,7 +2,7 @@
 use Rattle.std.proofs.Common.{refl, sym, ◌∙◌}
 use Rattle.std.proofs.lemmas.Bool.{false≢true}
 use Rattle.cif_file.proofs.ParserLemmas.{kept_read, kept_long, later_long}
-use Rattle.cif_laws.specs.CompleteLines.{complete_lines}
+use Rattle.docker_model.specs.file.Text.{complete_lines}
 use Rattle.cif_file.proofs.parser.FileReading.keep.Goals as goal
 
 pub returns-then-not-extend-clause-err : goal.returns-then-not-extend-clause-err

@@ -1,7 +1,7 @@
 use Rattle.std.proofs.Common.{List, ap, sym, ◌∙◌, subst}
 use Rattle.docker_model.specs.state.State.{IsValid, live_table}
 use Rattle.state_laws.specs.Index.{AreLinked}
-use Rattle.state_laws.specs.Row.{Row}
+use Rattle.docker_model.specs.state.Row.{Row}
 use Rattle.docker_laws.specs.CountedRows.{counted_table, counted_rows}
 use Rattle.docker_laws.proofs.dockers.CountedRows.{counted_linked}
 use Rattle.docker_state.specs.Timetables.{Timetable, counts, live_in}

@@ -1,7 +1,7 @@
 use Rattle.std.proofs.Common.{List, sym, subst}
 use Rattle.docker_model.specs.state.State.{IsValid, live_table}
 use Rattle.state_laws.specs.Index.{AreOfUid}
-use Rattle.state_laws.specs.Row.{Row}
+use Rattle.docker_model.specs.state.Row.{Row}
 use Rattle.docker_laws.specs.CountedRows.{counted_table}
 use Rattle.docker_laws.proofs.dockers.CountedRows.{counted_of_uid}
 use Rattle.docker_state.specs.Timetables.{Timetable, counts, live_in}

@@ -6,7 +6,7 @@ use Rattle.docker_laws.specs.Gathering.{counts_as}
 use Rattle.docker_laws.specs.LiveRows.{link_in}
 use Rattle.docker_model.specs.file.Change.{AssociationKey}
 use Rattle.docker_model.specs.state.Op.{association_key_cmp}
-use Rattle.state_laws.specs.Row.{Row, AreRowsOf}
+use Rattle.docker_model.specs.state.Row.{Row, AreRowsOf}
 use Rattle.docker_state.specs.Timetables.{live_in}
 use Rattle.train_choice.specs.Keys.{association_key_meant}
 use Rattle.train_choice.specs.Known.{PlaceDay, group_cmp}
