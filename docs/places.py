@@ -156,6 +156,12 @@ def named(name):
     return by_name().get(name, [])
 
 
+def in_rules():
+    """The definitions that rows of RULES.md cite."""
+    rows = (line.split(" | ") for line in read(ROOT / "docs" / "RULES.md").splitlines() if line.startswith("| "))
+    return {it for row in rows if len(row) > 1 for name in re.findall(r"`([^`]+)`", row[1]) for it in named(name)}
+
+
 @functools.cache
 def defined_in(path):
     return {it.name: it for it in definitions() if it.file == path}

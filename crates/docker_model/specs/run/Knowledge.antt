@@ -1,5 +1,6 @@
--- What the offices in a run know, and what their messages bring: when two of them have the same
--- knowledge, which knowledge and which events may be part of a run, and what there is at its end.
+-- What the offices in a run know, and what their messages bring. The definitions say when two
+-- offices have the same knowledge, and which knowledge and which events may be part of a run. They
+-- also say what each office and each message has at the end of a run.
 use Rattle.std.specs.Prelude.{◌≡◌, ℕ, ◌≤◌, ◌↔◌, List, All, Contains, slice_index_or, [], length, filter, Bool, true, false, ⊤}
 use Rattle.std.specs.List.{zip}
 use Rattle.docker_model.specs.file.File.{IsFile, most_records}
