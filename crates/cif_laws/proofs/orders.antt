@@ -1,5 +1,6 @@
 pub mod AtMost
 pub mod Orders
+pub mod Greater
 pub mod Ascending
 pub mod ByteOrder
 pub mod Least

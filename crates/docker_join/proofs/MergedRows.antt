@@ -1,5 +1,5 @@
 -- The output of a walk over the rows of two tables at once, from their first rows to their last, is the join of the tables.
-use Rattle.std.proofs.Common.{◌≡◌, List, [], ◌∷◌, refl, ap, sym, ◌∙◌, subst, None}
+use Rattle.std.proofs.Common.{◌≡◌, List, [], ◌∷◌, refl, ap, sym, ◌∙◌, subst, Some, None}
 use Rattle.std.specs.Prelude.{Option}
 use Rattle.std.specs.List.{AllByRecursion}
 use Rattle.std.specs.declared.cmp.Ordering.{Ordering}
@@ -9,10 +9,10 @@ use Rattle.docker_model.specs.file.Change as model
 use Rattle.docker_model.specs.state.Op.{key_cmp}
 use Rattle.docker_model.specs.state.Order.{IsBelow}
 use Rattle.cif_laws.proofs.orders.Orders.{key_total, exact_key}
+use Rattle.state_laws.proofs.joins.KeyedRows as keyed
 use Rattle.cif_change.specs.declared.key.Key.{Key}
 use Rattle.cif_change.specs.Meaning.{key_meant}
 use Rattle.docker_join.specs.Rows.{row_cmp, AreAscending, value_at, picked_value, IsJoinOfRows}
-use Rattle.docker_join.specs.RowLaws.{value_here, value_behind, value_above}
 
 -- one step of the walk: the lower of two rows, or the join of the two rows if their keys are equal, followed by the rest of the walk
 abbrev pub row_out : {E : Type 0} → (E → E → E) → Ordering → Key × E → Key × E → List (Key × E) → List (Key × E) → List (Key × E) → List (Key × E)
@@ -49,6 +49,19 @@ module _ {E : Type 0} where
 
   pub row_cmp_turned : (x y : Key × E) → row_cmp x y ≡ Greater → row_cmp y x ≡ Less
   row_cmp_turned x y greater = key_total.antisymm (key_meant y.0) (key_meant x.0) ∙ ap ordering_reverse greater
+
+  -- at the key of the first row, the value is the first row's value
+  value_here : (row : Key × E) (rows : List (Key × E)) (key : model.Key) → key_cmp (key_meant row.0) key ≡ Equal → value_at (row ∷ rows) key ≡ Some row.1
+  value_here = keyed.value_here key_meant
+
+  -- at any key other than the first row's key, the value is the same with and without the first row
+  value_behind : (row : Key × E) (rows : List (Key × E)) (key : model.Key) → ¬ (key_cmp (key_meant row.0) key ≡ Equal)
+      → value_at (row ∷ rows) key ≡ value_at rows key
+  value_behind = keyed.value_behind key_meant
+
+  -- if all rows are above a key, they don't have this key
+  value_above : (key : model.Key) (rows : List (Key × E)) → AllByRecursion (λ row. key_cmp key (key_meant row.0) ≡ Less) rows → value_at rows key ≡ None
+  value_above = keyed.value_above key_meant
 
 module _ {E : Type 0} (picked : E → E → E) where
   -- if the remaining rows of both tables are above a row, so are the rows that the walk returns

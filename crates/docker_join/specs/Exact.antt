@@ -1,18 +1,15 @@
 -- Stamps that compare as equal are equal. Entries that compare as equal are equal if the lines of
 -- their bodies are records.
-use Rattle.std.proofs.Common.{◌≡◌, ℕ, List, [], ◌∷◌, length, All, refl, ap, sym, ◌∙◌, arith, length-append}
+use Rattle.std.proofs.Common.{◌≡◌, refl, ap, arith}
 use Rattle.std.specs.Prelude.{⊤}
-use Rattle.std.specs.List.{concat}
 use Rattle.std.specs.declared.cmp.Ordering.TheVariants.{Equal}
 use Rattle.std.specs.Ordering.{on, nat_cmp}
 use Rattle.std.proofs.lemmas.Map.Lookups.{exact_unsigned, exact_bytes}
-use Rattle.docker_model.specs.records.Record.{IsRecord}
 use Rattle.docker_model.specs.state.Order.{bytes_cmp}
 use Rattle.docker_model.specs.state.Stamp.{file_stamp_cmp, stamp_cmp}
 use Rattle.docker_model.specs.state.Op.{op_cmp, entry_cmp, body_cmp, body_end, body_bytes, body_tag}
 use Rattle.cif_laws.proofs.orders.Orders as laws
-use Rattle.cif_laws.proofs.lists.Fronts.{same_front}
-use Rattle.std.proofs.lemmas.List.Elements.{All-head, All-tail}
+use Rattle.state_laws.proofs.states.ExactEntries.{same_lines}
 use Rattle.cif_change.specs.declared.change.Body.{Body}
 use Rattle.cif_change.specs.declared.change.Body.TheVariants as body
 use Rattle.cif_change.specs.Meaning.{body_meant}
@@ -41,21 +38,6 @@ exact_file_stamp a b _ _ tied = same_file_stamp a b (laws.exact_file_stamp (file
 -- stamps that compare as equal are equal
 pub exact_stamp : (a b : Stamp) → ⊤ → ⊤ → on stamp_meant stamp_cmp a b ≡ Equal → a ≡ b
 exact_stamp a b _ _ tied = same_stamp a b (laws.exact_stamp (stamp_meant a) (stamp_meant b) tied)
-
--- if two lists of records have the same concatenation, they are equal: all records have the same
--- length
-same_lines : (xs ys : List (List ℕ)) → All IsRecord xs → All IsRecord ys → concat xs ≡ concat ys → xs ≡ ys
-same_lines [] [] good_x good_y same = refl
-same_lines [] (y ∷ ys) good_x good_y same =
-    let eighty : length y ≡ 80 = (All-head IsRecord y ys good_y).0 in
-    absurd (omega (arith, eighty, simp length-append at (ap length same)))
-same_lines (x ∷ xs) [] good_x good_y same =
-    let eighty : length x ≡ 80 = (All-head IsRecord x xs good_x).0 in
-    absurd (omega (arith, eighty, simp length-append at (ap length same)))
-same_lines (x ∷ xs) (y ∷ ys) good_x good_y same =
-    let parts = same_front x y (concat xs) (concat ys) ((All-head IsRecord x xs good_x).0 ∙ sym (All-head IsRecord y ys good_y).0) same in
-    let rest = same_lines xs ys (All-tail IsRecord x xs good_x) (All-tail IsRecord y ys good_y) parts.1 in
-    λ i. parts.0 i ∷ rest i
 
 -- bodies that compare as equal are equal, if their lines are records
 exact_body : (a b : Body) → IsOfRecords (body_meant a) → IsOfRecords (body_meant b) → body_cmp (body_meant a) (body_meant b) ≡ Equal → a ≡ b

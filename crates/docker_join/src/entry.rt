@@ -7,8 +7,8 @@ ghost use Rattle.docker_model.specs.state.Op.{lapsed, op_cmp, entry_cmp};
 ghost use Rattle.docker_model.specs.state.Lapse.{lapse, lapse_entry};
 ghost use Rattle.cif_laws.proofs.orders.Orders.{op_total, entry_total};
 ghost use Rattle.docker_join.specs.Meaning.{op_meant, entry_meant};
-ghost use Rattle.docker_join.specs.Greater.{IsGreater};
-ghost use Rattle.docker_join.specs.GreaterLaws.{greater_closed, greater_one, greater_commutes, greater_associates, greater_itself, greater_max};
+ghost use Rattle.docker_model.specs.state.Order.{IsGreater};
+ghost use Rattle.cif_laws.proofs.orders.Greater.{greater_closed, greater_one, greater_commutes, greater_associates, greater_itself, greater_max};
 ghost use Rattle.docker_join.specs.Records.{HasRecords};
 ghost use Rattle.docker_join.specs.Exact.{exact_entry};
 

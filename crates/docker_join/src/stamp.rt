@@ -6,8 +6,8 @@ ghost use Rattle.std.proofs.Common.{refl};
 ghost use Rattle.docker_model.specs.state.Stamp.{file_stamp_cmp, stamp_cmp};
 ghost use Rattle.cif_laws.proofs.orders.Orders.{file_stamp_total, stamp_total};
 ghost use Rattle.docker_join.specs.Meaning.{file_stamp_meant, stamp_meant};
-ghost use Rattle.docker_join.specs.Greater.{IsGreater};
-ghost use Rattle.docker_join.specs.GreaterLaws.{greater_closed, greater_one, greater_commutes, greater_associates, greater_itself, greater_max};
+ghost use Rattle.docker_model.specs.state.Order.{IsGreater};
+ghost use Rattle.cif_laws.proofs.orders.Greater.{greater_closed, greater_one, greater_commutes, greater_associates, greater_itself, greater_max};
 ghost use Rattle.docker_join.specs.Exact.{exact_file_stamp, exact_stamp};
 
 use crate::merge::{Merge, Pick};

@@ -120,7 +120,8 @@ impl Table<Entry> {
 
 impl<E: Pick> Merge for Table<E> {
     ghost use Rattle.docker_join.specs.Rows.{AreValidRows, IsJoinOfRows};
-    ghost use Rattle.docker_join.specs.RowLaws.{pick_laws, joins_closed, joins_one, joins_commute, joins_associate, joins_itself};
+    ghost use Rattle.docker_join.specs.RowLaws.{joins_closed, joins_one, joins_commute, joins_associate, joins_itself};
+    ghost use Rattle.state_laws.proofs.joins.PickLaws.{pick_laws};
 
     // Says that the keys ascend and that each value is valid.
     ghost is_valid = { AreValidRows E.is_valid };

@@ -2,12 +2,11 @@
 use Rattle.std.proofs.Common.{◌≡◌, List, ◌++◌, ap, sym, ◌∙◌, inl, inr, ◌⊎◌, Contains}
 use Rattle.std.specs.Ordering.{on}
 use Rattle.std.proofs.lemmas.List.Elements.{Contains-append_left, Contains-append_right, Contains-append_cases}
-use Rattle.docker_model.specs.state.Order.{IsAtMost}
+use Rattle.docker_model.specs.state.Order.{IsAtMost, IsGreater}
 use Rattle.docker_model.specs.state.Stamp as stamps
 use Rattle.docker_model.specs.state.Stamp.{LedgerItem, file_stamp_cmp, IsFull, HasNoFull, IsGreatestFull}
 use Rattle.cif_laws.proofs.orders.Orders.{file_stamp_total}
 use Rattle.cif_laws.proofs.orders.AtMost.{at_most_trans}
-use Rattle.docker_join.specs.Greater.{IsGreater}
 
 module _ (left right : List LedgerItem) where
   -- if neither ledger has a full extract, the two ledgers together have no full extract

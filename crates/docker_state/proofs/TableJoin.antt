@@ -9,7 +9,7 @@ use Rattle.docker_model.specs.state.Op as ops
 use Rattle.docker_model.specs.state.Op.{key_cmp, entry_cmp}
 use Rattle.docker_model.specs.state.Stamp.{FileStamp}
 use Rattle.std.specs.declared.cmp.Ordering.{Ordering}
-use Rattle.docker_model.specs.state.Order.{IsAtMost}
+use Rattle.docker_model.specs.state.Order.{IsAtMost, IsGreater}
 use Rattle.docker_model.specs.state.State.{IsGreatestAmong}
 use Rattle.cif_laws.proofs.orders.Orders.{entry_total}
 use Rattle.cif_laws.proofs.orders.AtMost.{level, at_most_itself}
@@ -17,8 +17,7 @@ use Rattle.cif_laws.proofs.lists.Membership.{Contains-map, map-Contains}
 use Rattle.cif_file.specs.Key.{Key}
 use Rattle.docker_join.specs.declared.entry.Entry.{Entry}
 use Rattle.docker_join.specs.Meaning.{op_meant, entry_meant}
-use Rattle.docker_join.specs.Greater.{IsGreater}
-use Rattle.docker_join.specs.GreaterLaws.{greater_max}
+use Rattle.cif_laws.proofs.orders.Greater.{greater_max}
 use Rattle.docker_join.specs.Records.{HasRecords}
 use Rattle.docker_join.specs.Exact.{exact_entry}
 use Rattle.docker_join.specs.Rows.{AreAscending, value_at, picked_value, IsJoinOfRows}

@@ -3,8 +3,6 @@
 use Rattle.std.specs.Prelude.{ℕ, List}
 use Rattle.std.specs.declared.cmp.Ordering.{Ordering}
 use Rattle.std.specs.Ordering.{ordering_then, nat_cmp}
-use Rattle.std.specs.Cmp.{IsTotalOrder, then_total, on_total, nat_cmp_total}
-use Rattle.std.specs.Cmp.Lexicographic.{nat_list_cmp_total}
 use Rattle.docker_model.specs.state.Order.{bytes_cmp}
 
 -- a TIPLOC with the index of a row: a schedule that calls there, or an association there
@@ -15,7 +13,3 @@ pub record Spot : Type 0 where
 -- compares two spots: by TIPLOC, and then by row
 abbrev pub spot_cmp : Spot → Spot → Ordering
 spot_cmp a b = ordering_then (bytes_cmp a.place b.place) (nat_cmp a.at b.at)
-
--- the order of spots is total
-pub spot_total : IsTotalOrder spot_cmp
-spot_total = then_total (on_total (λ (s : Spot). s.place) nat_list_cmp_total) (on_total (λ (s : Spot). s.at) nat_cmp_total)

@@ -1,5 +1,7 @@
 pub mod JoinLaws
 pub mod JoinValid
+pub mod KeyedRows
+pub mod PickLaws
 pub mod RaisedHorizon
 pub mod StagedEntry
 pub mod StagedJoin

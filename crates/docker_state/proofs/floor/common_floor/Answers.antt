@@ -5,7 +5,7 @@ use Rattle.cif_laws.proofs.orders.Orders.{file_stamp_total}
 use Rattle.std.specs.Cmp.{on_total}
 use Rattle.std.specs.Prelude.{⊤}
 use Rattle.docker_join.specs.Meaning.{file_stamp_meant}
-use Rattle.docker_join.specs.GreaterLaws.{greater_max}
+use Rattle.cif_laws.proofs.orders.Greater.{greater_max}
 use Rattle.docker_state.proofs.Floors.{neither_full, left_full, right_full, both_full, greater_meant}
 use Rattle.docker_state.proofs.floor.common_floor.Goals as goal
 

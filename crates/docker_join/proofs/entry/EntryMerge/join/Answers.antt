@@ -2,7 +2,7 @@ use Rattle.std.specs.Prelude.{⊤}
 use Rattle.std.specs.Cmp.{on_total}
 use Rattle.cif_laws.proofs.orders.Orders.{entry_total}
 use Rattle.docker_join.specs.Meaning.{entry_meant}
-use Rattle.docker_join.specs.GreaterLaws.{greater_max}
+use Rattle.cif_laws.proofs.orders.Greater.{greater_max}
 use Rattle.docker_join.proofs.entry.EntryMerge.join.Goals as goal
 
 pub returns-clause-ok : goal.returns-clause-ok

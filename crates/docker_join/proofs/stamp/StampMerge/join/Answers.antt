@@ -2,7 +2,7 @@ use Rattle.std.specs.Prelude.{⊤}
 use Rattle.std.specs.Cmp.{on_total}
 use Rattle.cif_laws.proofs.orders.Orders.{stamp_total}
 use Rattle.docker_join.specs.Meaning.{stamp_meant}
-use Rattle.docker_join.specs.GreaterLaws.{greater_max}
+use Rattle.cif_laws.proofs.orders.Greater.{greater_max}
 use Rattle.docker_join.proofs.stamp.StampMerge.join.Goals as goal
 
 pub returns-clause-ok : goal.returns-clause-ok

@@ -4,9 +4,8 @@ use Rattle.std.specs.declared.cmp.Ordering.{Ordering}
 use Rattle.std.specs.declared.cmp.Ordering.TheVariants.{Less, Equal, Greater}
 use Rattle.std.specs.Ordering.{ord_max, is_lt}
 use Rattle.std.specs.Cmp.{IsTotalOrder}
-use Rattle.docker_model.specs.state.Order.{IsAtMost}
+use Rattle.docker_model.specs.state.Order.{IsAtMost, IsGreater}
 use Rattle.cif_laws.proofs.orders.AtMost.{level, at_most_trans, at_most_itself, at_most_below}
-use Rattle.docker_join.specs.Greater.{IsGreater}
 
 -- Says that valid values that compare as equal are equal.
 abbrev pub IsExact : {A : Type 0} → (A → Type 0) → (A → A → Ordering) → Type 0
