@@ -53,7 +53,7 @@ pub refuses_more : {K : Type 0} (keeps : Keeps K) (wants : Type 0) (before : Fil
 refuses_more keeps wants before piece (Ok done) told later = tt
 refuses_more keeps wants before piece (Err fault) told later = λ limit text has.
     let new = later limit text has.read in
-    record { told = told limit text has.read; later = new.0; wanted = new.1 }
+    record { reported = told limit text has.read; later = new.0; wanted = new.1 }
 
 -- ---- how far a source is read
 
@@ -87,8 +87,9 @@ memory_meant TooMany none = cc
 memory_meant Memory none = refl
 
 -- a fault of the complete lines of a text is a fault of any longer text that begins with this one, unless the cause is `Memory`
-told_of : (limit : ℕ) (text more : List ℕ) (fault : FileFault) → IsFaultReported limit text fault → fault.cause ≢ Memory → IsFaultOf limit (text ++ more) fault
-told_of limit text more fault told other = by (cause_meant fault.cause) refl told
+fault_of_reported : (limit : ℕ) (text more : List ℕ) (fault : FileFault) → IsFaultReported limit text fault → fault.cause ≢ Memory
+    → IsFaultOf limit (text ++ more) fault
+fault_of_reported limit text more fault told other = by (cause_meant fault.cause) refl told
   where
     by : (cause : Option model.FileCause) → cause_meant fault.cause ≡ cause → IsCauseSoFar limit text fault.number cause → IsFaultOf limit (text ++ more) fault
     by None h so_far = absurd (other (memory_meant fault.cause h))
@@ -103,9 +104,9 @@ refused_of limit text fault refused other = by (cause_meant fault.cause) refl re
     by (Some cause) h of = record { cause = cause; cause_is = h; is = of }
 
 -- if reading a source returns a fault of the file, the parser returned this fault, and its cause isn't `Memory`
-told_as_file : (fault told : FileFault) (result : ReadFault) → (fault.cause ≡ Memory → result ≡ read.Memory)
+returned_as_file : (fault told : FileFault) (result : ReadFault) → (fault.cause ≡ Memory → result ≡ read.Memory)
     → (fault.cause ≢ Memory → result ≡ read.File fault) → result ≡ read.File told → (fault ≡ told) × (fault.cause ≢ Memory)
-told_as_file fault told result memory file is =
+returned_as_file fault told result memory file is =
     let other : fault.cause ≢ Memory = λ same. let wanting : result ≡ read.Memory = memory same in cc in
     let from : result ≡ read.File fault = file other in
     (cc, other)
@@ -123,8 +124,8 @@ memory_or_not TooMany = inr (λ same. cc)
 memory_or_not Memory = inl refl
 
 -- if reading a source returns `Memory`, the parser returned a fault with the cause `Memory`
-told_as_memory : (fault : FileFault) (result : ReadFault) → (fault.cause ≢ Memory → result ≡ read.File fault) → result ≡ read.Memory → fault.cause ≡ Memory
-told_as_memory fault result file is = by (memory_or_not fault.cause)
+returned_as_memory : (fault : FileFault) (result : ReadFault) → (fault.cause ≢ Memory → result ≡ read.File fault) → result ≡ read.Memory → fault.cause ≡ Memory
+returned_as_memory fault result file is = by (memory_or_not fault.cause)
   where
     by : (fault.cause ≡ Memory) ⊎ (fault.cause ≢ Memory) → fault.cause ≡ Memory
     by (inl wanting) = wanting
@@ -138,7 +139,7 @@ pub fault_at_end : {A : Type 0} (limit : ℕ) (text : List ℕ) (fault told : Fi
     → ◌≡◌ {A = Result A ReadFault} (Err result) (Err (read.File told)) → IsFaultOf limit text told
 fault_at_end limit text fault told result refused memory file is =
     let told_is : result ≡ read.File told = cc in
-    let as_file = told_as_file fault told result memory file told_is in
+    let as_file = returned_as_file fault told result memory file told_is in
     subst (IsFaultOf limit text) as_file.0 (refused_of limit text fault refused as_file.1)
 
 -- if memory runs out at the end of the text, it runs out at the last record
@@ -149,7 +150,7 @@ pub memory_at_end : {K : Type 0} (keeps : Keeps K) (wants : Type 0) {A : Type 0}
     → wants × WantsMemoryAt limit (lines_of text) (length (lines_of text))
 memory_at_end keeps wants limit text reading fault result has refused later last file is =
     let told_is : result ≡ read.Memory = cc in
-    let wanting = told_as_memory fault result file told_is in (
+    let wanting = returned_as_memory fault result file told_is in (
       (later limit text has).1 wanting,
       subst (WantsMemoryAt limit (lines_of text)) (last wanting limit text has)
           (subst (λ cause. IsCauseOf limit text fault.number (cause_meant cause)) wanting refused),
@@ -184,10 +185,10 @@ refused_before keeps wants limit initial next reading fault told result has memo
     text = has.more.bytes ++ has.more.piece
 
     as_file : (fault ≡ told) × (fault.cause ≢ Memory)
-    as_file = told_as_file fault told result memory file is
+    as_file = returned_as_file fault told result memory file is
 
     of : (rest : List ℕ) → IsFaultOf limit (text ++ rest) told
-    of rest = subst (IsFaultOf limit (text ++ rest)) as_file.0 (told_of limit text rest fault has.refused.told as_file.1)
+    of rest = subst (IsFaultOf limit (text ++ rest)) as_file.0 (fault_of_reported limit text rest fault has.refused.reported as_file.1)
 
     by : (initial next : Option (List ℕ)) → Reads initial text next → RefusesText limit initial told
     by None next lost = record { text = text ++ []; held = tt; is = of [] }
@@ -199,7 +200,7 @@ wants_before : {K : Type 0} (keeps : Keeps K) (wants : Type 0) (limit : ℕ) (in
     (fault : FileFault) (result : ReadFault) → HasRefusedFile keeps wants limit initial next reading fault
     → (fault.cause ≢ Memory → result ≡ read.File fault) → result ≡ read.Memory → WantsMemoryBy wants 65536 limit initial next
 wants_before keeps wants limit initial next reading fault result has file is =
-    let wanting = told_as_memory fault result file is in
+    let wanting = returned_as_memory fault result file is in
     let more = has.more in
     let refused = has.refused in
     inr (
@@ -211,7 +212,7 @@ wants_before keeps wants limit initial next reading fault result has file is =
         at_once = more.few;
         number = fault.number;
         first = refused.later;
-        wanting = subst (λ cause. IsCauseSoFar limit (more.bytes ++ more.piece) fault.number (cause_meant cause)) wanting refused.told;
+        wanting = subst (λ cause. IsCauseSoFar limit (more.bytes ++ more.piece) fault.number (cause_meant cause)) wanting refused.reported;
       }),
     )
 
@@ -245,7 +246,7 @@ pub ends_whole : {K : Type 0} (keeps : Keeps K) (wants : Type 0) (limit count : 
     → ReadsNoFurther 65536 limit initial now → failed_now ≡ failed → IfOk result (EndsBy keeps reading)
     → ((limit : ℕ) (text : List ℕ) → IsReading keeps reading limit text → (fault : FileFault) → result ≡ Err (read.File fault) → IsFaultOf limit text fault)
     → ((limit : ℕ) (text : List ℕ) → IsReading keeps reading limit text → result ≡ Err read.Memory
-        → wants × WantsMemoryAt limit (lines_of text) (length (lines_of text)))
+    → wants × WantsMemoryAt limit (lines_of text) (length (lines_of text)))
     → result ≢ Err read.Source
     → StopsReadingFile limit initial now (IsFileOutcome (WantsMemoryBy wants) limit (ReadsEnded keeps limit initial) initial now result)
     (CountsFileOutcome failed failed_now result)
