@@ -237,8 +237,8 @@ kept_long keeps old limit text more fault reading plain many next =
 -- ---- more text doesn't change a fault
 
 -- a fault of a text is a fault of any longer text that begins with it
-pub told_stays : (limit : ℕ) (text more : List ℕ) (fault : FileFault) → IsFaultReported limit text fault → IsFaultReported limit (text ++ more) fault
-told_stays limit text more fault told = by (cause_meant fault.cause) told
+pub reported_stays : (limit : ℕ) (text more : List ℕ) (fault : FileFault) → IsFaultReported limit text fault → IsFaultReported limit (text ++ more) fault
+reported_stays limit text more fault told = by (cause_meant fault.cause) told
   where
     by : (meant : Option model.FileCause) → IsCauseSoFar limit text fault.number meant → IsCauseSoFar limit (text ++ more) fault.number meant
     by None here =
@@ -301,8 +301,8 @@ pub reading_tells_none : {K : Type 0} (keeps : Keeps K) (reading : FileReading K
 reading_tells_none keeps reading limit text is = no_fault_told limit text is.counted.has.place is.counted.has.at is.counted.within is.short
 
 -- a fault of the complete lines of a text is a fault of the whole text
-pub told_refused : (limit : ℕ) (text : List ℕ) (fault : FileFault) → IsFaultReported limit text fault → IsRefused limit text fault
-told_refused limit text fault told = by (cause_meant fault.cause) told
+pub reported_refused : (limit : ℕ) (text : List ℕ) (fault : FileFault) → IsFaultReported limit text fault → IsRefused limit text fault
+reported_refused limit text fault told = by (cause_meant fault.cause) told
   where
     by : (meant : Option model.FileCause) → IsCauseSoFar limit text fault.number meant → IsCauseOf limit text fault.number meant
     by None here =
@@ -485,61 +485,63 @@ cut_whole rest front behind cut = cut.whole ∙ sym (append_assoc front (10 ∷ 
 
 -- ---- a text whose rest is still to be taken
 
-abbrev Told : Type 1
-Told = ℕ → List ℕ → Type 0
+-- a property of a text that is read under a limit on records
+abbrev TextProperty : Type 1
+TextProperty = ℕ → List ℕ → Type 0
 
 -- at first no byte of the text has been taken
-pub takes_none : (before : Told) (text : List ℕ) → TakesUpTo before text text before
+pub takes_none : (before : TextProperty) (text : List ℕ) → TakesUpTo before text text before
 takes_none before text =
     let first = cut_first text in
     record {
       whole = first.1;
-      read = λ limit told is. subst (λ l. before limit (told ++ l)) (sym first.0) (subst (before limit) (sym (append-nil told)) is);
+      read = λ limit taken is. subst (λ l. before limit (taken ++ l)) (sym first.0) (subst (before limit) (sym (append-nil taken)) is);
     }
 
 -- if the first bytes of the rest are taken, only the other bytes of the rest are still to be taken
-pub takes_further : (before middle after : Told) (text rest front behind : List ℕ) → TakesUpTo before text rest middle → rest ≡ front ++ behind
+pub takes_further : (before middle after : TextProperty) (text rest front behind : List ℕ) → TakesUpTo before text rest middle → rest ≡ front ++ behind
     → GoesOn middle front after → TakesUpTo before text behind after
 takes_further before middle after text rest front behind up_to cut on =
     let more = cut_more text rest front behind up_to.whole cut in
     record {
       whole = more.1;
-      read = λ limit told is.
-          subst (after limit) (append_assoc told (before_rest text rest) front ∙ ap (λ l. told ++ l) (sym more.0))
-          (on limit (told ++ before_rest text rest) (up_to.read limit told is));
+      read = λ limit taken is.
+          subst (after limit) (append_assoc taken (before_rest text rest) front ∙ ap (λ l. taken ++ l) (sym more.0))
+          (on limit (taken ++ before_rest text rest) (up_to.read limit taken is));
     }
 
 -- if the first line of the rest is taken, only the bytes after this line are still to be taken
-pub takes_line : (before middle next : Told) (text rest front behind : List ℕ) → TakesUpTo before text rest middle → IsCut rest front behind
+pub takes_line : (before middle next : TextProperty) (text rest front behind : List ℕ) → TakesUpTo before text rest middle → IsCut rest front behind
     → GoesOn middle (front ++ 10 ∷ []) next → TakesUpTo before text behind next
 takes_line before middle next text rest front behind up_to cut on =
     takes_further before middle next text rest (front ++ 10 ∷ []) behind up_to (cut_whole rest front behind cut) on
 
 -- if the rest is taken in two steps, the bytes that are left after both steps are still to be taken
-pub takes_more : (before middle after : Told) (text rest left : List ℕ) → TakesUpTo before text rest middle → TakesUpTo middle rest left after
+pub takes_more : (before middle after : TextProperty) (text rest left : List ℕ) → TakesUpTo before text rest middle → TakesUpTo middle rest left after
     → TakesUpTo before text left after
 takes_more before middle after text rest left up_to more =
     takes_further before middle after text rest (before_rest rest left) left up_to (sym more.whole) more.read
 
 -- after the whole rest is taken, the whole text is taken
-pub takes_whole : (before middle after : Told) (text rest : List ℕ) → TakesUpTo before text rest middle → GoesOn middle rest after → GoesOn before text after
-takes_whole before middle after text rest up_to on = λ limit told is.
-    subst (after limit) (append_assoc told (before_rest text rest) rest ∙ ap (λ l. told ++ l) up_to.whole)
-    (on limit (told ++ before_rest text rest) (up_to.read limit told is))
+pub takes_whole : (before middle after : TextProperty) (text rest : List ℕ) → TakesUpTo before text rest middle → GoesOn middle rest after
+    → GoesOn before text after
+takes_whole before middle after text rest up_to on = λ limit taken is.
+    subst (after limit) (append_assoc taken (before_rest text rest) rest ∙ ap (λ l. taken ++ l) up_to.whole)
+    (on limit (taken ++ before_rest text rest) (up_to.read limit taken is))
 
 -- a fault of the rest is a fault of the text
-pub fault_of_rest : (before middle : Told) (text rest : List ℕ) (fault : FileFault) → TakesUpTo before text rest middle → TellsFault middle rest fault
+pub fault_of_rest : (before middle : TextProperty) (text rest : List ℕ) (fault : FileFault) → TakesUpTo before text rest middle → TellsFault middle rest fault
     → TellsFault before text fault
-fault_of_rest before middle text rest fault up_to tells = λ limit told is.
-    subst (λ t. IsFaultReported limit t fault) (append_assoc told (before_rest text rest) rest ∙ ap (λ l. told ++ l) up_to.whole)
-    (tells limit (told ++ before_rest text rest) (up_to.read limit told is))
+fault_of_rest before middle text rest fault up_to tells = λ limit taken is.
+    subst (λ t. IsFaultReported limit t fault) (append_assoc taken (before_rest text rest) rest ∙ ap (λ l. taken ++ l) up_to.whole)
+    (tells limit (taken ++ before_rest text rest) (up_to.read limit taken is))
 
 -- a fault of a prefix of a text is a fault of the text
-pub fault_of_front : (before : Told) (text front behind : List ℕ) (fault : FileFault) → text ≡ front ++ behind → TellsFault before front fault
+pub fault_of_front : (before : TextProperty) (text front behind : List ℕ) (fault : FileFault) → text ≡ front ++ behind → TellsFault before front fault
     → TellsFault before text fault
-fault_of_front before text front behind fault cut tells = λ limit told is.
-    subst (λ t. IsFaultReported limit t fault) (append_assoc told front behind ∙ ap (λ l. told ++ l) (sym cut))
-    (told_stays limit (told ++ front) behind fault (tells limit told is))
+fault_of_front before text front behind fault cut tells = λ limit taken is.
+    subst (λ t. IsFaultReported limit t fault) (append_assoc taken front behind ∙ ap (λ l. taken ++ l) (sym cut))
+    (reported_stays limit (taken ++ front) behind fault (tells limit taken is))
 
 -- ---- a parser before and after it has returned a fault
 

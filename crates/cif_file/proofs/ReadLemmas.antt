@@ -1,11 +1,13 @@
 -- Reading a source: the text that is fed to the parser is exactly the text that was read from the source.
-use Rattle.std.proofs.Common.{◌≡◌, ℕ, ◌≤◌, ◌≢◌, ◌⊎◌, inl, inr, List, [], ◌++◌, length, Some, None, Err, Result, refl, ◌∙◌, ap, subst, arith, append-nil}
+use Rattle.std.proofs.Common.{◌≡◌, ℕ, ◌≤◌, ◌≢◌, ◌⊎◌, inl, inr, List, [], ◌++◌, length, Some, None, Err, Result, refl, sym, ◌∙◌, ap, subst, arith, append-nil}
 use Rattle.std.specs.Prelude.{Option, Ok, OnOk, IfOk, IfErr}
 use Rattle.docker_model.specs.file.Text.{lines_of}
 use Rattle.docker_model.specs.file.FaultSoFar.{IsFaultSoFar}
 use Rattle.docker_model.specs.file.FileFault as model
 use Rattle.cif_laws.proofs.files.ReportedFaults.{fault_in_the_end}
-use Rattle.cif_device.specs.Device.{Reads, IsEnd}
+use Rattle.cif_device.specs.Device.{CountsFailure, Reads, IsEnd}
+use Rattle.cif_device.specs.declared.feed.FeedFault.{FeedFault}
+use Rattle.cif_device.specs.declared.feed.FeedFault.TheVariants as feed
 use Rattle.cif_device.specs.Taken.{AfterEach, HasFed, HasRefused, LosesOnePieceMore}
 use Rattle.cif_change.specs.declared.cause.FileCause.{FileCause}
 use Rattle.cif_change.specs.declared.cause.FileCause.TheVariants.{Length, Byte, Kind, Place, Field, Midnights, NoEnd, After, TooMany, Memory}
@@ -20,7 +22,8 @@ use Rattle.cif_file.specs.FileTaken.{TakesFile, RefusesPiece}
 use Rattle.cif_file.proofs.ParserLemmas.{reading_tells_none}
 use Rattle.cif_file.specs.ParserRead.{EndsBy, GoesOn, TellsFault, IsReading, IsLater, IsLast, WantsMemoryAt, IsCauseSoFar, IsFaultReported, IsCauseOf}
 use Rattle.cif_file.specs.ParserRead.{IsRefused}
-use Rattle.cif_file.specs.SourceRead.{Held, IsFaultOf, ReadsEnded, RefusesText, ReadsNoFurther, WantsMemory, WantsMemoryBy}
+use Rattle.cif_file.specs.SourceRead.{Held, IsFaultOf, ReadsEnded, RefusesText, ReadsNoFurther, WantsAtStart, WantsMemory, WantsMemoryBy}
+use Rattle.cif_file.specs.FileEnds.{CountsFileOutcome, CountsWhyNoFile, IsFileOutcome, IsWhyNoFile, StopsReadingFile, Wanting}
 
 -- ---- pieces of a source
 
@@ -50,7 +53,7 @@ pub refuses_more : {K : Type 0} (keeps : Keeps K) (wants : Type 0) (before : Fil
 refuses_more keeps wants before piece (Ok done) told later = tt
 refuses_more keeps wants before piece (Err fault) told later = λ limit text has.
     let new = later limit text has.read in
-    record { told = told limit text has.read; later = new.0; wanted = new.1 }
+    record { reported = told limit text has.read; later = new.0; wanted = new.1 }
 
 -- ---- how far a source is read
 
@@ -68,14 +71,6 @@ held_all (Some told) (Some rest) text lost end =
     let same : told ≡ text ++ rest = cc in
     same ∙ ap (λ r. text ++ r) end ∙ append-nil text
 
--- what the parser returns at the end of the source is correct for the text that the source held
-pub file_read : {K : Type 0} (keeps : Keeps K) (limit count : ℕ) (initial now : Option (List ℕ)) (reading : FileReading K) (result : Result (Ended K) ReadFault)
-    → HasFed (TakesFile keeps) count limit [] initial now reading → IsEnd now → IfOk result (EndsBy keeps reading)
-    → IfOk result (ReadsEnded keeps limit initial)
-file_read keeps limit count initial now reading (Ok ended) at end of =
-    record { text = at.bytes; held = held_all initial now at.bytes at.lost end; of_text = of limit at.bytes at.taken.read }
-file_read keeps limit count initial now reading (Err fault) at end of = tt
-
 -- ---- causes of the code and of the definitions
 
 -- the only cause of the code that the definitions don't have is `Memory`
@@ -92,8 +87,9 @@ memory_meant TooMany none = cc
 memory_meant Memory none = refl
 
 -- a fault of the complete lines of a text is a fault of any longer text that begins with this one, unless the cause is `Memory`
-told_of : (limit : ℕ) (text more : List ℕ) (fault : FileFault) → IsFaultReported limit text fault → fault.cause ≢ Memory → IsFaultOf limit (text ++ more) fault
-told_of limit text more fault told other = by (cause_meant fault.cause) refl told
+fault_of_reported : (limit : ℕ) (text more : List ℕ) (fault : FileFault) → IsFaultReported limit text fault → fault.cause ≢ Memory
+    → IsFaultOf limit (text ++ more) fault
+fault_of_reported limit text more fault told other = by (cause_meant fault.cause) refl told
   where
     by : (cause : Option model.FileCause) → cause_meant fault.cause ≡ cause → IsCauseSoFar limit text fault.number cause → IsFaultOf limit (text ++ more) fault
     by None h so_far = absurd (other (memory_meant fault.cause h))
@@ -108,10 +104,9 @@ refused_of limit text fault refused other = by (cause_meant fault.cause) refl re
     by (Some cause) h of = record { cause = cause; cause_is = h; is = of }
 
 -- if reading a source returns a fault of the file, the parser returned this fault, and its cause isn't `Memory`
-told_as_file : {A : Type 0} (fault told : FileFault) (result : ReadFault) → (fault.cause ≡ Memory → result ≡ read.Memory)
-    → (fault.cause ≢ Memory → result ≡ read.File fault)
-    → ◌≡◌ {A = Result A ReadFault} (Err result) (Err (read.File told)) → (fault ≡ told) × (fault.cause ≢ Memory)
-told_as_file fault told result memory file is =
+returned_as_file : (fault told : FileFault) (result : ReadFault) → (fault.cause ≡ Memory → result ≡ read.Memory)
+    → (fault.cause ≢ Memory → result ≡ read.File fault) → result ≡ read.File told → (fault ≡ told) × (fault.cause ≢ Memory)
+returned_as_file fault told result memory file is =
     let other : fault.cause ≢ Memory = λ same. let wanting : result ≡ read.Memory = memory same in cc in
     let from : result ≡ read.File fault = file other in
     (cc, other)
@@ -129,9 +124,8 @@ memory_or_not TooMany = inr (λ same. cc)
 memory_or_not Memory = inl refl
 
 -- if reading a source returns `Memory`, the parser returned a fault with the cause `Memory`
-told_as_memory : {A : Type 0} (fault : FileFault) (result : ReadFault) → (fault.cause ≢ Memory → result ≡ read.File fault)
-    → ◌≡◌ {A = Result A ReadFault} (Err result) (Err read.Memory) → fault.cause ≡ Memory
-told_as_memory fault result file is = by (memory_or_not fault.cause)
+returned_as_memory : (fault : FileFault) (result : ReadFault) → (fault.cause ≢ Memory → result ≡ read.File fault) → result ≡ read.Memory → fault.cause ≡ Memory
+returned_as_memory fault result file is = by (memory_or_not fault.cause)
   where
     by : (fault.cause ≡ Memory) ⊎ (fault.cause ≢ Memory) → fault.cause ≡ Memory
     by (inl wanting) = wanting
@@ -144,7 +138,8 @@ pub fault_at_end : {A : Type 0} (limit : ℕ) (text : List ℕ) (fault told : Fi
     → (fault.cause ≡ Memory → result ≡ read.Memory) → (fault.cause ≢ Memory → result ≡ read.File fault)
     → ◌≡◌ {A = Result A ReadFault} (Err result) (Err (read.File told)) → IsFaultOf limit text told
 fault_at_end limit text fault told result refused memory file is =
-    let as_file = told_as_file fault told result memory file is in
+    let told_is : result ≡ read.File told = cc in
+    let as_file = returned_as_file fault told result memory file told_is in
     subst (IsFaultOf limit text) as_file.0 (refused_of limit text fault refused as_file.1)
 
 -- if memory runs out at the end of the text, it runs out at the last record
@@ -154,20 +149,21 @@ pub memory_at_end : {K : Type 0} (keeps : Keeps K) (wants : Type 0) {A : Type 0}
     → ◌≡◌ {A = Result A ReadFault} (Err result) (Err read.Memory)
     → wants × WantsMemoryAt limit (lines_of text) (length (lines_of text))
 memory_at_end keeps wants limit text reading fault result has refused later last file is =
-    let wanting = told_as_memory fault result file is in (
+    let told_is : result ≡ read.Memory = cc in
+    let wanting = returned_as_memory fault result file told_is in (
       (later limit text has).1 wanting,
       subst (WantsMemoryAt limit (lines_of text)) (last wanting limit text has)
           (subst (λ cause. IsCauseOf limit text fault.number (cause_meant cause)) wanting refused),
     )
 
 -- if a fault of the text is found at the end of the source, it is a fault of the text that the source held
-pub refused_at_end : {K : Type 0} (keeps : Keeps K) (limit count : ℕ) (initial now : Option (List ℕ)) (reading : FileReading K) (fault : FileFault)
+refused_at_end : {K : Type 0} (keeps : Keeps K) (limit count : ℕ) (initial now : Option (List ℕ)) (reading : FileReading K) (fault : FileFault)
     → (at : HasFed (TakesFile keeps) count limit [] initial now reading) → IsEnd now → IsFaultOf limit at.bytes fault → RefusesText limit initial fault
 refused_at_end keeps limit count initial now reading fault at end is =
     record { text = at.bytes; held = held_all initial now at.bytes at.lost end; is = is }
 
 -- if memory runs out at the end of the source, it does so at the last record of the text that the source held
-pub wants_at_end : {K : Type 0} (keeps : Keeps K) (wants : Type 0) (limit count : ℕ) (initial now : Option (List ℕ)) (reading : FileReading K)
+wants_at_end : {K : Type 0} (keeps : Keeps K) (wants : Type 0) (limit count : ℕ) (initial now : Option (List ℕ)) (reading : FileReading K)
     → (at : HasFed (TakesFile keeps) count limit [] initial now reading) → IsEnd now
     → wants × WantsMemoryAt limit (lines_of at.bytes) (length (lines_of at.bytes)) → WantsMemoryBy wants 65536 limit initial now
 wants_at_end keeps wants limit count initial now reading at end wanting =
@@ -179,20 +175,20 @@ HasRefusedFile keeps wants limit initial next reading fault =
     HasRefused (TakesFile keeps) (λ _ n text piece told. RefusesPiece wants n text piece told) 65536 limit [] initial next reading fault
 
 -- if a piece was refused with a fault, this fault is a fault of the text that the source held
-pub refused_before : {K : Type 0} (keeps : Keeps K) (wants : Type 0) {A : Type 0} (limit : ℕ) (initial next : Option (List ℕ)) (reading : FileReading K)
+refused_before : {K : Type 0} (keeps : Keeps K) (wants : Type 0) (limit : ℕ) (initial next : Option (List ℕ)) (reading : FileReading K)
     (fault told : FileFault) (result : ReadFault) → HasRefusedFile keeps wants limit initial next reading fault
-    → (fault.cause ≡ Memory → result ≡ read.Memory) → (fault.cause ≢ Memory → result ≡ read.File fault)
-    → ◌≡◌ {A = Result A ReadFault} (Err result) (Err (read.File told)) → RefusesText limit initial told
+    → (fault.cause ≡ Memory → result ≡ read.Memory) → (fault.cause ≢ Memory → result ≡ read.File fault) → result ≡ read.File told
+    → RefusesText limit initial told
 refused_before keeps wants limit initial next reading fault told result has memory file is = by initial next has.more.lost
   where
     text : List ℕ
     text = has.more.bytes ++ has.more.piece
 
     as_file : (fault ≡ told) × (fault.cause ≢ Memory)
-    as_file = told_as_file fault told result memory file is
+    as_file = returned_as_file fault told result memory file is
 
     of : (rest : List ℕ) → IsFaultOf limit (text ++ rest) told
-    of rest = subst (IsFaultOf limit (text ++ rest)) as_file.0 (told_of limit text rest fault has.refused.told as_file.1)
+    of rest = subst (IsFaultOf limit (text ++ rest)) as_file.0 (fault_of_reported limit text rest fault has.refused.reported as_file.1)
 
     by : (initial next : Option (List ℕ)) → Reads initial text next → RefusesText limit initial told
     by None next lost = record { text = text ++ []; held = tt; is = of [] }
@@ -200,12 +196,11 @@ refused_before keeps wants limit initial next reading fault told result has memo
     by (Some bytes) (Some rest) lost = record { text = text ++ rest; held = cc; is = of rest }
 
 -- if memory runs out before the end, it does so at a record that is complete only with the last piece
-pub wants_before : {K : Type 0} (keeps : Keeps K) (wants : Type 0) {A : Type 0} (limit : ℕ) (initial next : Option (List ℕ)) (reading : FileReading K)
+wants_before : {K : Type 0} (keeps : Keeps K) (wants : Type 0) (limit : ℕ) (initial next : Option (List ℕ)) (reading : FileReading K)
     (fault : FileFault) (result : ReadFault) → HasRefusedFile keeps wants limit initial next reading fault
-    → (fault.cause ≢ Memory → result ≡ read.File fault) → ◌≡◌ {A = Result A ReadFault} (Err result) (Err read.Memory)
-    → WantsMemoryBy wants 65536 limit initial next
+    → (fault.cause ≢ Memory → result ≡ read.File fault) → result ≡ read.Memory → WantsMemoryBy wants 65536 limit initial next
 wants_before keeps wants limit initial next reading fault result has file is =
-    let wanting = told_as_memory fault result file is in
+    let wanting = returned_as_memory fault result file is in
     let more = has.more in
     let refused = has.refused in
     inr (
@@ -217,32 +212,110 @@ wants_before keeps wants limit initial next reading fault result has file is =
         at_once = more.few;
         number = fault.number;
         first = refused.later;
-        wanting = subst (λ cause. IsCauseSoFar limit (more.bytes ++ more.piece) fault.number (cause_meant cause)) wanting refused.told;
+        wanting = subst (λ cause. IsCauseSoFar limit (more.bytes ++ more.piece) fault.number (cause_meant cause)) wanting refused.reported;
       }),
     )
 
+-- ---- how reading ends
+
+-- if no bytes are lost, no byte was read
+pub unread : (initial next : Option (List ℕ)) → next ≡ initial → Reads initial [] next
+unread None None same = refl
+unread None (Some rest) same = cc
+unread (Some told) None same = cc
+unread (Some told) (Some rest) same = sym same
+
+-- if feeding ended with a fault other than a failure of the source, the number of failures is
+-- unchanged
+uncounted : {Fault : Type 0} (fault other : FeedFault Fault) (failed failed_now : ℕ) → fault ≡ other → other ≢ feed.Source
+    → CountsFailure (◌≡◌ {A = Result ℕ (FeedFault Fault)} (Err fault) (Err feed.Source)) failed failed_now → failed_now ≡ failed
+uncounted fault other failed failed_now is unlike counted = counted.1 (λ failing. unlike (let same : fault ≡ feed.Source = cc in sym is ∙ same))
+
+pub uncounted_memory : {Fault : Type 0} (fault : FeedFault Fault) (failed failed_now : ℕ) → fault ≡ feed.Memory
+    → CountsFailure (◌≡◌ {A = Result ℕ (FeedFault Fault)} (Err fault) (Err feed.Source)) failed failed_now → failed_now ≡ failed
+uncounted_memory fault failed failed_now is counted = uncounted fault feed.Memory failed failed_now is (λ same. cc) counted
+
+pub uncounted_refused : {Fault : Type 0} (fault : FeedFault Fault) (told : Fault) (failed failed_now : ℕ) → fault ≡ feed.Refused told
+    → CountsFailure (◌≡◌ {A = Result ℕ (FeedFault Fault)} (Err fault) (Err feed.Source)) failed failed_now → failed_now ≡ failed
+uncounted_refused fault told failed failed_now is counted = uncounted fault (feed.Refused told) failed failed_now is (λ same. cc) counted
+
+-- if all bytes of a source were read, reading ends with the result that the parser returns for
+-- these bytes
+pub ends_whole : {K : Type 0} (keeps : Keeps K) (wants : Type 0) (limit count : ℕ) (initial now : Option (List ℕ)) (reading : FileReading K)
+    (failed failed_now : ℕ) (result : Result (Ended K) ReadFault) → HasFed (TakesFile keeps) count limit [] initial now reading → IsEnd now
+    → ReadsNoFurther 65536 limit initial now → failed_now ≡ failed → IfOk result (EndsBy keeps reading)
+    → ((limit : ℕ) (text : List ℕ) → IsReading keeps reading limit text → (fault : FileFault) → result ≡ Err (read.File fault) → IsFaultOf limit text fault)
+    → ((limit : ℕ) (text : List ℕ) → IsReading keeps reading limit text → result ≡ Err read.Memory
+    → wants × WantsMemoryAt limit (lines_of text) (length (lines_of text)))
+    → result ≢ Err read.Source
+    → StopsReadingFile limit initial now (IsFileOutcome (WantsMemoryBy wants) limit (ReadsEnded keeps limit initial) initial now result)
+    (CountsFileOutcome failed failed_now result)
+ends_whole keeps wants limit count initial now reading failed failed_now (Ok ended) at end few same ok file memory source = record {
+  no_further = few;
+  outcome = (
+    record { text = at.bytes; held = held_all initial now at.bytes at.lost end; of_text = ok limit at.bytes at.taken.read },
+    end,
+  );
+  failures = same;
+}
+ends_whole keeps wants limit count initial now reading failed failed_now (Err read.Source) at end few same ok file memory source = absurd (source refl)
+ends_whole keeps wants limit count initial now reading failed failed_now (Err (read.File fault)) at end few same ok file memory source = record {
+  no_further = few;
+  outcome = refused_at_end keeps limit count initial now reading fault at end (file limit at.bytes at.taken.read fault refl);
+  failures = same;
+}
+ends_whole keeps wants limit count initial now reading failed failed_now (Err read.Memory) at end few same ok file memory source = record {
+  no_further = few;
+  outcome = wants_at_end keeps wants limit count initial now reading at end (memory limit at.bytes at.taken.read refl);
+  failures = same;
+}
+
+-- if a piece was refused, reading ends with the fault with which it was refused
+pub ends_early : {K : Type 0} (keeps : Keeps K) (wants : Type 0) (limit : ℕ) (initial next : Option (List ℕ)) (reading : FileReading K)
+    (failed failed_now : ℕ) (fault : FileFault) (result : ReadFault) → HasRefusedFile keeps wants limit initial next reading fault
+    → ReadsNoFurther 65536 limit initial next → failed_now ≡ failed
+    → (fault.cause ≡ Memory → result ≡ read.Memory) → (fault.cause ≢ Memory → result ≡ read.File fault) → result ≢ read.Source
+    → StopsReadingFile limit initial next (IsWhyNoFile (WantsMemoryBy wants) limit initial next result) (CountsWhyNoFile result failed failed_now)
+ends_early keeps wants limit initial next reading failed failed_now fault read.Source has few same memory file source = absurd (source refl)
+ends_early keeps wants limit initial next reading failed failed_now fault (read.File told) has few same memory file source = record {
+  no_further = few;
+  outcome = refused_before keeps wants limit initial next reading fault told (read.File told) has memory file refl;
+  failures = same;
+}
+ends_early keeps wants limit initial next reading failed failed_now fault read.Memory has few same memory file source =
+    record { no_further = few; outcome = wants_before keeps wants limit initial next reading fault read.Memory has file refl; failures = same }
+
 -- ---- out of memory
 
--- if two faults are equal as results of one type, they are equal as results of any other type
-same_fault : {A B : Type 0} (fault told : ReadFault) → ◌≡◌ {A = Result A ReadFault} (Err fault) (Err told) → ◌≡◌ {A = Result B ReadFault} (Err fault) (Err told)
-same_fault fault told is = let same : fault ≡ told = cc in ap Err same
+-- if reading stops with a fault, and `wants` implies `wants_too`, the fault may also be explained by
+-- `wants_too`
+ends_with : (wants wants_too : Wanting) (limit : ℕ) (left left_now : Option (List ℕ)) (failed failed_now : ℕ) (fault : ReadFault)
+    → (wants 65536 limit left left_now → wants_too 65536 limit left left_now)
+    → StopsReadingFile limit left left_now (IsWhyNoFile wants limit left left_now fault) (CountsWhyNoFile fault failed failed_now)
+    → StopsReadingFile limit left left_now (IsWhyNoFile wants_too limit left left_now fault) (CountsWhyNoFile fault failed failed_now)
+ends_with wants wants_too limit left left_now failed failed_now read.Source too ends = ends
+ends_with wants wants_too limit left left_now failed failed_now (read.File fault) too ends = ends
+ends_with wants wants_too limit left left_now failed failed_now read.Memory too ends =
+    record { no_further = ends.no_further; outcome = too ends.outcome; failures = ends.failures }
 
 -- if memory ran out where `WantsMemoryBy` allows it, it ran out where `WantsMemory` allows it
-pub wants_any : {A B : Type 0} (wants : Type 0) (limit : ℕ) (old new : Option (List ℕ)) (fault : ReadFault)
-    → (◌≡◌ {A = Result A ReadFault} (Err fault) (Err read.Memory) → WantsMemoryBy wants 65536 limit old new)
-    → ◌≡◌ {A = Result B ReadFault} (Err fault) (Err read.Memory) → WantsMemory 65536 limit old new
-wants_any wants limit old new fault told is = by (told (same_fault fault read.Memory is))
+pub wants_any : (wants : Type 0) (limit : ℕ) (left left_now : Option (List ℕ)) (failed failed_now : ℕ) (fault : ReadFault)
+    → StopsReadingFile limit left left_now (IsWhyNoFile (WantsMemoryBy wants) limit left left_now fault) (CountsWhyNoFile fault failed failed_now)
+    → StopsReadingFile limit left left_now (IsWhyNoFile WantsMemory limit left left_now fault) (CountsWhyNoFile fault failed failed_now)
+wants_any wants limit left left_now failed failed_now fault ends =
+    ends_with (WantsMemoryBy wants) WantsMemory limit left left_now failed failed_now fault by ends
   where
-    by : WantsMemoryBy wants 65536 limit old new → WantsMemory 65536 limit old new
+    by : WantsMemoryBy wants 65536 limit left left_now → WantsMemory 65536 limit left left_now
     by (inl unread_yet) = inl unread_yet
     by (inr wanting) = inr wanting.1
 
 -- if the keeper can't run out of memory, reading returns `Memory` only before it has read a byte
-pub wants_none : {A B : Type 0} (limit : ℕ) (old new : Option (List ℕ)) (fault : ReadFault)
-    → (◌≡◌ {A = Result A ReadFault} (Err fault) (Err read.Memory) → WantsMemoryBy ⊥ 65536 limit old new)
-    → ◌≡◌ {A = Result B ReadFault} (Err fault) (Err read.Memory) → Reads old [] new
-wants_none limit old new fault told is = by (told (same_fault fault read.Memory is))
+pub wants_none : (limit : ℕ) (left left_now : Option (List ℕ)) (failed failed_now : ℕ) (fault : ReadFault)
+    → StopsReadingFile limit left left_now (IsWhyNoFile (WantsMemoryBy ⊥) limit left left_now fault) (CountsWhyNoFile fault failed failed_now)
+    → StopsReadingFile limit left left_now (IsWhyNoFile WantsAtStart limit left left_now fault) (CountsWhyNoFile fault failed failed_now)
+wants_none limit left left_now failed failed_now fault ends =
+    ends_with (WantsMemoryBy ⊥) WantsAtStart limit left left_now failed failed_now fault by ends
   where
-    by : WantsMemoryBy ⊥ 65536 limit old new → Reads old [] new
+    by : WantsMemoryBy ⊥ 65536 limit left left_now → WantsAtStart 65536 limit left left_now
     by (inl unread_yet) = unread_yet
     by (inr wanting) = absurd wanting.0

@@ -29,7 +29,7 @@ use Rattle.cif_file.specs.declared.thinned.Thinned.{Thinned}
 use Rattle.cif_file.specs.KeeperRead.{change_opened, with_new_first}
 use Rattle.cif_file.specs.MadeChanges.{HasMade, Makes}
 use Rattle.cif_file.specs.SingleChanges.{IsNeverThin, listed_after}
-use Rattle.cif_file.specs.ThinKept.{has_key, HasKeysOf, HasThinned, Thins, ThinsAll, IsNearBy}
+use Rattle.cif_file.specs.ThinKept.{has_key, HasKeysOf, HasThinned, Thins, ThinsAll, SaysRunsNear}
 
 abbrev Lines : Type 0
 Lines = List (List ℕ)
@@ -129,7 +129,7 @@ module _ (place : List ℕ) (day : ℕ) (opened : Opened) (near : Bool) where
   deletes_itself : (lines : Lines) → (progress_meant opened.progress).deletion ≡ true → thin_act place day (change_opened opened lines).act ≡ delete
   deletes_itself lines deletion = λ i. thin_act place day (cond (deletion i) delete (put (schedule_body (with_new_first lines))))
 
-  module _ (basic : List ℕ) (others : Lines) (is : IsNearBy day (basic ∷ others) near) where
+  module _ (basic : List ℕ) (others : Lines) (is : SaysRunsNear day (basic ∷ others) near) where
     abbrev renewed : Lines
     renewed = as_new basic ∷ others
 
@@ -141,7 +141,7 @@ module _ (place : List ℕ) (day : ℕ) (opened : Opened) (near : Bool) where
     act_put stays = λ i. cond (stays i) delete (put (schedule_body renewed))
 
   -- the thin form of a schedule's change is a deletion if the schedule is a deletion or doesn't run near the day
-  pub opened_deletes : (lines : Lines) → HasLines (progress_meant opened.progress) lines → IsSchedule lines → IsNearBy day lines near
+  pub opened_deletes : (lines : Lines) → HasLines (progress_meant opened.progress) lines → IsSchedule lines → SaysRunsNear day lines near
       → ((progress_meant opened.progress).deletion ≡ true) ⊎ (near ≡ false) → thin_act place day (change_opened opened lines).act ≡ delete
   opened_deletes lines read whole is (inl deletion) = deletes_itself lines deletion
   opened_deletes [] read whole is (inr far) = absurd (let size = ap (λ (l : Lines). length l) whole.whole in omega arith)
@@ -155,7 +155,7 @@ module _ (place : List ℕ) (day : ℕ) (opened : Opened) (near : Bool) where
 
   -- if a schedule isn't a deletion and runs near the day, the thin form of its change puts only the
   -- lines that the docker of the place needs
-  pub opened_puts : (lines : Lines) → HasLines (progress_meant opened.progress) lines → IsSchedule lines → IsNearBy day lines near
+  pub opened_puts : (lines : Lines) → HasLines (progress_meant opened.progress) lines → IsSchedule lines → SaysRunsNear day lines near
       → (progress_meant opened.progress).deletion ≡ false → near ≡ true
       → thin_act place day (change_opened opened lines).act ≡ put (schedule_body (lines_for place (with_new_first lines)))
   opened_puts [] read whole is stays runs = absurd (let size = ap (λ (l : Lines). length l) whole.whole in omega arith)
@@ -205,7 +205,7 @@ neither false true h = (refl, refl)
 
 -- if a schedule runs near the day, the change that is kept for it is the thin form of the schedule's change
 pub opened_kept : (place : List ℕ) (day : ℕ) (opened : Opened) (near : Bool) (lines : Lines) → HasLines (progress_meant opened.progress) lines
-    → IsSchedule lines → IsNearBy day lines near → (progress_meant opened.progress).deletion ≡ false → near ≡ true
+    → IsSchedule lines → SaysRunsNear day lines near → (progress_meant opened.progress).deletion ≡ false → near ≡ true
     → (thinned : Thinned) → thinned.place ≡ place → (renewed : Lines) → renewed ≡ with_new_first lines
     → (body : Lines) → body ≡ lines_for thinned.place renewed
     → thin_change place day (change_opened opened lines)

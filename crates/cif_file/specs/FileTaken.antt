@@ -31,6 +31,6 @@ taken_is_bounded keeps reading limit text has =
 -- the piece. Also says that the cause is `Memory` only if `wants` holds, that is, if the keeper may
 -- run out of memory.
 pub record RefusesPiece (wants : Type 0) (limit : ℕ) (text piece : List ℕ) (fault : FileFault) : Type 0 where
-  pub told : IsFaultReported limit (text ++ piece) fault
+  pub reported : IsFaultReported limit (text ++ piece) fault
   pub later : sure_lines text < fault.number
   pub wanted : fault.cause ≡ Memory → wants

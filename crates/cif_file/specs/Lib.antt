@@ -11,6 +11,7 @@ pub mod ParserRead
 pub mod Cut
 pub mod FaultText
 pub mod SourceRead
+pub mod FileEnds
 pub mod FileTaken
 pub use Rattle.cif_change.specs.Meaning
 pub use Rattle.cif_change.specs.Joined

@@ -97,3 +97,7 @@ WantsMemoryBy wants most limit old new = Reads old [] new ⊎ (wants × (WantsRe
 -- record of the text.
 abbrev pub WantsMemory : ℕ → ℕ → Option (List ℕ) → Option (List ℕ) → Type 0
 WantsMemory most limit old new = Reads old [] new ⊎ WantsRecord most limit old new ⊎ WantsLast limit old
+
+-- Says that memory ran out before a byte was read.
+abbrev pub WantsAtStart : ℕ → ℕ → Option (List ℕ) → Option (List ℕ) → Type 0
+WantsAtStart most limit old new = Reads old [] new

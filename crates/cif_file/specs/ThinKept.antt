@@ -46,23 +46,23 @@ ThinsAll place day old more new = (all : List Change) → HasThinned place day o
 abbrev pub Thins : List ℕ → ℕ → Thinned → Change → Thinned → Type 0
 Thins place day old change new = ThinsAll place day old (change ∷ []) new
 
--- Says that `near` is true if and only if the schedule with these lines runs near the day. For a
--- deletion `near` may have either value.
-abbrev pub IsNearBy : ℕ → Lines → Bool → Type 0
-IsNearBy day [] near = ⊤
-IsNearBy day (basic ∷ others) near = is_deletion basic ≡ false → near ≡ runs_near day basic
+-- Says that `runs` is true if and only if the schedule with these lines runs near the day. For a
+-- deletion `runs` may have either value.
+abbrev pub SaysRunsNear : ℕ → Lines → Bool → Type 0
+SaysRunsNear day [] runs = ⊤
+SaysRunsNear day (basic ∷ others) runs = is_deletion basic ≡ false → runs ≡ runs_near day basic
 
 -- Says that the change of this schedule was received. If the kept changes were a thinning of some changes, they are now a thinning of those changes followed by
 -- this change.
 abbrev pub ThinsOpened : List ℕ → ℕ → Thinned → Opened → Bool → Lines → Thinned → Type 0
-ThinsOpened place day old opened near renewed new =
-    (lines : Lines) → renewed ≡ with_new_first lines → HasLines (progress_meant opened.progress) lines → IsSchedule lines → IsNearBy day lines near
+ThinsOpened place day old opened runs renewed new =
+    (lines : Lines) → renewed ≡ with_new_first lines → HasLines (progress_meant opened.progress) lines → IsSchedule lines → SaysRunsNear day lines runs
     → Thins place day old (change_opened opened lines) new
 
 -- Says that the keeper has these lines, with the transaction of the first set to N. It also has a thinning of the changes for the place and the day. For
 -- proofs, the keeper also has the list of all changes.
 pub record KeepsThin {P : Type 0} (place : List ℕ) (day : ℕ) (keeper : ThinSoFar P) (lines : Lines) (all : List Change) : Type 0 where
   pub lines_are : keeper.open.lines.items ≡ with_new_first lines
-  pub near_is : IsNearBy day lines keeper.near
+  pub runs_near_is : SaysRunsNear day lines keeper.runs_near
   pub thinned : HasThinned place day keeper.thinned all
   pub so_far : keeper.so_far.changes ≡ all

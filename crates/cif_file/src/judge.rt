@@ -1,14 +1,14 @@
 //! Checks whether the text of a source is a CIF file, and counts the file's records and changes.
-ghost use Rattle.std.specs.Prelude.{◌≡◌, ◌-◌, ◌^◌, ◌<◌, ◌≤◌, [], IfOk, IsOk, Err};
-ghost use Rattle.cif_device.specs.Device.{CountsFailure, IsEnd, Reads};
-ghost use Rattle.cif_file.specs.SourceRead.{CountsText, RefusesText, ReadsNoFurther};
+ghost use Rattle.std.specs.Prelude.{◌-◌, ◌^◌, ◌<◌, ◌≤◌};
+ghost use Rattle.cif_file.specs.FileEnds.{EndsReadingFile};
+ghost use Rattle.cif_file.specs.SourceRead.{CountsText, WantsAtStart};
 
 use crate::count::FileCount;
 use crate::fault::ReadFault;
 use crate::read::read_source;
 use crate::records::MOST_RECORDS;
 use crate::tally::Tally;
-use cif_line::{PIECE, Source};
+use cif_line::Source;
 use std::alloc::Global;
 
 /// Reads a source to its end, as [`read_file`](crate::read_file) does, and returns how many records
@@ -21,15 +21,8 @@ pub fn judge_file<S: Source>(
 ) -> Result<FileCount, ReadFault>
     requires failures { S.failures source.old < 2 ^ 64 - 1 }
     requires limit { limit ≤ MOST_RECORDS }
-    ensures ok { IfOk result (CountsText limit (S.left source.old)) }
-    ensures file { (fault : _) → result ≡ Err (ReadFault.File fault) →
-        RefusesText limit (S.left source.old) fault }
-    ensures memory { result ≡ Err ReadFault.Memory →
-        Reads (S.left source.old) [] (S.left source.new) }
-    ensures end { IsOk result → IsEnd (S.left source.new) }
-    ensures no_further { ReadsNoFurther PIECE limit (S.left source.old) (S.left source.new) }
-    ensures failures { CountsFailure (result ≡ Err ReadFault.Source)
-        (S.failures source.old) (S.failures source.new) }
+    ensures { EndsReadingFile WantsAtStart S.left S.failures limit
+        (CountsText limit (S.left source.old)) source.old source.new result }
 {
     match read_source(alloc, source, Tally::new(), limit) {
         Ok(ended) => Ok(ended.into_count()),

@@ -1,9 +1,9 @@
 //! Reads a CIF file from a source.
-ghost use Rattle.std.specs.Prelude.{◌≡◌, ◌≢◌, ℕ, ◌-◌, ◌^◌, ◌<◌, ◌≤◌, List, [], length, IfOk, IsOk, Err};
+ghost use Rattle.std.specs.Prelude.{◌≡◌, ◌≢◌, ℕ, ◌-◌, ◌^◌, ◌<◌, ◌≤◌, List, [], length, IfOk, Err};
 ghost use Rattle.docker_model.specs.file.Text.{lines_of};
-ghost use Rattle.cif_device.specs.Device.{CountsFailure, IsEnd};
+ghost use Rattle.cif_file.specs.FileEnds.{EndsReadingFile};
 ghost use Rattle.cif_file.specs.ParserRead.{IsReading, WantsMemoryAt, EndsBy};
-ghost use Rattle.cif_file.specs.SourceRead.{IsFaultOf, ReadsEnded, ReadsText, ReadsThin, RefusesText, ReadsNoFurther, WantsMemory, WantsMemoryBy};
+ghost use Rattle.cif_file.specs.SourceRead.{IsFaultOf, ReadsEnded, ReadsText, ReadsThin, WantsMemory, WantsMemoryBy};
 
 use crate::ended::Ended;
 use crate::fault::{FileFault, ReadFault};
@@ -16,7 +16,7 @@ use crate::records::MOST_RECORDS;
 use crate::thin_file::ThinFile;
 use crate::thin_kept::ThinSoFar;
 use cif_change::FileCause;
-use cif_line::{Day, FeedFault, PIECE, Source, Taker, Tiploc, feed_all};
+use cif_line::{Day, FeedFault, Source, Taker, Tiploc, feed_all};
 use std::alloc::Global;
 use std::marker::Brand;
 
@@ -27,15 +27,8 @@ use std::marker::Brand;
 pub fn read_file<S: Source>(alloc: Global, source: &mut S, limit: u32) -> Result<CifFile, ReadFault>
     requires failures { S.failures source.old < 2 ^ 64 - 1 }
     requires limit { limit ≤ MOST_RECORDS }
-    ensures ok { IfOk result (ReadsText limit (S.left source.old)) }
-    ensures file { (fault : _) → result ≡ Err (ReadFault.File fault) →
-        RefusesText limit (S.left source.old) fault }
-    ensures memory { result ≡ Err ReadFault.Memory →
-        WantsMemory PIECE limit (S.left source.old) (S.left source.new) }
-    ensures end { IsOk result → IsEnd (S.left source.new) }
-    ensures no_further { ReadsNoFurther PIECE limit (S.left source.old) (S.left source.new) }
-    ensures failures { CountsFailure (result ≡ Err ReadFault.Source)
-        (S.failures source.old) (S.failures source.new) }
+    ensures { EndsReadingFile WantsMemory S.left S.failures limit
+        (ReadsText limit (S.left source.old)) source.old source.new result }
 {
     read_file_noting(alloc, source, limit, true)
 }
@@ -51,15 +44,8 @@ pub fn read_file_noting<S: Source>(
 ) -> Result<CifFile, ReadFault>
     requires failures { S.failures source.old < 2 ^ 64 - 1 }
     requires limit { limit ≤ MOST_RECORDS }
-    ensures ok { IfOk result (ReadsText limit (S.left source.old)) }
-    ensures file { (fault : _) → result ≡ Err (ReadFault.File fault) →
-        RefusesText limit (S.left source.old) fault }
-    ensures memory { result ≡ Err ReadFault.Memory →
-        WantsMemory PIECE limit (S.left source.old) (S.left source.new) }
-    ensures end { IsOk result → IsEnd (S.left source.new) }
-    ensures no_further { ReadsNoFurther PIECE limit (S.left source.old) (S.left source.new) }
-    ensures failures { CountsFailure (result ≡ Err ReadFault.Source)
-        (S.failures source.old) (S.failures source.new) }
+    ensures { EndsReadingFile WantsMemory S.left S.failures limit
+        (ReadsText limit (S.left source.old)) source.old source.new result }
 {
     match read_source(alloc, source, FileSoFar::new(alloc, noted), limit) {
         Ok(ended) => Ok(ended.into_file()),
@@ -78,15 +64,8 @@ pub fn read_thin<S: Source>(
 ) -> Result<ThinFile, ReadFault>
     requires failures { S.failures source.old < 2 ^ 64 - 1 }
     requires limit { limit ≤ MOST_RECORDS }
-    ensures ok { IfOk result (ReadsThin place day limit (S.left source.old)) }
-    ensures file { (fault : _) → result ≡ Err (ReadFault.File fault) →
-        RefusesText limit (S.left source.old) fault }
-    ensures memory { result ≡ Err ReadFault.Memory →
-        WantsMemory PIECE limit (S.left source.old) (S.left source.new) }
-    ensures end { IsOk result → IsEnd (S.left source.new) }
-    ensures no_further { ReadsNoFurther PIECE limit (S.left source.old) (S.left source.new) }
-    ensures failures { CountsFailure (result ≡ Err ReadFault.Source)
-        (S.failures source.old) (S.failures source.new) }
+    ensures { EndsReadingFile WantsMemory S.left S.failures limit
+        (ReadsThin place day limit (S.left source.old)) source.old source.new result }
 {
     thin_at::<Brand, S>(alloc, source, place, day, limit)
 }
@@ -103,15 +82,8 @@ fn thin_at<P: PlaceDay, S: Source>(
     requires limit { limit ≤ MOST_RECORDS }
     requires place { place ≡ P.place }
     requires day { day ≡ P.day }
-    ensures ok { IfOk result (ReadsThin place day limit (S.left source.old)) }
-    ensures file { (fault : _) → result ≡ Err (ReadFault.File fault) →
-        RefusesText limit (S.left source.old) fault }
-    ensures memory { result ≡ Err ReadFault.Memory →
-        WantsMemory PIECE limit (S.left source.old) (S.left source.new) }
-    ensures end { IsOk result → IsEnd (S.left source.new) }
-    ensures no_further { ReadsNoFurther PIECE limit (S.left source.old) (S.left source.new) }
-    ensures failures { CountsFailure (result ≡ Err ReadFault.Source)
-        (S.failures source.old) (S.failures source.new) }
+    ensures { EndsReadingFile WantsMemory S.left S.failures limit
+        (ReadsThin place day limit (S.left source.old)) source.old source.new result }
 {
     let keeper: ThinSoFar<P> = ThinSoFar::new(alloc, place, day);
     match read_source(alloc, source, keeper, limit) {
@@ -150,15 +122,8 @@ pub(crate) fn read_source<S: Source, K: Keeper>(
     requires failures { S.failures source.old < 2 ^ 64 - 1 }
     requires limit { limit ≤ MOST_RECORDS }
     requires none { K.keeps keeper [] [] }
-    ensures ok { IfOk result (ReadsEnded K.keeps limit (S.left source.old)) }
-    ensures file { (fault : _) → result ≡ Err (ReadFault.File fault) →
-        RefusesText limit (S.left source.old) fault }
-    ensures memory { result ≡ Err ReadFault.Memory →
-        WantsMemoryBy K.wants PIECE limit (S.left source.old) (S.left source.new) }
-    ensures end { IsOk result → IsEnd (S.left source.new) }
-    ensures no_further { ReadsNoFurther PIECE limit (S.left source.old) (S.left source.new) }
-    ensures failures { CountsFailure (result ≡ Err ReadFault.Source)
-        (S.failures source.old) (S.failures source.new) }
+    ensures { EndsReadingFile (WantsMemoryBy K.wants) S.left S.failures limit
+        (ReadsEnded K.keeps limit (S.left source.old)) source.old source.new result }
 {
     let mut reading = FileReading::new(keeper, limit);
     match feed_all(alloc, source, &mut reading) {

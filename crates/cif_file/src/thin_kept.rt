@@ -4,10 +4,10 @@ ghost use Rattle.cif_file.specs.ThinKept.{KeepsThin};
 
 use crate::changes_so_far::{ChangesSoFar, OpenLines};
 use crate::keeper::Keeper;
-use crate::near::is_near;
 use crate::opened::Opened;
 use crate::place::PlaceDay;
 use crate::single::{Single, changes_of};
+use crate::start_days::runs_near_unless_deleted;
 use crate::thinned::Thinned;
 use cif_line::{Basic, Day, Line, Tiploc};
 use std::alloc::{AllocError, Global};
@@ -19,7 +19,7 @@ use std::marker::PhantomData;
 #[derive(Debug, Drop)]
 pub(crate) struct ThinSoFar<P> {
     open: OpenLines,
-    near: bool,
+    runs_near: bool,
     thinned: Thinned,
     so_far: ChangesSoFar,
     of: PhantomData<P>,
@@ -36,7 +36,7 @@ impl<P: PlaceDay> ThinSoFar<P> {
             open: OpenLines {
                 lines: Vec::new(alloc),
             },
-            near: false,
+            runs_near: false,
             thinned: Thinned::new(alloc, place, day),
             so_far: ChangesSoFar::new(),
             of: PhantomData,
@@ -65,7 +65,7 @@ impl<P: PlaceDay> Keeper for ThinSoFar<P> {
     ghost wants = { ⊤ };
 
     fn begin(&mut self, basic: &Basic<'_>) -> Result<(), AllocError> {
-        self.near = is_near(basic, self.thinned.day());
+        self.runs_near = runs_near_unless_deleted(basic, self.thinned.day());
         self.open.lines.push(basic.line().as_new())?;
         Ok(())
     }
@@ -77,7 +77,7 @@ impl<P: PlaceDay> Keeper for ThinSoFar<P> {
 
     fn close(&mut self, opened: Opened) -> Result<(), AllocError> {
         self.thinned
-            .add_opened(opened, self.near, self.open.lines.as_slice())?;
+            .add_opened(opened, self.runs_near, self.open.lines.as_slice())?;
         self.so_far = ChangesSoFar::with_opened(&self.so_far, &opened, &self.open);
         self.open.lines.clear();
         Ok(())

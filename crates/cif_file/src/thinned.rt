@@ -123,19 +123,19 @@ impl Thinned {
         })
     }
 
-    /// Receives the change of a schedule with these lines. `near` says whether the schedule runs
-    /// near the day, and has no meaning for a deletion.
+    /// Receives the change of a schedule with these lines. `runs_near` says whether the
+    /// schedule runs near the day, and has no meaning for a deletion.
     pub(crate) fn add_opened(
         &mut self,
         opened: Opened,
-        near: bool,
+        runs_near: bool,
         lines: &[Line],
     ) -> Result<(), AllocError>
         ensures { OnOk result ((place : List ℕ) (day : ℕ)
-            → ThinsOpened place day self.old opened near lines.now self.new) }
+            → ThinsOpened place day self.old opened runs_near lines.now self.new) }
     {
         let key = Key::Schedule(opened.key);
-        if opened.progress.is_deletion() | !near {
+        if opened.progress.is_deletion() | !runs_near {
             return self.delete(opened.number, key);
         }
         let body = lines_for(self.alloc, &self.place, lines)?;

@@ -11,13 +11,13 @@ use Rattle.state_laws.proofs.joins.JoinLaws.{join_commutes}
 use Rattle.state_laws.proofs.states.SummaryLaws.{join_is_summary}
 use Rattle.state_laws.proofs.texts.TextsApart.{one_text}
 use Rattle.cif_file.specs.FileRead.{FileRead, IsOfRecords}
-use Rattle.cif_file.specs.SourceRead.{ReadsNoFurther, ReadsText, RefusesText, WantsMemory}
+use Rattle.cif_file.specs.FileEnds.{CountsWhyNoFile, IsWhyNoFile, StopsReadingFile}
+use Rattle.cif_file.specs.SourceRead.{ReadsText, RefusesText, WantsMemory}
 use Rattle.cif_file.specs.declared.fault.FileFault.{FileFault}
 use Rattle.cif_file.specs.declared.fault.ReadFault as files
 use Rattle.cif_file.specs.declared.fault.ReadFault.TheVariants as file_faults
 use Rattle.docker_bytes.specs.Excerpts.{IsExcerptAt}
-use Rattle.cif_device.specs.Device.{CountsFailure, IsEnd}
-use Rattle.cif_device.specs.FeedEnds.{most_at_once}
+use Rattle.cif_device.specs.Device.{IsEnd}
 use Rattle.docker_bytes.specs.ReadEnds.{BytesLeft, CountsOutcome, CountsWhy, IsOutcome, IsWhyUnread, StopsReading, Wanting}
 use Rattle.docker_bytes.specs.SourceRead.{Held, RaisesState, ReadsMade, ReadsState, RefusesState, JoinsState}
 use Rattle.docker_bytes.specs.declared.fault.StateFault.{StateFault}
@@ -72,34 +72,31 @@ unread_by_office wants format limit left left_now failures failures_now (state_f
 unread_by_office wants format limit left left_now failures failures_now state_faults.Memory ends = ends
 
 -- if the reader of files returns a fault, the office returns a fault with the same meaning
-pub untaken : {A B : Type 0} (limit : ℕ) (IsMade : B → Type 0) (left left_now : BytesLeft) (failures failures_now : ℕ) (cause : files.ReadFault)
-    → ReadsNoFurther most_at_once limit left left_now
-    → ((fault : FileFault) → ◌≡◌ {A = Result A files.ReadFault} (Err cause) (Err (file_faults.File fault)) → RefusesText limit left fault)
-    → (◌≡◌ {A = Result A files.ReadFault} (Err cause) (Err file_faults.Memory) → WantsMemory most_at_once limit left left_now)
-    → CountsFailure (◌≡◌ {A = Result A files.ReadFault} (Err cause) (Err file_faults.Source)) failures failures_now
+pub untaken : {A : Type 0} (limit : ℕ) (IsMade : A → Type 0) (left left_now : BytesLeft) (failures failures_now : ℕ) (cause : files.ReadFault)
+    → StopsReadingFile limit left left_now (IsWhyNoFile WantsMemory limit left left_now cause) (CountsWhyNoFile cause failures failures_now)
     → StopsTaking limit left left_now (IsTakingOutcome limit IsMade left left_now (Err (office_fault_of_file cause)))
-    (CountsTaking {A = B} failures failures_now (Err (office_fault_of_file cause)))
-untaken limit IsMade left left_now failures failures_now file_faults.Source few file memory counted =
-    record { no_further = few; outcome = tt; failures = counted.0.0 refl }
-untaken limit IsMade left left_now failures failures_now (file_faults.File fault) few file memory counted =
-    record { no_further = few; outcome = file fault refl; failures = counted.1 (λ is. cc) }
-untaken limit IsMade left left_now failures failures_now file_faults.Memory few file memory counted =
-    record { no_further = few; outcome = inl (memory refl); failures = counted.1 (λ is. cc) }
+    (CountsTaking {A = A} failures failures_now (Err (office_fault_of_file cause)))
+untaken limit IsMade left left_now failures failures_now file_faults.Source ends =
+    record { no_further = ends.no_further; outcome = ends.outcome; failures = ends.failures }
+untaken limit IsMade left left_now failures failures_now (file_faults.File fault) ends =
+    record { no_further = ends.no_further; outcome = ends.outcome; failures = ends.failures }
+untaken limit IsMade left left_now failures failures_now file_faults.Memory ends =
+    record { no_further = ends.no_further; outcome = inl ends.outcome; failures = ends.failures }
 
 -- if a whole file was read, either the office takes the file or memory runs out for the file's
 -- state
 pub taken_whole : {A : Type 0} (limit : ℕ) (IsMade : A → Type 0) (left left_now : BytesLeft) (failures failures_now : ℕ) (read : FileRead)
-    (result : Result A OfficeFault) → ReadsNoFurther most_at_once limit left left_now → ReadsText limit left read → IsEnd left_now → failures_now ≡ failures
+    (result : Result A OfficeFault) → StopsReadingFile limit left left_now (ReadsText limit left read × IsEnd left_now) (failures_now ≡ failures)
     → ((made : A) → result ≡ Ok made → IsMade made) → IfErr result (λ fault. fault ≡ office.Memory)
     → StopsTaking limit left left_now (IsTakingOutcome limit IsMade left left_now result) (CountsTaking failures failures_now result)
-taken_whole limit IsMade left left_now failures failures_now read (Ok made) few reads end same is only =
-    record { no_further = few; outcome = (is made refl, end); failures = same }
-taken_whole {A} limit IsMade left left_now failures failures_now read (Err fault) few reads end same is only =
+taken_whole limit IsMade left left_now failures failures_now read (Ok made) ends is only =
+    record { no_further = ends.no_further; outcome = (is made refl, ends.outcome.1); failures = ends.failures }
+taken_whole {A} limit IsMade left left_now failures failures_now read (Err fault) ends is only =
     subst
     (λ (told : OfficeFault). StopsTaking limit left left_now (IsTakingOutcome limit IsMade left left_now (Err told))
     (CountsTaking {A = A} failures failures_now (Err told)))
     (sym only)
-    (record { no_further = few; outcome = inr (holds_file limit left read reads); failures = same })
+    (record { no_further = ends.no_further; outcome = inr (holds_file limit left read ends.outcome.0); failures = ends.failures })
 
 -- ---- states
 

@@ -6,14 +6,20 @@ use Rattle.cif_file.proofs.ReadLemmas.{wants_none}
 use Rattle.cif_file.proofs.judge.judge_file.Goals as goal
 
 pub into_count-requires : goal.into_count-requires
-into_count-requires g c = reads_counted c.args.limit (g.S.Source.left c.args.source.now) c.in-Ok.ended c.requires.limit c.in-Ok.ensures.ok
+into_count-requires g c = reads_counted c.args.limit (g.S.Source.left c.args.source.now) c.in-Ok.ended c.requires.limit c.in-Ok.ensures.outcome.0
 
-pub returns-in-Ok-clause-ok : goal.returns-in-Ok-clause-ok
-returns-in-Ok-clause-ok g c =
+pub returns-in-Ok : goal.returns-in-Ok
+returns-in-Ok g c = record {
+  no_further = c.in-Ok.ensures.no_further;
+  outcome = (
     subst (CountsText c.args.limit (g.S.Source.left c.args.source.now)) (sym c.into_count.ensures)
-    (reads_count c.args.limit (g.S.Source.left c.args.source.now) c.in-Ok.ended c.requires.limit c.in-Ok.ensures.ok)
+        (reads_count c.args.limit (g.S.Source.left c.args.source.now) c.in-Ok.ended c.requires.limit c.in-Ok.ensures.outcome.0),
+    c.in-Ok.ensures.outcome.1,
+  );
+  failures = c.in-Ok.ensures.failures;
+}
 
-pub returns-in-Err-clause-memory : goal.returns-in-Err-clause-memory
-returns-in-Err-clause-memory g c =
-    wants_none c.args.limit (g.S.Source.left c.args.source.now) (g.S.Source.left c.read_source.new.source) c.in-Err.fault
-    c.in-Err.ensures.memory
+pub returns-in-Err : goal.returns-in-Err
+returns-in-Err g c =
+    wants_none c.args.limit (g.S.Source.left c.args.source.now) (g.S.Source.left c.read_source.new.source)
+    (g.S.Source.failures c.args.source.now) (g.S.Source.failures c.read_source.new.source) c.in-Err.fault c.in-Err.ensures

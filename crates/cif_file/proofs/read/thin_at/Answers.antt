@@ -8,15 +8,22 @@ use Rattle.cif_file.proofs.read.thin_at.Goals as goal
 
 pub into_thin-requires : goal.into_thin-requires
 into_thin-requires g c =
-    reads_thin_parts g.P.PlaceDay.place g.P.PlaceDay.day c.args.limit (g.S.Source.left c.args.source.now) c.in-Ok.ended c.requires.limit c.in-Ok.ensures.ok
+    reads_thin_parts g.P.PlaceDay.place g.P.PlaceDay.day c.args.limit (g.S.Source.left c.args.source.now) c.in-Ok.ended c.requires.limit
+    c.in-Ok.ensures.outcome.0
 
-pub returns-in-Ok-clause-ok : goal.returns-in-Ok-clause-ok
-returns-in-Ok-clause-ok g c =
+pub returns-in-Ok : goal.returns-in-Ok
+returns-in-Ok g c = record {
+  no_further = c.in-Ok.ensures.no_further;
+  outcome = (
     subst (ReadsThin c.args.place c.args.day c.args.limit (g.S.Source.left c.args.source.now)) (sym c.into_thin.ensures)
-    (reads_thin g.P.PlaceDay.place g.P.PlaceDay.day c.args.place c.args.day c.args.limit (g.S.Source.left c.args.source.now) c.in-Ok.ended
-    c.requires.place c.requires.day c.in-Ok.ensures.ok)
+        (reads_thin g.P.PlaceDay.place g.P.PlaceDay.day c.args.place c.args.day c.args.limit (g.S.Source.left c.args.source.now) c.in-Ok.ended
+        c.requires.place c.requires.day c.in-Ok.ensures.outcome.0),
+    c.in-Ok.ensures.outcome.1,
+  );
+  failures = c.in-Ok.ensures.failures;
+}
 
-pub returns-in-Err-clause-memory : goal.returns-in-Err-clause-memory
-returns-in-Err-clause-memory g c =
-    wants_any ⊤ c.args.limit (g.S.Source.left c.args.source.now) (g.S.Source.left c.read_source.new.source) c.in-Err.fault
-    c.in-Err.ensures.memory
+pub returns-in-Err : goal.returns-in-Err
+returns-in-Err g c =
+    wants_any ⊤ c.args.limit (g.S.Source.left c.args.source.now) (g.S.Source.left c.read_source.new.source)
+    (g.S.Source.failures c.args.source.now) (g.S.Source.failures c.read_source.new.source) c.in-Err.fault c.in-Err.ensures

@@ -2,7 +2,7 @@
 use Rattle.std.proofs.Common.{◌++◌, sym, ap, subst, ◌∙◌}
 use Rattle.cif_file.specs.KeeperRead.{KeepsAll}
 use Rattle.cif_file.specs.ParserRead.{ParserState, IsReading}
-use Rattle.cif_file.proofs.ParserLemmas.{told_stays, reading_tells_none, read_at_fault, fault_at_read}
+use Rattle.cif_file.proofs.ParserLemmas.{reported_stays, reading_tells_none, read_at_fault, fault_at_read}
 use Rattle.cif_file.proofs.ParserLemmas.{reading_at_none, none_at_reading, had_failed, names_later}
 use Rattle.cif_file.proofs.parser.FileParser.feed.Goals as goal
 
@@ -10,11 +10,11 @@ pub returns-in-Some-clause-read : goal.returns-in-Some-clause-read
 returns-in-Some-clause-read c = λ limit text has.
     let told = ap (λ (p : ParserState). p.fault) (sym c.self.view_is) ∙ c.in-Some.is in
     read_at_fault c.args.self.now limit (text ++ c.args.piece.now) c.in-Some.fault told
-    (told_stays limit text c.args.piece.now c.in-Some.fault (fault_at_read c.args.self.now limit text c.in-Some.fault told has))
+    (reported_stays limit text c.args.piece.now c.in-Some.fault (fault_at_read c.args.self.now limit text c.in-Some.fault told has))
 
 pub returns-in-Some-clause-err : goal.returns-in-Some-clause-err
 returns-in-Some-clause-err c = λ limit text has.
-    told_stays limit text c.args.piece.now c.in-Some.fault (fault_at_read c.args.self.now limit text c.in-Some.fault
+    reported_stays limit text c.args.piece.now c.in-Some.fault (fault_at_read c.args.self.now limit text c.in-Some.fault
     (ap (λ (p : ParserState). p.fault) (sym c.self.view_is) ∙ c.in-Some.is) has)
 
 pub returns-in-Ok-clause-read : goal.returns-in-Ok-clause-read

@@ -2,12 +2,12 @@
 use Rattle.std.proofs.Common.{sym, ap, subst, ◌∙◌}
 use Rattle.cif_file.specs.ParserRead.{ParserState, IsReadingOrFault, IsOfFileText}
 use Rattle.cif_file.proofs.EndedLemmas.{of_file, are_parts_some}
-use Rattle.cif_file.proofs.ParserLemmas.{told_refused, had_failed, reading_of, names_later, names_last}
+use Rattle.cif_file.proofs.ParserLemmas.{reported_refused, had_failed, reading_of, names_later, names_last}
 use Rattle.cif_file.proofs.parser.FileParser.finish.Goals as goal
 
 pub returns-in-Some-clause-err : goal.returns-in-Some-clause-err
 returns-in-Some-clause-err c = λ limit text has.
-    told_refused limit text c.in-Some.fault (subst (λ fault. IsReadingOrFault c.args.self.reading limit text fault)
+    reported_refused limit text c.in-Some.fault (subst (λ fault. IsReadingOrFault c.args.self.reading limit text fault)
     (ap (λ (p : ParserState). p.fault) (sym c.self.view_is) ∙ c.in-Some.is) has)
 
 pub returns-in-Some-clause-later : goal.returns-in-Some-clause-later

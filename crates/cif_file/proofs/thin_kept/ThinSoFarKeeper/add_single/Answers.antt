@@ -9,7 +9,7 @@ returns-clause-kept g c =
     on_ok_one c.add_single.result c.add_single.ensures
     (λ added. λ lines made keeps. record {
       lines_are = keeps.lines_are;
-      near_is = keeps.near_is;
+      runs_near_is = keeps.runs_near_is;
       so_far = c.with_single-self.ensures ∙ (λ i. keeps.so_far i ++ c.changes_of-changes.ensures.changes i);
       thinned =
           subst (λ more. HasThinned g.P.PlaceDay.place g.P.PlaceDay.day c.add_single.new.self (made ++ more)) c.changes_of-changes.ensures.changes

@@ -6,10 +6,10 @@ use Rattle.cif_file.proofs.thin_kept.ThinSoFarKeeper.close.Goals as goal
 pub returns-clause-kept : goal.returns-clause-kept
 returns-clause-kept g c = λ lines made read whole keeps. record {
   lines_are = c.clear.ensures.items;
-  near_is = tt;
+  runs_near_is = tt;
   thinned =
       c.in_ok-add_opened.ensures g.P.PlaceDay.place g.P.PlaceDay.day lines (c.as_slice.ensures.value ∙ keeps.lines_are)
-      read whole keeps.near_is made keeps.thinned;
+      read whole keeps.runs_near_is made keeps.thinned;
   so_far =
       c.with_opened-self.ensures
       ∙ (λ i. keeps.so_far i ++ change_renewed c.args.opened (keeps.lines_are i) ∷ []);

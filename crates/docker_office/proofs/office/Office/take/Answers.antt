@@ -11,23 +11,21 @@ returns-in_err-file-clause-takes g c =
     let left = g.S.Source.left c.args.source.now in
     rw (same.1, same.2) (untaken c.args.limit (λ (_ : ⊤). TakesFile c.args.limit left c.args.self.now c.args.self.now) left
     (g.S.Source.left c.read_file_noting.new.source)
-    (g.S.Source.failures c.args.source.now) (g.S.Source.failures c.read_file_noting.new.source) _ c.in_err-file.ensures.no_further c.in_err-file.ensures.file
-    c.in_err-file.ensures.memory c.in_err-file.ensures.failures)
+    (g.S.Source.failures c.args.source.now) (g.S.Source.failures c.read_file_noting.new.source) _ c.in_err-file.ensures)
 
 pub returns-in_default-clause-takes : goal.returns-in_default-clause-takes
 returns-in_default-clause-takes g c = record {
   no_further = c.in_ok-file.ensures.no_further;
-  outcome = inr (holds_file c.args.limit (g.S.Source.left c.args.source.now) c.in_ok-file.file c.in_ok-file.ensures.ok);
-  failures = c.in_ok-file.ensures.failures.1 (λ is. cc);
+  outcome = inr (holds_file c.args.limit (g.S.Source.left c.args.source.now) c.in_ok-file.file c.in_ok-file.ensures.outcome.0);
+  failures = c.in_ok-file.ensures.failures;
 }
 
 pub returns-clause-takes : goal.returns-clause-takes
 returns-clause-takes g c =
     let left = g.S.Source.left c.args.source.now in
     taken_whole c.args.limit (λ _. TakesFile c.args.limit left c.args.self.now c.join.new.self) left (g.S.Source.left c.read_file_noting.new.source)
-    (g.S.Source.failures c.args.source.now) (g.S.Source.failures c.read_file_noting.new.source) c.in_ok-file.file c.join.result c.in_ok-file.ensures.no_further
-    c.in_ok-file.ensures.ok (c.in_ok-file.ensures.end refl) (c.in_ok-file.ensures.failures.1 (λ is. cc))
-    (λ _ is. takes_file c.args.limit left c.in_ok-file.file c.args.self.now c.in-Ok.taken c.join.new.self c.in_ok-file.ensures.ok c.in-Ok.ensures.ok
+    (g.S.Source.failures c.args.source.now) (g.S.Source.failures c.read_file_noting.new.source) c.in_ok-file.file c.join.result c.in_ok-file.ensures
+    (λ _ is. takes_file c.args.limit left c.in_ok-file.file c.args.self.now c.in-Ok.taken c.join.new.self c.in_ok-file.ensures.outcome.0 c.in-Ok.ensures.ok
     (c.join.ensures.ok (subst IsOk (sym is) refl)))
     c.join.ensures.only
 
@@ -35,5 +33,5 @@ pub returns-clause-summary : goal.returns-clause-summary
 returns-clause-summary g c = λ done files horizon is.
     let left = g.S.Source.left c.args.source.now in
     knows_file_too c.args.limit left c.args.self.now c.join.new.self files horizon
-    (takes_file c.args.limit left c.in_ok-file.file c.args.self.now c.in-Ok.taken c.join.new.self c.in_ok-file.ensures.ok c.in-Ok.ensures.ok
+    (takes_file c.args.limit left c.in_ok-file.file c.args.self.now c.in-Ok.taken c.join.new.self c.in_ok-file.ensures.outcome.0 c.in-Ok.ensures.ok
     (c.join.ensures.ok done)) is

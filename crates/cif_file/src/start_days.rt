@@ -1,4 +1,5 @@
-//! Tests whether a schedule may count in a docker of a given day.
+//! Tests whether a schedule may count in a docker of a given day: whether it runs on a start day
+//! near this day.
 ghost use Rattle.std.specs.Prelude.{◌≡◌, ◌&&◌, nat_le, false};
 ghost use Rattle.docker_model.specs.records.Record.{HasKind, basic_schedule};
 ghost use Rattle.docker_model.specs.records.Field.{HasGoodFields, is_deletion};
@@ -9,7 +10,7 @@ use cif_line::{Basic, Day, Line};
 
 /// Whether a basic schedule runs on a start day near `day`: from three days before `day` to one day
 /// after `day`.
-#[tactic(auto, using(crate::proofs::NearFields::schedule_fields))]
+#[tactic(auto, using(crate::proofs::ScheduleFields::schedule_fields))]
 pub fn runs_near(line: &Line, day: Day) -> bool
     requires kind { HasKind basic_schedule line.now }
     requires good { HasGoodFields line.now }
@@ -54,7 +55,7 @@ fn runs_within(first: u16, last: u16, flags: &[u8; 7], start: u16) -> bool
 
 /// Whether a basic schedule runs on a start day near a day. The result has no meaning for a
 /// deletion, whose days aren't checked.
-pub(crate) fn is_near(basic: &Basic<'_>, day: Day) -> bool
+pub(crate) fn runs_near_unless_deleted(basic: &Basic<'_>, day: Day) -> bool
     ensures { is_deletion basic.now ≡ false → result ≡ runs_near day basic.now }
 {
     let line = basic.line();
