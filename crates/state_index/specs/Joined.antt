@@ -2,6 +2,7 @@
 -- spot is a TIPLOC with the index of a row there.
 use Rattle.std.specs.Prelude.{◌≡◌, ℕ, ◌+◌, ◌<◌, ◌≤◌, ◌^◌, [], ◌↔◌, ◌⊎◌, List, map, slice_get, Option, Some, option_map, option_and_then, Contains}
 use Rattle.std.specs.List.{filter_map}
+use Rattle.std.specs.Global.{Vec}
 use Rattle.std.specs.Vec.{vec_len, vec_capacity}
 use Rattle.std.specs.Ordering.{on, ord_max}
 use Rattle.docker_model.specs.file.Change as model
@@ -87,3 +88,7 @@ pub record HasRows (first second : ℕ) (moves : Moves) : Type 0 where
   pub second_empty : vec_len moves.second ≡ 0
   pub second_room : second ≤ vec_capacity moves.second
   pub few : first + second < 2 ^ 32
+
+-- Says that a `Vec` has gained this many items, and that its capacity is unchanged.
+abbrev pub HasGained : {A : Type 0} → ℕ → Vec A → Vec A → Type 0
+HasGained count old new = (vec_len new ≡ vec_len old + count) × (vec_capacity new ≡ vec_capacity old)

@@ -1,13 +1,8 @@
 -- The order of postings: by place, and then by row.
 use Rattle.std.specs.declared.cmp.Ordering.{Ordering}
 use Rattle.std.specs.Ordering.{ordering_then, nat_cmp}
-use Rattle.std.specs.Cmp.{IsTotalOrder, then_total, on_total, nat_cmp_total}
 use Rattle.state_index.specs.declared.posting.Posting.{Posting}
 
 -- compares two postings: by place, and then by row
 abbrev pub posting_cmp : Posting → Posting → Ordering
 posting_cmp a b = ordering_then (nat_cmp a.place b.place) (nat_cmp a.at b.at)
-
--- the order of postings is total
-pub posting_total : IsTotalOrder posting_cmp
-posting_total = then_total (on_total (λ (m : Posting). m.place) nat_cmp_total) (on_total (λ (m : Posting). m.at) nat_cmp_total)

@@ -6,7 +6,7 @@ ghost use Rattle.docker_join.specs.Meaning.{file_stamp_meant, op_meant, row_mean
 ghost use Rattle.docker_join.specs.Rows.{AreAscending};
 ghost use Rattle.docker_model.specs.state.Lapse.{lapse};
 ghost use Rattle.state_index.specs.Turns.{AtKey, turn_meant, turns_of, firsts, seconds, is_kept, is_put, wins, goes, after, first_moves, second_moves};
-ghost use Rattle.state_index.specs.Joined.{floor_meant, AreJoined, AreMoves, HasRows};
+ghost use Rattle.state_index.specs.Joined.{floor_meant, AreJoined, AreMoves, HasGained, HasRows};
 
 use crate::turns::{Turn, Turns};
 use cif_change::{Key, Memory};
@@ -100,12 +100,10 @@ impl Moves {
             → self.new.second.items ++ second_moves (floor_meant floor.now) horizon result turns
             ≡ self.old.second.items
             ++ second_moves (floor_meant floor.now) horizon at (turn_meant turn.entry ∷ turns) }
-        ensures first_len { vec_len self.new.first
-            ≡ vec_len self.old.first + length (firsts (turn_meant turn.entry ∷ [])) }
-        ensures second_len { vec_len self.new.second
-            ≡ vec_len self.old.second + length (seconds (turn_meant turn.entry ∷ [])) }
-        ensures first_capacity { vec_capacity self.new.first ≡ vec_capacity self.old.first }
-        ensures second_capacity { vec_capacity self.new.second ≡ vec_capacity self.old.second }
+        ensures first_room { HasGained (length (firsts (turn_meant turn.entry ∷ [])))
+            self.old.first self.new.first }
+        ensures second_room { HasGained (length (seconds (turn_meant turn.entry ∷ [])))
+            self.old.second self.new.second }
     {
         match turn {
             Turn::First(one) => {
