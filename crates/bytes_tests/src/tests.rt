@@ -8,15 +8,12 @@ use docker_bytes::{
     read_raised, read_state, write_state,
 };
 use docker_state::{Merge, State};
-use pieces::{
-    HEAD, HEAD_OF_NO_FILE, HEAD_OF_NO_OP, HEAD_OF_NO_TAG, ITEM, ITEM_5A, ITEM_7B, ITEM_LATE, MARK,
-    MOST, OLD_MARK, ONE, TWO,
-};
+use pieces::{HEAD_OF_NO_FILE, HEAD_OF_NO_OP, HEAD_OF_NO_TAG, ITEM_LATE, MOST};
 use std::alloc::Global;
 use std::process::Abort;
-use test_records::{
-    AA_JOIN, BS, BS_DELETED, BS_REVISED, HD, HD_8A, HD_9B, HD_10B, LO, LT, TA, TI, ZZ, text,
-};
+use test_records::files::{DELETION, EIGHTH, JOIN, MORNING, PLACE, RENAMED};
+use test_records::states::{HEAD, ITEM, ITEM_5A, ITEM_7B, MARK, MORNING_STATE, OLD_MARK, ONE, TWO};
+use test_records::{BS, BS_REVISED, LO, LT, text};
 
 mod compare;
 mod endless;
@@ -78,12 +75,12 @@ fn files_in(rt: &impl Abort, alloc: Global, text: &[u8], step: usize, limit: u64
 
 /// The text of the state `known_state`. The text has 311 bytes.
 fn known_text(rt: &impl Abort, alloc: Global) -> Vec<u8> {
-    joined_text(rt, alloc, &[MARK, ONE, ITEM, ONE, HEAD, BS, LO, LT])
+    joined_text(rt, alloc, MORNING_STATE)
 }
 
 /// The state of a file of 9 June that puts the schedule of C10001.
 fn known_state(rt: &impl Abort, alloc: Global) -> State {
-    state(rt, alloc, &[HD, BS, LO, LT, ZZ])
+    state(rt, alloc, MORNING)
 }
 
 /// Asserts that the text of a state has `len` bytes, and that reading the text returns an equal
@@ -125,15 +122,15 @@ fn the_text_of_nothing(rt: HostRuntime) {
 #[test]
 fn texts_of_each_kind_of_entry(rt: HostRuntime) {
     let alloc = rt.alloc();
-    let deletion = state(&rt, alloc, &[HD_9B, BS_DELETED, ZZ]);
-    let before = state(&rt, alloc, &[HD_8A, BS, LO, LT, ZZ]);
+    let deletion = state(&rt, alloc, DELETION);
+    let before = state(&rt, alloc, EIGHTH);
     let deleted = join(&rt, alloc, deletion, before);
     goes_round(&rt, alloc, &deleted, 86, 1);
-    let place = state(&rt, alloc, &[HD, TI, ZZ]);
-    let amended = state(&rt, alloc, &[HD_10B, TA, ZZ]);
+    let place = state(&rt, alloc, PLACE);
+    let amended = state(&rt, alloc, RENAMED);
     let renamed = join(&rt, alloc, place, amended);
     goes_round(&rt, alloc, &renamed, 171, 7);
-    let associated = state(&rt, alloc, &[HD, AA_JOIN, ZZ]);
+    let associated = state(&rt, alloc, JOIN);
     goes_round(&rt, alloc, &associated, 161, 1);
 }
 

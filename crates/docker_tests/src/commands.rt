@@ -1,25 +1,23 @@
 //! Tests of what each command writes, given the contents of its sources.
 
 use crate::compare::{same, same_in, same_of};
-use crate::files::*;
-use crate::offices::text_of;
-use crate::records::{HD, SHORT, ZZ};
-use crate::state_texts::*;
+use crate::offices::{text_of, text_of_parts};
+use crate::refused_files::SHORT;
 use cif_line::{Bytes, Kept};
 use docker_cmd::{Fault, OfficeFault, emit, fault_text, job, job_line, prepare, status};
 use std::alloc::Global;
 use std::process::Abort;
-use test_records::printed::ASHFELD_0900;
+use test_records::dockers::{ASHFELD_0900, AT_ASHFELD, END, LEAVES_0900, Lines};
+use test_records::files::{AMENDED, DELETED_AT_NO_TIME, File, MORNING, RENAMED};
+use test_records::ledgers::UPDATE_9A;
+use test_records::states::{
+    EMPTY_STATE, LAPSED_STATE, MORNING_STATE, OLD_STATE, Parts, REVISED_STATE, REVISION_STATE,
+};
+use test_records::{HD, ZZ};
 
 /// Runs the command with these words on sources with these two texts, and returns what the command
 /// writes.
-pub(crate) fn written(
-    rt: &impl Abort,
-    alloc: Global,
-    words: &[&str],
-    first: &[u8],
-    second: &[u8],
-) -> Kept {
+fn written(rt: &impl Abort, alloc: Global, words: &[&str], first: &[u8], second: &[u8]) -> Kept {
     let job = job(alloc, words).expect(rt, "a job");
     let mut first = Bytes::new(first, 7);
     let mut second = Bytes::new(second, 7);
@@ -29,15 +27,31 @@ pub(crate) fn written(
     sink
 }
 
-/// Rows of commands that read only a file: the words, the file, and the expected output.
-const OF_FILES: &[(&[&str], File, &str)] = &[
-    (&["check", "F"], MORNING, "accepted: 5 records, 1 changes\n"),
-    (&["check", "F"], RENAMED, "accepted: 3 records, 2 changes\n"),
-    (&["check", "F"], AMENDED, "accepted: 3 records, 1 changes\n"),
+/// The bytes that a command writes at the end of each line.
+pub(crate) const LINE_END: &[u8] = b"\n";
+
+/// Rows of commands that read only a file: the words, the file, and the lines of the expected
+/// output.
+const OF_FILES: &[(&[&str], File, Lines)] = &[
+    (
+        &["check", "F"],
+        MORNING,
+        &[b"accepted: 5 records, 1 changes"],
+    ),
+    (
+        &["check", "F"],
+        RENAMED,
+        &[b"accepted: 3 records, 2 changes"],
+    ),
+    (
+        &["check", "F"],
+        AMENDED,
+        &[b"accepted: 3 records, 1 changes"],
+    ),
     (
         &["check", "F"],
         DELETED_AT_NO_TIME,
-        "accepted: 5 records, 1 changes\n",
+        &[b"accepted: 5 records, 1 changes"],
     ),
     (
         &["day", "F", "ASHFELD", "2024-06-10"],
@@ -47,10 +61,11 @@ const OF_FILES: &[(&[&str], File, &str)] = &[
 ];
 
 /// Asserts what the command with these words writes for this file.
-fn writes_of_file(rt: &impl Abort, alloc: Global, words: &[&str], file: File, wanted: &str) {
+fn writes_of_file(rt: &impl Abort, alloc: Global, words: &[&str], file: File, wanted: Lines) {
     let text = text_of(rt, alloc, file);
     let sink = written(rt, alloc, words, text.as_slice(), b"");
-    same_of(rt, words, sink.bytes(), wanted.as_bytes());
+    let wanted = text_of(rt, alloc, wanted);
+    same_of(rt, words, sink.bytes(), wanted.as_slice());
 }
 
 #[test]
@@ -80,14 +95,9 @@ const OF_STATES: &[(&[&str], Parts, Parts, Parts)] = &[
         &["print", "S", "ASHFELD", "2024-06-10"],
         MORNING_STATE,
         &[],
-        &[ASHFELD_0900],
+        &[AT_ASHFELD, LINE_END, LEAVES_0900, LINE_END, END, LINE_END],
     ),
-    (
-        &["files", "S"],
-        MORNING_STATE,
-        &[],
-        &["2024-06-09 2100 DFROC1A U DFROC1Z\n"],
-    ),
+    (&["files", "S"], MORNING_STATE, &[], &[UPDATE_9A, LINE_END]),
     (
         &["horizon", "S", "2024-06-15"],
         MORNING_STATE,
@@ -103,8 +113,8 @@ const OF_STATES: &[(&[&str], Parts, Parts, Parts)] = &[
     (&["migrate", "S"], OLD_STATE, &[], MORNING_STATE),
 ];
 
-/// Asserts what the command with these words writes for this state and this second source.
-fn writes_of_state(
+/// Asserts what the command with these words writes for this first and this second source.
+pub(crate) fn writes(
     rt: &impl Abort,
     alloc: Global,
     words: &[&str],
@@ -122,7 +132,7 @@ fn writes_of_state(
 #[test]
 fn commands_that_read_a_state(rt: HostRuntime) {
     for (words, first, second, wanted) in OF_STATES {
-        writes_of_state(&rt, rt.alloc(), words, first, second, wanted);
+        writes(&rt, rt.alloc(), words, first, second, wanted);
     }
 }
 
@@ -137,7 +147,8 @@ fn a_file_taken_into_a_state(rt: HostRuntime) {
     same(&rt, sink.bytes(), wanted.as_slice());
     let words = ["print", "S", "ASHFELD", "2024-06-10"];
     let docker = written(&rt, alloc, &words, sink.bytes(), b"");
-    same(&rt, docker.bytes(), ASHFELD_0900.as_bytes());
+    let wanted = text_of(&rt, alloc, ASHFELD_0900);
+    same(&rt, docker.bytes(), wanted.as_slice());
 }
 
 /// Returns the fault with which the command with these words ends if its source has this text.
@@ -215,5 +226,6 @@ fn a_job_line_before_the_file_that_it_names(rt: HostRuntime) {
     let prepared = prepare(alloc, &job, &mut source, &mut second).expect(&rt, "an answer");
     let mut sink = Kept::new(alloc, 171).expect(&rt, "room");
     emit(&prepared, &mut sink).expect(&rt, "all is written");
-    same(&rt, sink.bytes(), ASHFELD_0900.as_bytes());
+    let wanted = text_of(&rt, alloc, ASHFELD_0900);
+    same(&rt, sink.bytes(), wanted.as_slice());
 }

@@ -2,14 +2,17 @@
 ghost use Rattle.std.specs.Prelude.{◌<◌};
 
 use crate::compare::same;
-use crate::files::*;
-use crate::offices::{at_place, day_of, has, ledger_of, office_of, place_of, text_of};
-use crate::state_texts::{MORNING_STATE, REVISED_STATE, REVISION_STATE, text_of_parts};
+use crate::offices::{
+    at_place, day_of, has, ledger_of, office_of, place_of, text_of, text_of_parts,
+};
 use cif_file::{FileCause, FileFault};
 use cif_line::{Bytes, Endless, Fuse, Kept};
 use docker_office::{LedgerOffice, Office, OfficeFault, PlaceOffice, StateCause, StateFault};
 use std::alloc::Global;
 use std::process::Abort;
+use test_records::dockers::ASHFELD_0900;
+use test_records::files::*;
+use test_records::states::{MORNING_STATE, REVISED_STATE, REVISION_STATE};
 
 /// Asserts the result of sending an office's state, and the bytes that the sink then has. The sink
 /// takes one byte per write. Only the write with this number, counted from 1, fails.
@@ -32,6 +35,16 @@ fn sends(
 /// Returns the first twenty bytes of a text.
 fn front_of<'a>(rt: &impl Abort, text: &'a [u8]) -> &'a [u8] {
     text.get(..20).expect(rt, "20 bytes")
+}
+
+/// Asserts that these are the first 70 bytes of the docker of Ashfeld.
+fn is_front_of_docker(rt: &impl Abort, alloc: Global, bytes: &[u8]) {
+    let docker = text_of(rt, alloc, ASHFELD_0900);
+    same(
+        rt,
+        bytes,
+        docker.as_slice().get(..70).expect(rt, "70 bytes"),
+    );
 }
 
 #[test]
@@ -126,9 +139,6 @@ fn fills_by_send(rt: &impl Abort, alloc: Global, office: &Office) {
     same(rt, kept.bytes(), front_of(rt, text.as_slice()));
 }
 
-/// The first 70 bytes of the docker of Ashfeld.
-const FRONT: &[u8] = b"DOCKER ASHFELD 2024-06-10                               \n0900  D 1A10 ";
-
 /// Asserts that printing a docker to a sink with room for 70 bytes fails, and that the sink is then
 /// full.
 fn fills_by_print(rt: &impl Abort, alloc: Global, office: &Office) {
@@ -137,7 +147,7 @@ fn fills_by_print(rt: &impl Abort, alloc: Global, office: &Office) {
     let mut kept = Kept::new(alloc, 70).expect(rt, "room");
     let answer = office.print(&place, day, &mut kept);
     same(rt, answer, Err(OfficeFault::Sink));
-    same(rt, kept.bytes(), FRONT);
+    is_front_of_docker(rt, alloc, kept.bytes());
 }
 
 /// Asserts that an office for Ashfeld fails to print to a sink with room for 70 bytes, and that the
@@ -148,7 +158,7 @@ fn fills_at_place(rt: &impl Abort, alloc: Global, office: &Office) {
     let mut kept = Kept::new(alloc, 70).expect(rt, "room");
     let answer = office.print(&mut kept);
     same(rt, answer, Err(OfficeFault::Sink));
-    same(rt, kept.bytes(), FRONT);
+    is_front_of_docker(rt, alloc, kept.bytes());
 }
 
 /// Asserts that an office fails to write its list of files to a sink with room for 10 bytes, and

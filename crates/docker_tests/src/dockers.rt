@@ -1,57 +1,14 @@
 //! Tests of the dockers that offices print.
 
-use crate::files::*;
 use crate::offices::{office_of, prints, prints_of_file};
 use std::alloc::Global;
 use std::process::Abort;
-use test_records::printed::{ASHFELD_0900, ASHFELD_0905, NONE_AT_ASHFELD, NONE_ON_18_JUNE};
+use test_records::dockers::*;
+use test_records::files::*;
 
 /// A row: files, a place, a day, and the docker that an office prints after it has taken the files
 /// in this order.
-type Row = (&'static [File], &'static str, &'static str, &'static str);
-
-/// The docker of Ashfeld if the morning train leaves ten minutes earlier than usual.
-const ASHFELD_0850: &str = "\
-DOCKER ASHFELD 2024-06-10                               
-0850  D 1A10 C10001 P   1   SL      0850 ASHFELD BRAYTON
-END                                                     
-";
-
-/// The docker of Ashfeld if C10002 leaves Ashfeld, and the morning train leaves two hours later
-/// than usual.
-pub(crate) const TWO_TRAINS: &str = "\
-DOCKER ASHFELD 2024-06-10                               
-1000  D 1A20 C10002 P   1   SL      1000 ASHFELD BRAYTON
-1100  D 1A10 C10001 P   1   SL      1100 ASHFELD BRAYTON
-END                                                     
-";
-
-/// The docker of Brayton on a day without events.
-const NONE_AT_BRAYTON: &str = "\
-DOCKER BRAYTON 2024-06-10                               
-END                                                     
-";
-
-/// The docker of Colwell on a day without events.
-const NONE_AT_COLWELL: &str = "\
-DOCKER COLWELL 2024-06-10                               
-END                                                     
-";
-
-/// The docker of Colwell if one train ends at Colwell and has no next working.
-const COLWELL_ONLY: &str = "\
-DOCKER COLWELL 2024-06-10                               
-2350  A 4D40 C40001 P   1                ASHFELD COLWELL
-END                                                     
-";
-
-/// The docker of Colwell if one train ends at Colwell and its next working doesn't run.
-const COLWELL_UNKNOWN: &str = "\
-DOCKER COLWELL 2024-06-10                               
-2350  A 4D40 C40001 P   1                ASHFELD COLWELL
-2350  N 4D40 C40001 P   1                C40002  ????   
-END                                                     
-";
+type Row = (&'static [File], &'static str, &'static str, Lines);
 
 /// Asserts that an office prints the docker of this row.
 fn is_printed(rt: &impl Abort, alloc: Global, row: &Row) {
@@ -72,116 +29,59 @@ fn are_printed(rt: &impl Abort, alloc: Global, rows: &[Row]) {
 
 /// Rows with one train.
 const ONE_TRAIN: &[Row] = &[
-    (
-        &[],
-        "ELM",
-        "2024-06-10",
-        "\
-DOCKER ELM     2024-06-10                               
-END                                                     
-",
-    ),
+    (&[], "ELM", "2024-06-10", NONE_AT_ELM),
     (&[MORNING], "ASHFELD", "2024-06-10", ASHFELD_0900),
     (
         &[MORNING],
         "BRAYTON",
         "2024-06-10",
-        "\
-DOCKER BRAYTON 2024-06-10                               
-0930  A 1A10 C10001 P   2       FL  0932 ASHFELD BRAYTON
-END                                                     
-",
+        &[AT_BRAYTON, COMES_0930, END],
     ),
-    (
-        &[MORNING],
-        "ASHFELD",
-        "2024-06-15",
-        "\
-DOCKER ASHFELD 2024-06-15                               
-END                                                     
-",
-    ),
-    (
-        &[MORNING],
-        "BRAYTON",
-        "2024-06-15",
-        "\
-DOCKER BRAYTON 2024-06-15                               
-END                                                     
-",
-    ),
+    (&[MORNING], "ASHFELD", "2024-06-15", &[AT_ASHFELD_15, END]),
+    (&[MORNING], "BRAYTON", "2024-06-15", &[AT_BRAYTON_15, END]),
     (&[REVISED], "ASHFELD", "2024-06-10", ASHFELD_0900),
     (&[EVENING], "BRAYTON", "2024-06-10", NONE_AT_BRAYTON),
     (
         &[EVENING],
         "BRAYTON",
         "2024-06-11",
-        "\
-DOCKER BRAYTON 2024-06-11                               
-0005  A 1A10 C10001 P   2       FL  0006 ASHFELD BRAYTON
-END                                                     
-",
+        &[AT_BRAYTON_11, COMES_0005, END],
     ),
     (
         &[EVENING],
         "BRAYTON",
         "2024-06-12",
-        "\
-DOCKER BRAYTON 2024-06-12                               
-0005  A 1A10 C10001 P   2       FL  0006 ASHFELD BRAYTON
-END                                                     
-",
+        &[AT_BRAYTON_12, COMES_0005, END],
     ),
     (
         &[EVENING],
         "BRAYTON",
         "2024-06-13",
-        "\
-DOCKER BRAYTON 2024-06-13                               
-0005  A 1A10 C10001 P   2       FL  0006 ASHFELD BRAYTON
-END                                                     
-",
+        &[AT_BRAYTON_13, COMES_0005, END],
     ),
     (
         &[EVENING],
         "BRAYTON",
         "2024-06-14",
-        "\
-DOCKER BRAYTON 2024-06-14                               
-0005  A 1A10 C10001 P   2       FL  0006 ASHFELD BRAYTON
-END                                                     
-",
+        &[AT_BRAYTON_14, COMES_0005, END],
     ),
     (
         &[EVENING],
         "BRAYTON",
         "2024-06-15",
-        "\
-DOCKER BRAYTON 2024-06-15                               
-0005  A 1A10 C10001 P   2       FL  0006 ASHFELD BRAYTON
-END                                                     
-",
+        &[AT_BRAYTON_15, COMES_0005, END],
     ),
     (
         &[HALF],
         "ASHFELD",
         "2024-06-10",
-        "\
-DOCKER ASHFELD 2024-06-10                               
-0900H D 1A10 C10001 P 2                  ASHFELD BRAYTON
-END                                                     
-",
+        &[AT_ASHFELD, LEAVES_0900H, END],
     ),
     (
         &[ROUND],
         "ASHFELD",
         "2024-06-10",
-        "\
-DOCKER ASHFELD 2024-06-10                               
-0900  A 1A10 C10001 P   2       FL  0900 ASHFELD ASHFELD
-0900  D 1A10 C10001 P   1   SL      0900 ASHFELD ASHFELD
-END                                                     
-",
+        &[AT_ASHFELD, ROUND_COMES, ROUND_LEAVES, END],
     ),
 ];
 
@@ -225,15 +125,7 @@ const ORDERS: &[Row] = &[
         "2024-06-10",
         NONE_AT_ASHFELD,
     ),
-    (
-        &[PLACE, RENAMED],
-        "ASHFLDN",
-        "2024-06-10",
-        "\
-DOCKER ASHFLDN 2024-06-10 ASHFIELD NEW                  
-END                                                     
-",
-    ),
+    (&[PLACE, RENAMED], "ASHFLDN", "2024-06-10", NONE_AT_ASHFLDN),
     (&[PLACE, RENAMED], "ASHFELD", "2024-06-10", NONE_AT_ASHFELD),
 ];
 
@@ -249,80 +141,44 @@ const WEEKS: &[Row] = &[
         &[WEEK],
         "ASHFELD",
         "2024-06-11",
-        "\
-DOCKER ASHFELD 2024-06-11                               
-0915  D 1A10 C10001 O   1   SL      0915 ASHFELD BRAYTON
-END                                                     
-",
+        &[AT_ASHFELD_11, LEAVES_0915, END],
     ),
     (
         &[WEEK],
         "ASHFELD",
         "2024-06-12",
-        "\
-DOCKER ASHFELD 2024-06-12                               
-0900  D 1A10 C10001 P   1   SL      0900 ASHFELD BRAYTON
-END                                                     
-",
+        &[AT_ASHFELD_12, LEAVES_0900, END],
     ),
     (
         &[WEEK],
         "ASHFELD",
         "2024-06-13",
-        "\
-DOCKER ASHFELD 2024-06-13                               
-0915  D 1A10 C10001 O   1   SL      0915 ASHFELD BRAYTON
-END                                                     
-",
+        &[AT_ASHFELD_13, LEAVES_0915, END],
     ),
-    (
-        &[WEEK],
-        "ASHFELD",
-        "2024-06-14",
-        "\
-DOCKER ASHFELD 2024-06-14                               
-END                                                     
-",
-    ),
+    (&[WEEK], "ASHFELD", "2024-06-14", &[AT_ASHFELD_14, END]),
     (
         &[WEEK],
         "ASHFELD",
         "2024-06-15",
-        "\
-DOCKER ASHFELD 2024-06-15                               
-0900  D 1A10 C10001 P   1   SL      0900 ASHFELD BRAYTON
-END                                                     
-",
+        &[AT_ASHFELD_15, LEAVES_0900, END],
     ),
     (
         &[WEEK],
         "ASHFELD",
         "2024-06-16",
-        "\
-DOCKER ASHFELD 2024-06-16                               
-0900  D 1A10 C10001 P   1   SL      0900 ASHFELD BRAYTON
-END                                                     
-",
+        &[AT_ASHFELD_16, LEAVES_0900, END],
     ),
     (
         &[WEEKEND],
         "ASHFELD",
         "2024-06-15",
-        "\
-DOCKER ASHFELD 2024-06-15                               
-0910  D 1A10 C10001 P   1   SL      0910 ASHFELD BRAYTON
-END                                                     
-",
+        &[AT_ASHFELD_15, LEAVES_0910, END],
     ),
     (
         &[WEEKEND],
         "ASHFELD",
         "2024-06-16",
-        "\
-DOCKER ASHFELD 2024-06-16                               
-0910  D 1A10 C10001 P   1   SL      0910 ASHFELD BRAYTON
-END                                                     
-",
+        &[AT_ASHFELD_16, LEAVES_0910, END],
     ),
 ];
 
@@ -338,42 +194,25 @@ const NIGHTS: &[Row] = &[
         &[NIGHT],
         "COLWELL",
         "2024-06-11",
-        "\
-DOCKER COLWELL 2024-06-11                               
-0000H A 2B20 C20001 P   2   SL  FL       ASHFELD BRAYTON
-0000H D 2B20 C20001 P   2   SL  FL  0001 ASHFELD BRAYTON
-END                                                     
-",
+        &[AT_COLWELL_11, NIGHT_COMES, NIGHT_LEAVES, END],
     ),
     (
         &[NIGHT],
         "DUNMERE",
         "2024-06-11",
-        "\
-DOCKER DUNMERE 2024-06-11                               
-0010  P 2B20 C20001 P                    ASHFELD BRAYTON
-END                                                     
-",
+        &[AT_DUNMERE_11, NIGHT_PASSES, END],
     ),
     (
         &[TWO_NIGHTS],
         "COLWELL",
         "2024-06-12",
-        "\
-DOCKER COLWELL 2024-06-12                               
-0005  P 2B20 C20001 P                    ASHFELD BRAYTON
-END                                                     
-",
+        &[AT_COLWELL_12, SECOND_NIGHT_PASSES, END],
     ),
     (
         &[TWO_NIGHTS],
         "BRAYTON",
         "2024-06-12",
-        "\
-DOCKER BRAYTON 2024-06-12                               
-0006  A 2B20 C20001 P   2       FL  0007 ASHFELD BRAYTON
-END                                                     
-",
+        &[AT_BRAYTON_12, SECOND_NIGHT_COMES_PUBLIC, END],
     ),
 ];
 
@@ -388,29 +227,19 @@ const OTHERS: &[Row] = &[
         &[NO_END],
         "ASHFELD",
         "2059-12-31",
-        "\
-DOCKER ASHFELD 2059-12-31                               
-0900  D 1A10 C10001 P   1   SL      0900 ASHFELD BRAYTON
-END                                                     
-",
+        &[AT_ASHFELD_LAST, LEAVES_0900, END],
     ),
     (
         &[NO_END],
         "ASHFELD",
         "2059-12-30",
-        "\
-DOCKER ASHFELD 2059-12-30                               
-END                                                     
-",
+        &[AT_ASHFELD_LAST_BUT_ONE, END],
     ),
     (
         &[AMENDED],
         "ASHFELD",
         "2024-06-10",
-        "\
-DOCKER ASHFELD 2024-06-10 ASHFIELD CENTRAL              
-END                                                     
-",
+        &[AT_ASHFIELD_CENTRAL, END],
     ),
     (
         &[DELETION, EIGHTH],
@@ -425,49 +254,25 @@ fn days_far_off_and_descriptions(rt: HostRuntime) {
     are_printed(&rt, rt.alloc(), OTHERS);
 }
 
-/// Rows with associations.
+/// Rows with associations. All trains run, and each category and date indicator is valid.
 const LINKS: &[Row] = &[
-    (
-        &[DIVISION],
-        "COLWELL",
-        "2024-06-10",
-        "\
-DOCKER COLWELL 2024-06-10                               
-1010  A 3C30 C30001 P   3                ASHFELD BRAYTON
-1012  D 3C30 C30001 P   3                ASHFELD BRAYTON
-1040  A 3C30 C30001 P 2 4                ASHFELD BRAYTON
-1040  V 3C30 C30001 P 2 4                C30002  3C32   
-1042  D 3C30 C30001 P 2 4                ASHFELD BRAYTON
-1045  D 3C32 C30002 P   5                COLWELL DUNMERE
-END                                                     
-",
-    ),
-    (
-        &[NEXT_DAY],
-        "COLWELL",
-        "2024-06-10",
-        "\
-DOCKER COLWELL 2024-06-10                               
-2350  A 4D40 C40001 P   1                ASHFELD COLWELL
-2350  N 4D40 C40001 P   1                C40002  4D42   
-END                                                     
-",
-    ),
+    (&[DIVISION_FILE], "COLWELL", "2024-06-10", DIVISION),
+    (&[NEXT_DAY], "COLWELL", "2024-06-10", COLWELL_WORKS_ON),
     (&[SAME_DAY], "COLWELL", "2024-06-10", COLWELL_UNKNOWN),
     (&[NO_INDICATOR], "COLWELL", "2024-06-10", COLWELL_UNKNOWN),
     (&[DAY_BEFORE], "COLWELL", "2024-06-10", COLWELL_UNKNOWN),
+];
+
+/// Rows with associations that have an unknown category or date indicator, or whose trains don't
+/// run.
+const DOUBTFUL_LINKS: &[Row] = &[
     (&[UNKNOWN_INDICATOR], "COLWELL", "2024-06-10", COLWELL_ONLY),
     (&[UNKNOWN_CATEGORY], "COLWELL", "2024-06-10", COLWELL_ONLY),
     (
         &[LAST_DAY],
         "COLWELL",
         "2059-12-31",
-        "\
-DOCKER COLWELL 2059-12-31                               
-2350  A 4D40 C40001 P   1                ASHFELD COLWELL
-2350  N 4D40 C40001 P   1                C40002  ????   
-END                                                     
-",
+        &[AT_COLWELL_LAST, COMES_2350, WORKS_ON_UNKNOWN, END],
     ),
     (
         &[PARTNER_CANCELLED],
@@ -481,6 +286,7 @@ END
 #[test]
 fn associations(rt: HostRuntime) {
     are_printed(&rt, rt.alloc(), LINKS);
+    are_printed(&rt, rt.alloc(), DOUBTFUL_LINKS);
 }
 
 /// Rows with entries that have equal stamps.
@@ -504,31 +310,19 @@ const IDENTITIES: &[Row] = &[
         &[IDENTITY],
         "ASHFELD",
         "2024-06-10",
-        "\
-DOCKER ASHFELD 2024-06-10                               
-1200  D 5E50 C50001 P                    ASHFELD BRAYTON
-END                                                     
-",
+        &[AT_ASHFELD, LEAVES_AS_5E50, END],
     ),
     (
         &[IDENTITY],
         "COLWELL",
         "2024-06-10",
-        "\
-DOCKER COLWELL 2024-06-10                               
-1210  P 5E51 C50001 P                    ASHFELD BRAYTON
-END                                                     
-",
+        &[AT_COLWELL, PASSES_AS_5E51, END],
     ),
     (
         &[IDENTITY],
         "BRAYTON",
         "2024-06-10",
-        "\
-DOCKER BRAYTON 2024-06-10                               
-1230  A 5E51 C50001 P                    ASHFELD BRAYTON
-END                                                     
-",
+        &[AT_BRAYTON, COMES_AS_5E51, END],
     ),
 ];
 

@@ -1,13 +1,13 @@
 //! Tests of offices with a horizon.
 
 use crate::compare::same_in;
-use crate::files::*;
 use crate::offices::{day_of, has, has_text, office_of, prints, refuses_day, sent, take};
-use crate::state_texts::LAPSED_STATE;
 use docker_office::Office;
 use std::alloc::Global;
 use std::process::Abort;
-use test_records::printed::NONE_ON_18_JUNE;
+use test_records::dockers::{AT_ASHFELD_17, END, Lines, NONE_ON_18_JUNE, NONE_ON_24_JUNE};
+use test_records::files::{JULY, MORNING, REVISION};
+use test_records::states::LAPSED_STATE;
 
 /// Sets a horizon.
 fn set(rt: &impl Abort, office: &mut Office, date: &str) {
@@ -17,13 +17,7 @@ fn set(rt: &impl Abort, office: &mut Office, date: &str) {
 /// A row: a horizon to set, the size of the state's text after the horizon is set, a day that is
 /// refused, and the day after it. The last column is the docker of the later day, which has no
 /// lines.
-type Row = (
-    &'static str,
-    usize,
-    &'static str,
-    &'static str,
-    &'static str,
-);
+type Row = (&'static str, usize, &'static str, &'static str, Lines);
 
 const ROWS: &[Row] = &[
     (
@@ -31,10 +25,7 @@ const ROWS: &[Row] = &[
         311,
         "2024-06-16",
         "2024-06-17",
-        "\
-DOCKER ASHFELD 2024-06-17                               
-END                                                     
-",
+        &[AT_ASHFELD_17, END],
     ),
     (
         "2024-06-15",
@@ -51,12 +42,6 @@ END
         NONE_ON_18_JUNE,
     ),
 ];
-
-/// The docker of Ashfeld on 24 June. It has no lines.
-const NONE_ON_24_JUNE: &str = "\
-DOCKER ASHFELD 2024-06-24                               
-END                                                     
-";
 
 /// Sets the row's horizon. Asserts the size of the state's text, and the docker of the row's second
 /// day. Also asserts that the row's first day is refused.

@@ -1,7 +1,6 @@
 //! Works out what offices know in a run. It uses only the events and the replies of the run. It
 //! also makes the state that an office with this knowledge must have, without using an office.
 
-use crate::files::*;
 use crate::offices::text_of;
 use cif_file::{FileCause, FileFault, MOST_RECORDS, read_file};
 use cif_line::{Bytes, Day, Kept};
@@ -10,6 +9,7 @@ use docker_state::{Merge, State};
 use state_text::{encoded_len, write_state};
 use std::alloc::Global;
 use std::process::Abort;
+use test_records::files::*;
 
 /// The number of offices.
 pub(crate) const OFFICES: usize = 3;
@@ -28,7 +28,7 @@ pub(crate) const FILES: [File; 18] = [
     PLACE,
     RENAMED,
     WEEK,
-    DIVISION,
+    DIVISION_FILE,
     LONGER,
     LATER,
     DELETED,

@@ -15,8 +15,6 @@ mod dockers;
 #[cfg(test)]
 mod fault_lines;
 #[cfg(test)]
-mod files;
-#[cfg(test)]
 mod horizons;
 #[cfg(test)]
 mod job_lines;
@@ -31,15 +29,11 @@ mod printed_faults;
 #[cfg(test)]
 mod random_runs;
 #[cfg(test)]
-mod records;
-#[cfg(test)]
 mod refused_files;
 #[cfg(test)]
 mod refused_states;
 #[cfg(test)]
 mod runs;
-#[cfg(test)]
-mod state_texts;
 #[cfg(test)]
 mod states;
 #[cfg(test)]

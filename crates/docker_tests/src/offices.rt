@@ -1,24 +1,26 @@
 //! Helpers for tests with offices that read from sources and write to sinks in memory.
 
 use crate::compare::{same, same_in};
-use crate::files::File;
-use crate::state_texts::{Parts, text_of_parts};
 use cif_line::{Bytes, Day, Kept, Tiploc};
 use docker_office::{LedgerOffice, Office, OfficeFault, PlaceOffice};
 use std::alloc::Global;
 use std::process::Abort;
+use test_records::dockers::Lines;
+use test_records::files::File;
+use test_records::states::Parts;
+use test_records::text;
 
 /// The greatest length in bytes that a text may have in the worked examples.
 const ROOM: usize = 1000;
 
 /// Returns these lines as one text, each with a line feed.
-pub(crate) fn text_of(rt: &impl Abort, alloc: Global, lines: &[&str]) -> Vec<u8> {
-    let mut text = Vec::new(alloc);
-    for line in lines {
-        text.extend_from_slice(line.as_bytes()).expect(rt, "room");
-        text.push(b'\n').expect(rt, "room");
-    }
-    text
+pub(crate) fn text_of(rt: &impl Abort, alloc: Global, lines: &[&[u8]]) -> Vec<u8> {
+    text(alloc, lines, b"\n").expect(rt, "room")
+}
+
+/// Returns the text of these parts.
+pub(crate) fn text_of_parts(rt: &impl Abort, alloc: Global, parts: &[&[u8]]) -> Vec<u8> {
+    text(alloc, parts, b"").expect(rt, "room")
 }
 
 /// Has an office take a file.
@@ -114,14 +116,15 @@ pub(crate) fn prints(
     office: &Office,
     place: &str,
     date: &str,
-    docker: &str,
+    docker: Lines,
 ) {
     let place = place_of(rt, place);
     let day = day_of(rt, date);
     let mut kept = Kept::new(alloc, ROOM).expect(rt, "room");
     let answer = office.print(&place, day, &mut kept);
     same_in(rt, date, answer, Ok(()));
-    same_in(rt, date, kept.bytes(), docker.as_bytes());
+    let wanted = text_of(rt, alloc, docker);
+    same_in(rt, date, kept.bytes(), wanted.as_slice());
     let office = at_place(rt, alloc, office, place, day);
     prints_there(rt, alloc, &office, date, docker);
 }
@@ -134,7 +137,7 @@ pub(crate) fn prints_of_file(
     file: File,
     place: &str,
     date: &str,
-    docker: &str,
+    docker: Lines,
 ) {
     let text = text_of(rt, alloc, file);
     let mut source = Bytes::new(text.as_slice(), 100);
@@ -145,11 +148,12 @@ pub(crate) fn prints_of_file(
 }
 
 /// Asserts that an office for one place and for the day with this date prints this docker.
-fn prints_there(rt: &impl Abort, alloc: Global, office: &PlaceOffice, date: &str, docker: &str) {
+fn prints_there(rt: &impl Abort, alloc: Global, office: &PlaceOffice, date: &str, docker: Lines) {
     let mut kept = Kept::new(alloc, ROOM).expect(rt, "room");
     let answer = office.print(&mut kept);
     same_in(rt, date, answer, Ok(()));
-    same_in(rt, date, kept.bytes(), docker.as_bytes());
+    let wanted = text_of(rt, alloc, docker);
+    same_in(rt, date, kept.bytes(), wanted.as_slice());
 }
 
 /// Asserts that an office refuses to print the docker of Ashfeld for the day with this date. Also

@@ -1,15 +1,19 @@
 //! Tests of files that an office refuses. A refusal leaves the office's state unchanged.
 
 use crate::compare::same;
-use crate::files::*;
 use crate::offices::{has, office_of, text_of};
-use crate::records::*;
-use crate::state_texts::REVISION_STATE;
 use cif_file::{FileCause, FileFault};
 use cif_line::Bytes;
 use docker_office::{Office, OfficeFault};
 use std::alloc::Global;
 use std::process::Abort;
+use test_records::files::*;
+use test_records::states::REVISION_STATE;
+use test_records::{BS, BS_NO_DAY, HD, HD_X, LI_1010, LN, LO, LO_2400, LT, TI_TAB, ZZ};
+
+/// A line of 79 characters.
+pub(crate) const SHORT: &[u8] =
+    b"ZZ                                                                             ";
 
 /// A row: a file that is refused, the most records that a file may have, the number of the record
 /// at fault, and the cause.

@@ -1,13 +1,17 @@
 //! Tests of states that an office refuses. A refusal leaves the office's own state unchanged.
 
 use crate::compare::same;
-use crate::files::*;
-use crate::offices::{day_of, has, has_text, office_of, place_of};
-use crate::state_texts::*;
+use crate::offices::{day_of, has, has_text, office_of, place_of, text_of_parts};
 use cif_line::Bytes;
 use docker_office::{LedgerOffice, Office, OfficeFault, PlaceOffice, StateCause, StateFault};
 use std::alloc::Global;
 use std::process::Abort;
+use test_records::files::REVISION;
+use test_records::states::{
+    HEAD, ITEM, ITEM_5A, ITEM_7B, MARK, MORNING_STATE, OLD_MARK, OLD_STATE, ONE, Parts,
+    REVISION_STATE, TWO,
+};
+use test_records::{BS, LO, LT};
 
 /// A call that makes an office read a state.
 #[derive(Clone, Copy, PartialEq, Eq, Debug)]
@@ -163,53 +167,39 @@ type Other = (Parts, u64, u64, StateCause);
 
 const OTHERS: &[Other] = &[
     (
-        train_after!(TWO, ITEM, ITEM, ONE),
+        &[TWO, ITEM, ITEM, ONE, HEAD, BS, LO, LT],
         1000,
         31,
         StateCause::Order,
     ),
     (
-        train_after!(TWO, ITEM_5A, ITEM_7B, ONE),
+        &[TWO, ITEM_5A, ITEM_7B, ONE, HEAD, BS, LO, LT],
         1000,
         31,
         StateCause::Floor,
     ),
     (
-        train_after!(
-            ONE,
-            ITEM,
-            TWO,
-            ENTRY,
-            THREE_LINES,
-            FIRST,
-            FROM_ASHFELD,
-            TO_BRAYTON
-        ),
+        &[ONE, ITEM, TWO, HEAD, BS, LO, LT, HEAD, BS, LO, LT],
         1000,
         309,
         StateCause::Order,
     ),
     (
-        &[
-            ONE,
-            ITEM,
-            ONE,
-            ENTRY,
-            THREE_LINES,
-            FIRST,
-            FROM_ASHFELD,
-            TO_BRAYTON,
-            "\0",
-        ],
+        &[ONE, ITEM, ONE, HEAD, BS, LO, LT, b"\0"],
         1000,
         309,
         StateCause::Tail,
     ),
-    (train_after!(ONE, ITEM, ONE), 308, 308, StateCause::Long),
+    (
+        &[ONE, ITEM, ONE, HEAD, BS, LO, LT],
+        308,
+        308,
+        StateCause::Long,
+    ),
 ];
 
 /// Returns a text with this mark and these parts.
-fn marked(rt: &impl Abort, alloc: Global, mark: &str, parts: Parts) -> Vec<u8> {
+fn marked(rt: &impl Abort, alloc: Global, mark: &[u8], parts: Parts) -> Vec<u8> {
     let mut text = text_of_parts(rt, alloc, &[mark]);
     let rest = text_of_parts(rt, alloc, parts);
     text.extend_from_slice(rest.as_slice()).expect(rt, "room");

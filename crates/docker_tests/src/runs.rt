@@ -4,16 +4,17 @@ ghost use Rattle.docker_office.specs.RunEnds.{HasGoodLimit};
 ghost use Rattle.docker_office.specs.RunMeaning.{event_meant, events_meant};
 
 use crate::compare::same;
-use crate::dockers::TWO_TRAINS;
-use crate::files::*;
-use crate::offices::{day_of, has, prints, refuses_day, text_of};
-use crate::state_texts::*;
+use crate::offices::{day_of, has, prints, refuses_day, text_of, text_of_parts};
 use cif_file::{FileCause, FileFault, MOST_RECORDS};
 use cif_line::Day;
 use docker_office::{Event, Exchange, Office, OfficeFault, Reply, RunFault, run};
 use std::alloc::Global;
 use std::process::Abort;
-use test_records::printed::{ASHFELD_0900, NONE_ON_18_JUNE};
+use test_records::dockers::{ASHFELD_0900, Lines, NONE_ON_18_JUNE, TWO_TRAINS};
+use test_records::files::{FIFTH, File, MORNING, NINTH, NINTH_OPEN, REVISION, SEVENTH};
+use test_records::states::{
+    FIFTH_STATE, LAPSED_STATE, LATE_STATE, MORNING_STATE, Parts, REVISED_STATE,
+};
 
 /// Returns the event in which an office takes this text. The limit of the event is the most records
 /// that any file may have.
@@ -74,7 +75,7 @@ fn prints_there(
     left: &Exchange,
     office: usize,
     day: &str,
-    docker: &str,
+    docker: Lines,
 ) {
     let office = office_at(rt, left, office);
     prints(rt, alloc, office, "ASHFELD", day, docker);
@@ -317,7 +318,7 @@ fn five_left(rt: &impl Abort, alloc: Global, files: [File; 3]) -> Exchange {
 
 /// The files of 5, 7 and 9 June in every order. In some orders, an office takes the full extract
 /// after a later update.
-const ORDERS: &[[File; 3]] = &[
+pub(crate) const ORDERS: &[[File; 3]] = &[
     [FIFTH, SEVENTH, NINTH],
     [FIFTH, NINTH, SEVENTH],
     [SEVENTH, FIFTH, NINTH],

@@ -2,13 +2,22 @@
 ghost use Rattle.std.specs.Prelude.{◌<◌};
 
 use crate::compare::same;
-use crate::files::*;
-use crate::offices::{day_of, has, ledger_of, merged, office_of, text_of};
-use crate::state_texts::*;
+use crate::offices::{day_of, has, ledger_of, merged, office_of, text_of, text_of_parts};
+use crate::runs::ORDERS;
 use cif_line::{Bytes, Kept};
 use docker_office::Office;
 use std::alloc::Global;
 use std::process::Abort;
+use test_records::dockers::Lines;
+use test_records::files::*;
+use test_records::ledgers::{
+    EXTRACT_7B, EXTRACT_9A, UPDATE_9A, UPDATE_9C, UPDATE_10B, UPDATE_EARLY,
+};
+use test_records::states::{
+    BOTH_STATE, DELETED_STATE, EMPTY_STATE, LATE_STATE, LATER_STATE, LONGER_STATE, MORNING_STATE,
+    OLD_STATE, Parts, RENAMED_STATE, REVISED_STATE, WITHDRAWN_STATE,
+};
+use test_records::text;
 
 /// A row: files in one order, the same files in another order, the size of their state's text in
 /// bytes, and the parts of that text.
@@ -23,28 +32,19 @@ const ROWS: &[Row] = &[
         330,
         REVISED_STATE,
     ),
-    (
-        &[FIFTH, SEVENTH, NINTH],
-        &[FIFTH, NINTH, SEVENTH],
-        600,
-        LATE_STATE,
-    ),
-    (
-        &[SEVENTH, FIFTH, NINTH],
-        &[SEVENTH, NINTH, FIFTH],
-        600,
-        LATE_STATE,
-    ),
-    (
-        &[NINTH, FIFTH, SEVENTH],
-        &[NINTH, SEVENTH, FIFTH],
-        600,
-        LATE_STATE,
-    ),
-    (&[SEVENTH, NINTH], &[FIFTH, SEVENTH, NINTH], 600, LATE_STATE),
+    (&[SEVENTH, NINTH], &[NINTH, SEVENTH], 600, LATE_STATE),
     (&[DELETION, EIGHTH], &[EIGHTH, DELETION], 86, DELETED_STATE),
-    (&[WITHDRAWN], &[WITHDRAWN, WITHDRAWN], 67, WITHDRAWN_STATE),
+    (
+        &[PUT_AND_DELETED],
+        &[PUT_AND_DELETED, PUT_AND_DELETED],
+        67,
+        WITHDRAWN_STATE,
+    ),
     (&[PLACE, RENAMED], &[RENAMED, PLACE], 171, RENAMED_STATE),
+];
+
+/// Rows with files that have equal stamps.
+const TIES: &[Row] = &[
     (&[MORNING, LONGER], &[LONGER, MORNING], 311, LONGER_STATE),
     (&[MORNING, LATER], &[LATER, MORNING], 311, LATER_STATE),
     (&[MORNING, DELETED], &[DELETED, MORNING], 311, MORNING_STATE),
@@ -73,37 +73,35 @@ fn states_in_any_order(rt: HostRuntime) {
     for row in ROWS {
         is_state(&rt, rt.alloc(), row);
     }
+    for row in TIES {
+        is_state(&rt, rt.alloc(), row);
+    }
+    for files in ORDERS {
+        have(&rt, rt.alloc(), files, LATE_STATE);
+    }
 }
 
-/// Rows: files, and the list that the command `files` writes for their state.
-const LISTS: &[(&[File], &str)] = &[
-    (&[], ""),
-    (
-        &[REVISION, MORNING],
-        "2024-06-09 2100 DFROC1A U DFROC1Z\n2024-06-10 2100 DFROC1B U DFROC1A\n",
-    ),
-    (
-        &[NINTH, FIFTH, SEVENTH],
-        "2024-06-07 2100 DFROC1B F DFROC1A\n2024-06-09 2100 DFROC1C U DFROC1B\n",
-    ),
-    (
-        &[MORNING, FULL],
-        "2024-06-09 2100 DFROC1A F DFROC1Z\n2024-06-09 2100 DFROC1A U DFROC1Z\n",
-    ),
-    (&[EARLY], "2000-01-01 0307 DFROC1A U DFROC1Z\n"),
+/// Rows: files, and the lines that the command `files` writes for their state.
+const LISTS: &[(&[File], Lines)] = &[
+    (&[], &[]),
+    (&[REVISION, MORNING], &[UPDATE_9A, UPDATE_10B]),
+    (&[NINTH, FIFTH, SEVENTH], &[EXTRACT_7B, UPDATE_9C]),
+    (&[MORNING, FULL], &[EXTRACT_9A, UPDATE_9A]),
+    (&[EARLY], &[UPDATE_EARLY]),
 ];
 
 /// Asserts which list of files an office writes after it has taken these files. An office with only
 /// the ledger must write the same list.
-fn lists(rt: &impl Abort, alloc: Global, files: &[File], wanted: &str) {
+fn lists(rt: &impl Abort, alloc: Global, files: &[File], wanted: Lines) {
+    let wanted = text_of(rt, alloc, wanted);
     let office = office_of(rt, alloc, files);
     let mut text = Kept::new(alloc, 100).expect(rt, "room");
     same(rt, office.files(&mut text), Ok(()));
-    same(rt, text.bytes(), wanted.as_bytes());
+    same(rt, text.bytes(), wanted.as_slice());
     let ledger = ledger_of(rt, alloc, &office);
     let mut text = Kept::new(alloc, 100).expect(rt, "room");
     same(rt, ledger.files(&mut text), Ok(()));
-    same(rt, text.bytes(), wanted.as_bytes());
+    same(rt, text.bytes(), wanted.as_slice());
 }
 
 #[test]
@@ -124,26 +122,14 @@ fn is_taken(rt: &impl Abort, alloc: Global, text: &[u8], step: usize)
     has(rt, alloc, &office, MORNING_STATE);
 }
 
-/// Returns the text of the file `MORNING`, with a carriage return before each line feed.
-fn text_of_returns(rt: &impl Abort, alloc: Global) -> Vec<u8> {
-    let mut returns = Vec::new(alloc);
-    for record in MORNING {
-        returns
-            .extend_from_slice(record.as_bytes())
-            .expect(rt, "room");
-        returns.extend_from_slice(b"\r\n").expect(rt, "room");
-    }
-    returns
-}
-
 #[test]
 fn a_file_in_pieces_and_with_other_line_ends(rt: HostRuntime) {
     let alloc = rt.alloc();
-    let text = text_of(&rt, alloc, MORNING);
-    let returns = text_of_returns(&rt, alloc);
-    is_taken(&rt, alloc, text.as_slice(), 1);
+    let feeds = text_of(&rt, alloc, MORNING);
+    let returns = text(alloc, MORNING, b"\r\n").expect(&rt, "room");
+    is_taken(&rt, alloc, feeds.as_slice(), 1);
     is_taken(&rt, alloc, returns.as_slice(), 64);
-    let open = text.as_slice().get(..404).expect(&rt, "a text");
+    let open = feeds.as_slice().get(..404).expect(&rt, "a text");
     is_taken(&rt, alloc, open, 100);
 }
 

@@ -1,65 +1,48 @@
 //! One test of each subcommand: the bytes that it reads and the bytes that it writes.
 
-use crate::commands::written;
-use crate::compare::same_of;
-use std::alloc::Global;
-use std::process::Abort;
-use test_records::printed::NONE_AT_ASHFELD;
+use crate::commands::{LINE_END, writes};
+use test_records::dockers::{AT_ASHFELD, END};
+use test_records::ledgers::UPDATE_9A;
+use test_records::states::{EMPTY_STATE, ITEM, MARK, MARK_15, NONE, OLD_MARK, ONE, Parts};
+use test_records::{HD, ZZ};
 
 /// An update of 9 June 2024, 21:00, without changes.
-const FILE: &[u8] = b"\
-HDTPS.UDFROC1.PD2406090906242100DFROC1ADFROC1ZUA                                
-ZZ                                                                              
-";
+const FILE: Parts = &[HD, LINE_END, ZZ, LINE_END];
 
-/// The text of the state of an office that knows no files.
-const EMPTY: &[u8] = b"DKS2\0\0\0\0\0\0\0\0\0\0\0\0\0\0\0\0\0\0";
+/// The docker of Ashfeld on 10 June, with no lines.
+const DOCKER: Parts = &[AT_ASHFELD, LINE_END, END, LINE_END];
 
-/// The text of the state of an office that knows the update of 9 June: day 23536, minute 1260.
-const STATE: &[u8] = b"DKS2\0\0\0\0\0\0\0\0\0\x01\x5b\xf0\x04\xecDFROC1AUDFROC1Z\0\0\0\0\0\0\0\0";
+/// The state of an office that knows the update of 9 June.
+const STATE: Parts = &[MARK, ONE, ITEM, NONE];
 
-/// The text of the state of an office that knows the update of 9 June, in the older format.
-const OLD: &[u8] = b"DKS1\0\0\0\0\0\0\0\x01\x5b\xf0\x04\xecDFROC1AUDFROC1Z\0\0\0\0\0\0\0\0";
+/// The state of an office that knows the update of 9 June, as a text in the older format.
+const OLD: Parts = &[OLD_MARK, ONE, ITEM, NONE];
 
-/// The text of the state of an office that knows the update of 9 June, and the horizon of 15 June
-/// 2024, day 23542.
-const RAISED: &[u8] =
-    b"DKS2\x5b\xf6\0\0\0\0\0\0\0\x01\x5b\xf0\x04\xecDFROC1AUDFROC1Z\0\0\0\0\0\0\0\0";
-
-/// Asserts what the command with these words writes if its sources have these two texts.
-fn writes(
-    rt: &impl Abort,
-    alloc: Global,
-    words: &[&str],
-    first: &[u8],
-    second: &[u8],
-    text: &[u8],
-) {
-    let sink = written(rt, alloc, words, first, second);
-    same_of(rt, words, sink.bytes(), text);
-}
+/// The state of an office that knows the update of 9 June, and the horizon of 15 June 2024.
+const RAISED: Parts = &[MARK_15, ONE, ITEM, NONE];
 
 #[test]
 fn each_subcommand(rt: HostRuntime) {
     let alloc = rt.alloc();
-    writes(&rt, alloc, &["new", "S"], b"", b"", EMPTY);
-    let counts = b"accepted: 2 records, 0 changes\n";
-    writes(&rt, alloc, &["check", "F"], FILE, b"", counts);
+    writes(&rt, alloc, &["new", "S"], &[], &[], EMPTY_STATE);
+    let counts: Parts = &[b"accepted: 2 records, 0 changes\n"];
+    writes(&rt, alloc, &["check", "F"], FILE, &[], counts);
     let words = ["day", "F", "ASHFELD", "2024-06-10"];
-    writes(&rt, alloc, &words, FILE, b"", NONE_AT_ASHFELD.as_bytes());
-    writes(&rt, alloc, &["take", "S", "F"], EMPTY, FILE, STATE);
-    writes(&rt, alloc, &["merge", "S", "O"], EMPTY, RAISED, RAISED);
-    let words = ["print", "S", "ASHFELD", "2024-06-10"];
-    writes(&rt, alloc, &words, STATE, b"", NONE_AT_ASHFELD.as_bytes());
-    let files = b"2024-06-09 2100 DFROC1A U DFROC1Z\n";
-    writes(&rt, alloc, &["files", "S"], STATE, b"", files);
+    writes(&rt, alloc, &words, FILE, &[], DOCKER);
+    writes(&rt, alloc, &["take", "S", "F"], EMPTY_STATE, FILE, STATE);
     writes(
         &rt,
         alloc,
-        &["horizon", "S", "2024-06-15"],
-        STATE,
-        b"",
+        &["merge", "S", "O"],
+        EMPTY_STATE,
+        RAISED,
         RAISED,
     );
-    writes(&rt, alloc, &["migrate", "S"], OLD, b"", STATE);
+    let words = ["print", "S", "ASHFELD", "2024-06-10"];
+    writes(&rt, alloc, &words, STATE, &[], DOCKER);
+    let files: Parts = &[UPDATE_9A, LINE_END];
+    writes(&rt, alloc, &["files", "S"], STATE, &[], files);
+    let words = ["horizon", "S", "2024-06-15"];
+    writes(&rt, alloc, &words, STATE, &[], RAISED);
+    writes(&rt, alloc, &["migrate", "S"], OLD, &[], STATE);
 }

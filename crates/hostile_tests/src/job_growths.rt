@@ -4,25 +4,8 @@ use crate::desk::Desk;
 use crate::endings::ending_of;
 use crate::texts::{sink, source_of};
 use cif_line::Sink;
-use docker_cmd::{
-    Fault, Job, JobFault, Prepared, Subcommand, emit, job, job_line, prepare, status,
-};
+use docker_cmd::{Fault, Job, JobFault, Prepared, emit, job, job_line, prepare, status};
 use docker_office::OfficeFault;
-
-/// The name of a subcommand.
-fn name_of<'a>(subcommand: Subcommand) -> &'a str {
-    match subcommand {
-        Subcommand::New => "new",
-        Subcommand::Check => "check",
-        Subcommand::Day => "day",
-        Subcommand::Take => "take",
-        Subcommand::Merge => "merge",
-        Subcommand::Print => "print",
-        Subcommand::Files => "files",
-        Subcommand::Horizon => "horizon",
-        Subcommand::Migrate => "migrate",
-    }
-}
 
 /// Whether two words are equal.
 fn are_same(one: &str, other: &str) -> bool {
@@ -43,7 +26,7 @@ fn is_of(job: &Job, words: &[&str]) -> bool {
             return false;
         }
     }
-    are_same(first, name_of(job.subcommand()))
+    are_same(first, job.subcommand().name())
 }
 
 /// Prints whether the status of a fault is 3, which means that memory ran out.

@@ -2,43 +2,16 @@
 
 use std::alloc::{AllocError, Global};
 use test_records::dockers::{
-    ASHFELD_0900, AT_ASHFELD, DIVISION, END, LEAVES_0905, LEAVES_1000, LEAVES_1100, NONE_AT_ASHFELD,
+    ASHFELD_0900, ASHFELD_0905, AT_ASHFELD, DIVISION, END, LEAVES_1000, LEAVES_1100,
+    NONE_AT_ASHFELD, TWO_TRAINS,
+};
+use test_records::files::{
+    DIVISION_FILE, FIFTH, MORNING, NINTH, NINTH_OPEN, OPEN, PLACE, RENAMED, REVISION, SEVENTH,
 };
 use test_records::{
-    AA_DIVIDE, BS, BS_C10002, BS_C10003, BS_C30001, BS_C30002, BS_REVISED, HD, HD_5A, HD_7B, HD_9C,
-    HD_10B, HD_X, LI_1010, LI_1040, LO, LO_0905, LO_1000, LO_1000_PLAIN, LO_1100, LO_COLWELL_1045,
-    LT, LT_0935, LT_1030, LT_1100_PLAIN, LT_1130, LT_DUNMERE_1100, TA, TI, TI_BLANK, ZZ, text,
+    BS, BS_C30001, HD, HD_X, LI_1010, LI_1040, LO, LO_1000_PLAIN, LT, LT_1100_PLAIN, TI, TI_BLANK,
+    ZZ, text,
 };
-
-/// The file with the train C10001.
-const TRAIN: &[&[u8]] = &[HD, BS, LO, LT, ZZ];
-
-/// The file with the train C30001, from which C30002 divides.
-const DIVISION_FILE: &[&[u8]] = &[
-    HD,
-    BS_C30001,
-    LO_1000_PLAIN,
-    LI_1010,
-    LI_1040,
-    LT_1100_PLAIN,
-    BS_C30002,
-    LO_COLWELL_1045,
-    LT_DUNMERE_1100,
-    AA_DIVIDE,
-    ZZ,
-];
-
-/// The update of 10 June, which revises the schedule of C10001.
-const REVISION: &[&[u8]] = &[HD_10B, BS_REVISED, LO_0905, LT_0935, ZZ];
-
-/// The update of 5 June.
-const FIFTH: &[&[u8]] = &[HD_5A, BS_C10003, BS, LO, LT, ZZ];
-
-/// The full extract of 7 June.
-const SEVENTH: &[&[u8]] = &[HD_7B, BS_C10002, LO_1000, LT_1030, ZZ];
-
-/// The update of 9 June.
-const NINTH: &[&[u8]] = &[HD_9C, BS, LO_1100, LT_1130, ZZ];
 
 /// The lines of a text. Each line in `ended` ends with `end`. The last line, `open`, has no line
 /// end, and may be empty.
@@ -76,9 +49,9 @@ fn before<'a>(lines: &'a [&'a [u8]], open: &'a [u8]) -> Lines<'a> {
 /// made here.
 pub(crate) fn lines_of<'a>(name: &str) -> Option<Lines<'a>> {
     match name {
-        "train.cif" => Some(fed(TRAIN)),
+        "train.cif" => Some(fed(MORNING)),
         "train-returns.cif" => Some(Lines {
-            ended: TRAIN,
+            ended: MORNING,
             end: b"\r\n",
             open: b"",
         }),
@@ -87,8 +60,8 @@ pub(crate) fn lines_of<'a>(name: &str) -> Option<Lines<'a>> {
         "fifth.cif" => Some(fed(FIFTH)),
         "seventh.cif" => Some(fed(SEVENTH)),
         "ninth.cif" => Some(fed(NINTH)),
-        "place.cif" => Some(fed(&[HD, TI, ZZ])),
-        "renamed.cif" => Some(fed(&[HD_10B, TA, ZZ])),
+        "place.cif" => Some(fed(PLACE)),
+        "renamed.cif" => Some(fed(RENAMED)),
         "header.cif" => Some(fed(&[HD])),
         "header-of-no-extract.cif" => Some(fed(&[HD_X])),
         "place-record.cif" => Some(fed(&[TI])),
@@ -100,13 +73,13 @@ pub(crate) fn lines_of<'a>(name: &str) -> Option<Lines<'a>> {
 /// Like `lines_of`, for files that lack the last line end or the trailer.
 fn open_lines_of<'a>(name: &str) -> Option<Lines<'a>> {
     match name {
-        "train-open.cif" => Some(before(&[HD, BS, LO, LT], ZZ)),
+        "train-open.cif" => Some(before(OPEN, ZZ)),
         "train-without-end.cif" => Some(before(&[HD, BS, LO], LT)),
         "division-without-end.cif" => Some(before(
             &[HD, BS_C30001, LO_1000_PLAIN, LI_1010, LI_1040],
             LT_1100_PLAIN,
         )),
-        "ninth-without-end.cif" => Some(fed(&[HD_9C, BS, LO_1100, LT_1130])),
+        "ninth-without-end.cif" => Some(fed(NINTH_OPEN)),
         _ => docker_of(name),
     }
 }
@@ -116,10 +89,10 @@ fn docker_of<'a>(name: &str) -> Option<Lines<'a>> {
     match name {
         "none.docker" => Some(fed(NONE_AT_ASHFELD)),
         "train.docker" => Some(fed(ASHFELD_0900)),
-        "revised.docker" => Some(fed(&[AT_ASHFELD, LEAVES_0905, END])),
+        "revised.docker" => Some(fed(ASHFELD_0905)),
         "seventh.docker" => Some(fed(&[AT_ASHFELD, LEAVES_1000, END])),
         "ninth.docker" => Some(fed(&[AT_ASHFELD, LEAVES_1100, END])),
-        "late.docker" => Some(fed(&[AT_ASHFELD, LEAVES_1000, LEAVES_1100, END])),
+        "late.docker" => Some(fed(TWO_TRAINS)),
         "division.docker" => Some(fed(DIVISION)),
         _ => None,
     }

@@ -6,6 +6,7 @@ pub(crate) use cif_file::MOST_RECORDS;
 use cif_file::{CifFile, read_pieces};
 use cif_line::{Bytes, Day, Kept, Tiploc};
 use docker_bytes::{read_state, write_state};
+pub(crate) use docker_cmd::MOST_BYTES;
 use docker_office::Office;
 use docker_state::State;
 
@@ -14,9 +15,6 @@ pub(crate) const ROOM: usize = 2000;
 
 /// The number of bytes that a source returns per read, unless a row sets another number.
 pub(crate) const STEP: usize = 100;
-
-/// The most bytes that a state's text may have, unless a row sets another limit.
-pub(crate) const MOST_BYTES: u64 = 1_099_511_627_776;
 
 /// A source that holds this text.
 pub(crate) fn source_of<'a>(text: &'a [u8]) -> Bytes<'a> {

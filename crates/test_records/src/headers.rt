@@ -40,6 +40,10 @@ pub const HD_7B: &[u8] =
 pub const HD_X: &[u8] =
     b"HDTPS.UDFROC1.PD2406090906242100DFROC1ADFROC1ZXA                                ";
 
+/// The header of an update of 1 January 2000, 03:07.
+pub const HD_EARLY: &[u8] =
+    b"HDTPS.UDFROC1.PD2406090101000307DFROC1ADFROC1ZUA                                ";
+
 /// A note record (LN). No kind of record has this record identity.
 pub const LN: &[u8] =
     b"LN                                                                              ";

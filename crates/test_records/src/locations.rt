@@ -44,6 +44,10 @@ pub const LO_1100: &[u8] =
 pub const LO_1200: &[u8] =
     b"LOASHFELD 1200                                                                  ";
 
+/// An origin: Ashfeld, half a minute past 09:00. All other times are blank, and so is the platform.
+pub const LO_HALF: &[u8] =
+    b"LOASHFELD20900H0000                                                             ";
+
 /// An origin: Ashfeld, 23:00, without a public time or a line.
 pub const LO_2300: &[u8] =
     b"LOASHFELD 2300     1                                                            ";
@@ -72,6 +76,10 @@ pub const LI_0000: &[u8] =
 pub const LI_0005: &[u8] =
     b"LIDUNMERE           0005                                                        ";
 
+/// An intermediate location: the train passes Colwell at 00:05.
+pub const LI_COLWELL_0005: &[u8] =
+    b"LICOLWELL           0005                                                        ";
+
 /// An intermediate location: the train passes Dunmere at 00:10.
 pub const LI_0010: &[u8] =
     b"LIDUNMERE           0010                                                        ";
@@ -80,7 +88,7 @@ pub const LI_0010: &[u8] =
 pub const LI_1010: &[u8] =
     b"LICOLWELL 1010 1012              3                                              ";
 
-/// An intermediate location: the train passes Colwell at 12:10.
+/// A second call at Colwell, from 10:40 to 10:42.
 pub const LI_1040: &[u8] =
     b"LICOLWELL21040 1042              4                                              ";
 
@@ -103,6 +111,18 @@ pub const LT: &[u8] =
 /// A terminus: Brayton, 09:35.
 pub const LT_0935: &[u8] =
     b"LTBRAYTON 0935 09372  FL                                                        ";
+
+/// A terminus: Brayton, 00:01.
+pub const LT_0001: &[u8] =
+    b"LTBRAYTON 0001 00022  FL                                                        ";
+
+/// A terminus: Brayton, 00:05.
+pub const LT_0005: &[u8] =
+    b"LTBRAYTON 0005 00062  FL                                                        ";
+
+/// A terminus: Brayton, 00:06.
+pub const LT_0006: &[u8] =
+    b"LTBRAYTON 0006 00072  FL                                                        ";
 
 /// A terminus: Brayton, 00:06. All other fields are blank.
 pub const LT_0006_PLAIN: &[u8] =
@@ -127,6 +147,10 @@ pub const LT_1130: &[u8] =
 /// A terminus: Brayton, 12:30. All other fields are blank.
 pub const LT_1230: &[u8] =
     b"LTBRAYTON 1230                                                                  ";
+
+/// A terminus: Ashfeld, 09:00.
+pub const LT_ASHFELD_0900: &[u8] =
+    b"LTASHFELD 0900 09002  FL                                                        ";
 
 /// A terminus: Ashfeld, 01:00, without a public time or a path.
 pub const LT_ASHFELD_0100: &[u8] =

@@ -8,6 +8,10 @@ pub const BS: &[u8] =
 pub const BS_REVISED: &[u8] =
     b"BSRC100012406102406141111100 POO1A10                                           P";
 
+/// A revision of C10001's permanent schedule, which now runs on Friday 14 June only.
+pub const BS_FRIDAY: &[u8] =
+    b"BSRC100012406102406140000100 POO1A10                                           P";
+
 /// The deletion of C10001's permanent schedule.
 pub const BS_DELETED: &[u8] =
     b"BSDC10001240610              POO                                               P";

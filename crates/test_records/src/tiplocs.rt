@@ -8,6 +8,10 @@ pub const TI: &[u8] =
 pub const TI_BLANK: &[u8] =
     b"TIASHFELD                                                                       ";
 
+/// A TIPLOC insert: Ashfeld, with a tab in its description, which no record may have.
+pub const TI_TAB: &[u8] =
+    b"TIASHFELD         A\tHFIELD CENTRAL                                              ";
+
 /// The body that the insert `TI` puts.
 pub const BODY_OF_TI: [u8; 63] =
     *b"         ASHFIELD CENTRAL                                      ";

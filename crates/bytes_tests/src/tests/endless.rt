@@ -4,7 +4,7 @@ ghost use Rattle.std.specs.Prelude.{◌<◌, length};
 
 use super::compare::same;
 use super::migrated::{refused_old, refused_old_source};
-use super::pieces::{HEAD, HEAD_LAPSED, HEAD_OF_NO_OP, ITEM, MARK, MOST, NOTHING, OLD_MARK, ONE};
+use super::pieces::{HEAD_LAPSED, HEAD_OF_NO_OP, MOST, NOTHING};
 use super::{
     BEGINNINGS, Row, at, joined_text, known_text, last_place, read, refused, state, text_is,
     written,
@@ -14,7 +14,9 @@ use docker_bytes::{ReadFault, StateCause, StateFault, join_state, read_state};
 use docker_state::State;
 use std::alloc::Global;
 use std::process::Abort;
-use test_records::{AA_JOIN, BS, HD, LO, LT, ZZ};
+use test_records::files::JOIN;
+use test_records::states::{HEAD, ITEM, MARK, OLD_MARK, ONE};
+use test_records::{BS, LO, LT};
 
 /// The limit for the length of a text, if the test doesn't set one.
 const MOST_BYTES: u64 = 1_099_511_627_776;
@@ -68,7 +70,7 @@ pub(super) fn refused_each_way(
     limit: u64,
     fault: StateFault,
 ) {
-    let mut own = state(rt, alloc, &[HD, AA_JOIN, ZZ]);
+    let mut own = state(rt, alloc, JOIN);
     let before = written(rt, alloc, &own);
     let before = before.bytes();
     refused_by(rt, alloc, &mut own, before, text, limit, fault, 1);
@@ -112,7 +114,7 @@ fn refused_without_end(
 )
     requires { 0 < length again.now }
 {
-    let mut own = state(rt, alloc, &[HD, AA_JOIN, ZZ]);
+    let mut own = state(rt, alloc, JOIN);
     let before = written(rt, alloc, &own);
     let before = before.bytes();
     refused_endless_by(rt, alloc, &mut own, before, front, again, limit, fault, 1);

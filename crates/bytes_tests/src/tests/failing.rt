@@ -2,7 +2,7 @@
 ghost use Rattle.std.specs.Prelude.{◌<◌};
 
 use super::compare::same;
-use super::pieces::{FILE, HEAD, ITEM, JOINS, MARK, OLD_MARK, ONE, PUT, SECOND, TWO};
+use super::pieces::{FILE, JOINS, SECOND};
 use super::{day, joined_text, known_state, known_text, place, state, text_is, written};
 use cif_line::{Bytes, Failed, Fuse, Kept};
 use docker_bytes::{
@@ -12,7 +12,9 @@ use docker_bytes::{
 use docker_state::State;
 use std::alloc::Global;
 use std::process::Abort;
-use test_records::{AA_JOIN, BS, HD, LO, LT, ZZ};
+use test_records::files::JOIN;
+use test_records::states::{HEAD, ITEM, MARK, OLD_MARK, OLD_STATE, ONE, PUT, TWO};
+use test_records::{AA_JOIN, BS, LO, LT};
 
 /// Asserts the result of writing a state to a sink that fails at one call, and the bytes that the
 /// sink then has.
@@ -102,7 +104,7 @@ fn fails_before(
 fn fails_at(rt: &impl Abort, alloc: Global, text: &[u8], call: u64, joined: &[u8])
     requires { 0 < call }
 {
-    let mut own = state(rt, alloc, &[HD, AA_JOIN, ZZ]);
+    let mut own = state(rt, alloc, JOIN);
     let before = written(rt, alloc, &own);
     let fault = ReadFault::Source;
     fails_before(rt, alloc, &mut own, before.bytes(), text, call, fault);
@@ -116,7 +118,7 @@ fn passes(rt: &impl Abort, alloc: Global, text: &[u8], joined: &[u8]) {
     let mut source = Fuse::new(Bytes::new(text, 4096), 313);
     let state_read = read_state(alloc, &mut source, 1000).expect(rt, "a state");
     text_is(rt, alloc, &state_read, text);
-    let mut own = state(rt, alloc, &[HD, AA_JOIN, ZZ]);
+    let mut own = state(rt, alloc, JOIN);
     same(rt, received(alloc, &mut own, text, 313), Ok(()));
     text_is(rt, alloc, &own, joined);
 }
@@ -151,7 +153,7 @@ fn a_source_of_another_mark_that_fails(rt: HostRuntime) {
     let alloc = rt.alloc();
     let old = joined_text(&rt, alloc, &[OLD_MARK, ONE, ITEM]);
     let old = old.as_slice();
-    let mut own = state(&rt, alloc, &[HD, AA_JOIN, ZZ]);
+    let mut own = state(&rt, alloc, JOIN);
     let before = written(&rt, alloc, &own);
     let before = before.bytes();
     for call in 1..=5u64 {
@@ -172,7 +174,7 @@ fn migrates_not(rt: &impl Abort, alloc: Global, old: &[u8], call: u64)
 fn an_old_source_that_fails_at_each_call(rt: HostRuntime) {
     let alloc = rt.alloc();
     let known = known_text(&rt, alloc);
-    let old = joined_text(&rt, alloc, &[OLD_MARK, ONE, ITEM, ONE, HEAD, BS, LO, LT]);
+    let old = joined_text(&rt, alloc, OLD_STATE);
     let old = old.as_slice();
     for call in 1..=310u64 {
         migrates_not(&rt, alloc, old, call);

@@ -3,8 +3,7 @@ ghost use Rattle.std.specs.Prelude.{◌<◌};
 
 use super::compare::same;
 use super::pieces::{
-    AFTER, ASHFELD_HEAD, GREATEST, HEAD, HEAD_LAPSED, ITEM, JOINS_HEAD, LAPSED, LAST, NOTHING, ONE,
-    PUT, SCHEDULE_HEAD, TOO_LATE,
+    AFTER, ASHFELD_HEAD, GREATEST, HEAD_LAPSED, JOINS_HEAD, LAST, NOTHING, TOO_LATE,
 };
 use super::{at, goes_round, joined_text, read, refused, state, text_is};
 use cif_line::{Bytes, Day};
@@ -12,7 +11,9 @@ use docker_bytes::{StateCause, StateFault, read_raised};
 use docker_state::State;
 use std::alloc::Global;
 use std::process::Abort;
-use test_records::{AA_JOIN, BODY_OF_TI, BS, BS_NO_END, HD, LO, LT, TI, ZZ};
+use test_records::files::{MORNING, PLACE};
+use test_records::states::{HEAD, ITEM, LAPSED, ONE, PUT, SCHEDULE_HEAD};
+use test_records::{AA_JOIN, BODY_OF_TI, BS, BS_NO_END, LO, LT};
 
 /// The text of a state with one file, this horizon, and one entry. `parts` are the parts of the
 /// entry.
@@ -143,7 +144,7 @@ fn has_under(
     parts: &[&[u8]],
     len: usize,
 ) {
-    let state = lapsed(rt, alloc, &[HD, BS, LO, LT, ZZ], day);
+    let state = lapsed(rt, alloc, MORNING, day);
     let wanted = under(rt, alloc, horizon, parts);
     text_is(rt, alloc, &state, wanted.as_slice());
     goes_round(rt, alloc, &state, len, 1);
@@ -155,7 +156,7 @@ fn a_state_with_a_horizon_goes_round(rt: HostRuntime) {
     has_under(&rt, alloc, "2024-06-14", LAST, SCHEDULE, 311);
     let gone: &[&[u8]] = &[SCHEDULE_HEAD, LAPSED];
     has_under(&rt, alloc, "2024-06-15", AFTER, gone, 67);
-    let tiploc = lapsed(&rt, alloc, &[HD, TI, ZZ], "2059-12-31");
+    let tiploc = lapsed(&rt, alloc, PLACE, "2059-12-31");
     goes_round(&rt, alloc, &tiploc, 128, 7);
 }
 

@@ -2,18 +2,15 @@
 ghost use Rattle.std.specs.Prelude.{◌<◌};
 
 use super::compare::{same, same_in};
-use super::pieces::{
-    HEAD, HEAD_9C, HEAD_10B, HEAD_C10002, ITEM, ITEM_7B, ITEM_9C, ITEM_10B, MARK, ONE, TWO,
-};
 use super::{goes_round, join, joined_text, state, text_is, written};
 use cif_line::Bytes;
 use docker_bytes::join_state;
 use docker_state::State;
 use std::alloc::Global;
 use std::process::Abort;
-use test_records::{
-    BS, BS_C10002, BS_C10003, BS_DELETED, BS_LONGER, BS_REVISED, HD, HD_5A, HD_7B, HD_9C, HD_10B,
-    LO, LO_0850, LO_0905, LO_1000, LO_1100, LT, LT_0935, LT_1030, LT_1130, ZZ,
+use test_records::files::{DELETED, FIFTH, File, LATER, LONGER, MORNING, NINTH, REVISION, SEVENTH};
+use test_records::states::{
+    LATE_STATE, LATER_STATE, LONGER_STATE, MORNING_STATE, Parts, REVISED_STATE,
 };
 
 /// The result of joining the states of these files, one after the other.
@@ -75,61 +72,18 @@ fn len_is(rt: &impl Abort, alloc: Global, pieces: &[&[u8]], len: usize) {
     same(rt, text.len(), len);
 }
 
-/// The records of a file.
-type Records = &'static [&'static [u8]];
-
-/// A file with the schedule of C10001.
-const PLAIN: Records = &[HD, BS, LO, LT, ZZ];
-
-/// The text of the state of `PLAIN`.
-const OF_PLAIN: Records = &[MARK, ONE, ITEM, ONE, HEAD, BS, LO, LT];
-
-/// A file of 10 June, which revises the schedule of C10001.
-const REVISION: Records = &[HD_10B, BS_REVISED, LO_0905, LT_0935, ZZ];
-
-/// The text of the state of `PLAIN` and `REVISION`.
-const OF_REVISION: Records = &[
-    MARK, TWO, ITEM, ITEM_10B, ONE, HEAD_10B, BS, LO_0905, LT_0935,
-];
-
 #[test]
 fn a_revision(rt: HostRuntime) {
     let alloc = rt.alloc();
-    len_is(&rt, alloc, OF_REVISION, 330);
-    let files = [PLAIN, REVISION];
-    merges_to(&rt, alloc, &files, OF_REVISION, "old and new");
-    let files = [REVISION, PLAIN, REVISION];
-    merges_to(&rt, alloc, &files, OF_REVISION, "new and old");
+    len_is(&rt, alloc, REVISED_STATE, 330);
+    let files = [MORNING, REVISION];
+    merges_to(&rt, alloc, &files, REVISED_STATE, "old and new");
+    let files = [REVISION, MORNING, REVISION];
+    merges_to(&rt, alloc, &files, REVISED_STATE, "new and old");
 }
 
-/// An update of 5 June.
-const FIFTH: Records = &[HD_5A, BS_C10003, BS, LO, LT, ZZ];
-
-/// A full extract of 7 June.
-const SEVENTH: Records = &[HD_7B, BS_C10002, LO_1000, LT_1030, ZZ];
-
-/// An update of 9 June.
-const NINTH: Records = &[HD_9C, BS, LO_1100, LT_1130, ZZ];
-
-/// The text of the state of `FIFTH`, `SEVENTH` and `NINTH`.
-const OF_LATE: Records = &[
-    MARK,
-    TWO,
-    ITEM_7B,
-    ITEM_9C,
-    TWO,
-    HEAD_9C,
-    BS,
-    LO_1100,
-    LT_1130,
-    HEAD_C10002,
-    BS_C10002,
-    LO_1000,
-    LT_1030,
-];
-
 /// The files `FIFTH`, `SEVENTH` and `NINTH` in each order, with a name for each order.
-const ORDERS: &[(&[Records], &str)] = &[
+const ORDERS: &[(&[File], &str)] = &[
     (&[FIFTH, SEVENTH, NINTH], "5, 7, 9"),
     (&[FIFTH, NINTH, SEVENTH], "5, 9, 7"),
     (&[SEVENTH, FIFTH, NINTH], "7, 5, 9"),
@@ -141,42 +95,27 @@ const ORDERS: &[(&[Records], &str)] = &[
 #[test]
 fn a_late_full_extract(rt: HostRuntime) {
     let alloc = rt.alloc();
-    len_is(&rt, alloc, OF_LATE, 600);
+    len_is(&rt, alloc, LATE_STATE, 600);
     for (files, name) in ORDERS {
-        merges_to(&rt, alloc, files, OF_LATE, name);
+        merges_to(&rt, alloc, files, LATE_STATE, name);
     }
 }
 
-/// A file in which the schedule of C10001 runs until 21 June, and leaves ten minutes earlier than
-/// in `PLAIN`.
-const LONGER: Records = &[HD, BS_LONGER, LO_0850, LT, ZZ];
-
-/// A file in which the schedule of C10001 leaves five minutes later than in `PLAIN`.
-const LATER: Records = &[HD, BS, LO_0905, LT, ZZ];
-
-/// A file that deletes the schedule of C10001.
-const DELETION: Records = &[HD, BS_DELETED, ZZ];
-
-/// The text of the state of `LONGER`.
-const OF_LONGER: Records = &[MARK, ONE, ITEM, ONE, HEAD, BS_LONGER, LO_0850, LT];
-
-const OF_LATER: Records = &[MARK, ONE, ITEM, ONE, HEAD, BS, LO_0905, LT];
-
 /// Two files with equal stamps, the text of the state of both files, and a name for the row.
-const TIES: &[(&[Records], Records, &str)] = &[
-    (&[PLAIN, PLAIN], OF_PLAIN, "the same"),
-    (&[PLAIN, LONGER], OF_LONGER, "longer"),
-    (&[LONGER, PLAIN], OF_LONGER, "longer first"),
-    (&[PLAIN, LATER], OF_LATER, "later"),
-    (&[LATER, PLAIN], OF_LATER, "later first"),
-    (&[PLAIN, DELETION], OF_PLAIN, "deleted"),
-    (&[DELETION, PLAIN], OF_PLAIN, "deleted first"),
+const TIES: &[(&[File], Parts, &str)] = &[
+    (&[MORNING, MORNING], MORNING_STATE, "the same"),
+    (&[MORNING, LONGER], LONGER_STATE, "longer"),
+    (&[LONGER, MORNING], LONGER_STATE, "longer first"),
+    (&[MORNING, LATER], LATER_STATE, "later"),
+    (&[LATER, MORNING], LATER_STATE, "later first"),
+    (&[MORNING, DELETED], MORNING_STATE, "deleted"),
+    (&[DELETED, MORNING], MORNING_STATE, "deleted first"),
 ];
 
 #[test]
 fn equal_stamps(rt: HostRuntime) {
     let alloc = rt.alloc();
-    len_is(&rt, alloc, OF_LONGER, 311);
+    len_is(&rt, alloc, LONGER_STATE, 311);
     for (files, text, name) in TIES {
         merges_to(&rt, alloc, files, text, name);
     }

@@ -2,20 +2,18 @@
 ghost use Rattle.std.specs.Prelude.{◌-◌, ◌^◌, ◌<◌};
 
 use super::compare::same;
-use super::pieces::{
-    HEAD, HEAD_LAPSED, HEAD_OF_NO_FILE, HEAD_OF_NO_TAG, ITEM, ITEM_5A, ITEM_7B, ITEM_LATE, MOST,
-    OLD_MARK, ONE, TWO,
-};
+use super::pieces::{HEAD_LAPSED, HEAD_OF_NO_FILE, HEAD_OF_NO_TAG, ITEM_LATE, MOST};
 use super::{Row, at, joined_text, known_text, last_place, text_is};
 use cif_line::{Bytes, Source};
 use docker_bytes::{ReadFault, StateCause, StateFault, migrate};
 use std::alloc::Global;
 use std::process::Abort;
+use test_records::states::{HEAD, ITEM, ITEM_5A, ITEM_7B, OLD_MARK, OLD_STATE, ONE, TWO};
 use test_records::{BS, BS_REVISED, LO, LT};
 
 /// The text of the state `known_state`, in the older format. The text has 309 bytes.
 fn old_text(rt: &impl Abort, alloc: Global) -> Vec<u8> {
-    joined_text(rt, alloc, &[OLD_MARK, ONE, ITEM, ONE, HEAD, BS, LO, LT])
+    joined_text(rt, alloc, OLD_STATE)
 }
 
 /// The offsets at which the items of the text in the older format begin. If the text is cut, its

@@ -1,10 +1,11 @@
 //! Each kind of part at its bounds: keys, record numbers, bodies, counts of lines, and last lines.
 
-use super::pieces::{ASHFELD, C10001, CENTRAL, DELETED, FILE, ITEM, JOINS, MARK, ONE, PUT, SECOND};
+use super::pieces::{ASHFELD, C10001, CENTRAL, FILE, JOINS, SECOND};
 use super::{at, goes_round, joined_text, read, refused, text_is};
 use docker_bytes::StateCause;
 use std::alloc::Global;
 use std::process::Abort;
+use test_records::states::{DELETED, ITEM, MARK, ONE, PUT};
 use test_records::{AA_JOIN, BS, BS_DELETED, LO, LT};
 
 /// The text of a state with one file and one entry. The entry has these parts.

@@ -1,53 +1,11 @@
-//! Parts of texts. The texts of the examples are concatenations of these parts.
-
-/// The beginning of a text: the mark, and the horizon 0.
-pub(super) const MARK: &[u8] = b"DKS2\0\0";
-
-/// The mark of the older format, which has no horizon.
-pub(super) const OLD_MARK: &[u8] = b"DKS1";
-
-/// The number one in eight bytes.
-pub(super) const ONE: &[u8] = b"\x00\x00\x00\x00\x00\x00\x00\x01";
-
-/// The number two in eight bytes.
-pub(super) const TWO: &[u8] = b"\x00\x00\x00\x00\x00\x00\x00\x02";
+//! Parts of texts, besides those in `test_records`. The texts of the examples are concatenations of
+//! these parts.
 
 /// The greatest number in eight bytes.
 pub(super) const MOST: &[u8] = b"\xff\xff\xff\xff\xff\xff\xff\xff";
 
-/// The ledger item of the file of 9 June.
-pub(super) const ITEM: &[u8] = b"\x5b\xf0\x04\xecDFROC1AUDFROC1Z";
-
 /// A ledger item with a day number above the greatest day number.
 pub(super) const ITEM_LATE: &[u8] = b"\x8e\xad\x04\xecDFROC1AUDFROC1Z";
-
-/// The ledger item of an update of 5 June.
-pub(super) const ITEM_5A: &[u8] = b"\x5b\xec\x04\xecDFROC1AUDFROC1Z";
-
-/// The ledger item of a full extract of 7 June.
-pub(super) const ITEM_7B: &[u8] = b"\x5b\xee\x04\xecDFROC1BFDFROC1A";
-
-/// The head of the entry for C10001's schedule: all bytes before the lines.
-pub(super) const HEAD: &[u8] =
-    b"\x03C10001\x5b\xf1P\x5b\xf0\x04\xecDFROC1A\x00\x00\x00\x02\x01\x00\x00\x00\x03";
-
-/// The ledger item of the update of 10 June.
-pub(super) const ITEM_10B: &[u8] = b"\x5b\xf1\x04\xecDFROC1BUDFROC1A";
-
-/// The ledger item of the third update of 9 June.
-pub(super) const ITEM_9C: &[u8] = b"\x5b\xf0\x04\xecDFROC1CUDFROC1B";
-
-/// The head of the entry for C10001's schedule from the update of 10 June.
-pub(super) const HEAD_10B: &[u8] =
-    b"\x03C10001\x5b\xf1P\x5b\xf1\x04\xecDFROC1B\x00\x00\x00\x02\x01\x00\x00\x00\x03";
-
-/// The head of the entry for C10001's schedule from the third update of 9 June.
-pub(super) const HEAD_9C: &[u8] =
-    b"\x03C10001\x5b\xf1P\x5b\xf0\x04\xecDFROC1C\x00\x00\x00\x02\x01\x00\x00\x00\x03";
-
-/// The head of the entry for C10002's schedule from the full extract of 7 June.
-pub(super) const HEAD_C10002: &[u8] =
-    b"\x03C10002\x5b\xf1P\x5b\xee\x04\xecDFROC1B\x00\x00\x00\x02\x01\x00\x00\x00\x03";
 
 /// The tag and the key of the TIPLOC ASHFELD.
 pub(super) const ASHFELD: &[u8] = b"\x01ASHFELD";
@@ -63,12 +21,6 @@ pub(super) const FILE: &[u8] = b"\x5b\xf0\x04\xecDFROC1A";
 
 /// The number of the first record after a header.
 pub(super) const SECOND: &[u8] = b"\x00\x00\x00\x02";
-
-/// The op of a deletion.
-pub(super) const DELETED: &[u8] = b"\x00";
-
-/// The op of a live entry.
-pub(super) const PUT: &[u8] = b"\x01";
 
 /// The body of a TIPLOC: 63 printable bytes, including the least and the greatest printable byte.
 pub(super) const CENTRAL: &[u8] =
@@ -89,19 +41,12 @@ pub(super) const TOO_LATE: &[u8] = b"\x8e\xad";
 /// The count of ledger items and the count of entries, both 0.
 pub(super) const NOTHING: &[u8] = b"\0\0\0\0\0\0\0\0\0\0\0\0\0\0\0\0";
 
-/// The tag, the key and the stamp of the entry for C10001's schedule.
-pub(super) const SCHEDULE_HEAD: &[u8] =
-    b"\x03C10001\x5b\xf1P\x5b\xf0\x04\xecDFROC1A\x00\x00\x00\x02";
-
 /// The tag, the key and the stamp of the entry for the association between C10001 and C10002.
 pub(super) const JOINS_HEAD: &[u8] =
     b"\x02C10001C10002\x5b\xf1ASHFELD P\x5b\xf0\x04\xecDFROC1A\x00\x00\x00\x02";
 
 /// The tag, the key and the stamp of the entry for the TIPLOC ASHFELD.
 pub(super) const ASHFELD_HEAD: &[u8] = b"\x01ASHFELD\x5b\xf0\x04\xecDFROC1A\x00\x00\x00\x02";
-
-/// The op of a lapsed entry.
-pub(super) const LAPSED: &[u8] = b"\x02";
 
 /// The head of a schedule's entry, with a tag that isn't valid.
 pub(super) const HEAD_OF_NO_TAG: &[u8] =

@@ -2,14 +2,16 @@
 
 use super::compare::same;
 use super::endless::refused_each_way;
-use super::pieces::{AFTER, HEAD, HEAD_10B, ITEM, ITEM_10B, LAPSED, MARK, ONE, SCHEDULE_HEAD, TWO};
+use super::pieces::AFTER;
 use super::{at, joined_text, known_state, known_text, state, text_is, written};
 use cif_line::{Bytes, Day, Failed, Source};
 use docker_bytes::{ReadFault, StateCause, StateFault, join_state};
 use docker_state::State;
 use std::alloc::Global;
 use std::process::Abort;
-use test_records::{AA_JOIN, BS, HD, LO, LO_0905, LT, LT_0935, ZZ};
+use test_records::files::JOIN;
+use test_records::states::{HEAD, ITEM, LAPSED, MARK, ONE, REVISED_STATE, SCHEDULE_HEAD, TWO};
+use test_records::{BS, LO, LT};
 
 /// Asserts that an empty state, after it has received two texts, has the horizon 15 June and the
 /// text `wanted`.
@@ -54,10 +56,7 @@ fn refused_front(rt: &impl Abort, alloc: Global, text: &[u8], n: usize) {
 #[test]
 fn what_is_refused_changes_nothing(rt: HostRuntime) {
     let alloc = rt.alloc();
-    let later: &[&[u8]] = &[
-        MARK, TWO, ITEM, ITEM_10B, ONE, HEAD_10B, BS, LO_0905, LT_0935,
-    ];
-    let text = joined_text(&rt, alloc, later);
+    let text = joined_text(&rt, alloc, REVISED_STATE);
     let text = text.as_slice();
     refused(&rt, alloc, &[text, b"\0"], 1000, at(330, StateCause::Tail));
     refused(&rt, alloc, &[text], 329, at(329, StateCause::Long));
@@ -107,7 +106,7 @@ impl Source for Broken<'_> {
 fn a_source_that_fails_changes_nothing(rt: HostRuntime) {
     let alloc = rt.alloc();
     let known = known_text(&rt, alloc);
-    let mut own = state(&rt, alloc, &[HD, AA_JOIN, ZZ]);
+    let mut own = state(&rt, alloc, JOIN);
     let before = written(&rt, alloc, &own);
     let mut source = Broken {
         front: known.as_slice(),

@@ -7,29 +7,17 @@ use test_records::dockers::{
     AGAIN_COMES, AGAIN_LEAVES, COMES_2350, DIVIDES, FIRST_COMES, FIRST_LEAVES, OTHER_LEAVES,
     WORKS_ON, WORKS_ON_UNKNOWN,
 };
+use test_records::files::DIVISION_FILE;
 use test_records::{
-    AA_BLANK, AA_DIVIDE, AA_LAST, AA_N, AA_OTHER, AA_P, AA_S, AA_X, BS_C30001, BS_C30002,
-    BS_C40001, BS_C40001_CANCELLED, BS_C40001_LAST, BS_C40002, BS_C40002_CANCELLED, HD, LI_1010,
-    LI_1040, LO_1000_PLAIN, LO_2300, LO_COLWELL_0010, LO_COLWELL_1045, LT_1100_PLAIN,
-    LT_ASHFELD_0100, LT_COLWELL_2350, LT_DUNMERE_1100, ZZ,
+    AA_BLANK, AA_LAST, AA_N, AA_OTHER, AA_P, AA_S, AA_X, BS_C40001, BS_C40001_CANCELLED,
+    BS_C40001_LAST, BS_C40002, BS_C40002_CANCELLED, HD, LO_2300, LO_COLWELL_0010, LT_ASHFELD_0100,
+    LT_COLWELL_2350, ZZ,
 };
 
 /// A train calls twice at one place, and another train divides from it at the second call.
 #[test]
 fn suffixes(rt: HostRuntime) {
-    let file: &[&[u8]] = &[
-        HD,
-        BS_C30001,
-        LO_1000_PLAIN,
-        LI_1010,
-        LI_1040,
-        LT_1100_PLAIN,
-        BS_C30002,
-        LO_COLWELL_1045,
-        LT_DUNMERE_1100,
-        AA_DIVIDE,
-        ZZ,
-    ];
+    let file = DIVISION_FILE;
     let lines: &[&[u8]] = &[
         FIRST_COMES,
         FIRST_LEAVES,

@@ -7,26 +7,15 @@ use docker_day::{chosen, runs};
 use docker_state::State;
 use std::process::Abort;
 use test_records::dockers::{LEAVES_0900, LEAVES_0910, LEAVES_0915};
-use test_records::{
-    BS, BS_CANCELLED, BS_OVERLAY, BS_WEEK, BS_WEEKEND, HD, LO, LO_0910, LO_0915, LT, ZZ,
-};
+use test_records::files::{WEEK, WEEKEND};
+use test_records::{BS, BS_CANCELLED, BS_WEEK, HD, LO, LT, ZZ};
 
 /// A UID has a permanent schedule, an overlay and a cancellation. Checks which of them is chosen on
 /// each day.
 #[test]
 fn choice(rt: HostRuntime) {
     let alloc = rt.alloc();
-    let files: &[&[&[u8]]] = &[&[
-        HD,
-        BS_WEEK,
-        LO,
-        LT,
-        BS_OVERLAY,
-        LO_0915,
-        LT,
-        BS_CANCELLED,
-        ZZ,
-    ]];
+    let files: &[&[&[u8]]] = &[WEEK];
     shows(&rt, alloc, files, "ASHFELD", "2024-06-10", &[LEAVES_0900]);
     shows(&rt, alloc, files, "ASHFELD", "2024-06-11", &[LEAVES_0915]);
     shows(&rt, alloc, files, "ASHFELD", "2024-06-12", &[LEAVES_0900]);
@@ -40,20 +29,7 @@ fn choice(rt: HostRuntime) {
 #[test]
 fn choice_with_a_later_schedule(rt: HostRuntime) {
     let alloc = rt.alloc();
-    let files: &[&[&[u8]]] = &[&[
-        HD,
-        BS_WEEK,
-        LO,
-        LT,
-        BS_OVERLAY,
-        LO_0915,
-        LT,
-        BS_CANCELLED,
-        BS_WEEKEND,
-        LO_0910,
-        LT,
-        ZZ,
-    ]];
+    let files: &[&[&[u8]]] = &[WEEKEND];
     shows(&rt, alloc, files, "ASHFELD", "2024-06-10", &[LEAVES_0900]);
     shows(&rt, alloc, files, "ASHFELD", "2024-06-11", &[LEAVES_0915]);
     shows(&rt, alloc, files, "ASHFELD", "2024-06-12", &[LEAVES_0900]);

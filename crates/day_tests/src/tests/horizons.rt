@@ -6,7 +6,7 @@ use docker_day::{DockerFault, docker};
 use docker_state::State;
 use std::alloc::Global;
 use std::process::Abort;
-use test_records::{BS, BS_JULY, BS_REVISED, HD, HD_8A, HD_10B, LO, LO_0905, LT, LT_0935, ZZ};
+use test_records::files::{JULY, MORNING, REVISION};
 
 /// Asserts that the docker of Ashfeld on a day is refused.
 fn is_refused(rt: &impl Abort, alloc: Global, state: &State, on: &str) {
@@ -19,7 +19,7 @@ fn is_refused(rt: &impl Abort, alloc: Global, state: &State, on: &str) {
 #[test]
 fn horizons(rt: HostRuntime) {
     let alloc = rt.alloc();
-    let mut state = state(&rt, alloc, &[HD, BS, LO, LT, ZZ]);
+    let mut state = state(&rt, alloc, MORNING);
     state.set_horizon(day(&rt, "2024-06-14"));
     is_refused(&rt, alloc, &state, "2024-06-16");
     lines_are(&rt, alloc, &state, "ASHFELD", "2024-06-17", &[]);
@@ -36,9 +36,9 @@ fn horizons(rt: HostRuntime) {
 #[test]
 fn older_file_after_a_horizon(rt: HostRuntime) {
     let alloc = rt.alloc();
-    let mut known = state(&rt, alloc, &[HD_10B, BS_REVISED, LO_0905, LT_0935, ZZ]);
+    let mut known = state(&rt, alloc, REVISION);
     known.set_horizon(day(&rt, "2024-06-15"));
-    let older = state(&rt, alloc, &[HD_8A, BS_JULY, LO, LT, ZZ]);
+    let older = state(&rt, alloc, JULY);
     let joined = join(&rt, alloc, known, older);
     lines_are(&rt, alloc, &joined, "ASHFELD", "2024-06-24", &[]);
 }

@@ -10,32 +10,14 @@ use docker_state::State;
 use std::alloc::Global;
 use std::process::Abort;
 use test_records::dockers::DIVISION;
-use test_records::{
-    AA_DIVIDE, BS_C30001, BS_C30002, HD, LI_1010, LI_1040, LO_1000_PLAIN, LO_COLWELL_1045,
-    LT_1100_PLAIN, LT_DUNMERE_1100, ZZ, text,
-};
+use test_records::files::DIVISION_FILE;
+use test_records::text;
 
-/// A file with a train that calls twice at Colwell, and with another train that divides from it at
-/// Colwell.
-const DIVIDED: &[&[u8]] = &[
-    HD,
-    BS_C30001,
-    LO_1000_PLAIN,
-    LI_1010,
-    LI_1040,
-    LT_1100_PLAIN,
-    BS_C30002,
-    LO_COLWELL_1045,
-    LT_DUNMERE_1100,
-    AA_DIVIDE,
-    ZZ,
-];
-
-/// The state of the file `DIVIDED`. It is made a second time if memory runs out.
+/// The state of the file `DIVISION_FILE`. It is made a second time if memory runs out.
 fn divided(rt: &impl Abort, alloc: Global) -> State {
-    match state_of(alloc, DIVIDED) {
+    match state_of(alloc, DIVISION_FILE) {
         Some(state) => state,
-        None => state_of(alloc, DIVIDED).expect(rt, "a state"),
+        None => state_of(alloc, DIVISION_FILE).expect(rt, "a state"),
     }
 }
 

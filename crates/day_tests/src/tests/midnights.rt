@@ -9,7 +9,8 @@ use std::process::Abort;
 use test_records::dockers::{
     NIGHT_COMES, NIGHT_LEAVES, NIGHT_PASSES, SECOND_NIGHT_COMES, SECOND_NIGHT_PASSES,
 };
-use test_records::{BS_NIGHT, HD, LI_0000, LI_0005, LI_0010, LO_2355, LT_0006_PLAIN, LT_0020, ZZ};
+use test_records::files::NIGHT;
+use test_records::{BS_NIGHT, HD, LI_0005, LI_0010, LO_2355, LT_0006_PLAIN, ZZ};
 
 /// A file with a train that passes midnight twice.
 const TWO_NIGHTS: &[&[u8]] = &[HD, BS_NIGHT, LO_2355, LI_0010, LI_0005, LT_0006_PLAIN, ZZ];
@@ -18,7 +19,7 @@ const TWO_NIGHTS: &[&[u8]] = &[HD, BS_NIGHT, LO_2355, LI_0010, LI_0005, LT_0006_
 #[test]
 fn midnight(rt: HostRuntime) {
     let alloc = rt.alloc();
-    let files: &[&[&[u8]]] = &[&[HD, BS_NIGHT, LO_2355, LI_0000, LI_0010, LT_0020, ZZ]];
+    let files: &[&[&[u8]]] = &[NIGHT];
     let called: &[&[u8]] = &[NIGHT_COMES, NIGHT_LEAVES];
     shows(&rt, alloc, files, "COLWELL", "2024-06-10", &[]);
     shows(&rt, alloc, files, "COLWELL", "2024-06-11", called);

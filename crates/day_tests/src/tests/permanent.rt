@@ -8,14 +8,16 @@ use docker_state::State;
 use std::alloc::Global;
 use std::process::Abort;
 use test_records::dockers::{
-    AGAIN_COMES, AGAIN_LEAVES, COMES_2350, DIVIDES, END, FIRST_COMES, FIRST_LEAVES, LEAVES_0900,
-    LEAVES_0910, LEAVES_0915, NIGHT_COMES, NIGHT_LEAVES, OTHER_LEAVES, WORKS_ON, WORKS_ON_UNKNOWN,
+    AGAIN_COMES, AGAIN_LEAVES, AT_ASHFIELD_CENTRAL, COMES_2350, DIVIDES, END, FIRST_COMES,
+    FIRST_LEAVES, LEAVES_0900, LEAVES_0910, LEAVES_0915, NIGHT_COMES, NIGHT_LEAVES, OTHER_LEAVES,
+    WORKS_ON, WORKS_ON_UNKNOWN,
 };
+use test_records::files::{EACH_DAY, WEEK};
 use test_records::{
-    AA_DIVIDE, AA_N, BS, BS_C30001, BS_C30002, BS_C40001, BS_C40002, BS_C40002_CANCELLED,
-    BS_CANCELLED, BS_NEW, BS_NIGHT, BS_OVERLAY, BS_WEEK, BS_WEEKEND, HD, LI_0000, LI_1010, LI_1040,
-    LO, LO_0910, LO_0915, LO_1000_PLAIN, LO_2300, LO_2355, LO_COLWELL_0010, LO_COLWELL_1045, LT,
-    LT_0020, LT_1100_PLAIN, LT_ASHFELD_0100, LT_COLWELL_2350, LT_DUNMERE_1100, TI, ZZ, text,
+    AA_DIVIDE, AA_N, BS, BS_C30001, BS_C30002, BS_C40001, BS_C40002, BS_C40002_CANCELLED, BS_NEW,
+    BS_NIGHT, BS_OVERLAY, BS_WEEK, BS_WEEKEND, HD, LI_0000, LI_1010, LI_1040, LO, LO_0910,
+    LO_1000_PLAIN, LO_2300, LO_2355, LO_COLWELL_0010, LO_COLWELL_1045, LT, LT_0020, LT_1100_PLAIN,
+    LT_ASHFELD_0100, LT_COLWELL_2350, LT_DUNMERE_1100, TI, ZZ, text,
 };
 
 /// A docker line: C10001 leaves Ashfeld at 09:00, according to a new schedule with the STP
@@ -40,9 +42,6 @@ const AA_NEW: &[u8] =
 /// A docker line: C40001 becomes C40002, whose identity isn't known, by an association with the STP
 /// indicator `N`.
 const WORKS_ON_AS_NEW: &[u8] = b"2350  N 4D40 C40001 N   1                C40002  ????   ";
-
-/// The heading of the docker of Ashfeld on 10 June, with the description of Ashfeld.
-const AT_ASHFIELD_CENTRAL: &[u8] = b"DOCKER ASHFELD 2024-06-10 ASHFIELD CENTRAL              ";
 
 /// The text of the permanent docker for a place and a day.
 fn printed(rt: &impl Abort, alloc: Global, state: &State, at: &str, on: &str) -> Kept {
@@ -74,17 +73,7 @@ fn keeps(rt: &impl Abort, alloc: Global, files: &[&[&[u8]]], at: &str, on: &str,
 #[test]
 fn overlaid_and_cancelled(rt: HostRuntime) {
     let alloc = rt.alloc();
-    let files: &[&[&[u8]]] = &[&[
-        HD,
-        BS_WEEK,
-        LO,
-        LT,
-        BS_OVERLAY,
-        LO_0915,
-        LT,
-        BS_CANCELLED,
-        ZZ,
-    ]];
+    let files: &[&[&[u8]]] = &[WEEK];
     shows(&rt, alloc, files, "ASHFELD", "2024-06-13", &[LEAVES_0915]);
     keeps(&rt, alloc, files, "ASHFELD", "2024-06-13", &[LEAVES_0900]);
     shows(&rt, alloc, files, "ASHFELD", "2024-06-14", &[]);
@@ -254,7 +243,7 @@ fn permanent_heading(rt: HostRuntime) {
 #[test]
 fn permanent_dockers_refused(rt: HostRuntime) {
     let alloc = rt.alloc();
-    let mut state = state(&rt, alloc, &[HD, BS_WEEK, LO, LT, ZZ]);
+    let mut state = state(&rt, alloc, EACH_DAY);
     state.set_horizon(day(&rt, "2024-06-12"));
     let at = place(&rt, "ASHFELD");
     let refused = permanent_docker(alloc, &state, &at, day(&rt, "2024-06-14")).err();

@@ -4,11 +4,8 @@ use super::shows;
 use std::alloc::Global;
 use std::process::Abort;
 use test_records::dockers::{LEAVES_0850, LEAVES_0900, LEAVES_0905, LEAVES_1000, LEAVES_1100};
-use test_records::{
-    BS, BS_C10002, BS_C10003_PLAIN, BS_DELETED_PLAIN, BS_LONGER, BS_REVISED, HD, HD_5A, HD_7B,
-    HD_8A, HD_9B, HD_9C, HD_10B, LO, LO_0850, LO_0905, LO_1000, LO_1100, LT, LT_0935, LT_1030,
-    LT_1130, ZZ,
-};
+use test_records::files::{EIGHTH, LATER, LONGER, MORNING, NINTH, REVISION, SEVENTH};
+use test_records::{BS, BS_C10003_PLAIN, BS_DELETED_PLAIN, HD, HD_5A, HD_9B, LO, LT, ZZ};
 
 /// Asserts that the docker of Ashfeld on 10 June has these lines.
 fn at_ashfeld(rt: &impl Abort, alloc: Global, files: &[&[&[u8]]], lines: &[&[u8]]) {
@@ -18,8 +15,8 @@ fn at_ashfeld(rt: &impl Abort, alloc: Global, files: &[&[&[u8]]], lines: &[&[u8]
 /// A later update revises a schedule of an earlier update.
 #[test]
 fn revision(rt: HostRuntime) {
-    let first: &[&[u8]] = &[HD, BS, LO, LT, ZZ];
-    let second: &[&[u8]] = &[HD_10B, BS_REVISED, LO_0905, LT_0935, ZZ];
+    let first = MORNING;
+    let second = REVISION;
     at_ashfeld(&rt, rt.alloc(), &[first, second], &[LEAVES_0905]);
 }
 
@@ -28,8 +25,8 @@ fn revision(rt: HostRuntime) {
 #[test]
 fn late_full_extract(rt: HostRuntime) {
     let first: &[&[u8]] = &[HD_5A, BS_C10003_PLAIN, BS, LO, LT, ZZ];
-    let second: &[&[u8]] = &[HD_7B, BS_C10002, LO_1000, LT_1030, ZZ];
-    let third: &[&[u8]] = &[HD_9C, BS, LO_1100, LT_1130, ZZ];
+    let second = SEVENTH;
+    let third = NINTH;
     at_ashfeld(
         &rt,
         rt.alloc(),
@@ -43,7 +40,7 @@ fn late_full_extract(rt: HostRuntime) {
 #[test]
 fn deletion_first(rt: HostRuntime) {
     let alloc = rt.alloc();
-    let files: &[&[&[u8]]] = &[&[HD_9B, BS_DELETED_PLAIN, ZZ], &[HD_8A, BS, LO, LT, ZZ]];
+    let files: &[&[&[u8]]] = &[&[HD_9B, BS_DELETED_PLAIN, ZZ], EIGHTH];
     shows(&rt, alloc, files, "ASHFELD", "2024-06-10", &[]);
     shows(&rt, alloc, files, "BRAYTON", "2024-06-10", &[]);
 }
@@ -52,8 +49,8 @@ fn deletion_first(rt: HostRuntime) {
 /// date counts.
 #[test]
 fn later_end_of_equal_stamps(rt: HostRuntime) {
-    let first: &[&[u8]] = &[HD, BS, LO, LT, ZZ];
-    let second: &[&[u8]] = &[HD, BS_LONGER, LO_0850, LT, ZZ];
+    let first = MORNING;
+    let second = LONGER;
     at_ashfeld(&rt, rt.alloc(), &[first, second], &[LEAVES_0850]);
 }
 
@@ -61,8 +58,8 @@ fn later_end_of_equal_stamps(rt: HostRuntime) {
 /// change whose bytes are greater counts.
 #[test]
 fn greater_bytes_of_equal_stamps(rt: HostRuntime) {
-    let first: &[&[u8]] = &[HD, BS, LO, LT, ZZ];
-    let second: &[&[u8]] = &[HD, BS, LO_0905, LT, ZZ];
+    let first = MORNING;
+    let second = LATER;
     at_ashfeld(&rt, rt.alloc(), &[first, second], &[LEAVES_0905]);
 }
 
@@ -70,7 +67,7 @@ fn greater_bytes_of_equal_stamps(rt: HostRuntime) {
 /// this schedule, the schedule stays.
 #[test]
 fn put_before_deletion_of_equal_stamps(rt: HostRuntime) {
-    let first: &[&[u8]] = &[HD, BS, LO, LT, ZZ];
+    let first = MORNING;
     let second: &[&[u8]] = &[HD, BS_DELETED_PLAIN, ZZ];
     at_ashfeld(&rt, rt.alloc(), &[first, second], &[LEAVES_0900]);
 }

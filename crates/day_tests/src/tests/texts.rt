@@ -8,7 +8,8 @@ use docker_state::State;
 use std::alloc::Global;
 use std::process::Abort;
 use test_records::dockers::{ASHFELD_0900, NONE_AT_ASHFELD, NONE_AT_ASHFLDN, NONE_AT_ELM};
-use test_records::{BS, HD, HD_10B, LO, LT, TA, TI, ZZ, text};
+use test_records::files::{MORNING, PLACE, RENAMED};
+use test_records::text;
 
 /// Asserts that the docker of these files for a place on 10 June has exactly this text.
 fn prints(rt: &impl Abort, alloc: Global, files: &[&[&[u8]]], at: &str, wanted: &[&[u8]]) {
@@ -21,21 +22,21 @@ fn prints(rt: &impl Abort, alloc: Global, files: &[&[&[u8]]], at: &str, wanted: 
 /// Checks the docker of a place that a train leaves.
 #[test]
 fn whole_text(rt: HostRuntime) {
-    let files: &[&[&[u8]]] = &[&[HD, BS, LO, LT, ZZ]];
+    let files: &[&[&[u8]]] = &[MORNING];
     prints(&rt, rt.alloc(), files, "ASHFELD", ASHFELD_0900);
 }
 
 /// Checks the docker of a place that isn't in any file.
 #[test]
 fn place_without_a_record(rt: HostRuntime) {
-    let files: &[&[&[u8]]] = &[&[HD, BS, LO, LT, ZZ]];
+    let files: &[&[&[u8]]] = &[MORNING];
     prints(&rt, rt.alloc(), files, "ELM", NONE_AT_ELM);
 }
 
 /// The heading has the description of the place, if its TIPLOC is live.
 #[test]
 fn headings(rt: HostRuntime) {
-    let files: &[&[&[u8]]] = &[&[HD, TI, ZZ], &[HD_10B, TA, ZZ]];
+    let files: &[&[&[u8]]] = &[PLACE, RENAMED];
     prints(&rt, rt.alloc(), files, "ASHFLDN", NONE_AT_ASHFLDN);
     prints(&rt, rt.alloc(), files, "ASHFELD", NONE_AT_ASHFELD);
 }
@@ -53,7 +54,7 @@ fn fits(rt: &impl Abort, alloc: Global, state: &State, room: usize, wanted: bool
 /// A sink without room for the last byte fails, and a sink with room for all bytes doesn't.
 #[test]
 fn full_sink(rt: HostRuntime) {
-    let state = state(&rt, rt.alloc(), &[HD, BS, LO, LT, ZZ]);
+    let state = state(&rt, rt.alloc(), MORNING);
     fits(&rt, rt.alloc(), &state, 170, false);
     fits(&rt, rt.alloc(), &state, 171, true);
 }

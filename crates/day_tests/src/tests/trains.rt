@@ -4,17 +4,15 @@ use super::shows;
 use test_records::dockers::{
     COMES_0930, COMES_AS_5E51, LEAVES_0900, LEAVES_AS_5E50, PASSES_AS_5E51,
 };
-use test_records::{
-    BS, BS_C50001, BS_WEDNESDAYS, CR_5E51, HD, LI_COLWELL_1210, LI_TIMELESS, LO, LO_1200, LT,
-    LT_1230, ZZ,
-};
+use test_records::files::{IDENTITY, MORNING, NO_END};
+use test_records::{BS, HD, LI_TIMELESS, LO, LT, ZZ};
 
 /// A train runs on weekdays. On a Monday it has a line at each end of its journey, and no line at
 /// another place. On a Saturday it has no line.
 #[test]
 fn one_schedule(rt: HostRuntime) {
     let alloc = rt.alloc();
-    let files: &[&[&[u8]]] = &[&[HD, BS, LO, LT, ZZ]];
+    let files: &[&[&[u8]]] = &[MORNING];
     shows(&rt, alloc, files, "ASHFELD", "2024-06-10", &[LEAVES_0900]);
     shows(&rt, alloc, files, "BRAYTON", "2024-06-10", &[COMES_0930]);
     shows(&rt, alloc, files, "ASHFELD", "2024-06-15", &[]);
@@ -35,15 +33,7 @@ fn no_line_without_a_time(rt: HostRuntime) {
 #[test]
 fn identity(rt: HostRuntime) {
     let alloc = rt.alloc();
-    let files: &[&[&[u8]]] = &[&[
-        HD,
-        BS_C50001,
-        LO_1200,
-        CR_5E51,
-        LI_COLWELL_1210,
-        LT_1230,
-        ZZ,
-    ]];
+    let files: &[&[&[u8]]] = &[IDENTITY];
     shows(
         &rt,
         alloc,
@@ -67,7 +57,7 @@ fn identity(rt: HostRuntime) {
 #[test]
 fn without_end(rt: HostRuntime) {
     let alloc = rt.alloc();
-    let files: &[&[&[u8]]] = &[&[HD, BS_WEDNESDAYS, LO, LT, ZZ]];
+    let files: &[&[&[u8]]] = &[NO_END];
     shows(&rt, alloc, files, "ASHFELD", "2059-12-31", &[LEAVES_0900]);
     shows(&rt, alloc, files, "ASHFELD", "2059-12-30", &[]);
 }

@@ -4,40 +4,28 @@ use super::texts::END;
 use super::{joined, says};
 use std::alloc::Global;
 use std::process::Abort;
+use test_records::files::WEEK;
 use test_records::{
-    BS_CANCELLED, BS_CANCELLED_DELETED, BS_DELETED_PLAIN, BS_OVERLAY, BS_REVISED_SHORTER,
-    BS_SHORTER, BS_WEEK, HD, HD_10B_0605, LO, LO_0915, LO_0920, LT, ZZ,
+    BS_CANCELLED_DELETED, BS_DELETED_PLAIN, BS_OVERLAY, BS_REVISED_SHORTER, BS_SHORTER, BS_WEEK,
+    HD_10B_0605, LO, LO_0915, LO_0920, LT, ZZ,
 };
 
-/// The first file, with a permanent schedule, its overlay and its cancellation.
-const FIRST: &[&[u8]] = &[
-    HD,
-    BS_WEEK,
-    LO,
-    LT,
-    BS_OVERLAY,
-    LO_0915,
-    LT,
-    BS_CANCELLED,
-    ZZ,
-];
-
-/// A file that is newer than `FIRST` and deletes the permanent schedule.
+/// A file that is newer than `WEEK` and deletes the permanent schedule.
 const DELETES: &[&[u8]] = &[HD_10B_0605, BS_DELETED_PLAIN, ZZ];
 
-/// A file that is newer than `FIRST` and deletes the cancellation.
+/// A file that is newer than `WEEK` and deletes the cancellation.
 const RESTORES: &[&[u8]] = &[HD_10B_0605, BS_CANCELLED_DELETED, ZZ];
 
-/// A file that is newer than `FIRST` and revises the permanent schedule.
+/// A file that is newer than `WEEK` and revises the permanent schedule.
 const REVISES: &[&[u8]] = &[HD_10B_0605, BS_REVISED_SHORTER, LO_0920, LT, ZZ];
 
 /// The heading for 11 June. On this day C10001 runs according to the overlay, record 5 of the file
-/// `FIRST`.
+/// `WEEK`.
 const OVERLAY: &[u8] =
     b"TRAIN  C10001  2024-06-11 O RUNS      2024-06-09 2100 DFROC1A          5        ";
 
 /// The heading for 14 June. On this day C10001 runs according to the permanent schedule, record 2
-/// of the file `FIRST`.
+/// of the first file.
 const RESTORED: &[u8] =
     b"TRAIN  C10001  2024-06-14 P RUNS      2024-06-09 2100 DFROC1A          2        ";
 
@@ -66,13 +54,13 @@ fn files_say(rt: &impl Abort, alloc: Global, files: &[&[&[u8]]], on: &str, wante
 #[test]
 fn deleted(rt: HostRuntime) {
     let overlay: &[&[u8]] = &[OVERLAY, BS_OVERLAY, LO_0915, LT, END];
-    let files: &[&[&[u8]]] = &[FIRST, DELETES];
+    let files: &[&[&[u8]]] = &[WEEK, DELETES];
     files_say(&rt, rt.alloc(), files, "2024-06-12", &[NONE, END]);
     files_say(&rt, rt.alloc(), files, "2024-06-11", overlay);
     files_say(
         &rt,
         rt.alloc(),
-        &[DELETES, FIRST],
+        &[DELETES, WEEK],
         "2024-06-12",
         &[NONE, END],
     );
@@ -83,8 +71,8 @@ fn deleted(rt: HostRuntime) {
 #[test]
 fn restored(rt: HostRuntime) {
     let restored: &[&[u8]] = &[RESTORED, BS_WEEK, LO, LT, END];
-    files_say(&rt, rt.alloc(), &[FIRST, RESTORES], "2024-06-14", restored);
-    files_say(&rt, rt.alloc(), &[RESTORES, FIRST], "2024-06-14", restored);
+    files_say(&rt, rt.alloc(), &[WEEK, RESTORES], "2024-06-14", restored);
+    files_say(&rt, rt.alloc(), &[RESTORES, WEEK], "2024-06-14", restored);
 }
 
 /// A second file revises the permanent schedule of the first file. The revision is stored with the
@@ -92,8 +80,8 @@ fn restored(rt: HostRuntime) {
 #[test]
 fn revised(rt: HostRuntime) {
     let revised: &[&[u8]] = &[REVISED, BS_SHORTER, LO_0920, LT, END];
-    let files: &[&[&[u8]]] = &[FIRST, REVISES];
+    let files: &[&[&[u8]]] = &[WEEK, REVISES];
     files_say(&rt, rt.alloc(), files, "2024-06-12", revised);
     files_say(&rt, rt.alloc(), files, "2024-06-15", &[NONE_AFTER, END]);
-    files_say(&rt, rt.alloc(), &[REVISES, FIRST], "2024-06-12", revised);
+    files_say(&rt, rt.alloc(), &[REVISES, WEEK], "2024-06-12", revised);
 }

@@ -9,10 +9,8 @@ use docker_state::State;
 use docker_train::{DockerFault, TrainFault, find_train, print_train, uid_of_word};
 use std::alloc::Global;
 use std::process::Abort;
-use test_records::{BS_WEEK, HD, LO, LT, ZZ, text};
-
-/// A file with a permanent schedule of C10001, from 10 to 16 June.
-const WEEK: &[&[u8]] = &[HD, BS_WEEK, LO, LT, ZZ];
+use test_records::files::EACH_DAY;
+use test_records::{BS_WEEK, LO, LT, text};
 
 /// The heading for 13 June.
 const THURSDAY: &[u8] =
@@ -40,7 +38,7 @@ fn is_refused(rt: &impl Abort, alloc: Global, state: &State, on: &str) {
 #[test]
 fn before_the_horizon(rt: HostRuntime) {
     let thursday: &[&[u8]] = &[THURSDAY, BS_WEEK, LO, LT, END];
-    let mut state = joined(&rt, rt.alloc(), &[WEEK]);
+    let mut state = joined(&rt, rt.alloc(), &[EACH_DAY]);
     state.set_horizon(day(&rt, "2024-06-13"));
     is_refused(&rt, rt.alloc(), &state, "2024-06-10");
     is_refused(&rt, rt.alloc(), &state, "2024-06-12");
@@ -51,7 +49,7 @@ fn before_the_horizon(rt: HostRuntime) {
 /// schedule of this UID runs from the horizon on.
 #[test]
 fn lapsed(rt: HostRuntime) {
-    let mut state = joined(&rt, rt.alloc(), &[WEEK]);
+    let mut state = joined(&rt, rt.alloc(), &[EACH_DAY]);
     state.set_horizon(day(&rt, "2024-06-17"));
     is_refused(&rt, rt.alloc(), &state, "2024-06-16");
     says(
@@ -81,7 +79,7 @@ fn takes(rt: &impl Abort, alloc: Global, state: &State, room: usize, wanted: Opt
 /// Five lines of 81 bytes are 405 bytes. A sink with less room takes only the prefix that fits.
 #[test]
 fn full_sink(rt: HostRuntime) {
-    let state = joined(&rt, rt.alloc(), &[WEEK]);
+    let state = joined(&rt, rt.alloc(), &[EACH_DAY]);
     takes(&rt, rt.alloc(), &state, 405, None);
     takes(&rt, rt.alloc(), &state, 404, Some(TrainFault::Sink));
     takes(&rt, rt.alloc(), &state, 100, Some(TrainFault::Sink));
