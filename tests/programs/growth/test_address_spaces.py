@@ -33,7 +33,6 @@ def states(folder):
     takes("empty.state")
     give(older(takes("full.state", "extract.cif")), "old.state")
     takes("other.state", "update.cif")
-    return folder
 
 
 @each("state, line", {
