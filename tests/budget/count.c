@@ -6,7 +6,7 @@
 //   the greatest single request for memory, minus the bytes that were read before the request;
 //   the number of reads and of bytes read, and the number of writes and of bytes written.
 // callgrind counts the instructions of each portion.
-#include "../growth/growths.h"
+#include "../programs/growth/growths.h"
 #include <fcntl.h>
 #include <limits.h>
 #include <stdio.h>

@@ -42,6 +42,12 @@ def meeting(work):
     return programs.build_library("programs/meet.c", work / "meet.so")
 
 
+@pytest.fixture(scope="session")
+def refusing(work):
+    """The library that refuses one memory growth."""
+    return programs.build_library("programs/growth/refuse.c", work / "refuse.so")
+
+
 def pytest_configure():
     for program in (programs.DOCKER, programs.DESK):
         if not pathlib.Path(program).exists():

@@ -32,9 +32,3 @@ def given(folder, given_files):
 def overtaking(work):
     """The library that puts another file in STATE's place just after a save."""
     return build_library("programs/desk/overtake.c", work / "overtake.so")
-
-
-@pytest.fixture(scope="session")
-def refusing(work):
-    """The library that refuses one memory growth."""
-    return build_library("growth/refuse.c", work / "refuse.so")

@@ -8,6 +8,7 @@ import signal
 import stat
 
 import pytest
+from checks import named
 from desks import DEVICE, MEMORY, NOT_SAVED, answers_in, desk
 from mirror import Mirror, give_large, given
 from programs import DESK, DEVICE_LINE, MEMORY_LINE, Ended, give, held, run, untried
@@ -152,15 +153,6 @@ def test_small_address_spaces_an_eighth_of_a_megabyte_apart():
             counts.append(ran_out(room))
             room += 128
     assert any(counts), "memory never ran out"
-
-
-@contextlib.contextmanager
-def named(what):
-    """Adds this name to the message of a failure."""
-    try:
-        yield
-    except AssertionError as found:
-        raise AssertionError(f"{what}: {found}") from found
 
 
 def test_each_call_of_the_system_that_the_desk_makes_is_tried(device):

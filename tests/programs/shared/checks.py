@@ -1,4 +1,5 @@
 """Compares values with expected values. A failure shows both."""
+import contextlib
 import os
 import time
 
@@ -29,6 +30,15 @@ def same(what, got, wanted):
 def holds(what, is_so):
     if not is_so:
         raise Unlike(what)
+
+
+@contextlib.contextmanager
+def named(what):
+    """Adds this name to the message of a failure."""
+    try:
+        yield
+    except AssertionError as found:
+        raise AssertionError(f"{what}: {found}") from found
 
 
 def soon(what, is_so):

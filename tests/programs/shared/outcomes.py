@@ -1,6 +1,7 @@
 """The ways in which a command of `docker` may end, and what it prints."""
 import os
 
+from checks import same
 from programs import DAY_LINE, DEVICE_LINE, MEMORY_LINE, Ended, docker, held
 
 USAGE_LINE = (
@@ -62,6 +63,16 @@ def keeps(outcome, *words, state="office", **options):
     before = held(state)
     assert docker(*words, **options) == outcome
     holds_only(state, before)
+
+
+def ran_out(ended, before, whole, stored):
+    """Whether memory ran out in a command. If it did, the command printed nothing, and STATE still
+    has the text that it had before. Otherwise the command printed the whole answer, and stored this
+    text in STATE."""
+    is_out = ended.status == MEMORY.status
+    same("the end", ended, MEMORY if is_out else whole)
+    holds_only("STATE", before if is_out else stored)
+    return is_out
 
 
 def takes_more(state, *files):

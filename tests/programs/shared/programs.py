@@ -10,6 +10,8 @@ from checks import Unlike
 ROOT = pathlib.Path(__file__).resolve().parents[3]
 DOCKER = os.environ.get("DOCKER") or str(ROOT / "crates/docker/out/docker")
 DESK = os.environ.get("DESK") or str(ROOT / "crates/desk/out/desk")
+# The program that makes calls of the crates.
+CALLS = os.environ.get("HOSTILE_TESTS") or str(ROOT / "crates/hostile_tests/out/hostile_tests")
 
 # Lines from docs/FORMATS.md.
 DEVICE_LINE = b"docker: device failed\n"
@@ -42,11 +44,14 @@ def docker(*words, before=(), **options):
     return run([*before, DOCKER, *words], **options)
 
 
-# The words that run a program with at most this much memory.
-
-
 def in_memory(kilobytes):
+    """The words that run the program with at most this much memory."""
     return ("prlimit", f"--as={kilobytes * 1024}")
+
+
+def in_seconds(seconds):
+    """The words that kill the program once it has used this many seconds of processor time."""
+    return ("prlimit", f"--cpu={seconds}", "--core=0")
 
 
 def on_disk(kilobytes):

@@ -56,10 +56,10 @@ def place(identity, code, description="", new=""):
 
 
 def association(
-    base, other, first, last, at, category="NP", date="S", suffix="", days="1111111"
+    base, other, first, last, at, category="NP", date="S", suffix="", days="1111111", stp="P"
 ):
     """An association of two trains, with its date indicator and the base train's suffix."""
-    return record(f"AAN{base}{other}{first}{last}{days}{category:2}{date}{at:7}{suffix:1} TP", "P")
+    return record(f"AAN{base}{other}{first}{last}{days}{category:2}{date}{at:7}{suffix:1} TP", stp)
 
 
 TRAILER = record("ZZ")

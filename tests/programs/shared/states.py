@@ -26,8 +26,8 @@ def minute(time):
 class File:
     """A file that a state knows: its moment, and the rest of its header."""
 
-    def __init__(self, date, reference, indicator="U", last="DFROC1Z"):
-        self.moment = day(date) + minute("2100") + reference.encode()
+    def __init__(self, date, reference, indicator="U", last="DFROC1Z", time="2100"):
+        self.moment = day(date) + minute(time) + reference.encode()
         self.item = self.moment + indicator.encode() + last.encode()
 
     def put(self, key, body, record=2):

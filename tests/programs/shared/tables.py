@@ -1,4 +1,4 @@
-"""Makes cases from tables, and says which cases may not run at the same time."""
+"""Makes cases from tables, and says which cases may not run at the same time as others."""
 import pytest
 
 
@@ -11,3 +11,6 @@ def each(names, table):
 
 # Marks cases that use signals, locks, clocks or mounts. One process runs all of them.
 alone = pytest.mark.xdist_group("alone")
+# Marks cases that measure processor time or take much memory. They run one after another, once all
+# other cases have ended.
+by_itself = pytest.mark.by_itself

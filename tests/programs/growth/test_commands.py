@@ -1,0 +1,63 @@
+"""Each command is run with its first memory growth refused, then with its second, and so on, until
+a run has no growth to refuse. After each of these runs, the command is run with enough memory, and
+has to give the whole answer."""
+import pathlib
+import shutil
+
+import pytest
+from checks import named, same
+from outcomes import holds_only, ran_out, takes
+from programs import ROOT, docker, give, held, preloading
+from states import older
+from tables import each
+
+
+@pytest.fixture(autouse=True)
+def states(folder):
+    """The extracts of the office, and the states with which commands start: of no file, of the full
+    extract, of the updates, and the second one in the older format."""
+    for name in ("full.cif", "monday.cif", "tuesday.cif"):
+        shutil.copy(ROOT / "examples" / "office" / name, folder)
+    takes("empty.state")
+    give(older(takes("full.state", "full.cif")), "old.state")
+    takes("other.state", "monday.cif", "tuesday.cif")
+
+
+def command(state, words, given, **options):
+    """Runs a command over this text of STATE."""
+    give(state)
+    return docker(*words, given=given, **options)
+
+
+@each("state, line, job", {
+    "new": ("empty", "new STATE", ""),
+    "check": ("empty", "check full.cif", ""),
+    "day": ("empty", "day full.cif ASHFELD 2024-06-12", ""),
+    "take": ("full", "take STATE tuesday.cif", ""),
+    "merge": ("full", "merge STATE other.state", ""),
+    "print": ("full", "print STATE ASHFELD 2024-06-12", ""),
+    "files": ("full", "files STATE", ""),
+    "horizon": ("full", "horizon STATE 2024-06-01", ""),
+    "migrate": ("old", "migrate STATE", ""),
+    "a job line": ("full", "", "print stdin ASHFELD 2024-06-12\n"),
+})
+def test_each_growth_of_a_command_is_refused_in_turn(refusing, state, line, job):
+    words, before, refused = line.split(), held(f"{state}.state"), pathlib.Path("refused")
+    given = job.encode() + before if job else b""
+    whole = command(before, words, given)
+    stored, growth = held(), 1
+    assert (whole.status, whole.errors) == (0, b"")
+    while True:
+        refused.unlink(missing_ok=True)
+        library = preloading(refusing, GROWTH=growth, REFUSED=refused.absolute())
+        ended = command(before, words, given, before=library)
+        if not refused.exists():
+            break
+        with named(f"growth {growth}"):
+            ran_out(ended, before, whole, stored)
+            same("the end afterwards", command(before, words, given), whole)
+            holds_only("STATE", stored)
+        growth += 1
+    assert not ran_out(ended, before, whole, stored)
+    assert growth > 1, "no growth was refused"
+    print(f"{growth - 1} growths were refused")

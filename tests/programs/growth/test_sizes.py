@@ -1,0 +1,170 @@
+"""More things than 16 bits can number or a fixed buffer can hold. There are 70,000 schedules and as
+many associations, each at a place of its own. There are also a schedule of 200 lines, and 1,100
+files in each of two states.
+
+Each answer has to be right, so memory may run out only if a growth was refused. Then a growth in
+the middle of a `take` and of a `merge` is refused, and each of the last two. If one of the last two
+is refused, the program has to report that it is out of memory. If the one in the middle is refused,
+it may also manage with less memory, and give the whole answer."""
+import pathlib
+import typing
+
+import pytest
+from checks import holds, named
+from outcomes import DONE, accepted, done, holds_only, prints, ran_out
+from programs import docker, give, held, preloading
+from records import (
+    ALWAYS, NO_END, association, basic, extract, header, intermediate, origin, terminus,
+)
+from states import File, older, state
+from tables import each
+
+# One process runs all of these cases, because it keeps the large states.
+pytestmark = pytest.mark.xdist_group("sizes")
+
+ROWS = 70_000
+FILES = 1100
+STOPS = 198
+DAY = "2024-06-12"
+
+
+class Half(typing.NamedTuple):
+    """An extract and the state that takes it. The fields are the letters of its UIDs and places,
+    its reference, and the numbers of the files that the state knew before."""
+
+    uid: str
+    place: str
+    reference: str
+    known: range
+
+    def last_place(self):
+        return f"{self.place}{ROWS - 1:06}"
+
+
+FIRST = Half("A", "P", "DFROC1A", range(0, 2 * FILES, 2))
+SECOND = Half("B", "Q", "DFROC1B", range(1, 2 * FILES, 2))
+HALVES = {"first": FIRST, "second": SECOND}
+
+
+def schedule(uid, *journey):
+    return basic("N", uid, "240101", NO_END, ALWAYS, "1A10") + "".join(journey)
+
+
+def units(half):
+    """Each schedule begins at a place of its own, and has an association there with the next
+    schedule. One more schedule has 200 lines."""
+    for row in range(ROWS):
+        uid, other = (f"{half.uid}{it:05}" for it in (row, (row + 1) % ROWS))
+        place = f"{half.place}{row:06}"
+        yield schedule(uid, origin(place, "0900"), terminus("MEETING", "0930"))
+        yield association(uid, other, "240101", NO_END, place)
+    between = (intermediate(f"L{stop:06}", passes="1010") for stop in range(1, STOPS + 1))
+    yield schedule("Z00000", origin("BEYOND", "1000"), *between, terminus("MEETING", "1030"))
+
+
+def ledger(half):
+    """A state that knows these files, and has no entries."""
+    numbers = (f"{number:07}" for number in half.known)
+    return state([File("2005-09-26", it, last="LASTREF", time="0105") for it in numbers])
+
+
+@pytest.fixture(scope="module")
+def large(work):
+    """A folder with the two extracts, the states before and after they are taken, and the state
+    that joins the two states."""
+    folder = work / "sizes"
+    folder.mkdir()
+    for name, half in HALVES.items():
+        file, after = folder / f"{name}.cif", folder / f"{name}.state"
+        give(extract(header("240609", half.reference), *units(half)).encode(), file)
+        give(give(ledger(half), folder / f"{name}.ledger"), after)
+        assert docker("take", after, file) == DONE
+    give(held(folder / "first.state"), folder / "joined.state")
+    assert docker("merge", folder / "joined.state", folder / "second.state") == DONE
+    return folder
+
+
+def last_docker(half):
+    """The docker of the last place, where the last schedule leaves and works on."""
+    uid, place = f"{half.uid}{ROWS - 1:05}", half.last_place()
+    return prints(
+        place, DAY, f"0900  N 1A10 {uid} P                    {half.uid}00000  1A10",
+        f"0900  D 1A10 {uid} P               0900 {place} MEETING",
+    )
+
+
+def test_check(large):
+    wanted = accepted(4 * ROWS + STOPS + 5, 2 * ROWS + 1)
+    assert docker("check", large / "first.cif") == wanted
+
+
+def test_day_at_the_last_place(large):
+    place = FIRST.last_place()
+    assert docker("day", large / "first.cif", place, DAY) == last_docker(FIRST)
+
+
+@each("name", list(HALVES))
+def test_take(large, name):
+    give(held(large / f"{name}.ledger"))
+    assert docker("take", "STATE", large / f"{name}.cif") == DONE
+    holds_only("STATE", held(large / f"{name}.state"))
+
+
+def test_print_at_the_last_place(large):
+    place = FIRST.last_place()
+    assert docker("print", large / "first.state", place, DAY) == last_docker(FIRST)
+
+
+def test_merge(large):
+    give(held(large / "first.state"))
+    assert docker("merge", "STATE", large / "second.state") == DONE
+    holds_only("STATE", held(large / "joined.state"))
+
+
+@each("place, wanted", {
+    "the last place of the first file": (FIRST.last_place(), last_docker(FIRST)),
+    "the last place of the second file": (SECOND.last_place(), last_docker(SECOND)),
+    "a place in the schedule of 200 lines": (
+        "L000198",
+        prints("L000198", DAY, "1010  P 1A10 Z00000 P                    BEYOND  MEETING"),
+    ),
+})
+def test_print_from_the_joined_state(large, place, wanted):
+    assert docker("print", large / "joined.state", place, DAY) == wanted
+
+
+def test_files_of_the_joined_state(large):
+    lines = [f"2005-09-26 0105 {number:07} U LASTREF\n" for number in range(2 * FILES)]
+    lines += [f"2024-06-09 2100 {half.reference} U DFROC1Z\n" for half in HALVES.values()]
+    assert docker("files", large / "joined.state") == done("".join(lines).encode())
+
+
+def test_horizon_of_the_joined_state(large):
+    give(held(large / "joined.state"))
+    assert docker("horizon", "STATE", "2024-01-01") == DONE
+
+
+def test_migrate(large):
+    give(older(held(large / "first.state")))
+    assert docker("migrate", "STATE") == DONE
+    holds_only("STATE", held(large / "first.state"))
+
+
+@each("before, words", {
+    "take": ("first.ledger", "take STATE {}/first.cif"),
+    "merge": ("first.state", "merge STATE {}/second.state"),
+})
+@each("which", ["in the middle", "last but one", "last"])
+def test_a_growth_is_refused(large, refusing, before, words, which):
+    words, before = words.format(large).split(), held(large / before)
+    give(before)
+    whole = docker(*words, before=preloading(refusing, COUNTED=pathlib.Path("counted").absolute()))
+    assert whole == DONE
+    stored, count = held(), int(held("counted"))
+    growth = {"in the middle": count // 2, "last but one": count - 1, "last": count}[which]
+    give(before)
+    with named(f"growth {growth} of {count}"):
+        ended = docker(*words, before=preloading(refusing, GROWTH=growth))
+        is_out = ran_out(ended, before, whole, stored)
+        holds("the program managed with less memory", is_out or which == "in the middle")
+    print(f"{count} growths")

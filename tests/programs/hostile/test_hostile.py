@@ -1,0 +1,154 @@
+"""Files and states of hostile shapes, all of which are valid. Each answer has to be right, and has
+to take less than a second of processor time.
+
+An answer takes some hundredths of a second if the work grows in proportion to the input. It would
+take many seconds if the work grew with the square of the input. `bench/run-growth` has more shapes,
+and all commands."""
+import signal
+
+import pytest
+from checks import same
+from outcomes import DONE, done, holds_only, prints
+from programs import docker, give, in_seconds
+from records import ALWAYS, NO_END, association, basic, extract, header, origin, record, terminus
+from states import File, state
+from tables import by_itself, each
+
+pytestmark = [by_itself, pytest.mark.timeout(60)]
+
+# This many schedules or associations have 4,667 first days, and up to three STP indicators for each
+# of these days.
+ROWS = 14_000
+FILES = 100_000
+DAY = "2024-06-12"
+
+
+def first_day(number):
+    """One of 4,704 days from 2010 to 2023, with 28 days in each month. They all come before the
+    day of the dockers."""
+    return f"{10 + number // 336 % 14}{1 + number // 28 % 12:02}{1 + number % 28:02}"
+
+
+def schedule(uid, number, stp, *journey):
+    return basic("N", uid, first_day(number), NO_END, ALWAYS, "1A10", stp) + "".join(journey)
+
+
+def leaves(uid, number, stp):
+    """A schedule from Meeting to Beyond."""
+    return schedule(uid, number, stp, origin("MEETING", "0900"), terminus("BEYOND", "0930"))
+
+
+def link(base, other, number=0, stp="P"):
+    return association(base, other, first_day(number), NO_END, "MEETING", stp=stp)
+
+
+def stp_of(row):
+    return "PNO"[row % 3]
+
+
+def uids(letter):
+    return [f"{letter}{row:05}" for row in range(ROWS)]
+
+
+def of_one_uid():
+    """Schedules of one UID. Of those that run on the docker's day, the one whose STP indicator is
+    first in the alphabet is chosen. If several have this indicator, the one with the latest first
+    day is chosen."""
+    return [leaves("A00001", row // 3, stp_of(row)) for row in range(ROWS)]
+
+
+def of_one_group():
+    """Associations of the same two trains."""
+    links = [link("A00001", "B00001", row // 3, stp_of(row)) for row in range(ROWS)]
+    return [*links, leaves("A00001", 0, "P"), leaves("B00001", 0, "P")]
+
+
+def of_one_partner():
+    """Base trains of one partner, which has as many schedules."""
+    links = [link(uid, "B00001") for uid in uids("A")]
+    comes = origin("BEFORE", "0800"), terminus("MEETING", "0830")
+    bases = [schedule(uid, 0, "P", *comes) for uid in uids("A")]
+    return [*links, *bases, *(leaves("B00001", row // 3, stp_of(row)) for row in range(ROWS))]
+
+
+def after_many_lines():
+    """Partners of a base train that calls after as many lines."""
+    links = [link("A00001", uid) for uid in uids("B")]
+    between = ROWS * record("LIBETWEEN           0800 00000000")
+    journey = origin("BEFORE", "0800"), between, terminus("MEETING", "0830")
+    return [*links, schedule("A00001", 0, "P", *journey)]
+
+
+def in_a_ring():
+    """TIPLOCs that are renamed: each to the next, and the last to the first. The last record puts
+    the first place. Before it, every other place was put and then deleted."""
+    names = [f"P{row:06}" for row in range(ROWS)]
+    renamed = zip(names, [*names[1:], names[0]])
+    return [record(f"TA{old}{'':9}{'A PLACE':54}{new}") for old, new in renamed]
+
+
+COMES = [f"0830  A 1A10 {uid} P               0830 BEFORE  MEETING" for uid in uids("A")]
+WORKS_ON = [f"0830  N 1A10 {uid} P                    B00001  1A10" for uid in uids("A")]
+UNKNOWN = [f"0830  N 1A10 A00001 P                    {uid}  ????" for uid in uids("B")]
+
+
+def dockers(*lines):
+    return prints("MEETING", DAY, *lines)
+
+
+def answers(wanted, *words):
+    """Checks that a command ends so, within a second of processor time."""
+    ended = docker(*words, before=in_seconds(1))
+    killed = -signal.SIGKILL, -signal.SIGXCPU
+    assert ended.status not in killed, "it needs more than a second of processor time"
+    same("the end", ended[::2], wanted[::2])
+    same("the output", ended.output, wanted.output)
+
+
+@each("units, place, wanted", {
+    "schedules of one UID": (
+        of_one_uid, "MEETING", dockers("0900  D 1A10 A00001 N               0900 MEETING BEYOND"),
+    ),
+    "associations of one group": (
+        of_one_group, "MEETING",
+        dockers(
+            "0900  N 1A10 A00001 N                    B00001  1A10",
+            "0900  D 1A10 A00001 P               0900 MEETING BEYOND",
+            "0900  D 1A10 B00001 P               0900 MEETING BEYOND",
+        ),
+    ),
+    "bases of one partner of as many schedules": (
+        of_one_partner, "MEETING",
+        dockers(
+            *COMES, *WORKS_ON, "0900  D 1A10 B00001 N               0900 MEETING BEYOND",
+        ),
+    ),
+    "partners of a base whose call comes after as many lines": (
+        after_many_lines, "MEETING",
+        dockers("0830  A 1A10 A00001 P               0830 BEFORE  MEETING", *UNKNOWN),
+    ),
+    "TIPLOCs renamed in a ring": (
+        in_a_ring, "P000000", prints("P000000", DAY, name="A PLACE"),
+    ),
+})
+def test_day_of_a_hostile_file(units, place, wanted):
+    give(extract(header("240609", indicator="F"), *units()).encode(), "hostile")
+    answers(wanted, "day", "hostile", place, DAY)
+
+
+def ledger(numbers):
+    """A state that knows the files with these numbers, and has no entries."""
+    return state([File("2005-09-26", f"{it:07}", last="LASTREF", time="0105") for it in numbers])
+
+
+def test_merge_of_two_ledgers_of_100_000_files():
+    give(ledger(range(0, 2 * FILES, 2)), "even")
+    give(ledger(range(1, 2 * FILES, 2)), "odd")
+    answers(DONE, "merge", "even", "odd")
+    holds_only("even", ledger(range(2 * FILES)))
+
+
+def test_files_of_a_ledger_of_200_000_files():
+    give(ledger(range(2 * FILES)), "both")
+    lines = [f"2005-09-26 0105 {it:07} U LASTREF\n" for it in range(2 * FILES)]
+    answers(done("".join(lines).encode()), "files", "both")
