@@ -1,5 +1,6 @@
 -- The result of reading two sources follows from the results of reading each source.
-use Rattle.std.proofs.Common.{◌≡◌, ◌⊎◌, ℕ, arith, refl, sym, subst, inl, inr, Err}
+use Rattle.std.proofs.Common.{◌≡◌, ℕ, arith, refl, inl, inr, Err}
+use Rattle.std.specs.Prelude.{Result}
 use Rattle.docker_model.specs.file.File.{most_records}
 use Rattle.docker_model.specs.state.StateText.{Format, dks_2}
 use Rattle.docker_office.specs.OfficeReads.{CountsTaking, IsTakingOutcome, why_unread}
@@ -7,10 +8,9 @@ use Rattle.docker_office.specs.ReadEnds.{CountsWhy, IsWhyUnread, StopsReading}
 use Rattle.docker_office.specs.SourceRead.{WantsMemory}
 use Rattle.docker_office.specs.declared.fault.OfficeFault.{OfficeFault}
 use Rattle.docker_office.specs.declared.fault.OfficeFault.TheVariants as office
-use Rattle.docker_cmd.specs.Reads.{sources_meant}
-use Rattle.docker_cmd.specs.declared.reads.Sources.{Sources}
-use Rattle.docker_cmd.specs.Prepared.{DeviceBytes, FailsBy, HasNoSource, HasReadToEnd, HoldsSomeState, IsContentOf, IsWhyRefused, ReadView}
-use Rattle.docker_cmd.specs.Prepared.{ReadsFew, ReadsFewOfFile, ReadsFewOfState, most_bytes, one_state, state_and_file, taken_file, two_states}
+use Rattle.docker_cmd.specs.Prepared.{CountsSources, DeviceBytes, EndsReadingSources, FailsBy, HasNoSource, HoldsSomeState, IsWhyRefused}
+use Rattle.docker_cmd.specs.Prepared.{ReadsFew, ReadsFewOfFile, ReadsFewOfState, ReadsSources, Sources, most_bytes, one_state}
+use Rattle.docker_cmd.specs.Prepared.{state_and_file, taken_file, two_states}
 
 -- ---- reading one source
 
@@ -163,33 +163,18 @@ state_failed one one_now two two_now office.Memory same counted = (same, counted
 state_failed one one_now two two_now office.Lapsed same counted = counted
 state_failed one one_now two two_now office.Sink same counted = counted
 
--- ---- the sources of a task
+-- ---- tasks with one source
 
--- if `asked` equals `sources`, whatever was read from `sources` was also read from `asked`
-pub read_at : (asked sources : Sources) (first left second second_left : DeviceBytes) (read : ReadView) → asked ≡ sources
-    → ReadsFew (sources_meant sources) first left second second_left
-    (IsContentOf (sources_meant sources) first second read × HasReadToEnd (sources_meant sources) left second_left)
-    → ReadsFew (sources_meant asked) first left second second_left
-    (IsContentOf (sources_meant asked) first second read × HasReadToEnd (sources_meant asked) left second_left)
-read_at asked sources first left second second_left read is reads =
-    subst (λ (s : Sources). ReadsFew (sources_meant s) first left second second_left
-    (IsContentOf (sources_meant s) first second read × HasReadToEnd (sources_meant s) left second_left)) (sym is) reads
-
--- if `asked` equals `sources`, `asked` may be refused for any fault for which `sources` may be
--- refused
-pub refused_at : (asked sources : Sources) (first left second second_left : DeviceBytes) (fault : OfficeFault) → asked ≡ sources
-    → ReadsFew (sources_meant sources) first left second second_left (IsWhyRefused (sources_meant sources) first left second second_left fault)
-    → ReadsFew (sources_meant asked) first left second second_left (IsWhyRefused (sources_meant asked) first left second second_left fault)
-refused_at asked sources first left second second_left fault is reads =
-    subst (λ (s : Sources). ReadsFew (sources_meant s) first left second second_left
-    (IsWhyRefused (sources_meant s) first left second second_left fault)) (sym is) reads
-
--- of two equal `Sources`, one can't be `no_source` while the other isn't
-pub some_at : (P : Type 0) (asked sources : Sources) → asked ≡ sources → ¬ HasNoSource (sources_meant sources) → HasNoSource (sources_meant asked) → P
-some_at P asked sources is some none = absurd (some (subst (λ (s : Sources). HasNoSource (sources_meant s)) is none))
-
--- if there is a second source, either the reading stopped at the first source, or the first source
--- was read successfully and the second was read
-pub read_second : {First Second Good Kept : Type 0} → Second → First ⊎ (Good × Kept) → First ⊎ (Second × Good × Kept)
-read_second has (inl left) = inl left
-read_second has (inr both) = inr (has, both.0, both.1)
+-- if a task has a source, and reads only its first source, its reading ended as the contract of
+-- `hold` says
+pub read_alone : {S T A : Type 0} (left : S → DeviceBytes) (failures : S → ℕ) (left_of : T → DeviceBytes) (failures_of : T → ℕ) (IsMade : A → Type 0)
+    (sources : Sources) (first now : S) (second : T) (result : Result A OfficeFault) → ¬ HasNoSource sources
+    → ReadsSources IsMade sources (left first) (left now) (left_of second) (left_of second) result
+    → CountsSources result (failures first) (failures now) (failures_of second) (failures_of second)
+    → EndsReadingSources left failures left_of failures_of IsMade sources first now second second result
+read_alone left failures left_of failures_of IsMade sources first now second result some reads counted = record {
+  outcome = reads;
+  none = λ none. absurd (some none);
+  order = inl refl;
+  counted = counted;
+}

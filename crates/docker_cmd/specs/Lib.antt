@@ -6,7 +6,6 @@ pub mod Tasks
 pub mod Words
 pub mod Writes
 pub mod CheckLine
-pub mod Content
 pub mod FaultLine
 pub mod Holding
 pub mod Prepared

@@ -1,5 +1,5 @@
 -- What a job reads, and what it writes.
-use Rattle.std.specs.Prelude.{◌≡◌, ◌≢◌, ℕ, ◌+◌, ◌⊎◌, ⊤, List, [], ◌∷◌, Option, Result, Ok, Err}
+use Rattle.std.specs.Prelude.{◌≡◌, ℕ, ◌+◌, ◌⊎◌, ⊤, List, [], ◌∷◌, Option, Result, Ok, Err}
 use Rattle.cif_device.specs.Device.{Reads, Takes, TakesPart, IsEnd}
 use Rattle.cif_file.specs.FileRead.{FileCounted}
 use Rattle.cif_file.specs.SourceRead.{Held, CountsText, RefusesText, ReadsNoFurther}
@@ -78,11 +78,6 @@ IsStateOf taken_file first second state = TakesFile most_records first no_state 
 IsStateOf (one_state format) first second state = ReadsState format most_bytes first state
 IsStateOf state_and_file first second state = TakesBehind first second state
 IsStateOf two_states first second state = JoinsBehind first second state
-
--- this is the content of these sources: counts for a file that is only checked, otherwise a state
-abbrev pub IsContentOf : Sources → DeviceBytes → DeviceBytes → ReadView → Type 0
-IsContentOf sources first second (file_read file) = (sources ≡ checked_file) × CountsText most_records first file
-IsContentOf sources first second (office_read state) = IsStateOf sources first second state
 
 -- this is the state that a task makes from its sources. `horizon` raises the horizon of the state
 -- that was read, and `check` makes no state
@@ -212,17 +207,6 @@ abbrev pub ReadsSources : {A : Type 0} → (A → Type 0) → Sources → Device
 ReadsSources IsMade sources first left second second_left result =
     ReadsFew sources first left second second_left (EndsReading IsMade sources first left second second_left result)
 
--- the sources were read no further than the result needs. The result is their content, or a fault
-abbrev pub ReadsContent : {A : Type 0} → (A → ReadView) → Sources → DeviceBytes → DeviceBytes → DeviceBytes → DeviceBytes → Result A OfficeFault → Type 0
-ReadsContent meant sources first left second second_left result =
-    ReadsSources (λ made. IsContentOf sources first second (meant made)) sources first left second second_left result
-
--- a task's sources were read no further than the result needs. The result is what the task makes
--- from these sources, or a fault
-abbrev pub ReadsTask : {A : Type 0} → (A → ReadView) → TaskView → DeviceBytes → DeviceBytes → DeviceBytes → DeviceBytes → Result A OfficeFault → Type 0
-ReadsTask meant task first left second second_left result =
-    ReadsSources (λ made. IsReadOf task first second (meant made)) (sources_of task) first left second second_left result
-
 -- the prepared job consists of this job and of what its task makes from its sources
 abbrev pub IsPreparedFor : JobView → DeviceBytes → DeviceBytes → PreparedView → Type 0
 IsPreparedFor job first second prepared = (prepared.job ≡ job) × IsReadOf job.task first second prepared.read
@@ -252,6 +236,26 @@ abbrev pub CountsSources : {A : Type 0} → Result A OfficeFault → ℕ → ℕ
 CountsSources (Ok made) first first_now second second_now = HaveNotFailed first first_now second second_now
 CountsSources (Err fault) first first_now second second_now = FailsBy first first_now second second_now fault
 
+-- sources were read in order: a source was read only if these sources have one, and the second source
+-- only if the first held a state and didn't fail. `Outcome` says what the result means, and `Counted`
+-- how often the sources have failed
+pub record StopsReadingSources {S T : Type 0} (left : S → DeviceBytes) (failures : S → ℕ) (sources : Sources) (first first_now : S)
+    (second second_now : T) (Outcome Counted : Type 0) : Type 0 where
+  pub outcome : Outcome
+  pub none : HasNoSource sources → first_now ≡ first
+  pub order : (second_now ≡ second) ⊎ (HasSecondSource sources × HoldsSomeState (left first) × (failures first_now ≡ failures first))
+  pub counted : Counted
+
+-- reading the sources in order ended with this result: a value with the property `IsMade`, or a
+-- fault. For the first source, `left` returns the bytes left in it, and `failures` its number of
+-- failures; `left_of` and `failures_of` return them for the second source
+abbrev pub EndsReadingSources : {S T A : Type 0} → (S → DeviceBytes) → (S → ℕ) → (T → DeviceBytes) → (T → ℕ) → (A → Type 0) → Sources → S → S → T → T
+    → Result A OfficeFault → Type 0
+EndsReadingSources left failures left_of failures_of IsMade sources first first_now second second_now result =
+    StopsReadingSources left failures sources first first_now second second_now
+    (ReadsSources IsMade sources (left first) (left first_now) (left_of second) (left_of second_now) result)
+    (CountsSources result (failures first) (failures first_now) (failures_of second) (failures_of second_now))
+
 -- this is the text of this output for a state: a docker, the list of the state's files, or the text
 -- of the state
 abbrev pub IsStateOutput : Output → State → List ℕ → Type 0
@@ -264,12 +268,6 @@ IsStateOutput state_written state text = text ≡ state_text dks_2 state
 abbrev pub IsOutputText : Output → ReadView → List ℕ → Type 0
 IsOutputText output (file_read file) text = (output ≡ counts_written) × (text ≡ count_line file.record_count file.change_count)
 IsOutputText output (office_read state) text = IsStateOutput output state text
-
--- this output can be written from the content that was read. Counts are written from a file, any
--- other output from a state
-abbrev pub IsWrittenOf : Output → ReadView → Type 0
-IsWrittenOf output (file_read file) = output ≡ counts_written
-IsWrittenOf output (office_read state) = output ≢ counts_written
 
 -- the sink has gained the text of this output
 pub record GainsText (output : Output) (read : ReadView) (old new : DeviceBytes) : Type 0 where

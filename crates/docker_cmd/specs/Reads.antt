@@ -16,10 +16,10 @@ pub data Sources : Type 0 where
 
 -- converts the code's `Sources` to the `Sources` of the definitions
 abbrev pub sources_meant : declared.Sources → Sources
-sources_meant code.None = no_source
+sources_meant code.NoSource = no_source
 sources_meant code.CheckedFile = checked_file
 sources_meant code.TakenFile = taken_file
-sources_meant code.State = one_state dks_2
+sources_meant code.OneState = one_state dks_2
 sources_meant code.OlderState = one_state dks_1
 sources_meant code.StateAndFile = state_and_file
 sources_meant code.TwoStates = two_states

@@ -5,39 +5,42 @@ use Rattle.std.specs.Str.{bytes_eq}
 use Rattle.docker_model.specs.state.StateText.{dks_1, dks_2}
 use Rattle.docker_cmd.specs.Reads.{Sources, no_source, checked_file, taken_file, one_state, state_and_file, two_states, sources_meant}
 use Rattle.docker_cmd.specs.Words.{NamesDay, NamesPlace, NamesStored, OfOne, OfThree, OfTwo, Text, usage_with, with_bars}
-use Rattle.docker_cmd.specs.Writes.{Output, counts_written, docker_written, files_written, state_written}
+use Rattle.docker_cmd.specs.Writes.{Output, output_of_kind}
 use Rattle.docker_cmd.specs.declared.tasks.Row as code
 use Rattle.docker_cmd.specs.declared.tasks.Subcommand.{Subcommand}
 use Rattle.docker_cmd.specs.declared.tasks.Subcommand.TheVariants.{New, Check, Day, Take, Merge, Print, Files, Horizon, Migrate}
 use Rattle.docker_cmd.specs.declared.tasks.Task.{Task}
 use Rattle.docker_cmd.specs.declared.tasks.Task.TheVariants as task
+use Rattle.docker_cmd.specs.declared.writes.OutputKind.{OutputKind}
+use Rattle.docker_cmd.specs.declared.writes.OutputKind.TheVariants as kind
 
--- a row of the table: a subcommand's name, the names of the words after it, and what the subcommand
--- reads
+-- a row of the table: a subcommand's name, the names of the words after it, what the subcommand
+-- reads, and the kind of output that it writes
 pub record Row : Type 0 where
   pub name : Text
   pub ids : List Text
   pub reads : Sources
+  pub writes : OutputKind
 
 -- makes a row from these columns
-abbrev pub row : Text → List Text → Sources → Row
-row name ids reads = record { name = name; ids = ids; reads = reads }
+abbrev pub row : Text → List Text → Sources → OutputKind → Row
+row name ids reads writes = record { name = name; ids = ids; reads = reads; writes = writes }
 
 -- converts the code's `Row` to the `Row` of the definitions
 abbrev pub row_meant : code.Row → Row
-row_meant given = row given.name.now (map (λ id. id.now) given.ids.now) (sources_meant given.reads)
+row_meant given = row given.name.now (map (λ id. id.now) given.ids.now) (sources_meant given.reads) given.writes
 
 -- the table of subcommands: the row of each subcommand
 abbrev pub row_of : Subcommand → Row
-row_of New = row (codes "new") (codes "STATE" ∷ []) no_source
-row_of Check = row (codes "check") (codes "FILE" ∷ []) checked_file
-row_of Day = row (codes "day") (codes "FILE" ∷ codes "TIPLOC" ∷ codes "DATE" ∷ []) taken_file
-row_of Take = row (codes "take") (codes "STATE" ∷ codes "FILE" ∷ []) state_and_file
-row_of Merge = row (codes "merge") (codes "STATE" ∷ codes "OTHER" ∷ []) two_states
-row_of Print = row (codes "print") (codes "STATE" ∷ codes "TIPLOC" ∷ codes "DATE" ∷ []) (one_state dks_2)
-row_of Files = row (codes "files") (codes "STATE" ∷ []) (one_state dks_2)
-row_of Horizon = row (codes "horizon") (codes "STATE" ∷ codes "DATE" ∷ []) (one_state dks_2)
-row_of Migrate = row (codes "migrate") (codes "STATE" ∷ []) (one_state dks_1)
+row_of New = row (codes "new") (codes "STATE" ∷ []) no_source kind.State
+row_of Check = row (codes "check") (codes "FILE" ∷ []) checked_file kind.Counts
+row_of Day = row (codes "day") (codes "FILE" ∷ codes "TIPLOC" ∷ codes "DATE" ∷ []) taken_file kind.Docker
+row_of Take = row (codes "take") (codes "STATE" ∷ codes "FILE" ∷ []) state_and_file kind.State
+row_of Merge = row (codes "merge") (codes "STATE" ∷ codes "OTHER" ∷ []) two_states kind.State
+row_of Print = row (codes "print") (codes "STATE" ∷ codes "TIPLOC" ∷ codes "DATE" ∷ []) (one_state dks_2) kind.Docker
+row_of Files = row (codes "files") (codes "STATE" ∷ []) (one_state dks_2) kind.Files
+row_of Horizon = row (codes "horizon") (codes "STATE" ∷ codes "DATE" ∷ []) (one_state dks_2) kind.State
+row_of Migrate = row (codes "migrate") (codes "STATE" ∷ []) (one_state dks_1) kind.State
 
 -- all subcommands
 abbrev pub subcommands : List Subcommand
@@ -125,16 +128,12 @@ abbrev pub sources_of : TaskView → Sources
 sources_of task = (row_of (subcommand_of task)).reads
 
 -- the kind of output that a task writes
+abbrev pub writes_of : TaskView → OutputKind
+writes_of task = (row_of (subcommand_of task)).writes
+
+-- the output that a task writes
 abbrev pub output_of : TaskView → Output
-output_of new_task = state_written
-output_of check_task = counts_written
-output_of (day_task place day) = docker_written place day
-output_of take_task = state_written
-output_of merge_task = state_written
-output_of (print_task place day) = docker_written place day
-output_of files_task = files_written
-output_of (horizon_task day) = state_written
-output_of migrate_task = state_written
+output_of task = output_of_kind (writes_of task) (tiploc_of task) (day_of task)
 
 -- the horizon that a task sets for the state that it reads; None if the task sets no horizon
 abbrev pub horizon_of : TaskView → Option ℕ

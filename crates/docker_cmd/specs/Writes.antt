@@ -1,7 +1,7 @@
--- The kinds of output that a task writes.
-use Rattle.std.specs.Prelude.{ℕ, List}
-use Rattle.docker_cmd.specs.declared.writes.Output as declared
-use Rattle.docker_cmd.specs.declared.writes.Output.TheVariants as code
+-- The outputs that tasks write, and their kinds.
+use Rattle.std.specs.Prelude.{ℕ, List, [], Option, unwrap_or}
+use Rattle.docker_cmd.specs.declared.writes.OutputKind.{OutputKind}
+use Rattle.docker_cmd.specs.declared.writes.OutputKind.TheVariants as kind
 
 -- the output of a task: a file's counts, a docker, the list of a state's files, or a state
 pub data Output : Type 0 where
@@ -10,9 +10,10 @@ pub data Output : Type 0 where
   files_written : Output
   state_written : Output
 
--- converts the code's `Output` to the `Output` of the definitions
-abbrev pub output_meant : declared.Output → Output
-output_meant code.Counts = counts_written
-output_meant (code.Docker place day) = docker_written place day
-output_meant code.Files = files_written
-output_meant code.State = state_written
+-- the output of this kind. A docker is the docker of this timing point on this day. Each task that
+-- writes a docker names both, so the two values after `unwrap_or` aren't used
+abbrev pub output_of_kind : OutputKind → Option (List ℕ) → Option ℕ → Output
+output_of_kind kind.Counts place day = counts_written
+output_of_kind kind.Docker place day = docker_written (unwrap_or place []) (unwrap_or day 0)
+output_of_kind kind.Files place day = files_written
+output_of_kind kind.State place day = state_written

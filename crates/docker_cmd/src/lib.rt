@@ -31,4 +31,4 @@ pub use prepared_job::{Prepared, prepare};
 pub use reads::Sources;
 pub use sources::MOST_BYTES;
 pub use tasks::{Subcommand, Task};
-pub use writes::Output;
+pub use writes::OutputKind;

@@ -1,14 +1,11 @@
 //! Writes the output of a job.
-ghost use Rattle.std.specs.Prelude.{◌≡◌, ◌≢◌, ◌-◌, ◌^◌, ◌<◌, IfErr, OnErr, OnOk, Err};
+ghost use Rattle.std.specs.Prelude.{◌≡◌, ◌-◌, ◌^◌, ◌<◌, IfErr, OnErr, OnOk, Err};
 ghost use Rattle.cif_device.specs.Device.{CountsFailure, Takes, TakesPart};
-ghost use Rattle.docker_cmd.specs.Writes.{output_meant};
-ghost use Rattle.docker_cmd.specs.Prepared.{EndsEmitting, IsRefused, IsRefusedDocker, counts_written, docker_written, file_read, files_written, office_read, output_of};
+ghost use Rattle.docker_cmd.specs.Prepared.{EndsEmitting, IsRefused, IsRefusedDocker, counts_written, docker_written, file_read, files_written, office_read, output_of, state_written};
 
 use crate::check_line::check_line;
 use crate::holding::Holding;
 use crate::prepared_job::Prepared;
-use crate::sources::Content;
-use crate::writes::Output;
 use cif_file::FileCount;
 use cif_line::{Sink, write_all};
 use docker_office::{LedgerOffice, Office, OfficeFault, PlaceOffice};
@@ -28,10 +25,8 @@ pub fn emit<K: Sink>(prepared: &Prepared<'_>, sink: &mut K) -> Result<(), Office
     ensures lapsed { IsRefused prepared.now → result ≡ Err OfficeFault.Lapsed }
 {
     match prepared.held() {
-        Holding::Whole(Content::File(file)) => write_counts(file, sink),
-        Holding::Whole(Content::Office(office)) => {
-            write_office(office, &prepared.job().task().writes(), sink)
-        }
+        Holding::Counts(file) => write_counts(file, sink),
+        Holding::Whole(office) => write_state(office, sink),
         Holding::Place(office) => write_place(office, sink),
         Holding::Ledger(office) => write_ledger(office, sink),
     }
@@ -59,21 +54,13 @@ fn write<K: Sink>(sink: &mut K, text: &[u8]) -> Result<(), OfficeFault>
     write_all(sink, text).map_err(|_| OfficeFault::Sink)
 }
 
-/// Writes a docker, the list of files or the state's text, from an office that holds the whole
-/// state.
-fn write_office<K: Sink>(office: &Office, output: &Output, sink: &mut K) -> Result<(), OfficeFault>
-    requires failures { K.failures sink.old < 2 ^ 64 - 1 }
-    requires output { output_meant output.now ≢ counts_written }
-    ensures ends { EndsEmitting K.taken K.failures (output_meant output.now)
-        (office_read office.now) sink.old sink.new result }
-    ensures lapsed { IsRefusedDocker (output_meant output.now) (office_read office.now)
-        → result ≡ Err OfficeFault.Lapsed }
+/// Writes the text of an office's state.
+fn write_state<K: Sink>(office: &Office, sink: &mut K) -> Result<(), OfficeFault>
+    requires { K.failures sink.old < 2 ^ 64 - 1 }
+    ensures { EndsEmitting K.taken K.failures state_written (office_read office.now)
+        sink.old sink.new result }
 {
-    match output {
-        Output::Docker { place, day } => office.print(place, *day, sink),
-        Output::Files => office.files(sink),
-        Output::State | Output::Counts => office.send(sink),
-    }
+    office.send(sink)
 }
 
 /// Writes the docker for which the excerpt was made.

@@ -1,7 +1,7 @@
 //! A job that has read its sources.
-ghost use Rattle.std.specs.Prelude.{◌≡◌, ◌-◌, ◌^◌, ◌<◌, ◌⊎◌, IfOk};
+ghost use Rattle.std.specs.Prelude.{◌≡◌, ◌-◌, ◌^◌, ◌<◌, IfOk};
 ghost use Rattle.docker_cmd.specs.Holding.{IsWrittenFrom, held_meant};
-ghost use Rattle.docker_cmd.specs.Prepared.{CountsSources, HasNoSource, HasSecondSource, HoldsSomeState, IsOfOneFile, ReadsInOrder, output_of, sources_of, taken_file};
+ghost use Rattle.docker_cmd.specs.Prepared.{EndsReadingSources, IsOfOneFile, IsPreparedFor, output_of, sources_of, taken_file};
 
 use crate::holding::{Holding, hold};
 use crate::jobs::Job;
@@ -33,13 +33,6 @@ impl<'a> Model for Prepared<'a> {
 }
 
 impl<'a> Prepared<'a> {
-    /// Returns the job that was prepared.
-    pub(crate) fn job(&self) -> &'a Job
-        ensures { result.now ≡ self.now.job }
-    {
-        self.job
-    }
-
     /// Returns what the job keeps in memory: the counts of a file for `check`, and an office for
     /// any other job. The office may hold only the part of the state that the job writes.
     pub(crate) fn held(&self) -> &Holding
@@ -68,15 +61,11 @@ pub fn prepare<'a, S: Source, T: Source>(
 ) -> Result<Prepared<'a>, OfficeFault>
     requires first { S.failures first.old < 2 ^ 64 - 1 }
     requires second { T.failures second.old < 2 ^ 64 - 1 }
-    ensures reads { ReadsInOrder job.now (S.left first.old) (S.left first.new)
-        (T.left second.old) (T.left second.new) result }
+    ensures reads { EndsReadingSources S.left S.failures T.left T.failures
+        (IsPreparedFor job.now (S.left first.old) (T.left second.old))
+        (sources_of job.now.task) first.old first.new second.old second.new result }
     ensures one_file { sources_of job.now.task ≡ taken_file →
         IfOk result (λ prepared. IsOfOneFile (S.left first.old) prepared.read) }
-    ensures none { HasNoSource (sources_of job.now.task) → first.new ≡ first.old }
-    ensures order { (second.new ≡ second.old) ⊎ (HasSecondSource (sources_of job.now.task) ×
-        HoldsSomeState (S.left first.old) × (S.failures first.new ≡ S.failures first.old)) }
-    ensures counted { CountsSources result (S.failures first.old) (S.failures first.new)
-        (T.failures second.old) (T.failures second.new) }
 {
     let held = hold(alloc, job, first, second)?;
     Ok(Prepared { job, held })

@@ -4,12 +4,15 @@ ghost use Rattle.std.specs.Option.{option_copied};
 ghost use Rattle.std.specs.Str.{bytes_eq};
 ghost use Rattle.docker_cmd.specs.Job.{IsTaskOf};
 ghost use Rattle.docker_cmd.specs.Reads.{sources_meant};
-ghost use Rattle.docker_cmd.specs.Tasks.{day_of, horizon_of, ids_of, name_of, output_of, row_meant, row_of, sources_of, subcommand_named, subcommand_of, subcommands, task_meant, tiploc_of, usage_line};
+ghost use Rattle.docker_cmd.specs.Tasks.{day_of, horizon_of, ids_of, name_of, row_meant, row_of, sources_of, subcommand_named, subcommand_of, subcommands, task_meant, tiploc_of, usage_line, writes_of};
 ghost use Rattle.docker_cmd.specs.Words.{NamesDay, NamesPlace, texts};
-ghost use Rattle.docker_cmd.specs.Writes.{output_meant};
 
 use crate::reads::Sources;
-use crate::writes::Output;
+use crate::reads::Sources::{
+    CheckedFile, NoSource, OlderState, OneState, StateAndFile, TakenFile, TwoStates,
+};
+use crate::writes::OutputKind;
+use crate::writes::OutputKind::{Counts, Docker, Files, State};
 use cif_line::{Day, Tiploc};
 
 /// The subcommands.
@@ -45,16 +48,24 @@ pub(crate) struct Row<'a> {
     ids: &'a [&'a str],
     /// What the subcommand reads, in the order of its words.
     reads: Sources,
+    /// What the subcommand writes.
+    writes: OutputKind,
 }
 
 impl<'a> Row<'a> {
     /// Makes a row from these columns.
-    fn of(name: &'a str, ids: &'a [&'a str], reads: Sources) -> Row<'a>
+    fn of(name: &'a str, ids: &'a [&'a str], reads: Sources, writes: OutputKind) -> Row<'a>
         ensures name { result.name.now ≡ name.now }
         ensures ids { result.ids.now ≡ ids.now }
         ensures reads { result.reads ≡ reads }
+        ensures writes { result.writes ≡ writes }
     {
-        Row { name, ids, reads }
+        Row {
+            name,
+            ids,
+            reads,
+            writes,
+        }
     }
 }
 
@@ -81,15 +92,15 @@ impl Subcommand {
         ensures { row_meant result ≡ row_of self }
     {
         match self {
-            Subcommand::New => Row::of("new", &["STATE"], Sources::None),
-            Subcommand::Check => Row::of("check", &["FILE"], Sources::CheckedFile),
-            Subcommand::Day => Row::of("day", &["FILE", "TIPLOC", "DATE"], Sources::TakenFile),
-            Subcommand::Take => Row::of("take", &["STATE", "FILE"], Sources::StateAndFile),
-            Subcommand::Merge => Row::of("merge", &["STATE", "OTHER"], Sources::TwoStates),
-            Subcommand::Print => Row::of("print", &["STATE", "TIPLOC", "DATE"], Sources::State),
-            Subcommand::Files => Row::of("files", &["STATE"], Sources::State),
-            Subcommand::Horizon => Row::of("horizon", &["STATE", "DATE"], Sources::State),
-            Subcommand::Migrate => Row::of("migrate", &["STATE"], Sources::OlderState),
+            Subcommand::New => Row::of("new", &["STATE"], NoSource, State),
+            Subcommand::Check => Row::of("check", &["FILE"], CheckedFile, Counts),
+            Subcommand::Day => Row::of("day", &["FILE", "TIPLOC", "DATE"], TakenFile, Docker),
+            Subcommand::Take => Row::of("take", &["STATE", "FILE"], StateAndFile, State),
+            Subcommand::Merge => Row::of("merge", &["STATE", "OTHER"], TwoStates, State),
+            Subcommand::Print => Row::of("print", &["STATE", "TIPLOC", "DATE"], OneState, Docker),
+            Subcommand::Files => Row::of("files", &["STATE"], OneState, Files),
+            Subcommand::Horizon => Row::of("horizon", &["STATE", "DATE"], OneState, State),
+            Subcommand::Migrate => Row::of("migrate", &["STATE"], OlderState, State),
         }
     }
 
@@ -152,7 +163,9 @@ impl Subcommand {
     }
 }
 
-/// Returns the usage line: each subcommand's name and the words that it requires.
+/// Returns the usage line: each subcommand's name and the words that it requires. This literal
+/// repeats the table, but can't differ from it, because the clause says that the line is made from
+/// the table.
 pub(crate) fn usage<'a>() -> &'a [u8]
     ensures { result.now ≡ usage_line }
 {
@@ -271,17 +284,10 @@ impl Task {
     }
 
     /// Returns the kind of output that the task writes.
-    pub fn writes(self) -> Output
-        ensures { output_meant result ≡ output_of (task_meant self) }
+    pub fn writes(self) -> OutputKind
+        ensures { result ≡ writes_of (task_meant self) }
     {
-        match self {
-            Task::Check => Output::Counts,
-            Task::Day { place, day } | Task::Print { place, day } => Output::Docker { place, day },
-            Task::Files => Output::Files,
-            Task::New | Task::Take | Task::Merge | Task::Horizon { .. } | Task::Migrate => {
-                Output::State
-            }
-        }
+        self.subcommand().row().writes
     }
 
     /// Returns the horizon that the task sets for the state that it has read; `None` if the task

@@ -1,18 +1,12 @@
 //! The kinds of output that a task writes.
-use cif_line::{Day, Tiploc};
 
-/// The output of a task.
+/// A kind of output.
 #[derive(Clone, Copy, PartialEq, Eq, Debug)]
-pub enum Output {
+pub enum OutputKind {
     /// The line with a file's counts.
     Counts,
     /// The docker of a timing point on a day.
-    Docker {
-        /// The timing point.
-        place: Tiploc,
-        /// The day.
-        day: Day,
-    },
+    Docker,
     /// The list of the files that a state knows.
     Files,
     /// The text of a state. This text replaces the file that the first word names.

@@ -26,7 +26,7 @@ use Rattle.docker_cmd.specs.Words.{NamesDay, NamesStored, OfTwo, Text}
 use Rattle.docker_cmd.specs.Job.{JobView}
 use Rattle.docker_cmd.specs.Prepared.{IsOutputText, IsReadOf, IsRefusedDocker, ReadView, file_read, office_read}
 use Rattle.docker_cmd.specs.Tasks.{AreWordsOf, TaskView, new_task, check_task, day_task, take_task}
-use Rattle.docker_cmd.specs.Tasks.{merge_task, print_task, files_task, horizon_task, migrate_task, output_of}
+use Rattle.docker_cmd.specs.Tasks.{merge_task, print_task, files_task, horizon_task, migrate_task, output_of, writes_of}
 use Rattle.docker_program.specs.SourceNames.{file_stored}
 use Rattle.docker_program.specs.Program.{AsksFor}
 use Rattle.docker_program.specs.Sources.{SourcesRead}
@@ -238,7 +238,7 @@ asked_day words input rest job asks day is =
     one_day job.words day (subst (λ (t : TaskView). AreWordsOf t job.words) is (asked_words words input rest job asks))
 
 -- output that is stored in a file isn't a docker of a refused day
-stored_allowed : (task : TaskView) (words : List Text) (name : Text) (what : ReadView) → file_stored (output_of task) words ≡ Some name
+stored_allowed : (task : TaskView) (words : List Text) (name : Text) (what : ReadView) → file_stored (writes_of task) words ≡ Some name
     → ¬ IsRefusedDocker (output_of task) what
 stored_allowed task words name (file_read file) stored = λ refused. refused
 stored_allowed new_task words name (office_read state) stored = λ refused. refused
@@ -252,7 +252,7 @@ stored_allowed (horizon_task day) words name (office_read state) stored = λ ref
 stored_allowed migrate_task words name (office_read state) stored = λ refused. refused
 
 -- if a job stores its output, the output is the text of the summary of what the job's office knows
-stored_known : (task : TaskView) (words : List Text) (name : Text) (known : Known) (text : List ℕ) → file_stored (output_of task) words ≡ Some name
+stored_known : (task : TaskView) (words : List Text) (name : Text) (known : Known) (text : List ℕ) → file_stored (writes_of task) words ≡ Some name
     → WritesKnown task known text → IsKnownText dks_2 known text
 stored_known new_task words name known text stored writes = writes
 stored_known check_task words name known text stored writes = absurd (none_some name stored)

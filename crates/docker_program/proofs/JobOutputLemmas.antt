@@ -5,10 +5,13 @@ use Rattle.cif_device.specs.Device.{Takes}
 use Rattle.docker_host.specs.Asked.{IsDropped, IsUndrafted}
 use Rattle.docker_host.specs.History.{Bytes, Event, drafted, dropped, named_if, placed, unplaced}
 use Rattle.docker_cmd.specs.Words.{Text}
-use Rattle.docker_cmd.specs.Writes.{Output, counts_written, docker_written, files_written, state_written}
-use Rattle.docker_cmd.specs.Tasks.{output_of}
+use Rattle.docker_cmd.specs.Writes.{Output, counts_written, docker_written, files_written, output_of_kind, state_written}
+use Rattle.docker_cmd.specs.declared.writes.OutputKind.{OutputKind}
+use Rattle.docker_cmd.specs.declared.writes.OutputKind.TheVariants as kind
+use Rattle.docker_cmd.specs.Tasks.{day_of, output_of, tiploc_of, writes_of}
 use Rattle.docker_cmd.specs.FaultLine.{IsCounted, result_status, status_of}
-use Rattle.docker_cmd.specs.Prepared.{EndsEmitting, GainsOutput, IsDocker, IsRefused, IsRefusedDocker, PreparedView, ReadView, file_read, office_read}
+use Rattle.docker_cmd.specs.Prepared.{EndsEmitting, GainsOutput, IsDocker, IsRefused, IsRefusedDocker, PreparedView, PrintsDocker}
+use Rattle.docker_cmd.specs.Prepared.{ReadView, file_read, office_read}
 use Rattle.docker_cmd.specs.OfficeFault.{OfficeFault}
 use Rattle.docker_cmd.specs.OfficeFault.TheVariants as office
 use Rattle.docker_cmd.specs.declared.fault.Fault.TheVariants.{Office}
@@ -19,11 +22,18 @@ none_some : (name : Text) → ◌≡◌ {A = Option Text} None (Some name) → �
 none_some name is = cc
 
 -- output that is stored in a file isn't a docker
-no_docker : (output : Output) (words : List Text) (name : Text) → file_stored output words ≡ Some name → ¬ IsDocker output
-no_docker counts_written words name is = λ docker. docker
-no_docker (docker_written place day) words name is = λ docker. absurd (none_some name is)
-no_docker files_written words name is = λ docker. docker
-no_docker state_written words name is = λ docker. docker
+no_docker : (output : OutputKind) (place : Option (List ℕ)) (day : Option ℕ) (words : List Text) (name : Text) → file_stored output words ≡ Some name
+    → ¬ IsDocker (output_of_kind output place day)
+no_docker kind.Counts place day words name is = λ docker. docker
+no_docker kind.Docker place day words name is = λ docker. absurd (none_some name is)
+no_docker kind.Files place day words name is = λ docker. docker
+no_docker kind.State place day words name is = λ docker. docker
+
+-- a job that stores its output in a file doesn't print a docker
+stores_no_docker : (prepared : PreparedView) (name : Text) → stored_by prepared.job ≡ Some name → ¬ PrintsDocker prepared
+stores_no_docker prepared name is =
+    let task = prepared.job.task in
+    no_docker (writes_of task) (tiploc_of task) (day_of task) prepared.job.words name is
 
 -- output that isn't a docker isn't a docker of a refused day
 no_refused : (output : Output) (read : ReadView) → ¬ IsDocker output → ¬ IsRefusedDocker output read
@@ -40,9 +50,9 @@ pub fails_alone : {K : Type 0} (taken : K → Bytes) (failures : K → ℕ) (old
     (fault ≡ office.Sink) × (failures new ≡ failures old + 1)
 fails_alone taken failures old new prepared name office.Sink is ends = (refl, ends.1)
 fails_alone taken failures old new prepared name office.Lapsed is ends =
-    absurd (no_refused (output_of prepared.job.task) prepared.read (no_docker (output_of prepared.job.task) prepared.job.words name is) ends.0)
+    absurd (no_refused (output_of prepared.job.task) prepared.read (stores_no_docker prepared name is) ends.0)
 fails_alone taken failures old new prepared name office.Memory is ends =
-    absurd (no_docker (output_of prepared.job.task) prepared.job.words name is ends.0)
+    absurd (stores_no_docker prepared name is ends.0)
 fails_alone taken failures old new prepared name (office.File fault) is ends = elim ends [ ]
 fails_alone taken failures old new prepared name (office.State fault) is ends = elim ends [ ]
 fails_alone taken failures old new prepared name office.Source is ends = elim ends [ ]

@@ -5,8 +5,9 @@ use Rattle.docker_cmd.specs.Words.{Text}
 use Rattle.docker_cmd.specs.Job.{JobView}
 use Rattle.docker_cmd.specs.Reads as reads
 use Rattle.docker_cmd.specs.Reads.{Sources}
-use Rattle.docker_cmd.specs.Tasks.{output_of, sources_of}
-use Rattle.docker_cmd.specs.Writes.{Output, counts_written, docker_written, files_written, state_written}
+use Rattle.docker_cmd.specs.Tasks.{sources_of, writes_of}
+use Rattle.docker_cmd.specs.declared.writes.OutputKind.{OutputKind}
+use Rattle.docker_cmd.specs.declared.writes.OutputKind.TheVariants as kind
 use Rattle.docker_program.specs.declared.names.SourceNames as declared
 use Rattle.docker_program.specs.declared.names.SourceNames.TheVariants as code
 
@@ -52,14 +53,14 @@ second_word (word ∷ words) = first_word words
 
 -- the source of a job that has only one source, which this word names. If the job writes a state,
 -- the word is the name of STATE, and names a file even if it is `stdin`
-abbrev pub only_source : Output → Text → SourceNames
-only_source counts_written word = file_or_input word
-only_source (docker_written place day) word = file_or_input word
-only_source files_written word = file_or_input word
-only_source state_written word = one_file word
+abbrev pub only_source : OutputKind → Text → SourceNames
+only_source kind.Counts word = file_or_input word
+only_source kind.Docker word = file_or_input word
+only_source kind.Files word = file_or_input word
+only_source kind.State word = one_file word
 
 -- the sources that these words name, for a job with these kinds of input and output
-abbrev pub sources_named : Sources → Output → List Text → SourceNames
+abbrev pub sources_named : Sources → OutputKind → List Text → SourceNames
 sources_named reads.no_source output words = no_source
 sources_named reads.checked_file output words = only_source output (first_word words)
 sources_named reads.taken_file output words = only_source output (first_word words)
@@ -71,16 +72,16 @@ sources_named reads.two_states output words =
 
 -- the sources that the words of this job name
 abbrev pub names_of : JobView → SourceNames
-names_of job = sources_named (sources_of job.task) (output_of job.task) job.words
+names_of job = sources_named (sources_of job.task) (writes_of job.task) job.words
 
 -- the name of the file that is written, or `None` if the output is printed. If the output is a
 -- state, the name is the first word
-abbrev pub file_stored : Output → List Text → Option Text
-file_stored counts_written words = None
-file_stored (docker_written place day) words = None
-file_stored files_written words = None
-file_stored state_written words = Some (first_word words)
+abbrev pub file_stored : OutputKind → List Text → Option Text
+file_stored kind.Counts words = None
+file_stored kind.Docker words = None
+file_stored kind.Files words = None
+file_stored kind.State words = Some (first_word words)
 
 -- the name of the file that this job writes, or `None` if the job prints
 abbrev pub stored_by : JobView → Option Text
-stored_by job = file_stored (output_of job.task) job.words
+stored_by job = file_stored (writes_of job.task) job.words

@@ -1,18 +1,17 @@
 //! Finds what the words of a job name: its sources, and the file that it writes.
 ghost use Rattle.std.specs.Prelude.{◌≡◌, option_map};
-ghost use Rattle.docker_cmd.specs.Writes.{output_meant};
 ghost use Rattle.docker_program.specs.SourceNames.{file_and_word, file_or_input, first_word, names_meant, names_of, only_source, second_word, stored_by};
 
 use crate::names::{STDIN, SourceNames};
-use docker_cmd::{Job, Output, Sources};
+use docker_cmd::{Job, OutputKind, Sources};
 
 /// Returns the sources that the words of a job name.
 pub(crate) fn names(job: &Job) -> SourceNames<'_>
     ensures { names_meant result ≡ names_of job.now }
 {
     match job.task().reads() {
-        Sources::None => SourceNames::None,
-        Sources::CheckedFile | Sources::TakenFile | Sources::State | Sources::OlderState => {
+        Sources::NoSource => SourceNames::None,
+        Sources::CheckedFile | Sources::TakenFile | Sources::OneState | Sources::OlderState => {
             only_source(job.task().writes(), first_word(job))
         }
         Sources::StateAndFile | Sources::TwoStates => {
@@ -26,19 +25,19 @@ pub(crate) fn stored_name(job: &Job) -> Option<&str>
     ensures { option_map (λ name. name.now) result ≡ stored_by job.now }
 {
     match job.task().writes() {
-        Output::State => Some(first_word(job)),
-        Output::Counts | Output::Docker { .. } | Output::Files => None,
+        OutputKind::State => Some(first_word(job)),
+        OutputKind::Counts | OutputKind::Docker | OutputKind::Files => None,
     }
 }
 
 /// Returns the source of a job that has only one source, which `word` names. If the job writes a
 /// state, the word is the name of STATE, and names a file even if it is `stdin`.
-fn only_source(output: Output, word: &str) -> SourceNames<'_>
-    ensures { names_meant result ≡ only_source (output_meant output) word.now }
+fn only_source(output: OutputKind, word: &str) -> SourceNames<'_>
+    ensures { names_meant result ≡ only_source output word.now }
 {
     match output {
-        Output::State => SourceNames::File(word),
-        Output::Counts | Output::Docker { .. } | Output::Files => file_or_input(word),
+        OutputKind::State => SourceNames::File(word),
+        OutputKind::Counts | OutputKind::Docker | OutputKind::Files => file_or_input(word),
     }
 }
 

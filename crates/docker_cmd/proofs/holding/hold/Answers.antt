@@ -1,114 +1,275 @@
-use Rattle.std.proofs.Common.{◌≡◌, ◌∙◌, ap, inl, refl, sym}
+use Rattle.std.proofs.Common.{◌≡◌, ◌∙◌, ap, inl, refl, sym, Ok, Err}
 use Rattle.std.proofs.lemmas.Result.{err_from_is_err_and}
 use Rattle.docker_model.specs.file.File.{most_records}
-use Rattle.docker_model.specs.state.StateText.{dks_2}
+use Rattle.docker_model.specs.state.StateText.{dks_1, dks_2}
 use Rattle.docker_office.specs.Office.{TakesFile, no_state}
 use Rattle.docker_office.specs.Values.{Excerpt}
-use Rattle.docker_cmd.specs.Holding.{place_read}
-use Rattle.docker_cmd.specs.Tasks.{day_task, files_task, output_of, print_task, sources_of, task_meant}
-use Rattle.docker_cmd.specs.Prepared.{office_read}
+use Rattle.docker_cmd.specs.Holding.{held_meant}
+use Rattle.docker_cmd.specs.Tasks.{check_task, day_task, files_task, horizon_task, merge_task, migrate_task, new_task, output_of, print_task, take_task}
+use Rattle.docker_cmd.specs.Tasks.{task_meant}
+use Rattle.docker_cmd.specs.Prepared.{IsReadOf, checked_file, taken_file}
 use Rattle.docker_cmd.specs.Writes.{docker_written}
-use Rattle.docker_cmd.proofs.ReadingLemmas.{file_failed_alone, file_refused_alone, state_failed_alone, state_refused_alone}
-use Rattle.docker_cmd.proofs.SourcesLemmas.{read_of_task, refused_for, some_of_task}
+use Rattle.docker_cmd.specs.declared.holding.Holding.TheVariants.{Counts, Whole, Place, Ledger}
+use Rattle.docker_cmd.proofs.ReadingLemmas.{file_failed_alone, file_refused_alone, read_alone}
+use Rattle.docker_cmd.proofs.SourcesLemmas.{held_for, state_held, state_unheld}
 use Rattle.docker_cmd.proofs.holding.hold.Goals as goal
+
+pub returns-in-New : goal.returns-in-New
+returns-in-New g c =
+    let first = c.args.first.now in
+    let second = c.args.second.now in
+    let at : c.args.job.now.task ≡ new_task = sym c.task.ensures ∙ ap task_meant c.in-New.is in
+    record {
+      reads = held_for g.S.Source.left g.S.Source.failures g.T.Source.left g.T.Source.failures _ new_task first first second second
+          (Ok (Whole c.unindexed.result)) at (record {
+            outcome = record { first_few = refl; second_few = refl; ends = (c.unindexed.ensures.empty, tt) };
+            none = λ none. refl;
+            order = inl refl;
+            counted = (refl, refl);
+          });
+      written = ap output_of at;
+    }
+
+pub returns-in_ok-counts_of_file-in-Check : goal.returns-in_ok-counts_of_file-in-Check
+returns-in_ok-counts_of_file-in-Check g c =
+    let first = c.args.first.now in
+    let second = c.args.second.now in
+    let now = c.counts_of_file.new.source in
+    let at : c.args.job.now.task ≡ check_task = sym c.task.ensures ∙ ap task_meant c.in-Check.is in
+    let read = c.in_ok-counts_of_file-in-Check in
+    let ended = read.ensures.reads (g.T.Source.left second) in
+    record {
+      reads = held_for g.S.Source.left g.S.Source.failures g.T.Source.left g.T.Source.failures _ check_task first now second second
+          (Ok (Counts read.field-0)) at (read_alone g.S.Source.left g.S.Source.failures g.T.Source.left g.T.Source.failures
+          (λ held. IsReadOf check_task (g.S.Source.left first) (g.T.Source.left second) (held_meant held))
+          checked_file first now second (Ok (Counts read.field-0)) (λ none. cc)
+          (record { first_few = ended.first_few; second_few = refl; ends = ((refl, ended.ends.0), ended.ends.1) })
+          (read.ensures.counted (g.T.Source.failures second)));
+      written = ap output_of at;
+    }
+
+pub returns-in_err-counts_of_file-in-Check : goal.returns-in_err-counts_of_file-in-Check
+returns-in_err-counts_of_file-in-Check g c =
+    let first = c.args.first.now in
+    let second = c.args.second.now in
+    let now = c.counts_of_file.new.source in
+    let at : c.args.job.now.task ≡ check_task = sym c.task.ensures ∙ ap task_meant c.in-Check.is in
+    let read = c.in_err-counts_of_file-in-Check in
+    let residual = c.from_residual in
+    let same = err_from_is_err_and residual.result residual.ensures.1 in
+    let ended = read.ensures.reads (g.T.Source.left second) in
+    rw (same.1, same.2) (record {
+      reads = held_for g.S.Source.left g.S.Source.failures g.T.Source.left g.T.Source.failures _ check_task first now second second
+          (Err _) at (read_alone g.S.Source.left g.S.Source.failures g.T.Source.left g.T.Source.failures
+          (λ held. IsReadOf check_task (g.S.Source.left first) (g.T.Source.left second) (held_meant held))
+          checked_file first now second (Err _) (λ none. cc)
+          ended
+          (read.ensures.counted (g.T.Source.failures second)));
+      written = tt;
+    })
 
 pub returns-in_ok-office-in-Day : goal.returns-in_ok-office-in-Day
 returns-in_ok-office-in-Day g c =
-    let second = g.T.Source.left c.args.second.now in
+    let first = c.args.first.now in
+    let second = c.args.second.now in
+    let now = c.take.new.source in
     let at : c.args.job.now.task ≡ day_task c.in-Day.place c.in-Day.day = sym c.task.ensures ∙ ap task_meant c.in-Day.is in
-    let took = c.in_ok-office-in-Day.ensures.takes in
+    let read = c.in_ok-office-in-Day in
+    let took = read.ensures.takes in
     record {
-      reads = read_of_task c.args.job.now.task (day_task c.in-Day.place c.in-Day.day) (g.S.Source.left c.args.first.now)
-          (g.S.Source.left c.take.new.source) second second (place_read c.in_ok-office-in-Day.office) at
-          (record { first_few = took.no_further; second_few = refl; ends = took.outcome });
-      none = some_of_task _ c.args.job.now.task (day_task c.in-Day.place c.in-Day.day) at (λ none. cc);
-      order = inl refl;
-      counted = (took.failures, refl);
-      written = ap output_of at ∙ sym (λ i. docker_written (c.in_ok-office-in-Day.ensures.place i) (c.in_ok-office-in-Day.ensures.day i));
+      reads = held_for g.S.Source.left g.S.Source.failures g.T.Source.left g.T.Source.failures _ (day_task c.in-Day.place c.in-Day.day) first now second second
+          (Ok (Place read.office)) at (read_alone g.S.Source.left g.S.Source.failures g.T.Source.left g.T.Source.failures
+          (λ held. IsReadOf (day_task c.in-Day.place c.in-Day.day) (g.S.Source.left first) (g.T.Source.left second) (held_meant held))
+          taken_file first now second (Ok (Place read.office)) (λ none. cc)
+          (record { first_few = took.no_further; second_few = refl; ends = took.outcome }) (took.failures, refl));
+      written = ap output_of at ∙ sym (λ i. docker_written (read.ensures.place i) (read.ensures.day i));
     }
 
 pub returns-in_err-office-in-Day : goal.returns-in_err-office-in-Day
 returns-in_err-office-in-Day g c =
-    let same = err_from_is_err_and c.from_residual-in_err-office-in-Day.result c.from_residual-in_err-office-in-Day.ensures.1 in
-    let first = g.S.Source.left c.args.first.now in
-    let left = g.S.Source.left c.take.new.source in
-    let second = g.T.Source.left c.args.second.now in
-    let took = c.in_err-office-in-Day.ensures.takes in
+    let first = c.args.first.now in
+    let second = c.args.second.now in
+    let now = c.take.new.source in
     let at : c.args.job.now.task ≡ day_task c.in-Day.place c.in-Day.day = sym c.task.ensures ∙ ap task_meant c.in-Day.is in
+    let read = c.in_err-office-in-Day in
+    let residual = c.from_residual-in_err-office-in-Day in
+    let same = err_from_is_err_and residual.result residual.ensures.1 in
+    let took = read.ensures.takes in
     rw (same.1, same.2) (record {
-      reads = refused_for (sources_of (day_task c.in-Day.place c.in-Day.day)) (sources_of c.args.job.now.task) first left second second _
-          (sym (ap sources_of at)) (file_refused_alone (λ (office : Excerpt). TakesFile most_records first no_state office.state) first left second _
-          took.no_further took.outcome);
-      none = some_of_task _ c.args.job.now.task (day_task c.in-Day.place c.in-Day.day) at (λ none. cc);
-      order = inl refl;
-      counted = file_failed_alone Excerpt (g.S.Source.failures c.args.first.now) (g.S.Source.failures c.take.new.source)
-          (g.T.Source.failures c.args.second.now) _
-          took.failures;
+      reads = held_for g.S.Source.left g.S.Source.failures g.T.Source.left g.T.Source.failures _ (day_task c.in-Day.place c.in-Day.day) first now second second
+          (Err _) at (read_alone g.S.Source.left g.S.Source.failures g.T.Source.left g.T.Source.failures
+          (λ held. IsReadOf (day_task c.in-Day.place c.in-Day.day) (g.S.Source.left first) (g.T.Source.left second) (held_meant held))
+          taken_file first now second (Err _) (λ none. cc)
+          (file_refused_alone (λ (office : Excerpt). TakesFile most_records (g.S.Source.left first) no_state office.state)
+          (g.S.Source.left first) (g.S.Source.left now) (g.T.Source.left second) _ took.no_further took.outcome)
+          (file_failed_alone Excerpt (g.S.Source.failures first) (g.S.Source.failures now) (g.T.Source.failures second) _ took.failures));
+      written = tt;
+    })
+
+pub returns-in_ok-office_of_state_and_file-in-Take : goal.returns-in_ok-office_of_state_and_file-in-Take
+returns-in_ok-office_of_state_and_file-in-Take g c =
+    let first = c.args.first.now in
+    let second = c.args.second.now in
+    let now = c.office_of_state_and_file.new.first in
+    let at : c.args.job.now.task ≡ take_task = sym c.task.ensures ∙ ap task_meant c.in-Take.is in
+    let read = c.in_ok-office_of_state_and_file-in-Take in
+    record {
+      reads = held_for g.S.Source.left g.S.Source.failures g.T.Source.left g.T.Source.failures _ take_task
+          first now second c.office_of_state_and_file.new.second (Ok (Whole read.field-0)) at read.ensures;
+      written = ap output_of at;
+    }
+
+pub returns-in_err-office_of_state_and_file-in-Take : goal.returns-in_err-office_of_state_and_file-in-Take
+returns-in_err-office_of_state_and_file-in-Take g c =
+    let first = c.args.first.now in
+    let second = c.args.second.now in
+    let now = c.office_of_state_and_file.new.first in
+    let at : c.args.job.now.task ≡ take_task = sym c.task.ensures ∙ ap task_meant c.in-Take.is in
+    let read = c.in_err-office_of_state_and_file-in-Take in
+    let residual = c.from_residual-in_err-office_of_state_and_file-in-Take in
+    let same = err_from_is_err_and residual.result residual.ensures.1 in
+    rw (same.1, same.2) (record {
+      reads = held_for g.S.Source.left g.S.Source.failures g.T.Source.left g.T.Source.failures _ take_task
+          first now second c.office_of_state_and_file.new.second (Err _) at read.ensures;
+      written = tt;
+    })
+
+pub returns-in_ok-office_of_two_states-in-Merge : goal.returns-in_ok-office_of_two_states-in-Merge
+returns-in_ok-office_of_two_states-in-Merge g c =
+    let first = c.args.first.now in
+    let second = c.args.second.now in
+    let now = c.office_of_two_states.new.first in
+    let at : c.args.job.now.task ≡ merge_task = sym c.task.ensures ∙ ap task_meant c.in-Merge.is in
+    let read = c.in_ok-office_of_two_states-in-Merge in
+    record {
+      reads = held_for g.S.Source.left g.S.Source.failures g.T.Source.left g.T.Source.failures _ merge_task
+          first now second c.office_of_two_states.new.second (Ok (Whole read.field-0)) at read.ensures;
+      written = ap output_of at;
+    }
+
+pub returns-in_err-office_of_two_states-in-Merge : goal.returns-in_err-office_of_two_states-in-Merge
+returns-in_err-office_of_two_states-in-Merge g c =
+    let first = c.args.first.now in
+    let second = c.args.second.now in
+    let now = c.office_of_two_states.new.first in
+    let at : c.args.job.now.task ≡ merge_task = sym c.task.ensures ∙ ap task_meant c.in-Merge.is in
+    let read = c.in_err-office_of_two_states-in-Merge in
+    let residual = c.from_residual-in_err-office_of_two_states-in-Merge in
+    let same = err_from_is_err_and residual.result residual.ensures.1 in
+    rw (same.1, same.2) (record {
+      reads = held_for g.S.Source.left g.S.Source.failures g.T.Source.left g.T.Source.failures _ merge_task
+          first now second c.office_of_two_states.new.second (Err _) at read.ensures;
       written = tt;
     })
 
 pub returns-in_ok-office-in-Print : goal.returns-in_ok-office-in-Print
 returns-in_ok-office-in-Print g c =
-    let second = g.T.Source.left c.args.second.now in
+    let first = c.args.first.now in
+    let second = c.args.second.now in
+    let now = c.read.new.source in
     let at : c.args.job.now.task ≡ print_task c.in-Print.place c.in-Print.day = sym c.task.ensures ∙ ap task_meant c.in-Print.is in
-    let read = c.in_ok-office-in-Print.ensures.reads in
+    let read = c.in_ok-office-in-Print in
     record {
-      reads = read_of_task c.args.job.now.task (print_task c.in-Print.place c.in-Print.day) (g.S.Source.left c.args.first.now)
-          (g.S.Source.left c.read.new.source) second second (place_read c.in_ok-office-in-Print.office) at
-          (record { first_few = read.few; second_few = refl; ends = (read.outcome, tt) });
-      none = some_of_task _ c.args.job.now.task (print_task c.in-Print.place c.in-Print.day) at (λ none. cc);
-      order = inl refl;
-      counted = (read.failures, refl);
-      written = ap output_of at
-          ∙ sym (λ i. docker_written (c.in_ok-office-in-Print.ensures.place i) (c.in_ok-office-in-Print.ensures.day i));
+      reads = state_held g.S.Source.left g.S.Source.failures g.T.Source.left g.T.Source.failures dks_2 _ (print_task c.in-Print.place c.in-Print.day)
+          first now second (Place read.office) at refl read.ensures.reads;
+      written = ap output_of at ∙ sym (λ i. docker_written (read.ensures.place i) (read.ensures.day i));
     }
 
 pub returns-in_err-office-in-Print : goal.returns-in_err-office-in-Print
 returns-in_err-office-in-Print g c =
-    let same = err_from_is_err_and c.from_residual.result c.from_residual.ensures.1 in
-    let first = g.S.Source.left c.args.first.now in
-    let left = g.S.Source.left c.read.new.source in
-    let second = g.T.Source.left c.args.second.now in
-    let failed = g.S.Source.failures c.args.first.now in
-    let failed_now = g.S.Source.failures c.read.new.source in
+    let first = c.args.first.now in
+    let second = c.args.second.now in
+    let now = c.read.new.source in
     let at : c.args.job.now.task ≡ print_task c.in-Print.place c.in-Print.day = sym c.task.ensures ∙ ap task_meant c.in-Print.is in
+    let read = c.in_err-office-in-Print in
+    let residual = c.from_residual-in_err-office-in-Print in
+    let same = err_from_is_err_and residual.result residual.ensures.1 in
     rw (same.1, same.2) (record {
-      reads = refused_for (sources_of (print_task c.in-Print.place c.in-Print.day)) (sources_of c.args.job.now.task) first left second second _
-          (sym (ap sources_of at)) (state_refused_alone dks_2 first left second failed failed_now _ c.in_err-office-in-Print.ensures.reads);
-      none = some_of_task _ c.args.job.now.task (print_task c.in-Print.place c.in-Print.day) at (λ none. cc);
-      order = inl refl;
-      counted = state_failed_alone failed failed_now (g.T.Source.failures c.args.second.now) _ c.in_err-office-in-Print.ensures.reads.failures;
+      reads = state_unheld g.S.Source.left g.S.Source.failures g.T.Source.left g.T.Source.failures dks_2 _ (print_task c.in-Print.place c.in-Print.day)
+          first now second _ at refl read.ensures.reads;
       written = tt;
     })
 
-pub returns-in_ok-ledger-in-Files : goal.returns-in_ok-ledger-in-Files
-returns-in_ok-ledger-in-Files g c =
-    let second = g.T.Source.left c.args.second.now in
+pub returns-in_ok-read-in-Files : goal.returns-in_ok-read-in-Files
+returns-in_ok-read-in-Files g c =
+    let first = c.args.first.now in
+    let second = c.args.second.now in
+    let now = c.read-in-Files.new.source in
     let at : c.args.job.now.task ≡ files_task = sym c.task.ensures ∙ ap task_meant c.in-Files.is in
-    let read = c.in_ok-ledger-in-Files.ensures.reads in
+    let read = c.in_ok-read-in-Files in
     record {
-      reads = read_of_task c.args.job.now.task files_task (g.S.Source.left c.args.first.now) (g.S.Source.left c.read-in-Files.new.source) second second
-          (office_read c.in_ok-ledger-in-Files.ledger) at (record { first_few = read.few; second_few = refl; ends = (read.outcome, tt) });
-      none = some_of_task _ c.args.job.now.task files_task at (λ none. cc);
-      order = inl refl;
-      counted = (read.failures, refl);
+      reads = state_held g.S.Source.left g.S.Source.failures g.T.Source.left g.T.Source.failures dks_2 _ files_task
+          first now second (Ledger read.field-0) at refl read.ensures.reads;
       written = ap output_of at;
     }
 
-pub returns-in_err-ledger-in-Files : goal.returns-in_err-ledger-in-Files
-returns-in_err-ledger-in-Files g c =
-    let same = err_from_is_err_and c.from_residual-in_err-ledger-in-Files.result c.from_residual-in_err-ledger-in-Files.ensures.1 in
-    let first = g.S.Source.left c.args.first.now in
-    let left = g.S.Source.left c.read-in-Files.new.source in
-    let second = g.T.Source.left c.args.second.now in
-    let failed = g.S.Source.failures c.args.first.now in
-    let failed_now = g.S.Source.failures c.read-in-Files.new.source in
+pub returns-in_err-read-in-Files : goal.returns-in_err-read-in-Files
+returns-in_err-read-in-Files g c =
+    let first = c.args.first.now in
+    let second = c.args.second.now in
+    let now = c.read-in-Files.new.source in
     let at : c.args.job.now.task ≡ files_task = sym c.task.ensures ∙ ap task_meant c.in-Files.is in
+    let read = c.in_err-read-in-Files in
+    let residual = c.from_residual-in_err-read-in-Files in
+    let same = err_from_is_err_and residual.result residual.ensures.1 in
     rw (same.1, same.2) (record {
-      reads = refused_for (sources_of files_task) (sources_of c.args.job.now.task) first left second second _ (sym (ap sources_of at))
-          (state_refused_alone dks_2 first left second failed failed_now _ c.in_err-ledger-in-Files.ensures.reads);
-      none = some_of_task _ c.args.job.now.task files_task at (λ none. cc);
-      order = inl refl;
-      counted = state_failed_alone failed failed_now (g.T.Source.failures c.args.second.now) _ c.in_err-ledger-in-Files.ensures.reads.failures;
+      reads = state_unheld g.S.Source.left g.S.Source.failures g.T.Source.left g.T.Source.failures dks_2 _ files_task
+          first now second _ at refl read.ensures.reads;
+      written = tt;
+    })
+
+pub returns-in_ok-office_raised-in-Horizon : goal.returns-in_ok-office_raised-in-Horizon
+returns-in_ok-office_raised-in-Horizon g c =
+    let first = c.args.first.now in
+    let second = c.args.second.now in
+    let now = c.office_raised.new.source in
+    let at : c.args.job.now.task ≡ horizon_task c.in-Horizon.day = sym c.task.ensures ∙ ap task_meant c.in-Horizon.is in
+    let read = c.in_ok-office_raised-in-Horizon in
+    record {
+      reads = state_held g.S.Source.left g.S.Source.failures g.T.Source.left g.T.Source.failures dks_2 _ (horizon_task c.in-Horizon.day)
+          first now second (Whole read.field-0) at refl read.ensures;
+      written = ap output_of at;
+    }
+
+pub returns-in_err-office_raised-in-Horizon : goal.returns-in_err-office_raised-in-Horizon
+returns-in_err-office_raised-in-Horizon g c =
+    let first = c.args.first.now in
+    let second = c.args.second.now in
+    let now = c.office_raised.new.source in
+    let at : c.args.job.now.task ≡ horizon_task c.in-Horizon.day = sym c.task.ensures ∙ ap task_meant c.in-Horizon.is in
+    let read = c.in_err-office_raised-in-Horizon in
+    let residual = c.from_residual-in_err-office_raised-in-Horizon in
+    let same = err_from_is_err_and residual.result residual.ensures.1 in
+    rw (same.1, same.2) (record {
+      reads = state_unheld g.S.Source.left g.S.Source.failures g.T.Source.left g.T.Source.failures dks_2 _ (horizon_task c.in-Horizon.day)
+          first now second _ at refl read.ensures;
+      written = tt;
+    })
+
+pub returns-in_ok-office_of_older_state-in-Migrate : goal.returns-in_ok-office_of_older_state-in-Migrate
+returns-in_ok-office_of_older_state-in-Migrate g c =
+    let first = c.args.first.now in
+    let second = c.args.second.now in
+    let now = c.office_of_older_state.new.source in
+    let at : c.args.job.now.task ≡ migrate_task = sym c.task.ensures ∙ ap task_meant c.in-Migrate.is in
+    let read = c.in_ok-office_of_older_state-in-Migrate in
+    record {
+      reads = state_held g.S.Source.left g.S.Source.failures g.T.Source.left g.T.Source.failures dks_1 _ migrate_task
+          first now second (Whole read.field-0) at refl read.ensures;
+      written = ap output_of at;
+    }
+
+pub returns-in_err-office_of_older_state-in-Migrate : goal.returns-in_err-office_of_older_state-in-Migrate
+returns-in_err-office_of_older_state-in-Migrate g c =
+    let first = c.args.first.now in
+    let second = c.args.second.now in
+    let now = c.office_of_older_state.new.source in
+    let at : c.args.job.now.task ≡ migrate_task = sym c.task.ensures ∙ ap task_meant c.in-Migrate.is in
+    let read = c.in_err-office_of_older_state-in-Migrate in
+    let residual = c.from_residual-in_err-office_of_older_state-in-Migrate in
+    let same = err_from_is_err_and residual.result residual.ensures.1 in
+    rw (same.1, same.2) (record {
+      reads = state_unheld g.S.Source.left g.S.Source.failures g.T.Source.left g.T.Source.failures dks_1 _ migrate_task
+          first now second _ at refl read.ensures;
       written = tt;
     })

@@ -6,23 +6,15 @@ use Rattle.docker_cmd.proofs.prepared_job.prepare.Goals as goal
 pub returns-in_err-held : goal.returns-in_err-held
 returns-in_err-held g c =
     let same = err_from_is_err_and c.from_residual.result c.from_residual.ensures.1 in
-    rw (same.1, same.2) (record {
-      reads = c.in_err-held.ensures.reads;
-      one_file = λ is. tt;
-      none = c.in_err-held.ensures.none;
-      order = c.in_err-held.ensures.order;
-      counted = c.in_err-held.ensures.counted;
-    })
+    rw (same.1, same.2) (record { reads = c.in_err-held.ensures.reads; one_file = λ is. tt })
 
 pub returns : goal.returns
 returns g c =
+    let ends = c.in_ok-held.ensures.reads in
     let reads = prepared_read c.args.job.now (g.S.Source.left c.args.first.now) (g.S.Source.left c.hold.new.first)
-    (g.T.Source.left c.args.second.now) (g.T.Source.left c.hold.new.second) (held_meant c.in_ok-held.held) c.in_ok-held.ensures.reads in
+    (g.T.Source.left c.args.second.now) (g.T.Source.left c.hold.new.second) (held_meant c.in_ok-held.held) ends.outcome in
     record {
-      reads = reads;
+      reads = record { outcome = reads; none = ends.none; order = ends.order; counted = ends.counted };
       one_file = λ is. read_one_file c.args.job.now.task (g.S.Source.left c.args.first.now) (g.T.Source.left c.args.second.now)
           (held_meant c.in_ok-held.held) is reads.ends.0.1;
-      none = c.in_ok-held.ensures.none;
-      order = c.in_ok-held.ensures.order;
-      counted = c.in_ok-held.ensures.counted;
     }

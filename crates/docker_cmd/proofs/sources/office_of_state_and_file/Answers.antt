@@ -16,7 +16,8 @@ returns-in_err-taker g c =
     let failed = g.S.Source.failures c.args.first.now in
     let failed_now = g.S.Source.failures c.office_of_state.new.source in
     rw (same.1, same.2) (record {
-      reads = file_unread first left second _ (state_refused_alone dks_2 first left second failed failed_now _ c.in_err-taker.ensures);
+      outcome = file_unread first left second _ (state_refused_alone dks_2 first left second failed failed_now _ c.in_err-taker.ensures);
+      none = λ none. let never : ⊥ = cc in absurd never;
       order = inl refl;
       counted = state_failed_alone failed failed_now (g.T.Source.failures c.args.second.now) _ c.in_err-taker.ensures.failures;
     })
@@ -28,10 +29,11 @@ returns-in_err-take g c =
     let second = g.T.Source.left c.args.second.now in
     let took = c.in_err-take.ensures.takes in
     rw (same.1, same.2) (record {
-      reads = file_refused (λ (_ : ⊤). TakesFile most_records second c.in_ok-taker.taker c.take.new.self) (g.S.Source.left c.args.first.now)
+      outcome = file_refused (λ (_ : ⊤). TakesFile most_records second c.in_ok-taker.taker c.take.new.self) (g.S.Source.left c.args.first.now)
           (g.S.Source.left c.office_of_state.new.source) second (g.T.Source.left c.take.new.source) _ (_, first.outcome) first.few took.no_further
           took.outcome;
-      order = inr ((_, first.outcome), first.failures);
+      none = λ none. let never : ⊥ = cc in absurd never;
+      order = inr (inl refl, (_, first.outcome), first.failures);
       counted = file_failed ⊤ _ _ _ _ _ first.failures took.failures;
     })
 
@@ -40,11 +42,12 @@ returns g c =
     let first = c.in_ok-taker.ensures in
     let took = c.in_ok-take.ensures.takes in
     record {
-      reads = record {
+      outcome = record {
         first_few = first.few;
         second_few = inr ((_, first.outcome), took.no_further);
         ends = (record { own = _; reads = first.outcome; takes = took.outcome.0 }, took.outcome.1);
       };
-      order = inr ((_, first.outcome), first.failures);
+      none = λ none. let never : ⊥ = cc in absurd never;
+      order = inr (inl refl, (_, first.outcome), first.failures);
       counted = (first.failures, took.failures);
     }

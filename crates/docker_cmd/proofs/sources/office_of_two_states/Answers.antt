@@ -13,7 +13,8 @@ returns-in_err-receiver g c =
     let failed = g.S.Source.failures c.args.first.now in
     let failed_now = g.S.Source.failures c.office_of_state.new.source in
     rw (same.1, same.2) (record {
-      reads = state_unread first left second _ (state_refused_alone dks_2 first left second failed failed_now _ c.in_err-receiver.ensures);
+      outcome = state_unread first left second _ (state_refused_alone dks_2 first left second failed failed_now _ c.in_err-receiver.ensures);
+      none = λ none. let never : ⊥ = cc in absurd never;
       order = inl refl;
       counted = state_failed_alone failed failed_now (g.T.Source.failures c.args.second.now) _ c.in_err-receiver.ensures.failures;
     })
@@ -26,9 +27,10 @@ returns-in_err-receive g c =
     let failed = g.T.Source.failures c.args.second.now in
     let failed_now = g.T.Source.failures c.receive.new.source in
     rw (same.1, same.2) (record {
-      reads = state_refused (g.S.Source.left c.args.first.now) (g.S.Source.left c.office_of_state.new.source)
+      outcome = state_refused (g.S.Source.left c.args.first.now) (g.S.Source.left c.office_of_state.new.source)
           (g.T.Source.left c.args.second.now) (g.T.Source.left c.receive.new.source) failed failed_now _ (_, first.outcome) first.few received;
-      order = inr ((_, first.outcome), first.failures);
+      none = λ none. let never : ⊥ = cc in absurd never;
+      order = inr (inr refl, (_, first.outcome), first.failures);
       counted = state_failed _ _ failed failed_now _ first.failures received.failures;
     })
 
@@ -37,11 +39,12 @@ returns g c =
     let first = c.in_ok-receiver.ensures in
     let received = c.in_ok-receive.ensures.reads in
     record {
-      reads = record {
+      outcome = record {
         first_few = first.few;
         second_few = inr ((_, first.outcome), received.few);
         ends = (record { own = _; reads = first.outcome; joins = received.outcome }, tt);
       };
-      order = inr ((_, first.outcome), first.failures);
+      none = λ none. let never : ⊥ = cc in absurd never;
+      order = inr (inr refl, (_, first.outcome), first.failures);
       counted = (first.failures, received.failures);
     }

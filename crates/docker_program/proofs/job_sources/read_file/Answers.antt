@@ -14,5 +14,5 @@ returns-clause-reads g c = inr (record {
   history = one_more (g.D.Folder.history c.args.folder.now) _ _ (opened c.args.name.now (g.D.File.Source.left c.in-Ok.file) ∷ [])
       (closed (g.D.File.Source.left c.prepare-prepared.new.first)) c.in-Ok.ensures.asked c.close.ensures.asked;
   others = (refl, refl);
-  reads = c.prepare-prepared.ensures.reads;
+  reads = c.prepare-prepared.ensures.reads.outcome;
 })

@@ -21,5 +21,5 @@ returns-clause-reads g c = λ rest. inr (record {
       (one_more old _ _ (one ∷ two ∷ []) three (one_more old _ _ (one ∷ []) two c.in-Ok.ensures.asked c.in-Ok-open.ensures.asked) c.close-2.ensures.asked)
       c.close-3.ensures.asked;
   others = refl;
-  reads = c.prepare-prepared.ensures.reads;
+  reads = c.prepare-prepared.ensures.reads.outcome;
 })

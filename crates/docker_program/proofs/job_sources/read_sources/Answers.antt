@@ -7,13 +7,13 @@ pub returns-in-None-clause-reads : goal.returns-in-None-clause-reads
 returns-in-None-clause-reads g c =
     reads_named no_source _ c.args.job.now c.prepare.result (ap names_meant (sym c.in-None.is) ∙ c.names.ensures)
     (reads_none (g.D.Folder.history c.args.folder.now) (g.S.Source.left c.args.stdin.now) _ _ _ _ c.args.job.now c.prepare.result
-    (search rules) (search rules) c.prepare.ensures.reads)
+    (search rules) (search rules) c.prepare.ensures.reads.outcome)
 
 pub returns-in-Stdin-clause-reads : goal.returns-in-Stdin-clause-reads
 returns-in-Stdin-clause-reads g c =
     reads_named standard_input _ c.args.job.now c.prepare-in-Stdin.result (ap names_meant (sym c.in-Stdin.is) ∙ c.names.ensures)
     (reads_stdin (g.D.Folder.history c.args.folder.now) (g.S.Source.left c.args.stdin.now) (g.S.Source.left c.prepare-in-Stdin.new.first) _ _
-    c.args.job.now c.prepare-in-Stdin.result (search rules) c.prepare-in-Stdin.ensures.reads)
+    c.args.job.now c.prepare-in-Stdin.result (search rules) c.prepare-in-Stdin.ensures.reads.outcome)
 
 pub returns-in-File-clause-reads : goal.returns-in-File-clause-reads
 returns-in-File-clause-reads g c =
