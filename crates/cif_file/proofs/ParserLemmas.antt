@@ -660,7 +660,7 @@ names_last parser reading fault none same told =
 
 -- if the record at the start of the rest of a text was taken, only the bytes after this record's
 -- line end are still to be taken
-pub record_read : {K : Type 0} (keeps : Keeps K) (before : Told) (old new : FileReading K) (text rest front line behind : List ℕ)
+pub record_read : {K : Type 0} (keeps : Keeps K) (before : TextProperty) (old new : FileReading K) (text rest front line behind : List ℕ)
     → TakesUpTo before text rest (IsReading keeps old) → BeginsWithEighty rest front behind → line ≡ front → IsRecord front
     → old.partial.items ≡ [] → CountsNext keeps old.records line new.records → new.partial.items ≡ []
     → TakesUpTo before text behind (IsReading keeps new)

@@ -5,7 +5,7 @@ use Rattle.std.proofs.lemmas.List.{map_more, map-append, take-append-drop, take_
 use Rattle.std.proofs.lemmas.List.Folds.{concat-append}
 use Rattle.cif_file.specs.declared.fault.FileFault.{FileFault}
 use Rattle.cif_file.specs.ParserRead.{ParserState, HasRead, IsFaultReported, IsRefused}
-use Rattle.cif_file.proofs.ParserLemmas.{told_stays, told_refused}
+use Rattle.cif_file.proofs.ParserLemmas.{reported_stays, reported_refused}
 
 module _ {X : Type 0} (f : X → List ℕ) where
   -- the text of the first `i + 1` pieces is the text of the first `i` pieces, followed by the next piece
@@ -36,7 +36,7 @@ module _ {X : Type 0} (f : X → List ℕ) where
       sym (concat-append (map f (take (i + 1) pieces)) (map f (drop (i + 1) pieces)))
       ∙ ap concat (sym (map-append f (take (i + 1) pieces) (drop (i + 1) pieces)))
       ∙ ap (λ all. concat (map f all)) (take-append-drop (i + 1) pieces) in
-      told_refused limit (concat (map f pieces)) fault
+      reported_refused limit (concat (map f pieces)) fault
       (subst (λ text. IsFaultReported limit text fault) whole
-      (told_stays limit (concat (map f (take (i + 1) pieces))) (concat (map f (drop (i + 1) pieces))) fault
+      (reported_stays limit (concat (map f (take (i + 1) pieces))) (concat (map f (drop (i + 1) pieces))) fault
       (subst (λ text. IsFaultReported limit text fault) (sym (joined_more pieces i d below)) told)))
