@@ -32,7 +32,6 @@ const ROWS: &[Row] = &[
         330,
         REVISED_STATE,
     ),
-    (&[SEVENTH, NINTH], &[NINTH, SEVENTH], 600, LATE_STATE),
     (&[DELETION, EIGHTH], &[EIGHTH, DELETION], 86, DELETED_STATE),
     (
         &[PUT_AND_DELETED],
@@ -42,6 +41,9 @@ const ROWS: &[Row] = &[
     ),
     (&[PLACE, RENAMED], &[RENAMED, PLACE], 171, RENAMED_STATE),
 ];
+
+/// A row with a full extract, and an update that is newer.
+const LATE: Row = (&[SEVENTH, NINTH], &[NINTH, SEVENTH], 600, LATE_STATE);
 
 /// Rows with files that have equal stamps.
 const TIES: &[Row] = &[
@@ -76,6 +78,7 @@ fn states_in_any_order(rt: HostRuntime) {
     for row in TIES {
         is_state(&rt, rt.alloc(), row);
     }
+    is_state(&rt, rt.alloc(), &LATE);
     for files in ORDERS {
         have(&rt, rt.alloc(), files, LATE_STATE);
     }

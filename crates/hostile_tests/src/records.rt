@@ -1,4 +1,5 @@
-//! The files and dockers that rows name, made from the records and lines of `test_records`.
+//! The files and dockers that rows name. Most of them are in `test_records`, and the others are made
+//! from its records and lines.
 
 use std::alloc::{AllocError, Global};
 use test_records::dockers::{
