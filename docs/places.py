@@ -181,14 +181,8 @@ def constructors_in(path):
 
 
 def file_of(crate, module):
-    """The file of definitions that `Rattle.crate.specs.module` leads to. A crate's `Lib.antt` may name a file of another crate."""
-    path = ROOT / "crates" / crate / "specs" / (module.replace(".", "/") + ".antt")
-    listing = ROOT / "crates" / crate / "specs" / "Lib.antt"
-    if path.is_file() or not listing.is_file():
-        return path
-    first, *rest = module.split(".")
-    found = re.search(rf"^pub use Rattle\.(\w+)\.specs\.((?:\w+\.)*{first})$", read(listing), re.M)
-    return file_of(found.group(1), ".".join([found.group(2), *rest])) if found else path
+    """The file of definitions that `Rattle.crate.specs.module` leads to."""
+    return ROOT / "crates" / crate / "specs" / (module.replace(".", "/") + ".antt")
 
 
 def taken(text):

@@ -21,7 +21,7 @@ mod timetable;
 mod timetable_rows;
 mod uid_rows;
 
-pub use docker_join::{Merge, Op};
+pub use docker_join::Merge;
 pub use item::LedgerItem;
 pub use live::Live;
 pub use parts::Parts;

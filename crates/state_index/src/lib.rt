@@ -17,7 +17,7 @@ mod slots;
 mod turns;
 mod walk;
 
-pub use cif_change::{Notes, Piece, PlaceNames};
+pub use cif_change::{Notes, Piece};
 pub use index::Index;
 pub use laws::{indexes_of_rows, one_index_of_rows};
 pub use moves::Moves;
