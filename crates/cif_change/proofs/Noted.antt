@@ -8,7 +8,7 @@ use Rattle.std.proofs.lemmas.List.{length-append, length-drop, map-append, appen
 use Rattle.std.proofs.Math.Seq.{drop-append_seam, take-append_seam}
 use Rattle.docker_model.specs.records.Record.{kind_of, columns, is_location}
 use Rattle.docker_model.specs.file.Change as model
-use Rattle.docker_model.specs.file.Change.{Key, ScheduleKey, AssociationKey, tiploc_key, association_key, schedule_key, Body, tiploc_body, schedule_body}
+use Rattle.docker_model.specs.file.Change.{Key, ScheduleKey, tiploc_key, association_key, schedule_key, Body, schedule_body}
 use Rattle.docker_model.specs.state.Op.{Op, deleted, lapsed, put_with, body_of, op_of}
 use Rattle.cif_change.specs.declared.notes.Notes.{Notes}
 use Rattle.cif_change.specs.declared.piece.Piece.{Piece}

@@ -5,5 +5,3 @@ pub mod Cause
 pub mod JourneyRead
 pub mod NamedPlaces
 pub mod Noted
-pub use Rattle.cif_line.specs.Letter
-pub use Rattle.cif_line.specs.declared.letter.Stp

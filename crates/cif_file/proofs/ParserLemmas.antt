@@ -13,7 +13,7 @@ use Rattle.docker_model.specs.records.Record.{IsRecord}
 use Rattle.docker_model.specs.file.Text.{lines_of, complete_lines}
 use Rattle.docker_model.specs.file.File.{IsFile, BeginsFile}
 use Rattle.docker_model.specs.file.FaultSoFar.{IsFaultSoFar, sure_lines}
-use Rattle.docker_model.specs.file.FileFault.{IsFileFault, IsUnended, too_many, after_trailer, bad_byte, bad_length, no_end}
+use Rattle.docker_model.specs.file.FileFault.{IsFileFault, too_many, after_trailer, bad_length, no_end}
 use Rattle.docker_model.specs.file.FileFault as model
 use Rattle.cif_laws.specs.RecordTest.{is_record, has_good_fields}
 use Rattle.cif_laws.specs.FileStage.{Place, after_end, place_at, next_place}

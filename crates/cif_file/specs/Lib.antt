@@ -13,10 +13,3 @@ pub mod FaultText
 pub mod SourceRead
 pub mod FileEnds
 pub mod FileTaken
-pub use Rattle.cif_change.specs.Meaning
-pub use Rattle.cif_change.specs.Joined
-pub use Rattle.cif_change.specs.Acts
-pub use Rattle.cif_change.specs.Cause
-pub use Rattle.cif_change.specs.JourneyRead
-pub use Rattle.cif_change.specs.declared.key.Key
-pub use Rattle.cif_change.specs.declared.change.Change

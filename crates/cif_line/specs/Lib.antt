@@ -6,6 +6,3 @@ pub mod RecordRead
 pub mod View
 pub mod TimeRead
 pub mod CallRead
-pub use Rattle.cif_device.specs.Device
-pub use Rattle.cif_device.specs.Taken
-pub use Rattle.cif_device.specs.FeedEnds

@@ -12,9 +12,9 @@ use Rattle.docker_model.specs.state.StateFault.{bad_body, too_short, has_tail, t
 use Rattle.docker_model.specs.state.StateFault as model
 use Rattle.state_laws.specs.TextStage.{advance}
 use Rattle.state_laws.proofs.texts.TextsBefore.{more_lines}
-use Rattle.state_text.specs.ScheduleKey as code
+use Rattle.cif_change.specs.declared.key.ScheduleKey as code
 use Rattle.docker_join.specs.Meaning.{stamp_meant}
-use Rattle.state_text.specs.Stamp as stamps
+use Rattle.docker_join.specs.declared.stamp.Stamp as stamps
 use Rattle.state_text.specs.declared.stage.Stage.{Stage}
 use Rattle.state_text.specs.declared.stage.Stage.TheVariants as stage
 use Rattle.state_text.specs.FaultMeaning.{IsBadHere}

@@ -6,5 +6,3 @@ pub mod SourceRead
 pub mod ReadEnds
 pub mod StateTaken
 pub mod Excerpts
-pub use Rattle.state_text.specs.FaultMeaning
-pub use Rattle.docker_excerpt.specs.Values

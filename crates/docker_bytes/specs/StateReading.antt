@@ -5,6 +5,8 @@ use Rattle.docker_model.specs.state.StateText.{Format}
 use Rattle.docker_model.specs.state.StatePart.{Before, items_before, text_before, width, AreGood}
 use Rattle.docker_model.specs.state.StateFault.{HasBadPart, IsLong, IsShort, IsStateText}
 use Rattle.docker_model.specs.state.StateFault as model
+use Rattle.cif_change.specs.declared.key.ScheduleKey.{ScheduleKey}
+use Rattle.docker_join.specs.declared.stamp.Stamp.{Stamp}
 use Rattle.docker_bytes.specs.declared.fault.StateFault.{StateFault}
 use Rattle.docker_bytes.specs.declared.fault.Step.{Step}
 use Rattle.docker_bytes.specs.declared.fault.Step.TheVariants.{Done, More}
@@ -12,8 +14,6 @@ use Rattle.docker_bytes.specs.declared.reading.StateReading.{StateReading}
 use Rattle.state_text.specs.FaultMeaning.{cause_meant, IsWantingHere, IsBadHere}
 use Rattle.state_text.specs.FormatMeaning.{format_meant}
 use Rattle.state_text.specs.Stage.{stage_meant, IsReady}
-use Rattle.state_text.specs.ScheduleKey.{ScheduleKey}
-use Rattle.state_text.specs.Stamp.{Stamp}
 use Rattle.state_text.specs.declared.stage.Stage.{Stage}
 use Rattle.state_text.specs.declared.stage.Stage.TheVariants.{Line}
 

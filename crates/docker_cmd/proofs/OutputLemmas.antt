@@ -7,7 +7,8 @@ use Rattle.docker_office.specs.Faults.{IsOfDocker}
 use Rattle.docker_office.specs.Office.{PrintsDocker, PrintsPart}
 use Rattle.docker_office.specs.declared.fault.OfficeFault.{OfficeFault}
 use Rattle.docker_office.specs.declared.fault.OfficeFault.TheVariants as office
-use Rattle.docker_cmd.specs.Prepared.{DeviceBytes, EndsEmitting, docker_written, office_read}
+use Rattle.docker_cmd.specs.Prepared.{DeviceBytes, EndsEmitting, office_read}
+use Rattle.docker_cmd.specs.Writes.{docker_written}
 
 -- if an office prints a docker as the office's contract says, writing the docker ends as the
 -- contract of `emit` says

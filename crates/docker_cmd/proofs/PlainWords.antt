@@ -1,7 +1,6 @@
 -- How `clap` reads a plain word: as a value, or as a subcommand's name. A plain word isn't empty
 -- and doesn't begin with a hyphen.
 use Rattle.std.proofs.Common.{◌≡◌, ◌∙◌, ℕ, cond, true, false, refl, ap, List, [], ◌∷◌, Some, None}
-use Rattle.std.specs.List.{fold}
 use Rattle.std.specs.Option.{option_and_then}
 use Rattle.std.specs.Str.{bytes_eq}
 use Rattle.clap.specs.Lexer.{long_of, long_of_rest, short_of, short_of_rest, strip_byte}

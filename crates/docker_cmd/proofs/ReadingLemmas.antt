@@ -3,14 +3,14 @@ use Rattle.std.proofs.Common.{◌≡◌, ℕ, arith, refl, inl, inr, Err}
 use Rattle.std.specs.Prelude.{Result}
 use Rattle.docker_model.specs.file.File.{most_records}
 use Rattle.docker_model.specs.state.StateText.{Format, dks_2}
+use Rattle.docker_bytes.specs.ReadEnds.{CountsWhy, IsWhyUnread, StopsReading}
+use Rattle.docker_bytes.specs.SourceRead.{WantsMemory}
 use Rattle.docker_office.specs.OfficeReads.{CountsTaking, IsTakingOutcome, why_unread}
-use Rattle.docker_office.specs.ReadEnds.{CountsWhy, IsWhyUnread, StopsReading}
-use Rattle.docker_office.specs.SourceRead.{WantsMemory}
 use Rattle.docker_office.specs.declared.fault.OfficeFault.{OfficeFault}
 use Rattle.docker_office.specs.declared.fault.OfficeFault.TheVariants as office
 use Rattle.docker_cmd.specs.Prepared.{CountsSources, DeviceBytes, EndsReadingSources, FailsBy, HasNoSource, HoldsSomeState, IsWhyRefused}
-use Rattle.docker_cmd.specs.Prepared.{ReadsFew, ReadsFewOfFile, ReadsFewOfState, ReadsSources, Sources, most_bytes, one_state}
-use Rattle.docker_cmd.specs.Prepared.{state_and_file, taken_file, two_states}
+use Rattle.docker_cmd.specs.Prepared.{ReadsFew, ReadsFewOfFile, ReadsFewOfState, ReadsSources, most_bytes}
+use Rattle.docker_cmd.specs.Reads.{Sources, one_state, state_and_file, taken_file, two_states}
 
 -- ---- reading one source
 

@@ -8,10 +8,10 @@ use Rattle.docker_model.specs.state.StateText.{Format}
 use Rattle.docker_model.specs.state.Summary.{IsSummary}
 use Rattle.state_laws.proofs.states.PlainLive.{live_table_is_plain}
 use Rattle.state_laws.proofs.states.SummaryLaws.{join_is_summary}
+use Rattle.docker_bytes.specs.ReadEnds.{CountsWhy, IsWhyUnread, StopsReading}
+use Rattle.docker_bytes.specs.SourceRead.{WantsMemory}
 use Rattle.docker_office.specs.Office.{TakesFile, no_state}
 use Rattle.docker_office.specs.OfficeReads.{why_unread}
-use Rattle.docker_office.specs.ReadEnds.{CountsWhy, IsWhyUnread, StopsReading}
-use Rattle.docker_office.specs.SourceRead.{WantsMemory}
 use Rattle.docker_office.specs.declared.fault.OfficeFault.{OfficeFault}
 use Rattle.docker_cmd.specs.Holding.{held_meant}
 use Rattle.docker_cmd.specs.Job.{JobView}

@@ -3,8 +3,8 @@ use Rattle.std.specs.Prelude.{◌≡◌, ℕ, List, ◌++◌, Result, Ok, Err, c
 use Rattle.cif_device.specs.Device.{CountsFailure}
 use Rattle.cif_file.specs.declared.fault.FileFault.{FileFault}
 use Rattle.cif_change.specs.Cause.{cause_text}
-use Rattle.docker_office.specs.StateFault.{StateFault}
-use Rattle.docker_office.specs.FaultText as state_text
+use Rattle.state_text.specs.CauseText as state_text
+use Rattle.docker_bytes.specs.declared.fault.StateFault.{StateFault}
 use Rattle.docker_cmd.specs.Tasks.{usage_line}
 use Rattle.docker_cmd.specs.declared.job_fault.JobFault.TheVariants as job
 use Rattle.docker_office.specs.declared.fault.OfficeFault.{OfficeFault}

@@ -1,10 +1,11 @@
 -- Converts what a job keeps in memory to the form that the definitions use, and says which output
 -- can be written from what is kept.
 use Rattle.std.specs.Prelude.{◌≡◌}
-use Rattle.docker_office.specs.Values.{Excerpt}
-use Rattle.docker_cmd.specs.Prepared.{Output, ReadView, counts_written, docker_written, file_read, files_written, office_read, state_written}
+use Rattle.docker_excerpt.specs.Values.{Excerpt}
+use Rattle.docker_cmd.specs.Prepared.{ReadView, file_read, office_read}
 use Rattle.docker_cmd.specs.declared.holding.Holding.{Holding}
 use Rattle.docker_cmd.specs.declared.holding.Holding.TheVariants.{Counts, Whole, Place, Ledger}
+use Rattle.docker_cmd.specs.Writes.{Output, counts_written, docker_written, files_written, state_written}
 
 -- the content from which an excerpt was made, namely a whole state
 abbrev pub place_read : Excerpt → ReadView

@@ -10,11 +10,3 @@ pub mod FaultLine
 pub mod Holding
 pub mod Prepared
 pub mod Saved
-pub use Rattle.docker_office.specs.Faults
-pub use Rattle.docker_office.specs.StateFault
-pub use Rattle.docker_office.specs.declared.fault.OfficeFault
-pub use Rattle.docker_office.specs.Office
-pub use Rattle.docker_office.specs.OfficeReads
-pub use Rattle.docker_office.specs.ReadEnds
-pub use Rattle.docker_office.specs.RunEnds
-pub use Rattle.docker_office.specs.SourceRead

@@ -1,6 +1,7 @@
 -- What a job reads, and what it writes.
 use Rattle.std.specs.Prelude.{◌≡◌, ℕ, ◌+◌, ◌⊎◌, ⊤, List, [], ◌∷◌, Option, Result, Ok, Err}
 use Rattle.cif_device.specs.Device.{Reads, Takes, TakesPart, IsEnd}
+use Rattle.cif_device.specs.FeedEnds.{most_at_once}
 use Rattle.cif_file.specs.FileRead.{FileCounted}
 use Rattle.cif_file.specs.SourceRead.{Held, CountsText, RefusesText, ReadsNoFurther}
 use Rattle.cif_file.specs.declared.fault.FileFault.{FileFault}
@@ -12,16 +13,16 @@ use Rattle.docker_model.specs.state.StateText.{Format, dks_2, state_text}
 use Rattle.docker_model.specs.state.Summary.{IsSummary}
 use Rattle.docker_model.specs.state.Table.{IsPlainTable}
 use Rattle.docker_model.specs.docker.DockerText.{IsDockerText, files_text}
-use Rattle.docker_office.specs.SourceRead.{ReadsState, JoinsState, RaisesState, RefusesState, ReadsOnePieceMore, WantsMemory}
-use Rattle.docker_office.specs.StateFault.{StateFault}
+use Rattle.docker_bytes.specs.SourceRead.{ReadsState, JoinsState, RaisesState, RefusesState, ReadsOnePieceMore, WantsMemory}
+use Rattle.docker_bytes.specs.declared.fault.StateFault.{StateFault}
 use Rattle.docker_office.specs.declared.fault.OfficeFault.{OfficeFault}
 use Rattle.docker_office.specs.declared.fault.OfficeFault.TheVariants as office
-use Rattle.docker_office.specs.Office.{most_at_once, no_state, TakesFile, WantsForFile}
+use Rattle.docker_office.specs.Office.{no_state, TakesFile, WantsForFile}
 use Rattle.docker_cmd.specs.Job.{JobView}
 use Rattle.docker_cmd.specs.Tasks.{TaskView, check_task, horizon_task}
-pub use Rattle.docker_cmd.specs.Reads.{Sources, no_source, checked_file, taken_file, one_state, state_and_file, two_states}
-pub use Rattle.docker_cmd.specs.Tasks.{horizon_of, output_of, sources_of}
-pub use Rattle.docker_cmd.specs.Writes.{Output, counts_written, docker_written, files_written, state_written}
+use Rattle.docker_cmd.specs.Reads.{Sources, no_source, checked_file, taken_file, one_state, state_and_file, two_states}
+use Rattle.docker_cmd.specs.Tasks.{output_of, sources_of}
+use Rattle.docker_cmd.specs.Writes.{Output, counts_written, docker_written, files_written, state_written}
 use Rattle.docker_cmd.specs.CheckLine.{count_line}
 
 -- the most bytes that a state's text may have

@@ -6,8 +6,8 @@ use Rattle.docker_model.specs.file.FileFault.{IsFileText}
 use Rattle.docker_model.specs.records.Date.{IsDay}
 use Rattle.docker_model.specs.state.State.{State, raise_horizon}
 use Rattle.docker_model.specs.state.StateText.{dks_2, state_text}
+use Rattle.docker_bytes.specs.SourceRead.{JoinsState, ReadsState}
 use Rattle.docker_office.specs.Office.{TakesFile}
-use Rattle.docker_office.specs.SourceRead.{JoinsState, ReadsState}
 use Rattle.docker_cmd.specs.Prepared.{DeviceBytes, most_bytes}
 
 -- a source held the text of this file

@@ -2,7 +2,8 @@
 //! what their output needs.
 ghost use Rattle.std.specs.Prelude.{◌-◌, ◌^◌, ◌<◌, IfOk};
 ghost use Rattle.docker_cmd.specs.Holding.{IsWrittenFrom, held_meant};
-ghost use Rattle.docker_cmd.specs.Prepared.{EndsReadingSources, IsReadOf, output_of, sources_of};
+ghost use Rattle.docker_cmd.specs.Prepared.{EndsReadingSources, IsReadOf};
+ghost use Rattle.docker_cmd.specs.Tasks.{output_of, sources_of};
 
 use crate::jobs::Job;
 use crate::sources::{

@@ -1,7 +1,9 @@
 //! Writes the output of a job.
 ghost use Rattle.std.specs.Prelude.{◌≡◌, ◌-◌, ◌^◌, ◌<◌, IfErr, OnErr, OnOk, Err};
 ghost use Rattle.cif_device.specs.Device.{CountsFailure, Takes, TakesPart};
-ghost use Rattle.docker_cmd.specs.Prepared.{EndsEmitting, IsRefused, IsRefusedDocker, counts_written, docker_written, file_read, files_written, office_read, output_of, state_written};
+ghost use Rattle.docker_cmd.specs.Prepared.{EndsEmitting, IsRefused, IsRefusedDocker, file_read, office_read};
+ghost use Rattle.docker_cmd.specs.Writes.{counts_written, docker_written, files_written, state_written};
+ghost use Rattle.docker_cmd.specs.Tasks.{output_of};
 
 use crate::check_line::check_line;
 use crate::holding::Holding;

@@ -1,7 +1,9 @@
 //! A job that has read its sources.
 ghost use Rattle.std.specs.Prelude.{◌≡◌, ◌-◌, ◌^◌, ◌<◌, IfOk};
 ghost use Rattle.docker_cmd.specs.Holding.{IsWrittenFrom, held_meant};
-ghost use Rattle.docker_cmd.specs.Prepared.{EndsReadingSources, IsOfOneFile, IsPreparedFor, output_of, sources_of, taken_file};
+ghost use Rattle.docker_cmd.specs.Prepared.{EndsReadingSources, IsOfOneFile, IsPreparedFor};
+ghost use Rattle.docker_cmd.specs.Tasks.{output_of, sources_of};
+ghost use Rattle.docker_cmd.specs.Reads.{taken_file};
 
 use crate::holding::{Holding, hold};
 use crate::jobs::Job;
@@ -18,8 +20,9 @@ pub struct Prepared<'a> {
 }
 
 impl<'a> Model for Prepared<'a> {
-    ghost use Rattle.docker_cmd.specs.Prepared.{PreparedView, output_of};
+    ghost use Rattle.docker_cmd.specs.Prepared.{PreparedView};
     ghost use Rattle.docker_cmd.specs.Holding.{IsWrittenFrom, held_meant};
+    ghost use Rattle.docker_cmd.specs.Tasks.{output_of};
 
     ghost Value = { PreparedView };
 

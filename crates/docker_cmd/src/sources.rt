@@ -3,9 +3,10 @@ ghost use Rattle.std.specs.Prelude.{◌-◌, ◌^◌, ◌<◌, ℕ};
 ghost use Rattle.cif_file.specs.SourceRead.{CountsText};
 ghost use Rattle.docker_model.specs.file.File.{most_records};
 ghost use Rattle.docker_model.specs.state.StateText.{dks_1, dks_2};
-ghost use Rattle.docker_cmd.specs.Prepared.{CountsSources, DeviceBytes, EndsReadingSources, JoinsBehind, ReadsSources, TakesBehind, checked_file, most_bytes, state_and_file, two_states};
+ghost use Rattle.docker_bytes.specs.SourceRead.{RaisesState, ReadsState};
+ghost use Rattle.docker_cmd.specs.Prepared.{CountsSources, DeviceBytes, EndsReadingSources, JoinsBehind, ReadsSources, TakesBehind, most_bytes};
+ghost use Rattle.docker_cmd.specs.Reads.{checked_file, state_and_file, two_states};
 ghost use Rattle.docker_office.specs.OfficeReads.{EndsReadingState};
-ghost use Rattle.docker_office.specs.SourceRead.{RaisesState, ReadsState};
 
 use cif_file::{FileCount, MOST_RECORDS, judge_file};
 use cif_line::{Day, Source};

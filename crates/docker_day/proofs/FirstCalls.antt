@@ -19,7 +19,6 @@ use Rattle.docker_model.specs.state.Table.{Table}
 use Rattle.docker_laws.proofs.dockers.TrainOfRows.{trains_tell}
 use Rattle.docker_state.specs.Timetables.{live_in}
 use Rattle.train_choice.specs.Occurrences as events
-use Rattle.train_choice.specs.Occurrences.{occurrences}
 use Rattle.train_choice.specs.declared.walk.Occurrence.{Occurrence}
 use Rattle.docker_day.specs.Visits.{Visit}
 use Rattle.docker_day.specs.declared.base_calls.BaseCalls.{BaseCalls}

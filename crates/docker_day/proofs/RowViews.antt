@@ -6,7 +6,6 @@ use Rattle.docker_model.specs.docker.Choice.{Group}
 use Rattle.docker_laws.specs.Gathering.{gathered, row_lines}
 use Rattle.docker_model.specs.docker.Choice as choices
 use Rattle.docker_laws.specs.LiveRows as live_rows
-use Rattle.docker_laws.specs.LiveRows.{schedule_of, association_of}
 use Rattle.docker_model.specs.state.Row.{Row}
 use Rattle.docker_model.specs.state.Table.{Table}
 use Rattle.train_choice.specs.Along.{AreLive}

@@ -7,5 +7,3 @@ pub mod Dockers
 pub mod Bases
 pub mod Visits
 pub mod Portions
-pub use Rattle.docker_state.specs.Meaning
-pub use Rattle.docker_state.specs.declared.item.LedgerItem

@@ -1,16 +1,16 @@
 -- What the state gains in each step of a session, and in all steps together.
-use Rattle.std.proofs.Common.{◌≡◌, ℕ, List, [], ◌∷◌, ◌++◌, refl, sym, ◌∙◌, ap, subst, Some, None, Ok, Err}
+use Rattle.std.proofs.Common.{◌≡◌, ℕ, List, [], ◌∷◌, ◌++◌, refl, sym, ap, subst, Some, None, Ok, Err}
 use Rattle.std.specs.Prelude.{Option, Result, ⊤}
 use Rattle.docker_model.specs.file.File.{most_records}
 use Rattle.docker_model.specs.state.State.{State}
 use Rattle.docker_model.specs.state.StateText.{dks_2, state_text}
 use Rattle.docker_model.specs.records.Date.{IsDay}
-use Rattle.docker_cmd.specs.Office.{TakesFile}
-use Rattle.docker_cmd.specs.OfficeFault.{OfficeFault}
 use Rattle.docker_cmd.specs.Prepared.{most_bytes}
 use Rattle.docker_cmd.specs.Saved.{AreGained, Gain, Gains, HoldsVersion, file_gained, horizon_gained, version_gained}
-use Rattle.docker_cmd.specs.SourceRead.{JoinsState}
 use Rattle.docker_host.specs.History.{Bytes, Event, Text, looked}
+use Rattle.docker_bytes.specs.SourceRead.{JoinsState}
+use Rattle.docker_office.specs.Office.{TakesFile}
+use Rattle.docker_office.specs.declared.fault.OfficeFault.{OfficeFault}
 use Rattle.docker_desk.specs.Desk.{EndsReceiving, EndsRenewing, EndsSaving, EndsTaking}
 use Rattle.docker_desk.specs.Doing.{AreSteps, DoesAsked, DoesRequest, Joins, Renews, Saves, answer_of}
 use Rattle.docker_desk.specs.Learning.{GainedBy, GainsAsked, GainsDone, GainsFile, GainsVersion, IsPlaced, renewing}

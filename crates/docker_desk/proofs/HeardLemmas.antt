@@ -3,10 +3,10 @@ use Rattle.std.proofs.Common.{◌≡◌, ℕ, List, [], ◌∷◌, ◌++◌, ref
 use Rattle.std.specs.Prelude.{Option, Result, ⊤}
 use Rattle.docker_model.specs.run.Run.{Known, nothing, united}
 use Rattle.docker_model.specs.state.StateText.{dks_2, state_text}
-use Rattle.docker_cmd.specs.OfficeFault.{OfficeFault}
 use Rattle.docker_cmd.specs.Prepared.{most_bytes}
-use Rattle.docker_cmd.specs.SourceRead.{JoinsState}
 use Rattle.docker_host.specs.History.{Bytes, Event, Text, looked}
+use Rattle.docker_bytes.specs.SourceRead.{JoinsState}
+use Rattle.docker_office.specs.declared.fault.OfficeFault.{OfficeFault}
 use Rattle.docker_desk.specs.Desk.{EndsReceiving, EndsRenewing, EndsSaving, EndsTaking}
 use Rattle.docker_desk.specs.Reading.{Reading, StopsInFile, StopsInState, events_of, opening_of}
 use Rattle.docker_desk.specs.declared.compared.Compared.{Compared}

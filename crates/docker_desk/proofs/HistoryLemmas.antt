@@ -2,11 +2,11 @@
 use Rattle.std.proofs.Common.{◌≡◌, ℕ, List, [], ◌∷◌, ◌++◌, Bool, true, false, ap, subst, ◌∙◌, append_assoc, Ok}
 use Rattle.std.specs.Prelude.{Option, Result, ⊤}
 use Rattle.cif_device.specs.Device.{Takes}
-use Rattle.docker_cmd.specs.OfficeFault.{OfficeFault}
 use Rattle.docker_host.specs.History.{Bytes, Event, Text, closed, drafted, looked, named_if, opened, placed, unplaced}
 use Rattle.docker_host.specs.Asked.{IsStored}
 use Rattle.docker_model.specs.state.State.{State}
 use Rattle.docker_model.specs.state.StateText.{dks_2, state_text}
+use Rattle.docker_office.specs.declared.fault.OfficeFault.{OfficeFault}
 use Rattle.docker_desk.specs.Desk.{EndsSaving}
 use Rattle.docker_desk.specs.Reading.{OpensOnce, Reading, events_of}
 

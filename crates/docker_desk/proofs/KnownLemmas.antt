@@ -13,11 +13,11 @@ use Rattle.docker_laws.proofs.runs.GoodKnowledge.{horizon_good, united_good}
 use Rattle.state_laws.proofs.states.SummaryLaws.{join_is_summary, raised_summary}
 use Rattle.state_laws.proofs.texts.TextsApart.{one_text}
 use Rattle.cif_file.specs.SourceRead.{Held}
-use Rattle.docker_cmd.specs.Office.{HoldsState}
-use Rattle.docker_cmd.specs.SourceRead.{ReadsState}
-use Rattle.docker_cmd.specs.OfficeFault.{OfficeFault}
 use Rattle.docker_cmd.specs.Words.{NamesDay, OfOne, Text}
-use Rattle.docker_host.specs.History.{Bytes, Event}
+use Rattle.docker_host.specs.History.{Event}
+use Rattle.docker_bytes.specs.SourceRead.{ReadsState}
+use Rattle.docker_office.specs.Office.{HoldsState}
+use Rattle.docker_office.specs.declared.fault.OfficeFault.{OfficeFault}
 use Rattle.docker_desk.specs.Lines.{LineView, whole_line, bad_line, cut_line}
 use Rattle.docker_cmd.specs.JobLine.{words_in}
 use Rattle.docker_desk.specs.Requests.{RequestView, after_word, print_request, permanent_request, train_request, files_request, places_request}

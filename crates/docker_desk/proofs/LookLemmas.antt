@@ -2,11 +2,11 @@
 -- before an opening of the state's file, or directly after a draft replaced that file.
 use Rattle.std.proofs.Common.{◌≡◌, ℕ, ◌+◌, List, [], ◌∷◌, ◌++◌, length, sym, ◌∙◌, ap, subst, arith, append_assoc, length-append, Some, None, Ok, Err, inl, inr}
 use Rattle.std.specs.Prelude.{Option, Result, ⊤, Bool}
-use Rattle.docker_cmd.specs.OfficeFault.{OfficeFault}
-use Rattle.docker_cmd.specs.OfficeFault.TheVariants as office
 use Rattle.docker_model.specs.state.StateText.{dks_2, state_text}
 use Rattle.docker_host.specs.History.{Bytes, Event, Text, closed, drafted, dropped, looked, named_if, opened, placed, undrafted, unplaced}
 use Rattle.docker_host.specs.Asked.{FailsToStore}
+use Rattle.docker_office.specs.declared.fault.OfficeFault.{OfficeFault}
+use Rattle.docker_office.specs.declared.fault.OfficeFault.TheVariants as office
 use Rattle.docker_desk.specs.Desk.{DeskView, EndsRenewing, EndsSaving, look_by}
 use Rattle.docker_desk.specs.Reading.{Reading, opening_of}
 use Rattle.docker_desk.specs.declared.compared.Compared.{Compared}

@@ -1,19 +1,18 @@
 -- The ways in which a desk's `take`, `merge` and `renew`, and its first reading of a state, can
 -- end. Each ending follows from how the office's reading ended.
-use Rattle.std.proofs.Common.{◌≡◌, ◌≢◌, ◌+◌, ◌∙◌, ℕ, ap, arith, refl, subst, sym, Some, Ok, Err, IsErr, true, false}
-use Rattle.std.specs.Prelude.{Result, ⊤, Bool, List, ◌++◌, Option, None, IfSome, Vec, option_map}
-use Rattle.cif_device.specs.Device.{Reads}
+use Rattle.std.proofs.Common.{◌≡◌, ◌≢◌, ◌+◌, ◌∙◌, ℕ, arith, refl, subst, sym, Some, Ok, Err, IsErr}
+use Rattle.std.specs.Prelude.{Result, ⊤, Option, None, IfSome, Vec, option_map}
 use Rattle.docker_model.specs.file.File.{most_records}
 use Rattle.docker_model.specs.state.State.{State}
 use Rattle.docker_model.specs.state.StateText.{dks_2, state_text}
-use Rattle.docker_cmd.specs.Office.{TakesFile}
-use Rattle.docker_cmd.specs.OfficeFault.{OfficeFault}
-use Rattle.docker_cmd.specs.OfficeFault.TheVariants as office
-use Rattle.docker_cmd.specs.OfficeReads.{CountsTaking, IsTakingOutcome, why_unread}
 use Rattle.docker_cmd.specs.Prepared.{ReadsFewOfState, most_bytes}
-use Rattle.docker_cmd.specs.ReadEnds.{CountsOutcome, CountsWhy, IsOutcome, IsWhyUnread}
-use Rattle.docker_cmd.specs.SourceRead.{JoinsState, ReadsState, WantsMemory}
 use Rattle.docker_host.specs.History.{Bytes, IsText, Text}
+use Rattle.docker_bytes.specs.ReadEnds.{CountsOutcome, CountsWhy, IsOutcome, IsWhyUnread}
+use Rattle.docker_bytes.specs.SourceRead.{JoinsState, ReadsState, WantsMemory}
+use Rattle.docker_office.specs.Office.{TakesFile}
+use Rattle.docker_office.specs.declared.fault.OfficeFault.{OfficeFault}
+use Rattle.docker_office.specs.declared.fault.OfficeFault.TheVariants as office
+use Rattle.docker_office.specs.OfficeReads.{CountsTaking, IsTakingOutcome, why_unread}
 use Rattle.docker_cmd.specs.FaultLine.{IsCounted, result_status}
 use Rattle.docker_desk.specs.Copying.{ComparesCopy}
 use Rattle.docker_desk.specs.Desk.{EndsComparing, EndsReceiving, EndsReloading, EndsTaking, IsFound, RefusesToReceive}

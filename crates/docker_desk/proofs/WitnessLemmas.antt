@@ -8,9 +8,6 @@ use Rattle.docker_model.specs.records.Record.{is_printable}
 use Rattle.cif_device.specs.Device.{Takes}
 use Rattle.docker_model.specs.state.State.{State, IsValid}
 use Rattle.docker_model.specs.state.StateText.{dks_2, state_text}
-use Rattle.docker_cmd.specs.Office.{HoldsState, no_state}
-use Rattle.docker_cmd.specs.OfficeFault.{OfficeFault}
-use Rattle.docker_cmd.specs.OfficeFault.TheVariants as office
 use Rattle.docker_cmd.specs.FaultLine.{status_of}
 use Rattle.docker_cmd.specs.Prepared.{most_bytes}
 use Rattle.docker_cmd.specs.declared.fault.Fault.TheVariants.{Office}
@@ -31,6 +28,9 @@ use Rattle.docker_desk.specs.declared.ending.Ending.TheVariants.{Ended, InputFai
 use Rattle.docker_desk.proofs.ReadingLemmas.{one_reading}
 use Rattle.docker_desk.proofs.KnownLemmas.{one_read}
 use Rattle.state_laws.proofs.texts.ReportedWithHorizon.{valid_is_told}
+use Rattle.docker_office.specs.Office.{HoldsState, no_state}
+use Rattle.docker_office.specs.declared.fault.OfficeFault.{OfficeFault}
+use Rattle.docker_office.specs.declared.fault.OfficeFault.TheVariants as office
 
 -- the line `files`, which requests the list of files
 abbrev asked_line : List ℕ

@@ -9,16 +9,16 @@ use Rattle.docker_model.specs.state.Table.{Table}
 use Rattle.docker_model.specs.docker.DockerText.{IsDockerText, files_text}
 use Rattle.cif_file.specs.SourceRead.{RefusesText}
 use Rattle.docker_train.specs.TrainText.{IsTrainText}
-use Rattle.docker_cmd.specs.SourceRead.{JoinsState, ReadsState, RefusesState}
 use Rattle.state_lists.specs.Known.{IsKnownText}
 use Rattle.state_lists.specs.Places.{IsPlacesText}
-use Rattle.docker_cmd.specs.Office.{TakesFile, WantsForFile}
-use Rattle.docker_cmd.specs.OfficeFault.{OfficeFault}
-use Rattle.docker_cmd.specs.OfficeFault.TheVariants as office
 use Rattle.docker_cmd.specs.Prepared.{WantsForState, most_bytes}
 use Rattle.cif_device.specs.Device.{IsEnd}
 use Rattle.docker_host.specs.History.{Bytes, Event, IsText, Text, drafted, looked, named_if, placed}
 use Rattle.docker_host.specs.Asked.{FailsToStore, IsStored, IsUndrafted}
+use Rattle.docker_bytes.specs.SourceRead.{JoinsState, ReadsState, RefusesState}
+use Rattle.docker_office.specs.Office.{TakesFile, WantsForFile}
+use Rattle.docker_office.specs.declared.fault.OfficeFault.{OfficeFault}
+use Rattle.docker_office.specs.declared.fault.OfficeFault.TheVariants as office
 use Rattle.docker_desk.specs.Reading.{HasOpened, Reading}
 use Rattle.docker_desk.specs.declared.compared.Compared.{Compared}
 use Rattle.docker_desk.specs.declared.compared.Compared.TheVariants as compared

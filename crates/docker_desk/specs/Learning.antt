@@ -13,11 +13,11 @@ use Rattle.docker_model.specs.run.Run.{IsMessageOf, IsStateOf, Known, nothing, u
 use Rattle.docker_model.specs.run.Knowledge.{IsGoodKnown}
 use Rattle.docker_train.specs.TrainText.{Stamped, train_text}
 use Rattle.docker_train.specs.Origin.{CameFrom}
-use Rattle.docker_cmd.specs.Office.{HoldsState, TakesFile}
 use Rattle.docker_cmd.specs.Saved.{Gain, HoldsFile, HoldsVersion, IsSaved, file_gained, horizon_gained, version_gained}
-use Rattle.docker_cmd.specs.SourceRead.{JoinsState}
 use Rattle.docker_cmd.specs.Prepared.{most_bytes}
 use Rattle.docker_host.specs.History.{Event, Text, drafted, looked, named_if, placed}
+use Rattle.docker_bytes.specs.SourceRead.{JoinsState}
+use Rattle.docker_office.specs.Office.{HoldsState, TakesFile}
 use Rattle.docker_desk.specs.Requests.{RequestView, print_request, permanent_request, train_request, files_request, places_request}
 use Rattle.docker_desk.specs.Requests.{known_request, renew_request, take_request, merge_request, horizon_request, save_request}
 use Rattle.docker_desk.specs.Replies.{AnswerView, done_with, no_request, refused_for}

@@ -1,15 +1,14 @@
 -- A whole session: its words, its start and its end.
-use Rattle.std.specs.Prelude.{◌≡◌, ℕ, ◌+◌, Bool, true, false, ◌&&◌, List, [], ◌∷◌, ◌++◌, codes, length, Option, Result, Ok, Err, ◌⊎◌}
-use Rattle.cif_device.specs.Device.{Takes, TakesPart}
+use Rattle.std.specs.Prelude.{◌≡◌, ℕ, Bool, true, false, ◌&&◌, List, [], ◌∷◌, ◌++◌, codes, length, Option, Result, Ok, Err, ◌⊎◌}
 use Rattle.docker_model.specs.state.StateText.{dks_2}
-use Rattle.docker_cmd.specs.SourceRead.{ReadsState}
 use Rattle.docker_cmd.specs.FaultLine.{IsCounted, device_line, fault_line, status_of}
-use Rattle.docker_cmd.specs.OfficeFault.{OfficeFault}
 use Rattle.docker_cmd.specs.Prepared.{ReadsFewOfState, most_bytes}
 use Rattle.docker_cmd.specs.declared.fault.Fault.TheVariants.{Office}
 use Rattle.docker_host.specs.History.{Bytes, Event, Text, closed, looked, opened}
 use Rattle.docker_host.specs.FaultSink.{FaultsView, TellsText, faults_of}
 use Rattle.docker_host.specs.Host.{HostView}
+use Rattle.docker_bytes.specs.SourceRead.{ReadsState}
+use Rattle.docker_office.specs.declared.fault.OfficeFault.{OfficeFault}
 use Rattle.docker_desk.specs.Requests.{NamesFile, usage_line}
 use Rattle.docker_desk.specs.Desk.{DeskView, IsWhyNot, RefusesToReceive}
 use Rattle.docker_desk.specs.Reading.{HasOpened, LooksAndOpens, Reading}

@@ -3,14 +3,14 @@ ghost use Rattle.std.specs.Prelude.{◌≡◌, ℕ, List, ◌+◌, ◌-◌, ◌^
 ghost use Rattle.docker_model.specs.state.State.{raise_horizon};
 ghost use Rattle.docker_model.specs.state.StateText.{dks_2, state_text};
 ghost use Rattle.docker_cmd.specs.FaultLine.{IsCounted, result_status};
-ghost use Rattle.docker_cmd.specs.OfficeFault.TheVariants as office;
 ghost use Rattle.docker_desk.specs.Desk.{EndsReceiving, EndsRenewing, EndsSaving, EndsTaking, IsDockerAnswer, IsFilesAnswer, IsKnownAnswer, IsPermanentAnswer, IsPlacesAnswer, IsTrainAnswer, TellsDocker, look_by, unsaved_by};
 ghost use Rattle.docker_desk.specs.Reading.{LooksAndOpens, OpensOnce, StopsInFile, StopsInState};
 ghost use Rattle.docker_desk.specs.Doing.{desk_by};
 ghost use Rattle.docker_desk.specs.Replies.{answer_meant, done_with, refused_for};
 ghost use Rattle.docker_model.specs.state.Table.{Table};
-ghost use Rattle.docker_train.specs.Dockers.{IsDockerOf};
+ghost use Rattle.docker_day.specs.Dockers.{IsDockerOf};
 ghost use Rattle.state_lists.specs.Known.{IsKnownText};
+ghost use Rattle.docker_office.specs.declared.fault.OfficeFault.TheVariants as office;
 
 use crate::compared::Compared;
 use crate::page::Page;

@@ -14,8 +14,8 @@ use Rattle.state_laws.proofs.texts.StateGrown.{valid_more}
 use Rattle.docker_laws.proofs.dockers.ExcerptState.{entry_behind}
 use Rattle.cif_change.specs.declared.key.Key.{Key}
 use Rattle.cif_change.specs.Meaning.{key_meant}
-use Rattle.state_text.specs.Entry.{Entry as Row}
 use Rattle.docker_join.specs.Meaning.{entry_meant, row_meant}
+use Rattle.docker_join.specs.declared.entry.Entry.{Entry as Row}
 use Rattle.docker_state.specs.Parts.{last_key}
 use Rattle.docker_excerpt.specs.Values.{with_entries}
 use Rattle.docker_excerpt.specs.Ledger.{IsLedgerOf}

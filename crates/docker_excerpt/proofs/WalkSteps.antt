@@ -8,8 +8,8 @@ use Rattle.docker_model.specs.file.Change as model
 use Rattle.docker_model.specs.state.Op as ops
 use Rattle.cif_change.specs.declared.key.Key.{Key}
 use Rattle.cif_change.specs.Meaning.{key_meant}
-use Rattle.state_text.specs.Entry.{Entry}
 use Rattle.docker_join.specs.Meaning.{entry_meant, row_meant}
+use Rattle.docker_join.specs.declared.entry.Entry.{Entry}
 use Rattle.docker_excerpt.specs.Walked.{IsWalk}
 
 -- converting rows to the types of the definitions commutes with appending a row

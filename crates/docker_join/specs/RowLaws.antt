@@ -5,9 +5,9 @@ use Rattle.docker_model.specs.file.Change as model
 use Rattle.cif_laws.proofs.lists.Membership.{all_members, member_of}
 use Rattle.state_laws.proofs.joins.KeyedRows as keyed
 use Rattle.state_laws.proofs.joins.PickLaws.{ArePickLaws}
-use Rattle.cif_change.specs.Stp.{Stp}
-use Rattle.cif_change.specs.Stp.TheVariants as stp
 use Rattle.cif_line.specs.Letter.{stp_letter}
+use Rattle.cif_line.specs.declared.letter.Stp.{Stp}
+use Rattle.cif_line.specs.declared.letter.Stp.TheVariants as stp
 use Rattle.cif_change.specs.declared.key.Key.{Key}
 use Rattle.cif_change.specs.declared.key.Key.TheVariants as key
 use Rattle.cif_change.specs.declared.key.AssocKey.{AssocKey}

@@ -12,4 +12,3 @@ pub mod NearDay
 pub mod StandIn
 pub mod Thinning
 pub mod CountedRows
-pub use Rattle.state_laws.specs.Index

@@ -9,7 +9,7 @@ use Rattle.docker_model.specs.file.Change.{Key, schedule_key, ScheduleKey, Body,
 use Rattle.docker_model.specs.state.Table.{Table}
 use Rattle.docker_model.specs.state.Row.{Row}
 use Rattle.docker_model.specs.docker.Choice.{Train, Group, group_of, schedule_runs, schedule_choice_cmp, association_runs}
-use Rattle.docker_model.specs.docker.Choice.{association_choice_cmp, IsRunning, IsChosen, TrainRuns, IsChosenAssociation}
+use Rattle.docker_model.specs.docker.Choice.{association_choice_cmp, TrainRuns, IsChosenAssociation}
 use Rattle.docker_model.specs.docker.Association.{RunsNot}
 
 -- each row is in the live table, and the rows include every schedule of the UID

@@ -9,8 +9,8 @@ use Rattle.std.proofs.lemmas.Grind.{flat_map-append}
 use Rattle.cif_device.specs.Device.{Takes, TakesPart}
 use Rattle.docker_model.specs.docker.DockerText.{ended, file_text, files_text}
 use Rattle.docker_model.specs.state.State.{IsGoodItem}
-use Rattle.docker_day.specs.LedgerItem.{LedgerItem}
-use Rattle.docker_day.specs.Meaning.{item_meant}
+use Rattle.docker_state.specs.declared.item.LedgerItem.{LedgerItem}
+use Rattle.docker_state.specs.Meaning.{item_meant}
 
 -- the text that lists the files of these ledger items, with one line for each file
 abbrev pub text_of : List LedgerItem → List ℕ

@@ -6,7 +6,6 @@ use Rattle.cif_device.specs.Device.{Store}
 use Rattle.cif_file.specs.declared.fault.FileFault.{FileFault}
 use Rattle.cif_file.specs.SourceRead.{RefusesText}
 use Rattle.docker_bytes.specs.declared.fault.StateFault.{StateFault}
-use Rattle.docker_bytes.specs.FaultMeaning.{cause_meant as state_cause_meant}
 use Rattle.docker_bytes.specs.SourceRead.{IsCauseOf, JoinsState, ReadsState, RefusesState}
 use Rattle.docker_model.specs.records.Date.{last_day}
 use Rattle.docker_model.specs.file.Text.{lines_of}
@@ -18,12 +17,13 @@ use Rattle.docker_model.specs.state.StateFault.{IsStateText}
 use Rattle.docker_model.specs.state.StateText.{dks_2, state_text}
 use Rattle.docker_model.specs.state.Summary.{IsSummary}
 use Rattle.docker_model.specs.run.Run as model
-use Rattle.docker_model.specs.run.Run.{RunEvent, take_file, send_state, deliver, reload, horizon_event, refused, no_office, no_message, KnownSets}
+use Rattle.docker_model.specs.run.Run.{take_file, send_state, deliver, reload, horizon_event, refused, no_office, no_message, KnownSets}
 use Rattle.docker_model.specs.run.Run.{IsOffice, IsMessage, IsOfficeReply, IsMessageReply, IsFileReply, IsDoneOrNoMemory, after_done}
 use Rattle.docker_model.specs.run.Knowledge.{message_text}
 use Rattle.docker_laws.specs.RunInvariant.{Holds}
 use Rattle.docker_laws.proofs.runs.RunSteps.{sizes, message_reads, after_take, after_send, after_delivery, after_reload, after_horizon}
 use Rattle.state_laws.proofs.texts.OneStateFault.{no_fault_of_state}
+use Rattle.state_text.specs.FaultMeaning.{cause_meant as state_cause_meant}
 use Rattle.docker_office.specs.declared.fault.OfficeFault.{OfficeFault}
 use Rattle.docker_office.specs.declared.fault.OfficeFault.TheVariants as why
 use Rattle.docker_office.specs.Faults.{IsOfFile, IsOfState}

@@ -21,9 +21,9 @@ use Rattle.cif_device.specs.Device.{IsEnd}
 use Rattle.docker_bytes.specs.ReadEnds.{BytesLeft, CountsOutcome, CountsWhy, IsOutcome, IsWhyUnread, StopsReading, Wanting}
 use Rattle.docker_bytes.specs.SourceRead.{Held, RaisesState, ReadsMade, ReadsState, RefusesState, JoinsState}
 use Rattle.docker_bytes.specs.declared.fault.StateFault.{StateFault}
-use Rattle.docker_bytes.specs.Values.{Excerpt}
 use Rattle.docker_laws.specs.FileSummary.{summary_of}
 use Rattle.docker_laws.proofs.dockers.FileSummary.{join_of_nothing, summary_is, summary_valid}
+use Rattle.docker_excerpt.specs.Values.{Excerpt}
 use Rattle.docker_bytes.specs.declared.read.ReadFault as states
 use Rattle.docker_bytes.specs.declared.read.ReadFault.TheVariants as state_faults
 use Rattle.docker_office.specs.declared.fault.OfficeFault.{OfficeFault}

@@ -4,8 +4,3 @@ pub mod OfficeReads
 pub mod RunMeaning
 pub mod RunSteps
 pub mod RunEnds
-pub use Rattle.docker_bytes.specs.SourceRead
-pub use Rattle.docker_bytes.specs.ReadEnds
-pub use Rattle.docker_bytes.specs.FaultText
-pub use Rattle.docker_bytes.specs.declared.fault.StateFault
-pub use Rattle.docker_bytes.specs.Values

@@ -1,7 +1,7 @@
 -- How an office's calls change the state that it keeps.
 use Rattle.std.specs.Prelude.{◌≡◌, ℕ, max, ◌⊎◌, List, [], ◌∷◌, ◌++◌, Option, Some}
 use Rattle.cif_device.specs.Device.{Takes, TakesPart}
-pub use Rattle.cif_device.specs.FeedEnds.{most_at_once}
+use Rattle.cif_device.specs.FeedEnds.{most_at_once}
 use Rattle.docker_model.specs.file.FileFault.{IsFileText}
 use Rattle.docker_model.specs.state.State.{State, IsJoin, live_table}
 use Rattle.docker_model.specs.state.Summary.{IsSummary}

@@ -3,7 +3,7 @@ ghost use Rattle.std.specs.Prelude.{◌≡◌, ◌-◌, ◌^◌, ◌<◌, map, A
 ghost use Rattle.cif_device.specs.Device.{CountsFailure, Takes, TakesPart};
 ghost use Rattle.docker_model.specs.docker.DockerText.{ended, file_text, files_text};
 ghost use Rattle.docker_model.specs.state.State.{IsGoodItem};
-ghost use Rattle.docker_day.specs.Meaning.{item_meant};
+ghost use Rattle.docker_state.specs.Meaning.{item_meant};
 
 use arrayvec::ArrayVec;
 use cif_line::{Failed, Sink, write_all};

@@ -30,7 +30,7 @@ pub struct PlaceOffice {
 }
 
 impl Model for PlaceOffice {
-    ghost use Rattle.docker_bytes.specs.Values as values;
+    ghost use Rattle.docker_excerpt.specs.Values as values;
 
     ghost Value = { values.Excerpt };
 

@@ -3,13 +3,14 @@ use Rattle.std.proofs.Common.{◌≡◌, ◌≢◌, ℕ, List, [], ◌∷◌, �
 use Rattle.std.proofs.Common.{sym, ◌∙◌, ap, subst, arith, inl, inr, append-nil, append_assoc}
 use Rattle.docker_host.specs.Asked.{IsStored, IsUnplaced}
 use Rattle.docker_host.specs.History.{Bytes, Event, looked, opened, unopened, closed, drafted, undrafted, dropped}
+use Rattle.docker_office.specs.declared.fault.OfficeFault.TheVariants as office
 use Rattle.docker_cmd.specs.Words.{Text}
 use Rattle.docker_cmd.specs.Job.{JobView}
 use Rattle.docker_cmd.specs.declared.job_fault.JobFault.TheVariants as job
-use Rattle.docker_cmd.specs.Prepared.{IsOutputText, IsRefusedDocker, PreparedView, output_of}
+use Rattle.docker_cmd.specs.Prepared.{IsOutputText, IsRefusedDocker, PreparedView}
 use Rattle.docker_cmd.specs.declared.fault.Fault.{Fault}
 use Rattle.docker_cmd.specs.declared.fault.Fault.TheVariants.{Job, Office}
-use Rattle.docker_cmd.specs.OfficeFault.TheVariants as office
+use Rattle.docker_cmd.specs.Tasks.{output_of}
 use Rattle.docker_program.specs.SourceNames.{SourceNames, no_source, standard_input, one_file, file_and_input, two_files, names_of, stored_by}
 use Rattle.docker_program.specs.Sources.{FailsToOpen, IsNotOpened, IsOpened, SourcesRead, with_files_read, with_look_at}
 use Rattle.docker_program.specs.Writing.{WantsToWrite, WantsToWriteTo, Writes, WritesPart, WritesPartTo, WritesTo, Written}

@@ -4,6 +4,8 @@ use Rattle.std.specs.Prelude.{ℕ, Bool, true, false, List, [], ◌∷◌, ◌++
 use Rattle.cif_device.specs.Device.{Takes}
 use Rattle.docker_host.specs.Asked.{IsDropped, IsUndrafted}
 use Rattle.docker_host.specs.History.{Bytes, Event, drafted, dropped, named_if, placed, unplaced}
+use Rattle.docker_office.specs.declared.fault.OfficeFault.{OfficeFault}
+use Rattle.docker_office.specs.declared.fault.OfficeFault.TheVariants as office
 use Rattle.docker_cmd.specs.Words.{Text}
 use Rattle.docker_cmd.specs.Writes.{Output, counts_written, docker_written, files_written, output_of_kind, state_written}
 use Rattle.docker_cmd.specs.declared.writes.OutputKind.{OutputKind}
@@ -12,8 +14,6 @@ use Rattle.docker_cmd.specs.Tasks.{day_of, output_of, tiploc_of, writes_of}
 use Rattle.docker_cmd.specs.FaultLine.{IsCounted, result_status, status_of}
 use Rattle.docker_cmd.specs.Prepared.{EndsEmitting, GainsOutput, IsDocker, IsRefused, IsRefusedDocker, PreparedView, PrintsDocker}
 use Rattle.docker_cmd.specs.Prepared.{ReadView, file_read, office_read}
-use Rattle.docker_cmd.specs.OfficeFault.{OfficeFault}
-use Rattle.docker_cmd.specs.OfficeFault.TheVariants as office
 use Rattle.docker_cmd.specs.declared.fault.Fault.TheVariants.{Office}
 use Rattle.docker_program.specs.SourceNames.{file_stored, stored_by}
 use Rattle.docker_program.specs.Writing.{Drafting, EndsWriting, WantsToWriteTo, Writes, WritesPart, WritesPartTo, WritesTo, Written, written}

@@ -5,11 +5,11 @@ use Rattle.docker_host.specs.History.{Bytes, Event}
 use Rattle.docker_host.specs.Opening.{one_of}
 use Rattle.docker_host.specs.declared.folder.OpenFault.{OpenFault}
 use Rattle.docker_host.specs.declared.folder.OpenFault.TheVariants as opening
+use Rattle.docker_office.specs.declared.fault.OfficeFault.{OfficeFault}
+use Rattle.docker_office.specs.declared.fault.OfficeFault.TheVariants as office
 use Rattle.docker_cmd.specs.FaultLine.{IsCounted, result_status}
 use Rattle.docker_cmd.specs.Job.{JobView}
 use Rattle.docker_cmd.specs.Prepared.{CountsSources, PreparedView, ReadsInOrder}
-use Rattle.docker_cmd.specs.OfficeFault.{OfficeFault}
-use Rattle.docker_cmd.specs.OfficeFault.TheVariants as office
 use Rattle.docker_cmd.specs.Words.{Text}
 use Rattle.docker_program.specs.SourceNames.{SourceNames, no_source, standard_input, one_file, file_and_input, names_of}
 use Rattle.docker_program.specs.Sources.{AreRead, Asking, FailsToOpen, IsOpened, ReadsBy, ReadsNamed, asking}

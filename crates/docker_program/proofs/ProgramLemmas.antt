@@ -3,14 +3,14 @@ use Rattle.std.proofs.Common.{◌≡◌, ◌≢◌, ◌≤◌, ◌↔◌, ℕ, B
 use Rattle.docker_host.specs.History.{Bytes, Event}
 use Rattle.docker_host.specs.FaultSink.{FaultsView, TellsText, faults_of, faults_view}
 use Rattle.docker_host.specs.Host.{HostView}
+use Rattle.docker_office.specs.declared.fault.OfficeFault.{OfficeFault}
+use Rattle.docker_office.specs.declared.fault.OfficeFault.TheVariants as office
 use Rattle.docker_cmd.specs.Words.{Text}
 use Rattle.docker_cmd.specs.Job.{JobView, NameNoJob}
 use Rattle.docker_cmd.specs.declared.job_fault.JobFault.TheVariants as job
 use Rattle.docker_cmd.specs.Prepared.{PreparedView}
 use Rattle.docker_cmd.specs.declared.fault.Fault.{Fault}
 use Rattle.docker_cmd.specs.declared.fault.Fault.TheVariants.{Job, Office}
-use Rattle.docker_cmd.specs.OfficeFault.{OfficeFault}
-use Rattle.docker_cmd.specs.OfficeFault.TheVariants as office
 use Rattle.docker_program.specs.SourceNames.{stored_by}
 use Rattle.docker_program.specs.Sources.{IsPrepared, ReadsNamed, asking, with_look_at}
 use Rattle.docker_cmd.specs.FaultLine.{IsCounted, fault_line, status_of}

@@ -12,10 +12,12 @@ use Rattle.docker_host.specs.Shelf.{IsShelfHistory}
 use Rattle.docker_cmd.specs.CheckLine.{count_line}
 use Rattle.docker_cmd.specs.Job.{IsJobOf, JobView}
 use Rattle.docker_cmd.specs.Prepared.{IsOutputText, IsReadOf, ReadView, ReadsFewOfSecond, ReadsFewOfState}
-use Rattle.docker_cmd.specs.Prepared.{counts_written, file_read, office_read, state_and_file}
+use Rattle.docker_cmd.specs.Prepared.{file_read, office_read}
 use Rattle.docker_cmd.specs.Tasks.{TaskView, new_task, check_task, day_task, take_task, merge_task}
 use Rattle.docker_cmd.specs.Tasks.{print_task, files_task, horizon_task, migrate_task, name_of, subcommand_of}
 use Rattle.docker_cmd.specs.Words.{Text}
+use Rattle.docker_cmd.specs.Writes.{counts_written}
+use Rattle.docker_cmd.specs.Reads.{state_and_file}
 use Rattle.docker_program.specs.SourceNames.{first_word, stored_by}
 use Rattle.docker_program.specs.Sources.{SourcesRead}
 use Rattle.docker_program.specs.Program.{Performs}

@@ -3,11 +3,11 @@ use Rattle.std.specs.Prelude.{◌≡◌, ◌≢◌, ◌↔◌, ℕ, ◌+◌, Boo
 use Rattle.docker_host.specs.History.{Bytes, Event}
 use Rattle.docker_host.specs.FaultSink.{FaultsView, TellsText, faults_of}
 use Rattle.docker_host.specs.Host.{HostView}
+use Rattle.docker_office.specs.declared.fault.OfficeFault.TheVariants as office
 use Rattle.docker_cmd.specs.Words.{Text}
 use Rattle.docker_cmd.specs.Job.{JobView, IsJobOf, NameNoJob}
 use Rattle.docker_cmd.specs.JobLine.{ReadsAtMost, ReadsJob, HasJob, HasNoJob}
 use Rattle.docker_cmd.specs.declared.job_fault.JobFault.TheVariants as job
-use Rattle.docker_cmd.specs.OfficeFault.TheVariants as office
 use Rattle.docker_cmd.specs.Prepared.{PreparedView}
 use Rattle.docker_cmd.specs.FaultLine.{IsCounted, fault_line, status_of}
 use Rattle.docker_cmd.specs.declared.fault.Fault.{Fault}

@@ -4,14 +4,15 @@ use Rattle.docker_host.specs.History.{Bytes, Event, looked, opened, unopened, cl
 use Rattle.docker_host.specs.Opening.{one_of}
 use Rattle.cif_file.specs.declared.fault.FileFault.{FileFault}
 use Rattle.docker_cmd.specs.Job.{JobView}
-use Rattle.docker_cmd.specs.OfficeFault.{OfficeFault}
-use Rattle.docker_cmd.specs.OfficeFault.TheVariants as office
 use Rattle.docker_cmd.specs.Prepared.{PreparedView, HasReadToEnd, IsReadOf, ReadsFewOfFirst, ReadsFewOfSecond}
-use Rattle.docker_cmd.specs.Prepared.{ReadsInOrder, RefusesFileOf, RefusesStateOf, WantsFor, sources_of}
-use Rattle.docker_cmd.specs.StateFault.{StateFault}
+use Rattle.docker_cmd.specs.Prepared.{ReadsInOrder, RefusesFileOf, RefusesStateOf, WantsFor}
 use Rattle.docker_cmd.specs.Words.{Text}
+use Rattle.docker_cmd.specs.Tasks.{sources_of}
 use Rattle.docker_program.specs.SourceNames.{SourceNames, no_source, standard_input, one_file, file_and_input, two_files, names_of}
 use Rattle.docker_host.specs.declared.folder.OpenFault.{OpenFault}
+use Rattle.docker_bytes.specs.declared.fault.StateFault.{StateFault}
+use Rattle.docker_office.specs.declared.fault.OfficeFault.{OfficeFault}
+use Rattle.docker_office.specs.declared.fault.OfficeFault.TheVariants as office
 
 -- the bytes of a job's two sources: the bytes that each held before it was read, and the bytes that
 -- are left in it. For a file, these are the bytes that it held when it was opened, and the bytes

@@ -3,10 +3,11 @@
 use Rattle.std.specs.Prelude.{◌≡◌, ◌⊎◌, ℕ, Bool, List, Option, Some, None, Result, Ok, Err, ⊤}
 use Rattle.docker_host.specs.Asked.{IsDropped, IsStored, IsUndrafted, IsUnplaced}
 use Rattle.docker_host.specs.History.{Bytes, Event}
-use Rattle.docker_cmd.specs.OfficeFault.{OfficeFault}
-use Rattle.docker_cmd.specs.OfficeFault.TheVariants as office
-use Rattle.docker_cmd.specs.Prepared.{PreparedView, GainsOutput, GainsPart, IsOutputText, IsRefused, PrintsDocker, output_of}
+use Rattle.docker_office.specs.declared.fault.OfficeFault.{OfficeFault}
+use Rattle.docker_office.specs.declared.fault.OfficeFault.TheVariants as office
+use Rattle.docker_cmd.specs.Prepared.{PreparedView, GainsOutput, GainsPart, IsOutputText, IsRefused, PrintsDocker}
 use Rattle.docker_cmd.specs.Words.{Text}
+use Rattle.docker_cmd.specs.Tasks.{output_of}
 use Rattle.docker_program.specs.SourceNames.{stored_by}
 
 -- the devices to which a job writes, before and after the job writes: the bytes that the output

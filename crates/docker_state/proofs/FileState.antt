@@ -19,19 +19,19 @@ use Rattle.cif_laws.proofs.lists.Membership.{Contains-cons, cons-Contains-first,
 use Rattle.cif_laws.proofs.files.FileChanges.{file_change}
 use Rattle.state_laws.proofs.states.SummaryValid.{summary_is_valid}
 use Rattle.state_laws.proofs.joins.RaisedHorizon.{plain_summary}
-use Rattle.cif_file.specs.Key.{Key}
 use Rattle.cif_file.specs.FileRead.{FileRead}
 use Rattle.cif_file.specs.ThinRead.{ThinRead, thin_of_parts}
 use Rattle.cif_change.specs.Meaning.{change_meant}
+use Rattle.cif_change.specs.declared.key.Key.{Key}
 use Rattle.cif_file.specs.declared.parts.FileParts.{FileParts}
 use Rattle.cif_file.specs.MadeChanges.{file_of_parts}
 use Rattle.docker_join.specs.declared.entry.Entry.{Entry}
 use Rattle.docker_join.specs.declared.stamp.FileStamp as code
-use Rattle.docker_join.specs.Meaning.{op_meant, file_stamp_meant}
+use Rattle.docker_join.specs.Meaning.{op_meant, file_stamp_meant, row_meant}
 use Rattle.docker_join.specs.Records.{HasRecords}
 use Rattle.docker_join.specs.Rows.{AreAscending}
 use Rattle.docker_state.specs.declared.item.LedgerItem.{LedgerItem}
-use Rattle.docker_state.specs.Meaning.{item_meant, row_meant, state_meant}
+use Rattle.docker_state.specs.Meaning.{item_meant, state_meant}
 use Rattle.state_index.specs.Rooms.{AreMadeBy}
 use Rattle.docker_state.specs.Rows.{made_by}
 use Rattle.docker_state.specs.MadeState.{HaveRecords, IsMadeState, MakeValid}

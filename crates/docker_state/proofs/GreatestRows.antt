@@ -12,14 +12,13 @@ use Rattle.docker_model.specs.state.State.{IsGreatestAmong}
 use Rattle.cif_laws.proofs.orders.Orders.{key_total, exact_key, entry_total}
 use Rattle.cif_laws.proofs.lists.Membership.{Contains-cons, cons-Contains, cons-Contains-first, nil-Contains, Contains-map, map-Contains}
 use Rattle.cif_laws.proofs.orders.AtMost.{level}
-use Rattle.cif_file.specs.Key.{Key}
 use Rattle.cif_change.specs.Meaning.{key_meant}
+use Rattle.cif_change.specs.declared.key.Key.{Key}
 use Rattle.docker_join.specs.declared.entry.Entry.{Entry}
-use Rattle.docker_join.specs.Meaning.{op_meant, entry_meant}
+use Rattle.docker_join.specs.Meaning.{op_meant, entry_meant, row_meant}
 use Rattle.docker_join.specs.Records.{HasRecords}
 use Rattle.docker_join.specs.Exact.{exact_entry}
 use Rattle.docker_join.specs.Rows.{row_cmp}
-use Rattle.docker_state.specs.Meaning.{row_meant}
 use Rattle.docker_state.specs.Rows.{last_rows}
 use Rattle.docker_state.proofs.LastRows.{by_entry, AreSorted, lasts_among, lasts_top}
 

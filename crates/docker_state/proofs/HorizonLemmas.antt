@@ -11,12 +11,13 @@ use Rattle.state_laws.proofs.states.KeptEntries.{entries_stay}
 use Rattle.state_laws.proofs.joins.JoinValid.{raised_is_valid}
 use Rattle.docker_model.specs.file.Change as model
 use Rattle.docker_model.specs.state.Op as ops
+use Rattle.cif_change.specs.declared.key.Key.{Key}
 use Rattle.state_index.specs.declared.index.Index.{Index}
-use Rattle.cif_file.specs.Key.{Key}
 use Rattle.docker_join.specs.declared.entry.Entry.{Entry}
+use Rattle.docker_join.specs.Meaning.{row_meant}
 use Rattle.docker_state.specs.declared.item.LedgerItem.{LedgerItem}
 use Rattle.docker_state.specs.Indexed.{IsIndexIfAny}
-use Rattle.docker_state.specs.Meaning.{item_meant, row_meant, state_meant}
+use Rattle.docker_state.specs.Meaning.{item_meant, state_meant}
 
 module _ (own day : ℕ) (low : own ≤ day) (ledger : List LedgerItem) (rows after : List (Key × Entry))
     (lapsed : map row_meant after ≡ lapse_entries day (map row_meant rows)) where

@@ -1,11 +1,11 @@
 -- The index of a state's rows, if the state has an index.
-use Rattle.std.proofs.Common.{◌≡◌, ℕ, List, map, ap, sym, ◌∙◌, subst, Some, None}
+use Rattle.std.proofs.Common.{ℕ, List, Some, None}
 use Rattle.std.specs.Prelude.{Option}
 use Rattle.docker_model.specs.file.Change as model
 use Rattle.docker_model.specs.state.Op as ops
+use Rattle.cif_change.specs.declared.notes.Notes.{Notes}
+use Rattle.cif_change.specs.Noted.{ArePicked, items_of, items_put}
 use Rattle.cif_file.specs.MadeChanges.{AreNotesOf}
-use Rattle.state_index.specs.Notes.{Notes}
-use Rattle.state_index.specs.Noted.{ArePicked, items_of, items_put}
 use Rattle.docker_state.specs.Indexed.{ArePickedNotes}
 
 -- suppose that the changes at the indexes `order` made the rows, and that the notes are the notes

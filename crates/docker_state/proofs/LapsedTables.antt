@@ -5,18 +5,17 @@ use Rattle.std.proofs.lemmas.List.{map-append}
 use Rattle.docker_model.specs.file.Change as model
 use Rattle.docker_model.specs.state.Order.{IsStrictlyAscending}
 use Rattle.docker_model.specs.state.Op as ops
-use Rattle.docker_model.specs.state.Op.{body_end, entry_cmp, deleted, lapsed, put_with}
+use Rattle.docker_model.specs.state.Op.{body_end, deleted, lapsed, put_with}
 use Rattle.docker_model.specs.state.Lapse.{lapse, lapse_entry, lapse_keyed, lapse_entries}
 use Rattle.docker_model.specs.state.State.{IsGreatestAmong}
 use Rattle.state_laws.proofs.states.KeptEntries.{lapse_ascends}
 use Rattle.state_laws.proofs.states.LapsedGreatest.{lapsed_from, greatest_lapses}
-use Rattle.cif_file.specs.Key.{Key}
+use Rattle.cif_change.specs.declared.key.Key.{Key}
 use Rattle.docker_join.specs.declared.entry.Entry.{Entry}
 use Rattle.docker_join.specs.Records.{HasRecords}
-use Rattle.docker_join.specs.Meaning.{entry_meant}
+use Rattle.docker_join.specs.Meaning.{entry_meant, row_meant}
 use Rattle.docker_join.specs.Rows.{AreAscending, value_at, IsJoinOfRows}
 use Rattle.docker_join.proofs.MeantOrder.{ascending_meant, meant_ascending}
-use Rattle.docker_state.specs.Meaning.{row_meant}
 use Rattle.docker_state.proofs.TableJoin.{Keyed, by_key, higher, value_in, same_value, joined_has, joined_greatest, greatest_joined}
 
 -- if the lines of an op's body are records, so are the lines of the body that remains after `lapse`

@@ -16,12 +16,12 @@ use Rattle.docker_model.specs.state.Stamp.{FileStamp}
 use Rattle.docker_model.specs.state.Op as ops
 use Rattle.docker_model.specs.state.Order.{IsAtMost}
 use Rattle.cif_laws.proofs.lists.Membership.{Contains-cons, cons-Contains, cons-Contains-first, nil-Contains}
-use Rattle.cif_file.specs.Key.{Key}
-use Rattle.cif_file.specs.Change.{Change}
 use Rattle.cif_change.specs.Meaning.{key_meant, change_meant}
+use Rattle.cif_change.specs.declared.key.Key.{Key}
+use Rattle.cif_change.specs.declared.change.Change.{Change}
+use Rattle.cif_change.specs.Noted.{Item, ArePicked, items_of, items_put}
 use Rattle.docker_join.specs.declared.entry.Entry.{Entry}
-use Rattle.state_index.specs.Noted.{Item, ArePicked, items_of, items_put}
-use Rattle.docker_state.specs.Meaning.{row_meant}
+use Rattle.docker_join.specs.Meaning.{row_meant}
 use Rattle.docker_state.specs.Rows.{Made, AreNumbered, is_made_of_key, last_made, last_rows, made_by, numbers_in, rows_in}
 use Rattle.docker_state.proofs.LastRows.{by_entry, AreSorted}
 use Rattle.docker_state.proofs.GreatestRows.{by_entry_total, not_under}

@@ -11,8 +11,8 @@ use Rattle.cif_laws.proofs.orders.Orders.{key_total, entry_total}
 use Rattle.cif_laws.proofs.lists.Membership.{Contains-cons, nil-Contains, below_by_recursion, all_members}
 use Rattle.cif_laws.proofs.orders.AtMost.{at_most_itself}
 use Rattle.cif_laws.proofs.lists.Later.{AllLater}
-use Rattle.cif_file.specs.Key.{Key}
 use Rattle.cif_change.specs.Meaning.{key_meant}
+use Rattle.cif_change.specs.declared.key.Key.{Key}
 use Rattle.docker_join.specs.declared.entry.Entry.{Entry}
 use Rattle.docker_join.specs.Meaning.{entry_meant}
 use Rattle.docker_join.specs.Rows.{row_cmp, AreAscending}

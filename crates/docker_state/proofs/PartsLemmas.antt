@@ -8,15 +8,15 @@ use Rattle.docker_model.specs.state.State.{State, IsValid, IsOpOf}
 use Rattle.state_laws.proofs.joins.RaisedHorizon.{none_has_to}
 use Rattle.docker_model.specs.state.StatePart.{IsStampHere}
 use Rattle.state_laws.proofs.texts.StateGrown.{valid_more}
-use Rattle.cif_file.specs.Key.{Key}
 use Rattle.cif_change.specs.Meaning.{key_meant}
+use Rattle.cif_change.specs.declared.key.Key.{Key}
+use Rattle.cif_change.specs.declared.notes.Notes.{Notes}
+use Rattle.cif_change.specs.Noted.{Item, items_of}
 use Rattle.docker_join.specs.declared.entry.Entry.{Entry}
-use Rattle.docker_join.specs.Meaning.{entry_meant, op_meant}
-use Rattle.state_index.specs.Notes.{Notes}
-use Rattle.state_index.specs.Noted.{Item, items_of}
+use Rattle.docker_join.specs.Meaning.{entry_meant, op_meant, row_meant}
 use Rattle.docker_state.specs.declared.item.LedgerItem.{LedgerItem}
 use Rattle.docker_state.specs.Indexed.{HasNotedIfAny}
-use Rattle.docker_state.specs.Meaning.{item_meant, row_meant, state_meant}
+use Rattle.docker_state.specs.Meaning.{item_meant, state_meant}
 
 -- if a good entry, with a key above all other keys, is appended to a valid state, the state is still valid
 pub valid_with_entry : (ledger : List LedgerItem) (rows : List (Key × Entry)) (state : State) → state_meant 0 ledger rows ≡ state

@@ -1,13 +1,11 @@
 -- The live rows at a place, found by a walk over all rows.
-use Rattle.std.proofs.Common.{◌≡◌, ℕ, List, [], ◌∷◌, map, length, refl, ap, sym, ◌∙◌, subst, Some, None, Bool, true, false, cond, Contains}
-use Rattle.std.specs.Prelude.{Option, filter, ◌↔◌, option_and_then}
+use Rattle.std.proofs.Common.{◌≡◌, ℕ, List, [], ◌∷◌, length, refl, ap, sym, ◌∙◌, subst, Some, None, Bool, true, false, cond, Contains}
+use Rattle.std.specs.Prelude.{filter, option_and_then}
 use Rattle.std.specs.List.{cons_option}
 use Rattle.std.specs.Ordering.{on}
-use Rattle.std.specs.Str.{bytes_eq}
 use Rattle.std.proofs.lemmas.Slice.Eq.{bytes_eq-Decides}
 use Rattle.docker_model.specs.file.Change.{Key, tiploc_key, association_key, schedule_key, AssociationKey, ScheduleKey}
 use Rattle.docker_model.specs.file.Change.{Body, tiploc_body, association_body, schedule_body}
-use Rattle.docker_model.specs.file.Journey.{CallsAt, calls_at}
 use Rattle.docker_model.specs.state.Op.{Op, deleted, lapsed, put_with, Entry, key_cmp, body_of}
 use Rattle.docker_model.specs.state.State.{State, IsValid, live_table}
 use Rattle.cif_laws.proofs.lists.FilteredMembers.{filter_back, filter_forth}
@@ -17,7 +15,7 @@ use Rattle.state_laws.proofs.indexes.CallsTest.{calls_test}
 use Rattle.state_index.specs.Counts.{IsCallingCount}
 use Rattle.state_index.proofs.JoinedRows.{filter_ascends}
 use Rattle.docker_state.specs.Live.{live_rows, put_before}
-use Rattle.docker_state.specs.PlaceRows.{is_call, is_link, is_here, row_here, rows_here}
+use Rattle.docker_state.specs.PlaceRows.{is_call, is_link, is_here, rows_here}
 use Rattle.docker_state.proofs.LiveTable.{ascends, live_walks}
 
 -- whether a row is at the place: an association there if `links` is true, and otherwise a schedule that calls there

@@ -12,13 +12,14 @@ use Rattle.docker_model.specs.state.Op.{key_cmp, deleted, lapsed, put_with}
 use Rattle.docker_model.specs.state.Order.{IsStrictlyAscending}
 use Rattle.docker_model.specs.state.State.{State, IsValid, IsGoodEntry, IsOpOf, IsJoin}
 use Rattle.docker_model.specs.state.Lapse.{lapse_entry, lapse_entries}
-use Rattle.cif_file.specs.Key.{Key}
 use Rattle.docker_join.specs.declared.entry.Entry.{Entry}
 use Rattle.docker_join.specs.Records.{HasRecords}
 use Rattle.docker_join.specs.Rows.{AreAscending, IsJoinOfRows}
+use Rattle.docker_join.specs.Meaning.{row_meant}
 use Rattle.docker_state.specs.declared.item.LedgerItem.{LedgerItem}
-use Rattle.docker_state.specs.Meaning.{item_meant, row_meant, state_meant}
+use Rattle.docker_state.specs.Meaning.{item_meant, state_meant}
 use Rattle.state_laws.proofs.states.OneJoin.{floor_unique}
+use Rattle.cif_change.specs.declared.key.Key.{Key}
 use Rattle.state_index.specs.Joined.{AreJoined}
 use Rattle.docker_join.proofs.MergedRows.{walk, walk_joins}
 use Rattle.docker_join.proofs.MeantOrder.{ascending_meant, meant_ascending}

@@ -10,13 +10,13 @@ use Rattle.docker_model.specs.state.Op.{key_cmp}
 use Rattle.docker_model.specs.state.State.{IsLedger, entry_at}
 use Rattle.state_laws.proofs.joins.JoinValid.{floor_is_first_full}
 use Rattle.state_laws.proofs.texts.StateGrown.{valid_without}
-use Rattle.cif_file.specs.Key.{Key}
 use Rattle.cif_change.specs.Meaning.{key_meant}
+use Rattle.cif_change.specs.declared.key.Key.{Key}
 use Rattle.docker_join.specs.declared.entry.Entry.{Entry}
-use Rattle.docker_join.specs.Meaning.{entry_meant}
+use Rattle.docker_join.specs.Meaning.{entry_meant, row_meant}
 use Rattle.docker_join.specs.Rows.{value_at}
 use Rattle.docker_state.specs.declared.item.LedgerItem as item
-use Rattle.docker_state.specs.Meaning.{item_meant, row_meant, state_meant}
+use Rattle.docker_state.specs.Meaning.{item_meant, state_meant}
 
 -- the value of a key in the rows is the state's entry for this key
 pub entry_of_rows : (horizon : ℕ) (ledger : List item.LedgerItem) (rows : List (Key × Entry)) (key : model.Key)

@@ -14,15 +14,14 @@ use Rattle.docker_model.specs.state.State.{IsGreatestAmong}
 use Rattle.cif_laws.proofs.orders.Orders.{entry_total}
 use Rattle.cif_laws.proofs.orders.AtMost.{level, at_most_itself}
 use Rattle.cif_laws.proofs.lists.Membership.{Contains-map, map-Contains}
-use Rattle.cif_file.specs.Key.{Key}
 use Rattle.docker_join.specs.declared.entry.Entry.{Entry}
-use Rattle.docker_join.specs.Meaning.{op_meant, entry_meant}
+use Rattle.docker_join.specs.Meaning.{op_meant, entry_meant, row_meant}
 use Rattle.cif_laws.proofs.orders.Greater.{greater_max}
+use Rattle.cif_change.specs.declared.key.Key.{Key}
 use Rattle.docker_join.specs.Records.{HasRecords}
 use Rattle.docker_join.specs.Exact.{exact_entry}
 use Rattle.docker_join.specs.Rows.{AreAscending, value_at, picked_value, IsJoinOfRows}
 use Rattle.docker_join.specs.RowLaws.{value_of, row_of}
-use Rattle.docker_state.specs.Meaning.{row_meant}
 
 -- a key with its entry, in the definitions' types
 abbrev pub Keyed : Type 0

@@ -1,6 +1,5 @@
 -- The rows of a timetable are good rows, since all live rows of a valid state are good rows.
-use Rattle.std.proofs.Common.{◌≡◌, List, refl, ap, sym, ◌∙◌, subst, Bool, true, false}
-use Rattle.docker_model.specs.file.Change.{Key}
+use Rattle.std.proofs.Common.{refl}
 use Rattle.docker_model.specs.state.State.{State, IsValid, live_table}
 use Rattle.docker_laws.specs.CountedRows.{IsOfGoodRows}
 use Rattle.docker_laws.proofs.dockers.CountedRows.{counted_good}

@@ -24,12 +24,12 @@ use Rattle.docker_model.specs.state.State.{State, AreAscending as AscendMeant, I
 use Rattle.cif_laws.proofs.lists.Membership.{Contains-cons, nil-Contains, Contains-map}
 use Rattle.cif_laws.proofs.orders.Ascending.{later_of}
 use Rattle.cif_laws.proofs.lists.Later.{pairs_from_later}
-use Rattle.cif_file.specs.Key.{Key}
 use Rattle.cif_change.specs.Meaning.{key_meant}
+use Rattle.cif_change.specs.declared.key.Key.{Key}
 use Rattle.docker_join.specs.declared.entry.Entry.{Entry}
 use Rattle.docker_join.specs.Rows.{row_cmp, AreAscending}
+use Rattle.docker_join.specs.Meaning.{row_meant}
 use Rattle.docker_state.specs.Live.{live_rows}
-use Rattle.docker_state.specs.Meaning.{row_meant}
 use Rattle.docker_state.specs.UidPiece.{to_uid, is_before, AreTo, IsBeginning, IsPieceOfUid}
 use Rattle.docker_state.proofs.LiveTable.{PutThere, from_live, to_live, live_has, live_put, ascends}
 

@@ -3,16 +3,17 @@ use Rattle.std.specs.Prelude.{ℕ, List, map, Option, IfSome}
 use Rattle.docker_model.specs.file.Change as model
 use Rattle.docker_model.specs.state.Op as ops
 use Rattle.docker_model.specs.state.State.{IsValid}
-use Rattle.cif_file.specs.Key.{Key}
+use Rattle.cif_change.specs.declared.key.Key.{Key}
+use Rattle.cif_change.specs.declared.notes.Notes.{Notes}
+use Rattle.cif_change.specs.Noted.{Item, ArePicked, HasNoted, items_of}
 use Rattle.docker_join.specs.declared.entry.Entry.{Entry}
-use Rattle.state_index.specs.Notes.{Notes}
-use Rattle.state_index.specs.Noted.{Item, ArePicked, HasNoted, items_of}
+use Rattle.docker_join.specs.Meaning.{row_meant}
 use Rattle.state_index.specs.Rooms.{HasRoomFor}
 use Rattle.state_index.specs.declared.room.Room.{Room}
 use Rattle.state_index.specs.declared.index.Index.{Index}
 use Rattle.state_index.specs.Spots.{IsIndexOf}
 use Rattle.docker_state.specs.declared.item.LedgerItem.{LedgerItem}
-use Rattle.docker_state.specs.Meaning.{row_meant, state_meant}
+use Rattle.docker_state.specs.Meaning.{state_meant}
 
 -- Says that this is the index of these rows, or that there is no index.
 abbrev pub IsIndexIfAny : List (model.Key × ops.Entry) → Option Index → Type 0

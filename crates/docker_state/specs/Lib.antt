@@ -10,4 +10,3 @@ pub mod PlaceRows
 pub mod Walked
 pub mod Near
 pub mod Timetables
-pub use Rattle.state_index.specs.Counts

@@ -4,11 +4,11 @@ use Rattle.std.specs.Option.{option_map}
 use Rattle.docker_model.specs.state.Stamp as stamps
 use Rattle.docker_model.specs.state.State as states
 use Rattle.cif_line.specs.Letter.{extract_letter}
-use Rattle.cif_file.specs.Key.{Key}
+use Rattle.cif_change.specs.declared.key.Key.{Key}
 use Rattle.docker_join.specs.declared.stamp.FileStamp.{FileStamp}
 use Rattle.docker_join.specs.declared.entry.Entry.{Entry}
 use Rattle.docker_join.specs.Meaning.{file_stamp_meant}
-pub use Rattle.docker_join.specs.Meaning.{row_meant, op_meant}
+use Rattle.docker_join.specs.Meaning.{row_meant}
 use Rattle.docker_state.specs.declared.item.LedgerItem.{LedgerItem}
 
 -- converts a ledger item from the code's type to the definitions' type

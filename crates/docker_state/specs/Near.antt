@@ -3,8 +3,8 @@ use Rattle.std.specs.Prelude.{◌≡◌, ℕ, ◌-◌, ◌<◌, ◌≤◌, List,
 use Rattle.std.specs.declared.cmp.Ordering.TheVariants.{Less, Greater}
 use Rattle.docker_model.specs.file.Change as model
 use Rattle.docker_model.specs.state.Op.{key_cmp}
-use Rattle.cif_file.specs.Key.{Key}
 use Rattle.cif_change.specs.Meaning.{key_meant}
+use Rattle.cif_change.specs.declared.key.Key.{Key}
 use Rattle.docker_join.specs.declared.entry.Entry.{Entry}
 
 -- Says that the key is below the key of the row at this index, or that this is the index just after

@@ -5,11 +5,11 @@ use Rattle.docker_model.specs.file.Change as model
 use Rattle.docker_model.specs.state.Stamp.{FileStamp}
 use Rattle.docker_model.specs.state.Op as ops
 use Rattle.docker_model.specs.state.Op.{op_of, key_cmp}
-use Rattle.cif_file.specs.Key.{Key}
 use Rattle.cif_change.specs.Meaning.{key_meant}
+use Rattle.cif_change.specs.declared.key.Key.{Key}
+use Rattle.cif_change.specs.Noted.{Item}
 use Rattle.docker_join.specs.declared.entry.Entry.{Entry}
 use Rattle.docker_join.specs.Meaning.{row_meant}
-use Rattle.state_index.specs.Noted.{Item}
 
 -- the row that a change makes: its key, and an entry with the stamp of the file and the number of
 -- the change

@@ -6,11 +6,10 @@ ghost use Rattle.docker_model.specs.state.Lapse.{lapse_entries};
 ghost use Rattle.docker_model.specs.state.State.{AreAscending};
 ghost use Rattle.cif_file.specs.MadeChanges.{AreNotesOf};
 ghost use Rattle.cif_change.specs.Meaning.{key_meant};
-ghost use Rattle.docker_join.specs.Meaning.{op_meant};
-ghost use Rattle.state_index.specs.Noted.{Item, items_of};
+ghost use Rattle.cif_change.specs.Noted.{Item, items_of};
+ghost use Rattle.docker_join.specs.Meaning.{op_meant, row_meant};
 ghost use Rattle.state_index.specs.Rooms.{AreMadeBy};
 ghost use Rattle.docker_state.specs.Indexed.{ArePickedNotes, HasNotedIfAny, HasRoomIfAny, IsIndexIfAny};
-ghost use Rattle.docker_state.specs.Meaning.{row_meant};
 
 use cif_file::Key;
 use cif_line::Memory;

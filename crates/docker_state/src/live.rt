@@ -2,7 +2,7 @@
 ghost use Rattle.std.specs.Prelude.{◌≡◌, map};
 ghost use Rattle.std.specs.Iterator.{YieldsFirstBy, item_count};
 ghost use Rattle.cif_change.specs.Meaning.{key_meant, body_meant};
-ghost use Rattle.docker_state.specs.Meaning.{row_meant};
+ghost use Rattle.docker_join.specs.Meaning.{row_meant};
 ghost use Rattle.docker_state.specs.Live.{live_rows};
 
 use cif_file::{Body, Key};
@@ -18,7 +18,7 @@ pub struct Live<'a> {
 impl<'a> Model for Live<'a> {
     ghost use Rattle.std.specs.Prelude.{List, map};
     ghost use Rattle.docker_model.specs.file.Change as model;
-    ghost use Rattle.docker_state.specs.Meaning.{row_meant};
+    ghost use Rattle.docker_join.specs.Meaning.{row_meant};
     ghost use Rattle.docker_state.specs.Live.{live_rows};
 
     ghost Value = { List (model.Key × model.Body) };

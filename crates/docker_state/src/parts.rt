@@ -4,10 +4,10 @@ ghost use Rattle.std.specs.Option.{option_copied, option_map};
 ghost use Rattle.docker_model.specs.state.State.{IsLedger, IsOpOf, IsValid};
 ghost use Rattle.docker_model.specs.state.StatePart.{IsStampHere};
 ghost use Rattle.cif_change.specs.Meaning.{key_meant};
-ghost use Rattle.docker_join.specs.Meaning.{entry_meant};
-ghost use Rattle.state_index.specs.Noted.{items_of};
+ghost use Rattle.cif_change.specs.Noted.{items_of};
+ghost use Rattle.docker_join.specs.Meaning.{entry_meant, row_meant};
 ghost use Rattle.docker_state.specs.Indexed.{HasNotedIfAny};
-ghost use Rattle.docker_state.specs.Meaning.{item_meant, row_meant, state_meant};
+ghost use Rattle.docker_state.specs.Meaning.{item_meant, state_meant};
 ghost use Rattle.docker_state.specs.Parts.{last_key, under_horizon};
 
 use crate::indexing::{index_of_notes, note_if};

@@ -3,7 +3,7 @@ ghost use Rattle.std.specs.Prelude.{◌≡◌, false, length, map};
 ghost use Rattle.std.specs.Iterator.{YieldsFirstBy, item_count};
 ghost use Rattle.std.specs.Option.{option_map};
 ghost use Rattle.cif_change.specs.Meaning.{key_meant, body_meant};
-ghost use Rattle.docker_state.specs.Meaning.{row_meant};
+ghost use Rattle.docker_join.specs.Meaning.{row_meant};
 ghost use Rattle.docker_state.specs.PlaceRows.{is_call, is_here, is_link, row_here, rows_here};
 
 use cif_file::{Body, Key, calls_at};
@@ -25,7 +25,7 @@ pub(crate) struct SiftedRows<'a> {
 impl<'a> Model for SiftedRows<'a> {
     ghost use Rattle.std.specs.Prelude.{List, map};
     ghost use Rattle.docker_model.specs.state.Row.{Row};
-    ghost use Rattle.docker_state.specs.Meaning.{row_meant};
+    ghost use Rattle.docker_join.specs.Meaning.{row_meant};
     ghost use Rattle.docker_state.specs.PlaceRows.{rows_here};
 
     ghost Value = { List Row };

@@ -1,8 +1,7 @@
 //! Copies the rows of a state, each a key with its entry.
 ghost use Rattle.std.specs.Prelude.{◌≡◌, IfOk};
 ghost use Rattle.cif_change.specs.Meaning.{body_meant};
-ghost use Rattle.docker_join.specs.Meaning.{op_meant};
-ghost use Rattle.docker_state.specs.Meaning.{row_meant};
+ghost use Rattle.docker_join.specs.Meaning.{op_meant, row_meant};
 
 use cif_file::{Body, Key, Lines};
 use docker_join::{Entry, Op};

@@ -6,8 +6,8 @@
 //! differs from the file `stdout`.
 //!
 //! A row that begins with `growth` names a call that allocates memory. The call is made once, and
-//! once more if memory runs out. `tests/growth/calls` runs the program once for each allocation of
-//! the first call, and refuses that allocation.
+//! once more if memory runs out. `tests/programs/growth/test_calls.py` runs the program once for
+//! each allocation of the first call, and refuses that allocation.
 #![tactic(auto)]
 
 mod answers;

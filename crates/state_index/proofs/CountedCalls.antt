@@ -10,9 +10,10 @@ use Rattle.docker_model.specs.file.Change as model
 use Rattle.docker_model.specs.state.State.{State, AreAscending, live_table}
 use Rattle.docker_model.specs.state.Row.{Row}
 use Rattle.cif_laws.proofs.lists.Membership.{cons-Contains, cons-Contains-first}
+use Rattle.cif_change.specs.NamedPlaces.{call_places}
 use Rattle.state_index.specs.Counts.{IsCallingCount}
 use Rattle.state_index.specs.SpotOrder.{Spot}
-use Rattle.state_index.specs.Spots.{call_places, spot_at, posting_spot, spots_in, AreSpotsOf}
+use Rattle.state_index.specs.Spots.{spot_at, posting_spot, spots_in, AreSpotsOf}
 use Rattle.state_index.specs.PlaceRows.{live_row, live_at, rows_at_spots, IsPieceAt}
 use Rattle.state_index.specs.declared.posting.Posting.{Posting}
 use Rattle.state_index.proofs.LiveIndexes.{calling_there}

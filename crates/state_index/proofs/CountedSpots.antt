@@ -12,7 +12,8 @@ use Rattle.docker_model.specs.state.Order.{IsBelow}
 use Rattle.docker_model.specs.state.State.{AreAscending}
 use Rattle.cif_laws.proofs.lists.Membership.{Contains-cons, cons-Contains, cons-Contains-first, nil-Contains, below_by_recursion}
 use Rattle.cif_laws.proofs.orders.Orders.{key_total}
-use Rattle.state_index.specs.Spots.{Places, call_places, link_places, spot_at, spots_from, spots_of}
+use Rattle.cif_change.specs.NamedPlaces.{call_places, link_places}
+use Rattle.state_index.specs.Spots.{Places, spot_at, spots_from, spots_of}
 use Rattle.state_index.specs.Rooms.{AreMadeBy}
 use Rattle.state_index.proofs.Positions.{Keyed}
 

@@ -17,6 +17,7 @@ use Rattle.state_laws.proofs.states.KeptEntries.{lapse_ascends}
 use Rattle.state_laws.proofs.states.LapsedGreatest.{lapsed_from, lapsed_to}
 use Rattle.cif_laws.proofs.lists.FilteredMembers.{filter_back, filter_forth}
 use Rattle.cif_laws.proofs.orders.Orders.{key_total}
+use Rattle.cif_change.specs.NamedPlaces.{call_places, link_places}
 use Rattle.docker_join.specs.Meaning.{row_meant}
 use Rattle.docker_join.specs.Rows.{AreAscending, IsJoinOfRows}
 use Rattle.docker_join.specs.RowLaws.{same_rows}
@@ -24,7 +25,7 @@ use Rattle.docker_join.proofs.MeantOrder.{ascending_meant}
 use Rattle.docker_join.proofs.MergedRows.{walk, walk_joins}
 use Rattle.state_index.specs.Turns.{AtKey, firsts, is_kept, is_put, turns_of, first_moves, second_moves}
 use Rattle.state_index.specs.declared.moves.Moves.{Moves}
-use Rattle.state_index.specs.Spots.{Places, call_places, link_places, spots_of}
+use Rattle.state_index.specs.Spots.{Places, spots_of}
 use Rattle.state_index.specs.Joined.{LapsesTo, AreJoined, AreMoves, HasMovedSpots, moved_spots, AreRising}
 use Rattle.state_index.specs.SpotOrder.{Spot}
 use Rattle.state_index.proofs.Positions.{Keyed}

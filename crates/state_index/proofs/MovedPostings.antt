@@ -9,11 +9,12 @@ use Rattle.std.specs.Cmp.{nat_cmp_is}
 use Rattle.std.proofs.lemmas.Cmp.{ranked}
 use Rattle.std.proofs.lemmas.Option.{slice_get-map}
 use Rattle.docker_model.specs.state.Order.{bytes_cmp, IsStrictlyAscending}
+use Rattle.cif_change.specs.NamedPlaces.{AreRanks}
 use Rattle.state_index.specs.SpotOrder.{Spot}
 use Rattle.state_index.specs.declared.posting.Posting.{Posting}
 use Rattle.state_index.specs.PostingOrder.{posting_cmp}
 use Rattle.state_index.specs.Spots.{Places, spot_at, spots_of, posting_spot, spots_in, ArePostingsOf}
-use Rattle.state_index.specs.Joined.{moved_spot, moved_spots, moved_posting, moved_postings, AreRanks, AreRising}
+use Rattle.state_index.specs.Joined.{moved_spot, moved_spots, moved_posting, moved_postings, AreRising}
 use Rattle.state_index.proofs.Positions.{Keyed, some_is, chosen_from, chosen_to, chosen_ascends}
 use Rattle.state_index.proofs.PostingSpots.{place_order, spots_ascend}
 use Rattle.state_index.proofs.MovedSpots.{joined_spots}

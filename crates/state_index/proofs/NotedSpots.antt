@@ -14,12 +14,13 @@ use Rattle.docker_model.specs.state.Op.{op_of}
 use Rattle.state_index.specs.declared.posting.Posting.{Posting}
 use Rattle.cif_change.specs.declared.notes.Notes.{Notes}
 use Rattle.cif_change.specs.declared.piece.Piece.{Piece}
+use Rattle.cif_change.specs.NamedPlaces.{call_places, link_places, AreRanks}
+use Rattle.cif_change.specs.Noted.{Item, items_of, items_put, if_asked, numbers_of, numbers_in, IsNoted, AreNoted, HasNoted}
 use Rattle.state_index.specs.declared.room.Room.{Room}
 use Rattle.state_index.specs.declared.slots.Slots.{Slots}
-use Rattle.state_index.specs.Spots.{Places, call_places, link_places, spot_at, spots_from, spots_of, posting_spot, spots_in}
-use Rattle.state_index.specs.Joined.{AreRanks}
+use Rattle.state_index.specs.Spots.{Places, spot_at, spots_from, spots_of, posting_spot, spots_in}
 use Rattle.state_index.specs.Rooms.{AreMadeBy, HasSlots, HasRoomFor, IsRoom}
-use Rattle.state_index.specs.Noted.{Item, items_of, items_put, if_asked, numbers_of, numbers_in, IsNoted, AreNoted, HasNoted, posting_of, row_before}
+use Rattle.state_index.specs.Noted.{posting_of, row_before}
 use Rattle.state_index.specs.Noted.{noted_postings}
 use Rattle.state_index.specs.ByPlace.{AreBelow, AreFrom}
 use Rattle.state_index.proofs.PlacedOrder.{made_of_rows}

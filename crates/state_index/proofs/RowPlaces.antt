@@ -10,7 +10,7 @@ use Rattle.docker_model.specs.state.Op.{Op, deleted, lapsed, put_with}
 use Rattle.docker_model.specs.file.Journey.{CallsAt}
 use Rattle.cif_laws.proofs.lists.Membership.{nil-Contains, Contains-map, map-Contains, Contains-single, single-Contains}
 use Rattle.cif_laws.proofs.lists.FilteredMembers.{filter_back, filter_forth}
-use Rattle.state_index.specs.Spots.{call_places, link_places}
+use Rattle.cif_change.specs.NamedPlaces.{call_places, link_places}
 use Rattle.state_index.specs.Turns.{is_put}
 
 -- Says that a line is a location record (LO, LI or LT).

@@ -12,15 +12,15 @@ use Rattle.docker_model.specs.state.Op as ops
 use Rattle.docker_model.specs.state.Op.{entry_cmp}
 use Rattle.docker_model.specs.state.State as states
 use Rattle.cif_change.specs.declared.key.Key.{Key}
+use Rattle.cif_change.specs.NamedPlaces.{call_places, link_places}
 use Rattle.docker_join.specs.declared.stamp.FileStamp as stamp
 use Rattle.docker_join.specs.declared.entry.Entry.{Entry}
 use Rattle.docker_join.specs.Meaning.{file_stamp_meant, entry_meant, row_meant}
 use Rattle.docker_join.specs.Rows.{IsJoinOfRows}
-pub use Rattle.cif_change.specs.NamedPlaces.{AreRanks}
 use Rattle.state_index.specs.SpotOrder.{Spot}
 use Rattle.state_index.specs.declared.posting.Posting.{Posting}
 use Rattle.state_index.specs.declared.moves.Moves.{Moves}
-use Rattle.state_index.specs.Spots.{Places, call_places, link_places, spots_of}
+use Rattle.state_index.specs.Spots.{Places, spots_of}
 
 -- converts a floor from the code's type to the definitions' type
 abbrev pub floor_meant : Option stamp.FileStamp → Option FileStamp

@@ -9,5 +9,3 @@ pub mod Joined
 pub mod PlaceRows
 pub mod Noted
 pub mod Counts
-pub use Rattle.cif_change.specs.declared.notes.Notes
-pub use Rattle.cif_change.specs.declared.names.PlaceNames

@@ -1,8 +1,7 @@
 -- The postings of rows whose places were noted.
 use Rattle.std.specs.Prelude.{ℕ, ◌-◌, Bool, List, [], ◌∷◌, ◌++◌, map, length, get_or}
 use Rattle.cif_change.specs.declared.piece.Piece.{Piece}
-pub use Rattle.cif_change.specs.Noted.{Item, items_of, items_put, Keeps, if_asked, numbers_of, IsNoted, AreNoted, numbers_in, HasNoted, IsNext, no_piece}
-pub use Rattle.cif_change.specs.Noted.{ArePicked}
+use Rattle.cif_change.specs.Noted.{numbers_of}
 use Rattle.state_index.specs.declared.posting.Posting.{Posting}
 
 -- the posting of the row at index `at`, for the place that has this number in the notes; `ranks`

@@ -5,11 +5,11 @@ use Rattle.docker_model.specs.file.Change as model
 use Rattle.docker_model.specs.state.Op as ops
 use Rattle.docker_model.specs.state.Op.{op_of}
 use Rattle.docker_model.specs.state.Order.{bytes_cmp, IsStrictlyAscending}
+use Rattle.cif_change.specs.NamedPlaces.{AreRanks, call_places, link_places}
 use Rattle.state_index.specs.declared.room.Room.{Room}
 use Rattle.state_index.specs.declared.slots.Slots.{Slots}
 use Rattle.state_index.specs.ByPlace.{AreCounts}
-use Rattle.state_index.specs.Joined.{AreRanks}
-use Rattle.state_index.specs.Spots.{call_places, link_places, spots_of}
+use Rattle.state_index.specs.Spots.{spots_of}
 
 -- Says that all counts are 0, that no posting is written yet, and that there is memory for this many
 -- places and postings.

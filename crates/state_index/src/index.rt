@@ -7,6 +7,7 @@ ghost use Rattle.docker_model.specs.state.Lapse.{lapse_entries};
 ghost use Rattle.docker_model.specs.state.Order.{bytes_cmp, IsStrictlyAscending};
 ghost use Rattle.docker_model.specs.state.State.{State, AreAscending, live_table};
 ghost use Rattle.state_laws.specs.Index.{AreCalling, AreLinked};
+ghost use Rattle.cif_change.specs.Noted.{AreNoted, items_of};
 ghost use Rattle.docker_join.specs.Meaning.{row_meant};
 ghost use Rattle.state_index.specs.Counts.{IsCallingCount};
 ghost use Rattle.state_index.specs.PostingOrder.{posting_cmp};
@@ -14,7 +15,6 @@ ghost use Rattle.state_index.specs.Spots.{IsIndexOf};
 ghost use Rattle.docker_join.specs.Room.{HasRoomOf};
 ghost use Rattle.state_index.specs.Rooms.{HasRoomFor};
 ghost use Rattle.state_index.specs.Joined.{AreMoves};
-ghost use Rattle.state_index.specs.Noted.{AreNoted, items_of};
 
 use crate::fill::ascending;
 use crate::merge::{Moved, merged, ranks_of, union_of};

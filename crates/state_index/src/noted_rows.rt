@@ -1,8 +1,8 @@
 //! Notes the places that a table's rows name.
 ghost use Rattle.std.specs.Prelude.{◌++◌, [], ◌∷◌, List, map, IsOk, IsErr, IfOk};
 ghost use Rattle.cif_change.specs.Meaning.{key_meant};
+ghost use Rattle.cif_change.specs.Noted.{Item, HasNoted, items_of};
 ghost use Rattle.docker_join.specs.Meaning.{op_meant, row_meant};
-ghost use Rattle.state_index.specs.Noted.{Item, HasNoted, items_of};
 
 use cif_change::{Key, Memory, Notes};
 use docker_join::{Entry, Op};

@@ -3,8 +3,8 @@ ghost use Rattle.std.specs.Prelude.{◌<◌, List, IfOk};
 ghost use Rattle.docker_model.specs.file.Change as model;
 ghost use Rattle.docker_model.specs.state.Op as ops;
 ghost use Rattle.docker_model.specs.state.State.{AreAscending};
+ghost use Rattle.cif_change.specs.Noted.{HasNoted, items_of, items_put};
 ghost use Rattle.state_index.specs.Rooms.{HasRoomFor, AreMadeBy, IsRoom};
-ghost use Rattle.state_index.specs.Noted.{HasNoted, items_of, items_put};
 
 use crate::merge::ranks_of;
 use crate::names::ascending_places;

@@ -10,8 +10,3 @@ pub mod FaultMeaning
 pub mod CauseText
 pub mod Judged
 pub mod Lines
-pub use Rattle.cif_change.specs.declared.key.ScheduleKey
-pub use Rattle.docker_join.specs.Meaning
-pub use Rattle.docker_join.specs.declared.stamp.Stamp
-pub use Rattle.docker_join.specs.declared.entry.Entry
-pub use Rattle.docker_state.specs.Parts

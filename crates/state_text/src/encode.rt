@@ -4,8 +4,8 @@ ghost use Rattle.arrayvec.specs.ArrayVec.{array_vec_len};
 ghost use Rattle.docker_model.specs.state.StateText.{item_bytes, file_stamp_bytes, stamp_bytes};
 ghost use Rattle.docker_model.specs.state.StatePart.{key_text};
 ghost use Rattle.cif_change.specs.Meaning.{key_meant};
-ghost use Rattle.docker_join.specs.Meaning.{file_stamp_meant, stamp_meant, op_meant};
-ghost use Rattle.docker_state.specs.Meaning.{item_meant, row_meant};
+ghost use Rattle.docker_join.specs.Meaning.{file_stamp_meant, stamp_meant, op_meant, row_meant};
+ghost use Rattle.docker_state.specs.Meaning.{item_meant};
 ghost use Rattle.state_text.specs.Entries.{op_head, entry_head, op_lines, HasFewLines};
 
 use crate::buffer::{Buffer, ROOM};

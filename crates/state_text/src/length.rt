@@ -5,8 +5,7 @@ ghost use Rattle.docker_model.specs.state.State.{IsGoodKey, IsBodyOf, IsOpOf};
 ghost use Rattle.docker_model.specs.state.StateText.{dks_2, put_bytes, op_bytes, entry_bytes, state_text};
 ghost use Rattle.docker_model.specs.state.StatePart.{key_text};
 ghost use Rattle.cif_change.specs.Meaning.{key_meant, body_meant};
-ghost use Rattle.docker_join.specs.Meaning.{op_meant};
-ghost use Rattle.docker_state.specs.Meaning.{row_meant};
+ghost use Rattle.docker_join.specs.Meaning.{op_meant, row_meant};
 ghost use Rattle.state_text.specs.Entries.{IsOfWidth};
 
 use crate::format::{

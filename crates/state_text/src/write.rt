@@ -5,7 +5,8 @@ ghost use Rattle.std.specs.Int.{w64, to_be_bytes};
 ghost use Rattle.arrayvec.specs.ArrayVec.{array_vec_len};
 ghost use Rattle.cif_device.specs.Device.{CountsFailure, Takes, TakesPart};
 ghost use Rattle.docker_model.specs.state.StateText.{dks_2, head_text, item_bytes, entry_bytes, state_text};
-ghost use Rattle.docker_state.specs.Meaning.{item_meant, row_meant};
+ghost use Rattle.docker_join.specs.Meaning.{row_meant};
+ghost use Rattle.docker_state.specs.Meaning.{item_meant};
 ghost use Rattle.state_text.specs.Written.{Gives, Flushes, body_text};
 ghost use Rattle.state_text.specs.Entries.{HasFewLines};
 

@@ -1,6 +1,6 @@
 -- Lemmas on permanent dockers, which are the dockers of tables without the short-term plan.
-use Rattle.std.proofs.Common.{◌≡◌, ℕ, ◌+◌, List, [], ◌∷◌, refl, ap, sym, ◌∙◌, subst, inl, inr, ◌⊎◌, Bool, true, false, cond, Some, None, arith}
-use Rattle.std.specs.Prelude.{◌↔◌, ◌==◌, Option, filter, fold, max, nat_lt, option_and_then}
+use Rattle.std.proofs.Common.{◌≡◌, ℕ, ◌+◌, List, [], ◌∷◌, refl, ap, sym, ◌∙◌, subst, inl, inr, Bool, true, false, cond, None, arith}
+use Rattle.std.specs.Prelude.{◌↔◌, Option, filter, fold, max, nat_lt, option_and_then}
 use Rattle.std.specs.Ordering.{is_eq}
 use Rattle.std.proofs.Math.Nat.{le-max_left, le-max_right}
 use Rattle.std.proofs.lemmas.Bool.{eqb-true, ltb-true, ltb-false}

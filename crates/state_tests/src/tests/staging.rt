@@ -3,8 +3,7 @@ ghost use Rattle.std.specs.Prelude.{◌≡◌, ◌++◌, [], map};
 ghost use Rattle.docker_model.specs.state.Stamp.{IsFloor};
 ghost use Rattle.docker_model.specs.state.State.{AreEntries, IsGoodEntry};
 ghost use Rattle.cif_change.specs.Meaning.{key_meant};
-ghost use Rattle.docker_join.specs.Meaning.{entry_meant, op_meant};
-ghost use Rattle.docker_state.specs.Meaning.{row_meant};
+ghost use Rattle.docker_join.specs.Meaning.{entry_meant, op_meant, row_meant};
 ghost use Rattle.docker_state.specs.Staging.{IsAboveStaged, IsOffered};
 
 use super::compare::same;

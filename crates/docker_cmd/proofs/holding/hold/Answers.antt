@@ -2,14 +2,15 @@ use Rattle.std.proofs.Common.{◌≡◌, ◌∙◌, ap, inl, refl, sym, Ok, Err}
 use Rattle.std.proofs.lemmas.Result.{err_from_is_err_and}
 use Rattle.docker_model.specs.file.File.{most_records}
 use Rattle.docker_model.specs.state.StateText.{dks_1, dks_2}
+use Rattle.docker_excerpt.specs.Values.{Excerpt}
 use Rattle.docker_office.specs.Office.{TakesFile, no_state}
-use Rattle.docker_office.specs.Values.{Excerpt}
 use Rattle.docker_cmd.specs.Holding.{held_meant}
 use Rattle.docker_cmd.specs.Tasks.{check_task, day_task, files_task, horizon_task, merge_task, migrate_task, new_task, output_of, print_task, take_task}
 use Rattle.docker_cmd.specs.Tasks.{task_meant}
-use Rattle.docker_cmd.specs.Prepared.{IsReadOf, checked_file, taken_file}
+use Rattle.docker_cmd.specs.Prepared.{IsReadOf}
 use Rattle.docker_cmd.specs.Writes.{docker_written}
 use Rattle.docker_cmd.specs.declared.holding.Holding.TheVariants.{Counts, Whole, Place, Ledger}
+use Rattle.docker_cmd.specs.Reads.{checked_file, taken_file}
 use Rattle.docker_cmd.proofs.ReadingLemmas.{file_failed_alone, file_refused_alone, read_alone}
 use Rattle.docker_cmd.proofs.SourcesLemmas.{held_for, state_held, state_unheld}
 use Rattle.docker_cmd.proofs.holding.hold.Goals as goal

@@ -1,8 +1,8 @@
 use Rattle.std.proofs.Common.{refl, subst}
 use Rattle.docker_model.specs.state.StateText.{dks_2}
 use Rattle.docker_cmd.specs.Prepared.{most_bytes}
-use Rattle.docker_cmd.specs.SourceRead.{JoinsState}
 use Rattle.docker_host.specs.History.{Bytes}
+use Rattle.docker_bytes.specs.SourceRead.{JoinsState}
 use Rattle.docker_desk.proofs.ReadFiles.{compares, refuses_as, stops_as}
 use Rattle.docker_desk.proofs.reading.receive_copied.Goals as goal
 

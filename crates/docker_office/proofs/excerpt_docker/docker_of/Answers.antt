@@ -4,7 +4,7 @@ use Rattle.std.specs.Prelude.{IfOk}
 use Rattle.docker_model.specs.state.State.{State, live_table}
 use Rattle.docker_day.specs.DockerValue.{Docker}
 use Rattle.docker_day.specs.Dockers.{IsDockerOf}
-use Rattle.docker_bytes.specs.Values.{StandsAt}
+use Rattle.docker_excerpt.specs.Values.{StandsAt}
 use Rattle.docker_office.proofs.excerpt_docker.docker_of.Goals as goal
 
 -- a docker of the part, for the place and the day, is a docker of the state

@@ -1,9 +1,9 @@
 use Rattle.std.proofs.Common.{List, map, sym, subst}
-use Rattle.cif_file.specs.Key.{Key}
+use Rattle.cif_change.specs.declared.key.Key.{Key}
+use Rattle.cif_change.specs.Noted.{items_of}
 use Rattle.docker_join.specs.declared.entry.Entry.{Entry}
-use Rattle.state_index.specs.Noted.{items_of}
+use Rattle.docker_join.specs.Meaning.{row_meant}
 use Rattle.docker_state.specs.Indexed.{HasNotedIfAny, IsIndexIfAny}
-use Rattle.docker_state.specs.Meaning.{row_meant}
 use Rattle.docker_state.proofs.parts.state_of.Goals as goal
 
 pub index_of_notes-requires : goal.index_of_notes-requires

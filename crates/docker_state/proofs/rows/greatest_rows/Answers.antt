@@ -4,14 +4,13 @@ use Rattle.std.proofs.lemmas.List.Sorted.{Contains-permutation, IsPermutation-sy
 use Rattle.docker_model.specs.file.Change as model
 use Rattle.docker_model.specs.state.Op as ops
 use Rattle.docker_model.specs.state.State.{IsGreatestAmong}
-use Rattle.cif_file.specs.Key.{Key}
+use Rattle.cif_change.specs.declared.key.Key.{Key}
+use Rattle.cif_change.specs.Noted.{ArePicked, items_of}
 use Rattle.docker_join.specs.declared.entry.Entry.{Entry}
-use Rattle.docker_join.specs.Meaning.{op_meant}
+use Rattle.docker_join.specs.Meaning.{op_meant, row_meant}
 use Rattle.docker_join.specs.Records.{HasRecords}
 use Rattle.docker_join.specs.Rows.{AreAscending}
-use Rattle.docker_state.specs.Meaning.{row_meant}
 use Rattle.docker_state.proofs.LastRows.{lasts_ascend}
-use Rattle.state_index.specs.Noted.{ArePicked, items_of}
 use Rattle.docker_state.specs.Rows.{Made, rows_in}
 use Rattle.docker_state.proofs.GreatestRows.{last_is_greatest, greatest_is_last}
 use Rattle.docker_state.proofs.LastMade.{sorted_made, last_is, last_len, last_picked}

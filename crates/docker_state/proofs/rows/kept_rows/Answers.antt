@@ -1,10 +1,9 @@
 use Rattle.std.proofs.Common.{rules}
 use Rattle.std.specs.Option.{option_map}
-use Rattle.cif_file.specs.Key.{Key}
+use Rattle.cif_change.specs.declared.key.Key.{Key}
 use Rattle.docker_join.specs.declared.entry.Entry.{Entry}
-use Rattle.docker_join.specs.Meaning.{file_stamp_meant}
+use Rattle.docker_join.specs.Meaning.{file_stamp_meant, row_meant}
 use Rattle.docker_join.proofs.MeantOrder.{ascending_meant, meant_ascending}
-use Rattle.docker_state.specs.Meaning.{row_meant}
 use Rattle.docker_state.proofs.FloorTest.{kept_by, keeps, says_kept, kept_ascends, kept_members}
 use Rattle.docker_state.proofs.TableJoin.{by_key, file_of}
 use Rattle.docker_state.proofs.rows.kept_rows.Goals as goal

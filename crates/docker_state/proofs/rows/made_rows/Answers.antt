@@ -2,9 +2,8 @@ use Rattle.std.proofs.Common.{◌≡◌, ◌∷◌, ◌∙◌, [], List, map, sy
 use Rattle.std.proofs.lemmas.List.{length-append, map-append}
 use Rattle.docker_model.specs.file.Change as model
 use Rattle.cif_change.specs.Meaning.{change_meant}
-use Rattle.docker_join.specs.Meaning.{file_stamp_meant}
-use Rattle.state_index.specs.Noted.{items_put}
-use Rattle.docker_state.specs.Meaning.{row_meant}
+use Rattle.cif_change.specs.Noted.{items_put}
+use Rattle.docker_join.specs.Meaning.{file_stamp_meant, row_meant}
 use Rattle.docker_state.specs.Rows.{AreNumbered, made_by, rows_in}
 use Rattle.docker_state.proofs.LastMade.{noted_len, numbered_more, row_more}
 use Rattle.docker_state.proofs.rows.made_rows.Goals as goal

@@ -1,8 +1,7 @@
 use Rattle.std.proofs.Common.{◌≡◌, ◌≤◌, ◌<◌, ◌^◌, length, map, vec_len, vec_capacity}
 use Rattle.cif_change.specs.Meaning.{change_meant}
-use Rattle.docker_join.specs.Meaning.{file_stamp_meant}
-use Rattle.state_index.specs.Noted.{items_put}
-use Rattle.docker_state.specs.Meaning.{row_meant}
+use Rattle.cif_change.specs.Noted.{items_put}
+use Rattle.docker_join.specs.Meaning.{file_stamp_meant, row_meant}
 use Rattle.docker_state.specs.Rows.{AreNumbered, made_by, rows_in}
 use Rattle.docker_state.proofs.rows.made_rows.Given as goal
 

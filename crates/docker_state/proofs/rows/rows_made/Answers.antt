@@ -2,8 +2,7 @@ use Rattle.std.proofs.Common.{◌≡◌, ◌∷◌, [], List, map, sym, subst, a
 use Rattle.std.proofs.lemmas.List.{length-append, map-append}
 use Rattle.docker_model.specs.file.Change as model
 use Rattle.cif_change.specs.Meaning.{change_meant}
-use Rattle.docker_join.specs.Meaning.{file_stamp_meant}
-use Rattle.docker_state.specs.Meaning.{row_meant}
+use Rattle.docker_join.specs.Meaning.{file_stamp_meant, row_meant}
 use Rattle.docker_state.specs.Rows.{made_by}
 use Rattle.docker_state.proofs.PlainRows.{one_row_more}
 use Rattle.docker_state.proofs.rows.rows_made.Goals as goal

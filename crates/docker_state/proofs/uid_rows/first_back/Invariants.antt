@@ -1,5 +1,5 @@
 use Rattle.std.proofs.Common.{◌≡◌, ◌<◌, false, length, get_or}
-use Rattle.cif_file.specs.Key.{Key}
+use Rattle.cif_change.specs.declared.key.Key.{Key}
 use Rattle.docker_join.specs.declared.entry.Entry.{Entry}
 use Rattle.docker_state.specs.UidPiece.{is_before}
 use Rattle.docker_state.proofs.uid_rows.first_back.Given as goal

@@ -1,7 +1,7 @@
 use Rattle.std.proofs.Common.{sym, ◌∙◌, subst, arith, List}
 use Rattle.docker_model.specs.state.Stamp as stamps
 use Rattle.docker_model.specs.state.State.{IsLedger, IsGoodEntry}
-use Rattle.docker_state.specs.Meaning.{row_meant}
+use Rattle.docker_join.specs.Meaning.{row_meant}
 use Rattle.hostile_tests.proofs.OneRow.{good_item, good_copy, pushed_item}
 use Rattle.hostile_tests.proofs.part_growths.receive.Goals as goal
 

@@ -1,8 +1,8 @@
 use Rattle.std.proofs.Common.{◌≡◌, ◌∷◌, ◌∙◌, map, ap, rules, refl}
 use Rattle.std.proofs.lemmas.List.{length-map}
 use Rattle.docker_join.specs.Meaning.{row_meant}
-use Rattle.state_index.specs.Noted.{Item, items_of}
 use Rattle.cif_change.proofs.Noted.{none_before, one_noted, all_noted}
+use Rattle.cif_change.specs.Noted.{Item, items_of}
 use Rattle.state_index.proofs.noted_rows.notes_of_rows.Goals as goal
 
 pub loop-row-init : goal.loop-row-init

@@ -1,7 +1,7 @@
 use Rattle.std.proofs.Common.{length, map}
 use Rattle.docker_join.specs.Meaning.{row_meant}
-use Rattle.state_index.specs.Noted.{items_of}
 use Rattle.cif_change.proofs.Noted.{AreNotedBefore}
+use Rattle.cif_change.specs.Noted.{items_of}
 use Rattle.state_index.proofs.noted_rows.notes_of_rows.Given as goal
 
 abbrev pub invariant-loop-row : goal.invariant-loop-row

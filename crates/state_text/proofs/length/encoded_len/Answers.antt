@@ -1,6 +1,7 @@
 use Rattle.std.proofs.Common.{All, subst, sym}
+use Rattle.docker_join.specs.Meaning.{row_meant}
 use Rattle.state_text.specs.Entries.{IsOfWidth}
-use Rattle.docker_state.specs.Meaning.{item_meant, row_meant}
+use Rattle.docker_state.specs.Meaning.{item_meant}
 use Rattle.state_text.proofs.LengthLemmas.{text_length, valid_widths}
 use Rattle.state_text.proofs.length.encoded_len.Goals as goal
 

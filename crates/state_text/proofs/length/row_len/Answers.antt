@@ -1,5 +1,5 @@
 use Rattle.std.proofs.Common.{◌∙◌, ◌+◌}
-use Rattle.docker_state.specs.Meaning.{row_meant}
+use Rattle.docker_join.specs.Meaning.{row_meant}
 use Rattle.state_text.proofs.LengthLemmas.{entry_length}
 use Rattle.state_text.proofs.length.row_len.Goals as goal
 

@@ -1,4 +1,4 @@
-use Rattle.docker_state.specs.Meaning.{row_meant}
+use Rattle.docker_join.specs.Meaning.{row_meant}
 use Rattle.state_text.specs.Entries.{IsOfWidth}
 use Rattle.state_text.proofs.WriteLemmas.{at_mapped}
 use Rattle.state_text.proofs.length.rows_len.Goals as goal

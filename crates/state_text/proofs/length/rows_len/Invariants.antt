@@ -1,7 +1,7 @@
 use Rattle.std.proofs.Common.{◌≡◌, ◌*◌, ◌^◌, ◌≤◌, length, take, map}
 use Rattle.std.specs.List.{flat_map}
 use Rattle.docker_model.specs.state.StateText.{entry_bytes}
-use Rattle.docker_state.specs.Meaning.{row_meant}
+use Rattle.docker_join.specs.Meaning.{row_meant}
 use Rattle.state_text.proofs.length.rows_len.Given as goal
 
 -- `total` is the length in bytes of the text of all entries before the current entry, and is at

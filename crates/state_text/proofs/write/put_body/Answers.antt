@@ -1,4 +1,5 @@
-use Rattle.docker_state.specs.Meaning.{item_meant, row_meant}
+use Rattle.docker_join.specs.Meaning.{row_meant}
+use Rattle.docker_state.specs.Meaning.{item_meant}
 use Rattle.state_text.proofs.WriteLemmas.{count_fails, body_given}
 use Rattle.state_text.proofs.write.put_body.Goals as goal
 

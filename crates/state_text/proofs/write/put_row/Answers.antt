@@ -1,6 +1,6 @@
 use Rattle.std.proofs.Common.{subst, []}
 use Rattle.std.specs.List.{concat}
-use Rattle.docker_state.specs.Meaning.{row_meant}
+use Rattle.docker_join.specs.Meaning.{row_meant}
 use Rattle.state_text.specs.Entries.{entry_head, op_lines}
 use Rattle.state_text.specs.Written.{Gives}
 use Rattle.state_text.proofs.BufferLemmas.{then_gives, fails_first, room_then_add}

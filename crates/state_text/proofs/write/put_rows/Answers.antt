@@ -1,7 +1,7 @@
 use Rattle.std.proofs.Common.{map, ◌∙◌, append-nil}
 use Rattle.std.specs.List.{flat_map}
 use Rattle.docker_model.specs.state.StateText.{entry_bytes}
-use Rattle.docker_state.specs.Meaning.{row_meant}
+use Rattle.docker_join.specs.Meaning.{row_meant}
 use Rattle.state_text.specs.Entries.{HasFewLines}
 use Rattle.state_text.proofs.BufferLemmas.{each_given, each_fails, mapped_join}
 use Rattle.state_text.proofs.WriteLemmas.{at_mapped}

@@ -1,7 +1,7 @@
 use Rattle.std.proofs.Common.{◌≡◌, take, map}
 use Rattle.std.specs.List.{flat_map}
 use Rattle.docker_model.specs.state.StateText.{entry_bytes}
-use Rattle.docker_state.specs.Meaning.{row_meant}
+use Rattle.docker_join.specs.Meaning.{row_meant}
 use Rattle.state_text.specs.Written.{Gathers}
 use Rattle.state_text.proofs.write.put_rows.Given as goal
 

@@ -4,8 +4,8 @@ use Rattle.docker_laws.specs.ExcerptWalk.{goes_on}
 use Rattle.cif_change.specs.Meaning.{key_meant}
 use Rattle.cif_change.specs.declared.key.Key.{Key}
 use Rattle.cif_change.specs.declared.key.Key.TheVariants as key
-use Rattle.state_text.specs.Entry.{Entry}
 use Rattle.docker_join.specs.Meaning.{entry_meant, row_meant}
+use Rattle.docker_join.specs.declared.entry.Entry.{Entry}
 use Rattle.docker_excerpt.specs.Walked.{state_of_entries, IsWalk}
 use Rattle.docker_excerpt.proofs.WalkTurns.{walk_begins}
 use Rattle.docker_excerpt.proofs.WalkSteps.{rows_more, run_ended, walk_by}

@@ -2,7 +2,7 @@ use Rattle.std.proofs.Common.{subst}
 use Rattle.docker_model.specs.state.State.{live_table}
 use Rattle.docker_day.specs.Dockers.{IsDockerOf}
 use Rattle.docker_day.specs.DockerValue.{text_of}
-use Rattle.docker_bytes.specs.Values.{Excerpt}
+use Rattle.docker_excerpt.specs.Values.{Excerpt}
 use Rattle.docker_office.specs.declared.fault.OfficeFault.TheVariants.{Sink}
 use Rattle.docker_office.proofs.OfficeLemmas.{of_ok, of_err}
 use Rattle.docker_office.proofs.place_office.PlaceOffice.print.Goals as goal

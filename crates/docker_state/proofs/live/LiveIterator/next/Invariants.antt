@@ -1,5 +1,5 @@
 use Rattle.std.proofs.Common.{◌≡◌, map, length}
-use Rattle.docker_state.specs.Meaning.{row_meant}
+use Rattle.docker_join.specs.Meaning.{row_meant}
 use Rattle.docker_state.specs.Live.{live_rows}
 use Rattle.docker_state.proofs.live.LiveIterator.next.Given as goal
 

@@ -1,5 +1,5 @@
 use Rattle.std.proofs.Common.{◌≡◌, length, map}
-use Rattle.docker_state.specs.Meaning.{row_meant}
+use Rattle.docker_join.specs.Meaning.{row_meant}
 use Rattle.docker_state.specs.PlaceRows.{rows_here}
 use Rattle.docker_state.proofs.sifted.SiftedRowsIterator.next.Given as goal
 

@@ -2,10 +2,11 @@ use Rattle.std.proofs.Common.{rules, List, map, ap, ◌∙◌, subst}
 use Rattle.docker_model.specs.state.State.{State, IsJoin}
 use Rattle.state_laws.specs.Staging.{staged_state}
 use Rattle.state_laws.proofs.joins.StagedState.{join_with_staged}
-use Rattle.cif_file.specs.Key.{Key}
+use Rattle.cif_change.specs.declared.key.Key.{Key}
 use Rattle.docker_join.specs.declared.entry.Entry.{Entry}
+use Rattle.docker_join.specs.Meaning.{row_meant}
 use Rattle.docker_state.specs.Indexed.{IsIndexIfAny}
-use Rattle.docker_state.specs.Meaning.{item_meant, row_meant}
+use Rattle.docker_state.specs.Meaning.{item_meant}
 use Rattle.docker_state.specs.Staging.{Staging}
 use Rattle.docker_state.proofs.StagingLemmas.{nothing_new_is_join, something_new}
 use Rattle.docker_state.proofs.state.State.commit.Goals as goal

@@ -1,8 +1,9 @@
 use Rattle.std.proofs.Common.{◌∙◌, false, length, map, ap, subst}
 use Rattle.docker_model.specs.state.State.{State, IsValid, live_table}
+use Rattle.docker_join.specs.Meaning.{row_meant}
 use Rattle.state_index.specs.Counts.{IsCallingCount}
 use Rattle.docker_state.specs.Indexed.{IsIndexIfAny}
-use Rattle.docker_state.specs.Meaning.{row_meant, state_meant}
+use Rattle.docker_state.specs.Meaning.{state_meant}
 use Rattle.docker_state.specs.PlaceRows.{rows_here}
 use Rattle.docker_state.proofs.SiftedRows.{calls_counted}
 use Rattle.docker_state.proofs.state.State.count_calling.Goals as goal

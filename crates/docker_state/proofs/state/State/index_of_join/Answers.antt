@@ -1,8 +1,8 @@
 use Rattle.std.proofs.Common.{map, subst}
 use Rattle.docker_model.specs.state.State.{State}
+use Rattle.docker_join.specs.Meaning.{row_meant}
 use Rattle.state_index.specs.Spots.{IsIndexOf}
 use Rattle.docker_state.specs.Indexed.{IsIndexIfAny}
-use Rattle.docker_state.specs.Meaning.{row_meant}
 use Rattle.docker_state.proofs.state.State.index_of_join.Goals as goal
 
 pub joined_index-requires-clause-own : goal.joined_index-requires-clause-own

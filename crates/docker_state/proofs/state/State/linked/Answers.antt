@@ -1,7 +1,7 @@
 use Rattle.std.proofs.Common.{◌∙◌, true, map, ap, sym, subst}
 use Rattle.docker_model.specs.state.State.{State, IsValid, live_table}
 use Rattle.state_laws.specs.Index.{AreLinked}
-use Rattle.docker_state.specs.Meaning.{row_meant}
+use Rattle.docker_join.specs.Meaning.{row_meant}
 use Rattle.docker_state.specs.PlaceRows.{rows_here}
 use Rattle.docker_state.proofs.SiftedRows.{linked_sifted}
 use Rattle.docker_state.proofs.state.State.linked.Goals as goal

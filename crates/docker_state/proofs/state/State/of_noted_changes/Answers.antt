@@ -4,13 +4,13 @@ use Rattle.docker_model.specs.file.Change as model
 use Rattle.docker_model.specs.state.Op as ops
 use Rattle.docker_model.specs.state.Op.{key_cmp}
 use Rattle.cif_change.specs.Meaning.{change_meant}
-use Rattle.docker_join.specs.Meaning.{file_stamp_meant}
+use Rattle.cif_change.specs.declared.key.Key.{Key}
+use Rattle.cif_change.specs.Noted.{ArePicked, items_of, items_put}
+use Rattle.docker_join.specs.Meaning.{file_stamp_meant, row_meant}
 use Rattle.docker_join.proofs.MeantOrder.{ascending_meant}
-use Rattle.cif_file.specs.Key.{Key}
 use Rattle.docker_join.specs.declared.entry.Entry.{Entry}
-use Rattle.state_index.specs.Noted.{ArePicked, items_of, items_put}
 use Rattle.docker_state.specs.Indexed.{ArePickedNotes, HasRoomIfAny, IsIndexIfAny}
-use Rattle.docker_state.specs.Meaning.{item_meant, row_meant}
+use Rattle.docker_state.specs.Meaning.{item_meant}
 use Rattle.docker_state.specs.Rows.{rows_in}
 use Rattle.docker_state.specs.MadeState.{IsMadeState}
 use Rattle.docker_state.proofs.Indexes.{picked_of_changes}

@@ -1,6 +1,6 @@
 use Rattle.std.proofs.Common.{map}
+use Rattle.cif_change.specs.NamedPlaces.{call_places, link_places}
 use Rattle.docker_join.specs.Meaning.{row_meant}
-use Rattle.state_index.specs.Spots.{call_places, link_places}
 use Rattle.state_index.proofs.RowPlaces.{no_calls, no_links}
 use Rattle.state_index.proofs.LapsedSpots.{lapsed_postings}
 use Rattle.state_index.proofs.index.Index.lapse.Goals as goal

@@ -1,7 +1,7 @@
 use Rattle.std.proofs.Common.{ℕ, List, sym, subst, ◌∙◌}
+use Rattle.cif_change.specs.NamedPlaces.{call_places, link_places, AreRanks}
 use Rattle.state_index.specs.Rooms.{Includes}
-use Rattle.state_index.specs.Spots.{call_places, link_places}
-use Rattle.state_index.specs.Joined.{moved_postings, AreRanks}
+use Rattle.state_index.specs.Joined.{moved_postings}
 use Rattle.state_index.proofs.MovedPostings.{joined_postings}
 use Rattle.state_index.proofs.index.Index.of_join.Goals as goal
 

@@ -1,9 +1,9 @@
 use Rattle.std.proofs.Common.{◌≡◌, ◌∙◌, ℕ, true, false, length, map, rules, sym, subst}
 use Rattle.std.proofs.lemmas.List.{length-map}
+use Rattle.cif_change.specs.NamedPlaces.{call_places, link_places}
 use Rattle.docker_join.specs.Meaning.{row_meant}
 use Rattle.state_index.specs.ByPlace.{AreBelow}
 use Rattle.state_index.specs.Rooms.{HasSlots}
-use Rattle.state_index.specs.Spots.{call_places, link_places}
 use Rattle.state_index.specs.Noted.{noted_postings}
 use Rattle.state_index.proofs.PostingSpots.{postings_made}
 use Rattle.state_index.proofs.NotedSpots.{calls_walk, links_walk}

@@ -1,7 +1,7 @@
 use Rattle.std.proofs.Common.{List, map, ap, subst}
 use Rattle.docker_model.specs.file.Change.{Key}
 use Rattle.docker_model.specs.state.Op.{Entry}
-use Rattle.docker_state.specs.Meaning.{row_meant}
+use Rattle.docker_join.specs.Meaning.{row_meant}
 use Rattle.state_tests.proofs.Offered.{CanBeOffered, all_offered, rest_offered, same_floor}
 use Rattle.state_tests.proofs.tests.staging.offer_all.Goals as goal
 

@@ -1,6 +1,6 @@
 use Rattle.std.proofs.Common.{◌++◌, map, length}
 use Rattle.docker_model.specs.state.Stamp.{IsFloor}
-use Rattle.docker_state.specs.Meaning.{row_meant}
+use Rattle.docker_join.specs.Meaning.{row_meant}
 use Rattle.state_tests.proofs.Offered.{CanBeOffered}
 use Rattle.state_tests.proofs.tests.staging.offer_all.Given as goal
 

@@ -4,7 +4,8 @@ use Rattle.docker_model.specs.file.Change.{Key}
 use Rattle.docker_model.specs.state.Op.{Entry}
 use Rattle.docker_model.specs.state.Stamp as stamps
 use Rattle.docker_model.specs.state.State.{AreEntries}
-use Rattle.docker_state.specs.Meaning.{item_meant, row_meant}
+use Rattle.docker_join.specs.Meaning.{row_meant}
+use Rattle.docker_state.specs.Meaning.{item_meant}
 use Rattle.docker_state.specs.Staging.{Staging}
 use Rattle.state_tests.proofs.tests.staging.receive.Goals as goal
 

@@ -1,4 +1,4 @@
-use Rattle.std.proofs.Common.{ap, ◌∙◌, None}
+use Rattle.std.proofs.Common.{ap, ◌∙◌}
 use Rattle.docker_model.specs.docker.Choice.{Train}
 use Rattle.docker_model.specs.state.State.{IsScheduleOf}
 use Rattle.train_choice.proofs.KeptLines.{falls_few}
