@@ -89,6 +89,10 @@ pub const LEAVES_0850: &[u8] = b"0850  D 1A10 C10001 P   1   SL      0850 ASHFEL
 /// The docker line for C10001, which leaves Ashfeld at 09:00.
 pub const LEAVES_0900: &[u8] = b"0900  D 1A10 C10001 P   1   SL      0900 ASHFELD BRAYTON";
 
+/// The docker line for C10001, which leaves Ashfeld at 09:00, according to a new schedule with the
+/// STP indicator `N`.
+pub const LEAVES_AS_NEW: &[u8] = b"0900  D 1A10 C10001 N   1   SL      0900 ASHFELD BRAYTON";
+
 /// The docker line for C10001, which leaves Ashfeld half a minute past 09:00.
 pub const LEAVES_0900H: &[u8] = b"0900H D 1A10 C10001 P 2                  ASHFELD BRAYTON";
 
@@ -106,6 +110,9 @@ pub const LEAVES_0910: &[u8] = b"0910  D 1A10 C10001 P   1   SL      0910 ASHFEL
 
 /// The docker line for C10001, which leaves Ashfeld at 09:15, according to its overlay.
 pub const LEAVES_0915: &[u8] = b"0915  D 1A10 C10001 O   1   SL      0915 ASHFELD BRAYTON";
+
+/// The docker line for C10001, which leaves Colwell at 10:45, according to its overlay.
+pub const LEAVES_ELSEWHERE: &[u8] = b"1045  D 1A10 C10001 O   5                COLWELL DUNMERE";
 
 /// The docker line for C10001, which arrives at Brayton at 09:30.
 pub const COMES_0930: &[u8] = b"0930  A 1A10 C10001 P   2       FL  0932 ASHFELD BRAYTON";
@@ -164,6 +171,9 @@ pub const WORKS_ON: &[u8] = b"2350  N 4D40 C40001 P   1                C40002  4
 
 /// Like `WORKS_ON`, but the train identity of C40002 isn't known.
 pub const WORKS_ON_UNKNOWN: &[u8] = b"2350  N 4D40 C40001 P   1                C40002  ????   ";
+
+/// Like `WORKS_ON_UNKNOWN`, by an association with the STP indicator `N`.
+pub const WORKS_ON_AS_NEW: &[u8] = b"2350  N 4D40 C40001 N   1                C40002  ????   ";
 
 /// The docker line for C50001, which leaves Ashfeld at 12:00.
 pub const LEAVES_AS_5E50: &[u8] = b"1200  D 5E50 C50001 P                    ASHFELD BRAYTON";

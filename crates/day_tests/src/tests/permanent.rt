@@ -9,8 +9,8 @@ use std::alloc::Global;
 use std::process::Abort;
 use test_records::dockers::{
     AGAIN_COMES, AGAIN_LEAVES, AT_ASHFIELD_CENTRAL, COMES_2350, DIVIDES, END, FIRST_COMES,
-    FIRST_LEAVES, LEAVES_0900, LEAVES_0910, LEAVES_0915, NIGHT_COMES, NIGHT_LEAVES, OTHER_LEAVES,
-    WORKS_ON, WORKS_ON_UNKNOWN,
+    FIRST_LEAVES, LEAVES_0900, LEAVES_0910, LEAVES_0915, LEAVES_AS_NEW, LEAVES_ELSEWHERE,
+    NIGHT_COMES, NIGHT_LEAVES, OTHER_LEAVES, WORKS_ON, WORKS_ON_AS_NEW, WORKS_ON_UNKNOWN,
 };
 use test_records::files::{EACH_DAY, WEEK};
 use test_records::{
@@ -19,13 +19,6 @@ use test_records::{
     LO_1000_PLAIN, LO_2300, LO_2355, LO_COLWELL_0010, LO_COLWELL_1045, LT, LT_0020, LT_1100_PLAIN,
     LT_ASHFELD_0100, LT_COLWELL_2350, LT_DUNMERE_1100, TI, ZZ, text,
 };
-
-/// A docker line: C10001 leaves Ashfeld at 09:00, according to a new schedule with the STP
-/// indicator `N`.
-const LEAVES_AS_NEW: &[u8] = b"0900  D 1A10 C10001 N   1   SL      0900 ASHFELD BRAYTON";
-
-/// A docker line: C10001 leaves Colwell at 10:45, according to its overlay.
-const LEAVES_ELSEWHERE: &[u8] = b"1045  D 1A10 C10001 O   5                COLWELL DUNMERE";
 
 /// The cancellation of C20001 on 10 June.
 const BS_NIGHT_CANCELLED: &[u8] =
@@ -38,10 +31,6 @@ const AA_DIVIDE_CANCELLED: &[u8] =
 /// The association by which C40001 becomes C40002 on the next day. It has the STP indicator `N`.
 const AA_NEW: &[u8] =
     b"AANC40001C400022406102406101000000NPNCOLWELL  TP                               N";
-
-/// A docker line: C40001 becomes C40002, whose identity isn't known, by an association with the STP
-/// indicator `N`.
-const WORKS_ON_AS_NEW: &[u8] = b"2350  N 4D40 C40001 N   1                C40002  ????   ";
 
 /// The text of the permanent docker for a place and a day.
 fn printed(rt: &impl Abort, alloc: Global, state: &State, at: &str, on: &str) -> Kept {
