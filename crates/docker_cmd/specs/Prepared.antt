@@ -237,9 +237,9 @@ abbrev pub CountsSources : {A : Type 0} → Result A OfficeFault → ℕ → ℕ
 CountsSources (Ok made) first first_now second second_now = HaveNotFailed first first_now second second_now
 CountsSources (Err fault) first first_now second second_now = FailsBy first first_now second second_now fault
 
--- sources were read in order: a source was read only if these sources have one, and the second source
--- only if the first held a state and didn't fail. `Outcome` says what the result means, and `Counted`
--- how often the sources have failed
+-- the reading of these sources, in order, has stopped. If the task has no source, nothing was read.
+-- The second source was read only if the task has one, and if the first source held a state and
+-- didn't fail. `Outcome` says what the result means, and `Counted` how often the sources have failed
 pub record StopsReadingSources {S T : Type 0} (left : S → DeviceBytes) (failures : S → ℕ) (sources : Sources) (first first_now : S)
     (second second_now : T) (Outcome Counted : Type 0) : Type 0 where
   pub outcome : Outcome
