@@ -1,5 +1,5 @@
 //! Ends a draft once a text has been written to it.
-ghost use Rattle.std.specs.Prelude.{◌+◌, ◌-◌, ◌^◌, ◌<◌};
+ghost use Rattle.std.specs.Prelude.{◌+◌, ◌-◌, ◌^◌, ◌<◌, IsOk};
 ghost use Rattle.docker_host.specs.Asked.{EndsDraft};
 
 use crate::folder::{Drafted, Folder};
@@ -13,7 +13,9 @@ pub fn end_draft<D: Folder, E: Copy>(
     failed: E,
     folder: &mut D,
 ) -> Result<(), E>
-    requires { D.failures folder.old + D.Draft.failures made.draft < 2 ^ 64 - 1 }
+    requires discard { D.failures folder.old + D.Draft.failures made.draft < 2 ^ 64 }
+    requires complete { IsOk written
+        → D.failures folder.old + D.Draft.failures made.draft < 2 ^ 64 - 1 }
     ensures { EndsDraft made.entry.name.now (D.Draft.taken made.entry.draft) failed
         (D.history folder.old) (D.history folder.new)
         (D.failures folder.old + D.Draft.failures made.entry.draft) (D.failures folder.new)
