@@ -30,10 +30,10 @@ FailsToStore names_bytes name look text old new =
     IsUndrafted name look old new
     ⊎ (IsDropped name look old new ⊎ IsUnplaced names_bytes name look text old new)
 
--- a text was written to a draft for the named file with the result `written`, and the draft then
--- ended with this result: it replaced the file, it was discarded because writing the text failed, or
--- it couldn't replace the file. `taken` are the bytes that the draft took. In the last case the
--- fault is `failed`, and the failure count has grown by one
+-- after a text was written to a draft with the result `written`, the draft ended with this result.
+-- It replaced the named file, it couldn't replace the file, or it was discarded because writing the
+-- text had failed. If it couldn't replace the file, the fault is `failed`, and the failure count has
+-- grown by one. `taken` are the bytes that the draft took
 abbrev pub EndsDraft : {E : Type 0} → (name : Text) (taken : Bytes) (failed : E) (old new : List Event)
     (failures failures_now : ℕ) (written result : Result ⊤ E) → Type 0
 EndsDraft name taken failed old new failures failures_now (Ok done) (Ok ended) =

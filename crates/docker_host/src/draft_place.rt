@@ -9,8 +9,8 @@ use std::{fs, io};
 /// The suffix of a draft's name. The name before the suffix is the name of the draft's file.
 const SUFFIX: &str = ".new";
 
-/// The draft bit: the permission bit that tells a draft from other files. It is the sticky bit, which
-/// has no other meaning on a regular file.
+/// The draft bit: the permission bit by which a draft is recognized. It is the sticky bit, which has
+/// no other meaning on a regular file.
 const DRAFT_BIT: u32 = 0o1000;
 
 /// The permissions of a new file, before the user's mask removes some.
