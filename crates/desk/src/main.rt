@@ -1,9 +1,9 @@
 //! The program `desk`: keeps an office's state in memory, and answers one request per line.
 #![tactic(auto)]
 
-mod host;
+mod real_session;
 
-use host::run;
+use real_session::run;
 use std::process::ExitCode;
 
 fn main(rt: HostRuntime) -> ExitCode {

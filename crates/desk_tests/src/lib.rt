@@ -11,6 +11,8 @@ mod compare;
 #[cfg(test)]
 mod desks;
 #[cfg(test)]
+mod end_recorder;
+#[cfg(test)]
 mod expected;
 #[cfg(test)]
 mod failures;
@@ -18,8 +20,6 @@ mod failures;
 mod lines;
 #[cfg(test)]
 mod lists;
-#[cfg(test)]
-mod marked;
 #[cfg(test)]
 mod permanent;
 #[cfg(test)]

@@ -8,26 +8,26 @@ use std::alloc::Global;
 use std::process::Abort;
 
 /// The kind of a line, and its bytes if it has the form of a request.
-type Told<'a> = (&'static str, &'a [u8]);
+type ExpectedLine<'a> = (&'static str, &'a [u8]);
 
 /// The kind of a line that has the form of a request.
 const LINE: &str = "line";
 
 /// What a test expects for a line that is too long, or that has a byte that isn't printable. The
 /// bytes of the line aren't compared.
-const BAD: Told<'static> = ("bad", b"");
+const BAD: ExpectedLine<'static> = ("bad", b"");
 
 /// What a test expects for the bytes after the last line feed. These bytes aren't compared.
-const CUT: Told<'static> = ("cut", b"");
+const CUT: ExpectedLine<'static> = ("cut", b"");
 
 /// What a test expects for the end of the input.
-const END: Told<'static> = ("end", b"");
+const END: ExpectedLine<'static> = ("end", b"");
 
 /// A row: a text, and its lines in order.
-type Row = (&'static [u8], &'static [Told<'static>]);
+type Row = (&'static [u8], &'static [ExpectedLine<'static>]);
 
 /// Asserts that the next line of a source is `wanted`.
-fn is_next(rt: &impl Abort, ahead: &mut Ahead, source: &mut Bytes<'_>, wanted: Told<'_>) {
+fn is_next(rt: &impl Abort, ahead: &mut Ahead, source: &mut Bytes<'_>, wanted: ExpectedLine<'_>) {
     match next_line(ahead, source) {
         Ok(Asked::Line(text)) => same(rt, (LINE, text.as_slice()), wanted),
         Ok(Asked::Bad) => same(rt, BAD, wanted),
@@ -38,7 +38,7 @@ fn is_next(rt: &impl Abort, ahead: &mut Ahead, source: &mut Bytes<'_>, wanted: T
 }
 
 /// Asserts that a text has exactly these lines if it is read in pieces of at most `step` bytes.
-fn are_lines(rt: &impl Abort, text: &[u8], step: usize, lines: &[Told<'_>])
+fn are_lines(rt: &impl Abort, text: &[u8], step: usize, lines: &[ExpectedLine<'_>])
     requires { 0 < step }
 {
     let mut ahead = Ahead::new();
@@ -51,7 +51,7 @@ fn are_lines(rt: &impl Abort, text: &[u8], step: usize, lines: &[Told<'_>])
 }
 
 /// Asserts that a text has these lines, whatever the size of its pieces.
-fn are_lines_in_pieces(rt: &impl Abort, text: &[u8], lines: &[Told<'_>]) {
+fn are_lines_in_pieces(rt: &impl Abort, text: &[u8], lines: &[ExpectedLine<'_>]) {
     are_lines(rt, text, 1, lines);
     are_lines(rt, text, 2, lines);
     are_lines(rt, text, 4096, lines);

@@ -2,8 +2,8 @@
 ghost use Rattle.std.specs.Prelude.{◌<◌};
 
 use crate::compare::same_in;
+use crate::end_recorder::EndRecorder;
 use crate::expected::*;
-use crate::marked::Marked;
 use crate::records::*;
 use crate::session_parts::{READING, WRITING, joined, room};
 use crate::shelves::{shelf_of_morning, text_of};
@@ -201,7 +201,7 @@ fn sessions_that_write(rt: HostRuntime) {
 /// Asserts that a session reads this input to its end, and doesn't read it again after that.
 fn is_read_once(rt: &impl Abort, alloc: Global, input: &str) {
     let mut host = Host {
-        input: Marked::new(input.as_bytes()),
+        input: EndRecorder::new(input.as_bytes()),
         folder: shelf_of_morning(rt, alloc),
         output: room(rt, alloc, 1000),
         faults: room(rt, alloc, 100),

@@ -1,8 +1,8 @@
 -- How each request adds events to a folder's history.
-use Rattle.std.proofs.Common.{◌≡◌, ℕ, List, [], ◌∷◌, ◌++◌, Bool, true, false, ap, subst, ◌∙◌, append_assoc, Ok}
+use Rattle.std.proofs.Common.{◌≡◌, ℕ, List, [], ◌∷◌, ◌++◌, Bool, ap, subst, ◌∙◌, append_assoc, Ok}
 use Rattle.std.specs.Prelude.{Option, Result, ⊤}
 use Rattle.cif_device.specs.Device.{Takes}
-use Rattle.docker_host.specs.History.{Bytes, Event, Text, closed, drafted, looked, named_if, opened, placed, unplaced}
+use Rattle.docker_host.specs.History.{Bytes, Event, Text, closed, drafted, looked, named_if, opened, placed}
 use Rattle.docker_host.specs.Asked.{IsStored}
 use Rattle.docker_model.specs.state.State.{State}
 use Rattle.docker_model.specs.state.StateText.{dks_2, state_text}
@@ -15,21 +15,6 @@ use Rattle.docker_desk.specs.Reading.{OpensOnce, Reading, events_of}
 pub then : (old middle new : List Event) (first next : List Event) → middle ≡ old ++ first → new ≡ middle ++ next → new ≡ old ++ (first ++ next)
 then old middle new first next before after =
     after ∙ ap (λ (events : List Event). events ++ next) before ∙ append_assoc old first next
-
--- if a draft was empty and a text was written to it, the draft holds exactly this text
-pub draft_took : (names_bytes : Bool) (text : List ℕ) (before after : Bytes) → before ≡ named_if names_bytes [] → Takes before text after
-    → after ≡ named_if names_bytes text
-draft_took true text before after empty takes = rw empty at takes
-draft_took false text before after empty takes = rw empty at takes
-
--- if a draft was made but couldn't replace the file, the history gained the events `drafted` and
--- `unplaced`
-pub then_unplaced : (name made_for : Text) (look : ℕ) (old middle new : List Event) (took bytes : Bytes)
-    → middle ≡ old ++ drafted name look ∷ [] → new ≡ middle ++ unplaced made_for took ∷ [] → made_for ≡ name → took ≡ bytes
-    → new ≡ old ++ drafted name look ∷ unplaced name bytes ∷ []
-then_unplaced name made_for look old middle new took bytes made failed same held =
-    then old middle new (drafted name look ∷ []) (unplaced name bytes ∷ []) made
-    (failed ∙ (λ i. middle ++ unplaced (same i) (held i) ∷ []))
 
 -- ---- how an opening is recorded
 

@@ -1,17 +1,19 @@
 -- How a session ends.
-use Rattle.std.proofs.Common.{◌≡◌, ◌+◌, ℕ, Bool, List, ◌++◌, ◌∷◌, length, arith, inl, inr, Some, None, Ok, ap, subst, ◌∙◌, false}
+use Rattle.std.proofs.Common.{◌≡◌, ◌+◌, ℕ, Bool, List, ◌++◌, [], ◌∷◌, length, arith, inl, inr, Some, None, Ok, ap, append-nil, subst, sym, ◌∙◌, false}
 use Rattle.std.specs.Prelude.{Option, IfSome, ◌&&◌}
 use Rattle.cif_device.specs.Device.{Takes, TakesPart}
 use Rattle.docker_host.specs.History.{Event, Text, looked}
 use Rattle.docker_host.specs.Host.{HostView}
 use Rattle.docker_desk.specs.Answering.{AnswersLines, CountsStreams}
-use Rattle.docker_cmd.specs.FaultLine.{IsCounted}
+use Rattle.docker_cmd.specs.FaultLine.{IsCounted, fault_line, status_of}
+use Rattle.docker_cmd.specs.OfficeFault.{OfficeFault}
+use Rattle.docker_cmd.specs.declared.fault.Fault.TheVariants.{Office}
 use Rattle.docker_host.specs.FaultSink.{FaultsView, TellsText, faults_of}
-use Rattle.docker_desk.specs.Desk.{DeskView}
+use Rattle.docker_desk.specs.Desk.{DeskView, IsWhyNot, RefusesToReceive}
 use Rattle.docker_desk.specs.Reading.{LooksAndOpens, Reading, StopsInState, opening_of}
 use Rattle.docker_desk.specs.declared.ending.Ending.{Ending}
 use Rattle.docker_desk.specs.SessionViews.{SessionView, session_view, setting}
-use Rattle.docker_desk.specs.Serving.{BeginsAt, EndsOpening, EndsWithStatus, NamesSession, Serves}
+use Rattle.docker_desk.specs.Serving.{BeginsAt, EndsOpening, EndsWithStatus, LeavesStreams, NamesSession, Serves}
 use Rattle.docker_desk.proofs.WritingLemmas.{both_taken, part_of_back, part_of_front}
 
 -- if a text was written and then a second text, their concatenation was written
@@ -89,3 +91,24 @@ pub served_as : (words : List Text) (names_bytes : Bool) (seen old new : HostVie
 served_as words names_bytes seen old new status name may_write first last ending unsaved is named begins none answers history failures counts stops ends same =
     subst (λ (host : HostView). Serves words names_bytes host new status) is
     (served words names_bytes seen new status name may_write first last ending unsaved named begins none answers history failures counts stops ends same)
+
+-- if the state's file was looked at, but no state could be read from it, the start was refused as the
+-- contract of `serve` says. The host `seen` equals the old host
+pub refused_as : (words : List Text) (names_bytes : Bool) (seen old new : HostView) (status : ℕ) (name : Text) (may_write : Bool) (fault : OfficeFault)
+    → seen ≡ old → NamesSession words name may_write
+    → LooksAndOpens name (IsWhyNot RefusesToReceive fault) seen.history new.history
+    → IsCounted (status_of (Office fault)) seen.folder_failures new.folder_failures → LeavesStreams seen new → status ≡ status_of (Office fault)
+    → TellsText (fault_line (Office fault) ++ []) (faults_of seen) (faults_of new) → Serves words names_bytes old new status
+refused_as words names_bytes seen old new status name may_write fault is named opens counted streams status_is tells =
+    subst (λ (host : HostView). Serves words names_bytes host new status) is
+    (inr (inl (record {
+      name = name;
+      may_write = may_write;
+      words_are = named;
+      fault = fault;
+      opens = opens;
+      counted = subst (λ (n : ℕ). IsCounted n seen.folder_failures new.folder_failures) (sym status_is) counted;
+      streams = streams;
+      status_is = status_is;
+      tells = subst (λ (line : List ℕ). TellsText line (faults_of seen) (faults_of new)) (append-nil (fault_line (Office fault))) tells;
+    })))

@@ -6,7 +6,7 @@ ghost use Rattle.docker_desk.specs.Lines.{whole_line};
 ghost use Rattle.docker_desk.specs.Requests.{request_meant};
 ghost use Rattle.docker_desk.specs.Replies.{answer_meant, answer_status};
 ghost use Rattle.docker_desk.specs.Doing.{DoesLine, DoesRequest, answer_of};
-ghost use Rattle.docker_desk.specs.SessionViews.{session_view, setting};
+ghost use Rattle.docker_desk.specs.SessionViews.{point_of, setting_of};
 
 use crate::reply::Answer;
 use crate::requests::{Request, request_in};
@@ -24,13 +24,9 @@ pub fn answer_line<D: Folder>(
 ) -> Answer
     requires line { IsLineText line.now }
     requires few { D.failures folder.old < 2 ^ 64 - 1 }
-    ensures { DoesLine (setting words.now.name.now words.now.may_write D.names_bytes)
-        (whole_line line.now)
-        (session_view session.old.desk (D.look_of session.old.seen)
-        (D.history folder.old) (D.failures folder.old))
-        (answer_meant result)
-        (session_view session.new.desk (D.look_of session.new.seen)
-        (D.history folder.new) (D.failures folder.new)) }
+    ensures { DoesLine (setting_of words.now D.names_bytes) (whole_line line.now)
+        (point_of D.look_of D.history D.failures session.old folder.old) (answer_meant result)
+        (point_of D.look_of D.history D.failures session.new folder.new) }
 {
     match request_in(line, words.may_write) {
         Some(request) => answer_request(words, request, session, folder),
@@ -46,13 +42,10 @@ fn answer_request<D: Folder>(
     folder: &mut D,
 ) -> Answer
     requires { D.failures folder.old < 2 ^ 64 - 1 }
-    ensures does { DoesRequest (setting words.now.name.now words.now.may_write D.names_bytes)
+    ensures does { DoesRequest (setting_of words.now D.names_bytes)
         (request_meant request.entry)
-        (session_view session.old.desk (D.look_of session.old.seen)
-        (D.history folder.old) (D.failures folder.old))
-        (answer_meant result)
-        (session_view session.new.desk (D.look_of session.new.seen)
-        (D.history folder.new) (D.failures folder.new)) }
+        (point_of D.look_of D.history D.failures session.old folder.old) (answer_meant result)
+        (point_of D.look_of D.history D.failures session.new folder.new) }
     ensures counted { IsCounted (answer_status (answer_meant result))
         (D.failures folder.old) (D.failures folder.new) }
 {

@@ -70,17 +70,3 @@ pub(crate) fn tell_failure<L: Sink>(fault: &Fault, unsaved: bool, faults: &mut L
         Err(_) => status(fault),
     }
 }
-
-/// Writes the line that reports a fault, and returns the fault's exit status. This status is
-/// returned even if the sink fails before the whole line is written.
-pub(crate) fn tell<L: Sink>(fault: &Fault, faults: &mut L) -> u8
-    requires { L.failures faults.old < 2 ^ 64 - 1 }
-    ensures status { result ≡ status_of fault.now }
-    ensures tells { TellsText (fault_line fault.now)
-        (faults_view (L.taken faults.old) (L.failures faults.old))
-        (faults_view (L.taken faults.new) (L.failures faults.new)) }
-{
-    let line = fault_text(fault);
-    tell_text(line.as_slice(), faults);
-    status(fault)
-}

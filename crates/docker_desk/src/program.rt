@@ -4,7 +4,7 @@ ghost use Rattle.docker_cmd.specs.Words.{texts};
 ghost use Rattle.docker_host.specs.Host.{AreFew};
 ghost use Rattle.docker_desk.specs.Serving.{Serves};
 
-use crate::ending::{end_session, tell};
+use crate::ending::{end_session, tell_failure};
 use crate::opening::open_session;
 use crate::requests::usage;
 use crate::serving::serve_lines;
@@ -49,6 +49,6 @@ pub fn serve<S: Source, D: Folder, K: Sink, L: Sink>(
             mem::forget(session);
             end_session(ending, named.may_write & unsaved, &mut host.faults)
         }
-        Err(fault) => tell(&Fault::Office(fault), &mut host.faults),
+        Err(fault) => tell_failure(&Fault::Office(fault), false, &mut host.faults),
     }
 }

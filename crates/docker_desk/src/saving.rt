@@ -5,7 +5,7 @@ ghost use Rattle.docker_cmd.specs.FaultLine.{IsCounted, result_status};
 ghost use Rattle.docker_desk.specs.Desk.{EndsStoring};
 
 use docker_cmd::{Office, OfficeFault};
-use docker_host::{Folder, OpenFault};
+use docker_host::{Folder, end_draft};
 
 /// Makes a draft based on a look at the named file, writes the text of the office's state to the
 /// draft, and replaces the file with the draft.
@@ -23,15 +23,8 @@ pub(crate) fn store_office<D: Folder>(
 {
     let mut made = match folder.create(name, seen) {
         Ok(made) => made,
-        Err(OpenFault::Failed) => return Err(OfficeFault::Sink),
-        Err(OpenFault::Memory) => return Err(OfficeFault::Memory),
+        Err(cause) => return Err(cause.one_of(OfficeFault::Sink, OfficeFault::Memory)),
     };
-    if let Err(fault) = office.send(&mut made.draft) {
-        folder.discard(made);
-        return Err(fault);
-    }
-    let Ok(()) = folder.complete(made) else {
-        return Err(OfficeFault::Sink);
-    };
-    Ok(())
+    let written = office.send(&mut made.draft);
+    end_draft(made, written, OfficeFault::Sink, folder)
 }

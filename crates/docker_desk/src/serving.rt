@@ -3,7 +3,7 @@ ghost use Rattle.std.specs.Prelude.{◌≡◌, false, ◌+◌, ◌-◌, ◌^◌,
 ghost use Rattle.docker_desk.specs.Lines.{with_ahead};
 ghost use Rattle.docker_desk.specs.Replies.{answer_meant, answer_bytes};
 ghost use Rattle.docker_desk.specs.Answering.{AnswersLines, CountsNext, CountsStreams, ServesNext, StopsAtEnd, TellsAnswer};
-ghost use Rattle.docker_desk.specs.SessionViews.{session_view, setting};
+ghost use Rattle.docker_desk.specs.SessionViews.{point_of, setting_of};
 
 use crate::ahead::Ahead;
 use crate::answering::answer_line;
@@ -28,12 +28,9 @@ pub fn serve_lines<S: Source, D: Folder, K: Sink>(
     requires input { S.failures input.old < 2 ^ 64 - 1 }
     requires none { D.failures folder.old ≡ 0 }
     requires output { K.failures output.old < 2 ^ 64 - 1 }
-    ensures answers { AnswersLines
-        (setting words.now.name.now words.now.may_write D.names_bytes)
-        (session_view session.old.desk (D.look_of session.old.seen)
-        (D.history folder.old) (D.failures folder.old))
-        (session_view session.new.desk (D.look_of session.new.seen)
-        (D.history folder.new) (D.failures folder.new))
+    ensures answers { AnswersLines (setting_of words.now D.names_bytes)
+        (point_of D.look_of D.history D.failures session.old folder.old)
+        (point_of D.look_of D.history D.failures session.new folder.new)
         (S.left input.old) (K.taken output.old) (K.taken output.new) result }
     ensures counted { CountsStreams result (S.failures input.old) (S.failures input.new)
         (K.failures output.old) (K.failures output.new) }
@@ -64,11 +61,9 @@ pub fn serve_next<S: Source, D: Folder, K: Sink>(
     requires input { S.failures input.old < 2 ^ 64 - 1 }
     requires few { D.failures folder.old < 2 ^ 64 - 1 }
     requires output { K.failures output.old < 2 ^ 64 - 1 }
-    ensures serves { ServesNext (setting words.now.name.now words.now.may_write D.names_bytes)
-        (session_view session.old.desk (D.look_of session.old.seen)
-        (D.history folder.old) (D.failures folder.old))
-        (session_view session.new.desk (D.look_of session.new.seen)
-        (D.history folder.new) (D.failures folder.new))
+    ensures serves { ServesNext (setting_of words.now D.names_bytes)
+        (point_of D.look_of D.history D.failures session.old folder.old)
+        (point_of D.look_of D.history D.failures session.new folder.new)
         (with_ahead ahead.old (S.left input.old)) (with_ahead ahead.new (S.left input.new))
         (K.taken output.old) (K.taken output.new) result }
     ensures few { D.failures folder.new ≤ D.failures folder.old + 1 }

@@ -1,6 +1,6 @@
 //! Drafts, each in the folder of the file that it will replace. A draft is locked while its command
-//! runs, and marked until it has replaced its file. So a marked draft without a lock was left by a
-//! command that was stopped. The next command removes this draft.
+//! runs, and has the draft bit until it has replaced its file. So a draft with this bit but without
+//! a lock was left by a command that was stopped. The next command removes this draft.
 use crate::folder::OpenFault;
 use std::fs::{File, Metadata, Permissions, TryLockError};
 use std::os::unix::fs::{MetadataExt, OpenOptionsExt, PermissionsExt};
@@ -9,9 +9,9 @@ use std::{fs, io};
 /// The suffix of a draft's name. The name before the suffix is the name of the draft's file.
 const SUFFIX: &str = ".new";
 
-/// The permission bit that marks a draft: the sticky bit, which has no other meaning on a regular
-/// file.
-const MARK: u32 = 0o1000;
+/// The draft bit: the permission bit by which a draft is recognized. It is the sticky bit, which has
+/// no other meaning on a regular file.
+const DRAFT_BIT: u32 = 0o1000;
 
 /// The permissions of a new file, before the user's mask removes some.
 const NEW_FILE: u32 = 0o666;
@@ -62,7 +62,7 @@ impl DraftPlace {
         }
     }
 
-    /// Writes the draft to the disk, renames the draft over the file, and then removes the mark.
+    /// Writes the draft to the disk, renames the draft over the file, and then removes the draft bit.
     pub(crate) fn replace(&self, rt: &HostRuntime, made: &File) -> io::Result<()> {
         made.sync_all()?;
         fs::rename(rt, self.draft.as_str(), self.file.as_str())?;
@@ -76,16 +76,17 @@ impl DraftPlace {
     }
 }
 
-/// Returns the mark of a draft for the file with this path. If the name of the file ends like the
-/// name of a draft, the draft gets no mark. A marked draft would still have its mark right after it
-/// replaces the file. So it might look like a draft that a command has left for another file.
+/// Returns the draft bit for a draft of the file with this path, or 0 if the name of the file ends
+/// like the name of a draft. In this case the draft gets no draft bit. It would still have the bit
+/// right after it replaces the file, so it might look like a draft that a command has left for
+/// another file.
 fn draft_bit_of(file: &str) -> u32 {
-    if file.ends_with(SUFFIX) { 0 } else { MARK }
+    if file.ends_with(SUFFIX) { 0 } else { DRAFT_BIT }
 }
 
-/// Whether a file is a regular file with the mark of a draft.
+/// Whether a file is a regular file with the draft bit.
 fn has_draft_bit(file: &Metadata) -> bool {
-    file.is_file() && file.permissions().mode() & MARK != 0
+    file.is_file() && file.permissions().mode() & DRAFT_BIT != 0
 }
 
 /// Whether the open file is the file under this name.
@@ -113,9 +114,9 @@ fn remove_left_over(rt: &HostRuntime, name: &str) {
     }
 }
 
-/// Whether a file that this command has locked is a marked draft, and is still the file under this
-/// name. If the command that made the draft has ended meanwhile, the file may have lost its mark or
-/// its name.
+/// Whether a file that this command has locked is a draft with the draft bit, and is still the file
+/// under this name. If the command that made the draft has ended meanwhile, the file may have lost
+/// its draft bit or its name.
 fn is_left_over(rt: &HostRuntime, left: &File, name: &str) -> bool {
     let Ok(held) = left.metadata() else {
         return false;
@@ -137,12 +138,12 @@ fn hold(rt: &HostRuntime, made: &File, name: &str) -> Result<(), OpenFault> {
 }
 
 /// Sets the permissions of a draft to the permissions of the old file, if there is an old file, and
-/// adds the mark of a draft. Returns the permissions that the file is to have in the end.
+/// adds the draft bit. Returns the permissions that the file is to have in the end.
 fn give_permissions(made: &File, old: Option<Metadata>, draft_bit: u32) -> io::Result<u32> {
     let Some(file) = old else {
-        return Ok(made.metadata()?.permissions().mode() & !MARK);
+        return Ok(made.metadata()?.permissions().mode() & !DRAFT_BIT);
     };
-    let permissions = file.permissions().mode() & !MARK;
+    let permissions = file.permissions().mode() & !DRAFT_BIT;
     made.set_permissions(Permissions::from_mode(permissions | draft_bit))?;
     Ok(permissions)
 }

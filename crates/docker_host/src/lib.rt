@@ -2,6 +2,7 @@
 //! host is one value that holds all devices of a program.
 #![tactic(auto)]
 
+mod draft_end;
 mod draft_file;
 mod draft_place;
 mod fault_sink;
@@ -12,12 +13,14 @@ mod input_device;
 mod open_file;
 mod output_device;
 mod page;
+mod real_devices;
 mod real_folder;
 mod shelf;
 mod standard;
 mod transfers;
 mod version;
 
+pub use draft_end::end_draft;
 pub use draft_file::DraftFile;
 pub use fault_sink::tell_text;
 pub use folder::{Drafted, Folder, OpenFault};
@@ -27,6 +30,7 @@ pub use input_device::InputDevice;
 pub use open_file::OpenFile;
 pub use output_device::OutputDevice;
 pub use page::Page;
+pub use real_devices::real_host;
 pub use real_folder::{RealFolder, Seen};
 pub use shelf::{Fails, Shelf, Sight};
 pub use standard::{Standard, hold_standard};

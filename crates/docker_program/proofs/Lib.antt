@@ -1,5 +1,4 @@
 pub mod JobSourcesLemmas
-pub mod JobOutputLemmas
 pub mod ProgramLemmas
 pub mod EndingLemmas
 pub mod CommandLemmas

@@ -22,9 +22,13 @@ use Rattle.docker_program.specs.SourceNames.{first_word, stored_by}
 use Rattle.docker_program.specs.Sources.{SourcesRead}
 use Rattle.docker_program.specs.Program.{Performs}
 use Rattle.docker_program.specs.Commands.{IsDone, Prints, Run, Stores, of_file}
-use Rattle.docker_program.specs.ShelfRuns.{IsTaken, both_put, file_name, state_name}
+use Rattle.docker_program.specs.ShelfRuns.{IsTaken, file_name, state_name}
 use Rattle.docker_program.proofs.CommandLemmas.{stores_known}
 use Rattle.docker_program.proofs.EndingLemmas.{run_done}
+
+-- the history of a shelf to which a STATE file and an extract with these texts were added
+abbrev pub both_put : (state extract : List ℕ) → List Event
+both_put state extract = placed state_name (Some state) ∷ placed file_name (Some extract) ∷ []
 
 none_some : (name : Text) → ◌≡◌ {A = Option Text} None (Some name) → ⊥
 none_some name is = cc

@@ -15,10 +15,6 @@ state_name = codes "STATE"
 abbrev pub file_name : Text
 file_name = codes "FILE"
 
--- the history of a shelf to which a STATE file and an extract with these texts were added
-abbrev pub both_put : (state extract : List ℕ) → List Event
-both_put state extract = placed state_name (Some state) ∷ placed file_name (Some extract) ∷ []
-
 -- these are the events of a shelf after a STATE file and an extract were added and `take` was run.
 -- `take` looked at STATE. This look is event 2, counted from 0. Then `take` opened STATE and the
 -- extract, which held the two given texts. It read STATE no further than the result needs, and the

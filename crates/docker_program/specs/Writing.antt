@@ -33,10 +33,6 @@ pub record Drafting : Type 0 where
 abbrev pub drafting : ℕ → Bool → Drafting
 drafting look names_bytes = record { look = look; names_bytes = names_bytes }
 
--- nothing was written, and the folder's history is unchanged
-abbrev pub IsUnwritten : Written → Type 0
-IsUnwritten written = (written.output_now ≡ written.output) × (written.now ≡ written.before)
-
 -- a draft of the job's output replaced the file with this name
 pub record StoresOutput (by : Drafting) (written : Written) (prepared : PreparedView)
     (name : Text) : Type 0 where

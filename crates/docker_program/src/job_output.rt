@@ -7,7 +7,7 @@ ghost use Rattle.docker_program.specs.Writing.{EndsWriting, drafting, written};
 use crate::looks::Looked;
 use cif_line::Sink;
 use docker_cmd::{OfficeFault, Prepared, emit};
-use docker_host::Folder;
+use docker_host::{Folder, end_draft};
 
 /// Writes the output of a job: to the file that was looked at, or to `output` if the job writes no
 /// file.
@@ -52,15 +52,6 @@ fn write_file<D: Folder>(
         Ok(made) => made,
         Err(cause) => return Err(cause.one_of(OfficeFault::Sink, OfficeFault::Memory)),
     };
-    match emit(prepared, &mut made.draft) {
-        Ok(()) => {}
-        Err(fault) => {
-            folder.discard(made);
-            return Err(fault);
-        }
-    }
-    let Ok(()) = folder.complete(made) else {
-        return Err(OfficeFault::Sink);
-    };
-    Ok(())
+    let written = emit(prepared, &mut made.draft);
+    end_draft(made, written, OfficeFault::Sink, folder)
 }

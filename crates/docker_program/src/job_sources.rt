@@ -34,14 +34,16 @@ pub(crate) fn read_sources<'a, S: Source, D: Folder>(
     match names(job) {
         SourceNames::None => prepare(alloc, job, &mut Bytes::new(&[], 1), &mut Bytes::new(&[], 1)),
         SourceNames::Stdin => prepare(alloc, job, stdin, &mut Bytes::new(&[], 1)),
-        SourceNames::File(name) => read_file(alloc, job, name, &mut Bytes::new(&[], 1), folder),
-        SourceNames::FileAndStdin(name) => read_file(alloc, job, name, stdin, folder),
+        SourceNames::File(name) => {
+            read_file_and_second(alloc, job, name, &mut Bytes::new(&[], 1), folder)
+        },
+        SourceNames::FileAndStdin(name) => read_file_and_second(alloc, job, name, stdin, folder),
         SourceNames::Files(name, other) => read_files(alloc, job, name, other, folder),
     }
 }
 
 /// Opens the file with this name, reads this file and the second source, and closes the file.
-fn read_file<'a, T: Source, D: Folder>(
+fn read_file_and_second<'a, T: Source, D: Folder>(
     alloc: Global,
     job: &'a Job,
     name: &str,

@@ -3,7 +3,6 @@
 #![tactic(auto)]
 
 mod fault_report;
-mod host;
 mod job_names;
 mod job_output;
 mod job_sources;
@@ -11,11 +10,12 @@ pub mod laws;
 mod looks;
 mod names;
 mod program;
+mod real_run;
 mod request;
 mod shelf_runs;
 
 pub use docker_cmd::{Fault, JobFault};
 pub use fault_report::tell;
-pub use host::{own_words, run, run_words};
 pub use program::perform;
+pub use real_run::{own_words, run, run_words};
 pub use shelf_runs::{check_on_a_shelf, take_on_a_shelf};

@@ -2,7 +2,7 @@ use Rattle.std.proofs.Common.{ap, refl}
 use Rattle.std.specs.Prelude.{Bool, ◌&&◌}
 use Rattle.docker_cmd.specs.Words.{texts}
 use Rattle.docker_desk.specs.SessionViews.{session_view}
-use Rattle.docker_desk.proofs.ServeLemmas.{begins, served_as, still}
+use Rattle.docker_desk.proofs.ServeLemmas.{begins, refused_as, served_as, still}
 use Rattle.docker_desk.proofs.program.serve.Goals as goal
 
 pub returns-in-Ok : goal.returns-in-Ok
@@ -19,3 +19,10 @@ returns-in-Ok g c =
     (still _ _ c.in-Ok.ensures.counted) c.serve_lines-ending.ensures.answers refl refl c.serve_lines-ending.ensures.counted
     c.serve_lines-ending.ensures.not_passed c.end_session.ensures
     (ap (λ (unsaved : Bool). c.in-Some.named.may_write && unsaved) c.is_unsaved-unsaved.ensures)
+
+pub returns-in-Err : goal.returns-in-Err
+returns-in-Err g c =
+    refused_as (texts c.args.words.now) g.D.Folder.names_bytes _ _ _ c.tell_failure.result c.in-Some.named.name.now c.in-Some.named.may_write
+    c.in-Err.fault c.host.view_is c.in-Some.ensures.named c.in-Err.ensures.opens c.in-Err.ensures.counted
+    (record { input = refl; ended = refl; passed = refl; output = refl; input_failures = refl; output_failures = refl })
+    c.tell_failure.ensures.status c.tell_failure.ensures.tells

@@ -17,14 +17,14 @@ returns-in-Stdin-clause-reads g c =
 
 pub returns-in-File-clause-reads : goal.returns-in-File-clause-reads
 returns-in-File-clause-reads g c =
-    reads_named (one_file c.in-File.name.now) _ c.args.job.now c.read_file.result (ap names_meant (sym c.in-File.is) ∙ c.names.ensures)
-    (reads_alone c.in-File.name.now (g.D.Folder.history c.args.folder.now) (g.D.Folder.history c.read_file.new.folder)
-    (g.S.Source.left c.args.stdin.now) _ _ c.args.job.now c.read_file.result (search rules) c.read_file.ensures.reads)
+    reads_named (one_file c.in-File.name.now) _ c.args.job.now c.read_file_and_second.result (ap names_meant (sym c.in-File.is) ∙ c.names.ensures)
+    (reads_alone c.in-File.name.now (g.D.Folder.history c.args.folder.now) (g.D.Folder.history c.read_file_and_second.new.folder)
+    (g.S.Source.left c.args.stdin.now) _ _ c.args.job.now c.read_file_and_second.result (search rules) c.read_file_and_second.ensures.reads)
 
 pub returns-in-FileAndStdin-clause-reads : goal.returns-in-FileAndStdin-clause-reads
 returns-in-FileAndStdin-clause-reads g c =
-    reads_named (file_and_input c.in-FileAndStdin.name.now) _ c.args.job.now c.read_file-in-FileAndStdin.result
-    (ap names_meant (sym c.in-FileAndStdin.is) ∙ c.names.ensures) c.read_file-in-FileAndStdin.ensures.reads
+    reads_named (file_and_input c.in-FileAndStdin.name.now) _ c.args.job.now c.read_file_and_second-in-FileAndStdin.result
+    (ap names_meant (sym c.in-FileAndStdin.is) ∙ c.names.ensures) c.read_file_and_second-in-FileAndStdin.ensures.reads
 
 pub returns-in-Files-clause-reads : goal.returns-in-Files-clause-reads
 returns-in-Files-clause-reads g c =

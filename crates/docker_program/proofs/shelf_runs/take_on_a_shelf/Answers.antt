@@ -1,7 +1,7 @@
 use Rattle.std.proofs.Common.{◌≡◌, ℕ, List, [], ◌∷◌, ◌++◌, Some, ◌∙◌, ap, refl, rules}
 use Rattle.docker_host.specs.History.{Event, placed}
-use Rattle.docker_program.specs.ShelfRuns.{both_put, file_name, state_name}
-use Rattle.docker_program.proofs.ShelfRunLemmas.{take_result}
+use Rattle.docker_program.specs.ShelfRuns.{file_name, state_name}
+use Rattle.docker_program.proofs.ShelfRunLemmas.{both_put, take_result}
 use Rattle.docker_program.proofs.shelf_runs.take_on_a_shelf.Goals as goal
 
 pub returns : goal.returns

@@ -1,7 +1,7 @@
 use Rattle.std.proofs.Common.{[], ◌∷◌, refl, inr}
 use Rattle.docker_host.specs.History.{closed, opened}
 use Rattle.docker_program.proofs.JobSourcesLemmas.{one_more}
-use Rattle.docker_program.proofs.job_sources.read_file.Goals as goal
+use Rattle.docker_program.proofs.job_sources.read_file_and_second.Goals as goal
 
 pub returns-clause-reads : goal.returns-clause-reads
 returns-clause-reads g c = inr (record {

@@ -6,16 +6,16 @@ use cif_line::{Failed, Source};
 /// A source that returns at most 100 bytes per read. It records whether it has reported its end,
 /// and whether it was read after that. It never fails.
 #[derive(Drop)]
-pub(crate) struct Marked<'a> {
+pub(crate) struct EndRecorder<'a> {
     rest: &'a [u8],
     ended: bool,
     passed: bool,
 }
 
-impl<'a> Marked<'a> {
+impl<'a> EndRecorder<'a> {
     /// Returns a source of this text.
-    pub(crate) fn new(text: &'a [u8]) -> Marked<'a> {
-        Marked {
+    pub(crate) fn new(text: &'a [u8]) -> EndRecorder<'a> {
+        EndRecorder {
             rest: text,
             ended: false,
             passed: false,
@@ -28,14 +28,14 @@ impl<'a> Marked<'a> {
     }
 }
 
-impl Source for Marked<'_> {
+impl Source for EndRecorder<'_> {
     ghost left = { λ _. None };
 
     ghost failures = { λ _. 0 };
 
-    ghost ended = { λ marked. marked.ended };
+    ghost ended = { λ recorder. recorder.ended };
 
-    ghost passed = { λ marked. marked.passed };
+    ghost passed = { λ recorder. recorder.passed };
 
     fn read(&mut self, into: &mut [u8]) -> Result<usize, Failed> {
         let n = into.len().min(self.rest.len()).min(100);

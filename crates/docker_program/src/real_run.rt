@@ -1,13 +1,12 @@
-//! The program on the real devices.
+//! Runs the program on the real devices.
 ghost use Rattle.std.specs.Prelude.{◌≤◌};
 ghost use Rattle.docker_cmd.specs.Words.{texts};
-ghost use Rattle.docker_host.specs.Host.{AreFew};
 ghost use Rattle.docker_program.specs.Program.{IsUsageStatus};
 
 use crate::fault_report::tell;
 use crate::program::perform;
 use docker_cmd::{Fault, JobFault};
-use docker_host::{Host, InputDevice, OutputDevice, RealFolder, hold_standard};
+use docker_host::{OutputDevice, hold_standard, real_host};
 use std::env;
 use std::io::ErrorKind;
 use std::process::ExitCode;
@@ -25,18 +24,6 @@ pub fn run_words(rt: &HostRuntime, words: &[&str]) -> u8
     ensures status { result ≤ 4 }
 {
     perform(rt.alloc(), words, &mut real_host(rt))
-}
-
-/// Returns the real devices: the standard streams and the real files.
-fn real_host(rt: &HostRuntime) -> Host<InputDevice, RealFolder, OutputDevice, OutputDevice>
-    ensures { AreFew result }
-{
-    Host {
-        input: InputDevice::stdin(rt),
-        folder: RealFolder::new(rt),
-        output: OutputDevice::stdout(rt),
-        faults: OutputDevice::stderr(rt),
-    }
 }
 
 /// Runs the program with the words that the system gives the program. Reports a fault if the words

@@ -1,6 +1,6 @@
 //! Runs a session on the real devices.
 use docker_desk::serve;
-use docker_host::{Host, InputDevice, OutputDevice, RealFolder, hold_standard};
+use docker_host::{OutputDevice, hold_standard, real_host};
 use docker_program::{Fault, JobFault, own_words, tell};
 use std::process::ExitCode;
 
@@ -30,11 +30,5 @@ fn serve_strings(rt: &HostRuntime, words: &[String]) -> Result<u8, JobFault> {
 
 /// Serves a session with these words on the real devices.
 fn serve_words(rt: &HostRuntime, words: &[&str]) -> u8 {
-    let mut host = Host {
-        input: InputDevice::stdin(rt),
-        folder: RealFolder::new(rt),
-        output: OutputDevice::stdout(rt),
-        faults: OutputDevice::stderr(rt),
-    };
-    serve(rt.alloc(), words, &mut host)
+    serve(rt.alloc(), words, &mut real_host(rt))
 }
