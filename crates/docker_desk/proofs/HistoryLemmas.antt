@@ -1,7 +1,6 @@
 -- How each request adds events to a folder's history.
 use Rattle.std.proofs.Common.{◌≡◌, ℕ, List, [], ◌∷◌, ◌++◌, Bool, ap, subst, ◌∙◌, append_assoc, Ok}
 use Rattle.std.specs.Prelude.{Option, Result, ⊤}
-use Rattle.cif_device.specs.Device.{Takes}
 use Rattle.docker_host.specs.History.{Bytes, Event, Text, closed, drafted, looked, named_if, opened, placed}
 use Rattle.docker_host.specs.Asked.{IsStored}
 use Rattle.docker_model.specs.state.State.{State}

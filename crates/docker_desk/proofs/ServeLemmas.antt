@@ -6,7 +6,7 @@ use Rattle.docker_host.specs.History.{Event, Text, looked}
 use Rattle.docker_host.specs.Host.{HostView}
 use Rattle.docker_desk.specs.Answering.{AnswersLines, CountsStreams}
 use Rattle.docker_cmd.specs.FaultLine.{IsCounted, fault_line, status_of}
-use Rattle.docker_cmd.specs.OfficeFault.{OfficeFault}
+use Rattle.docker_office.specs.declared.fault.OfficeFault.{OfficeFault}
 use Rattle.docker_cmd.specs.declared.fault.Fault.TheVariants.{Office}
 use Rattle.docker_host.specs.FaultSink.{FaultsView, TellsText, faults_of}
 use Rattle.docker_desk.specs.Desk.{DeskView, IsWhyNot, RefusesToReceive}
