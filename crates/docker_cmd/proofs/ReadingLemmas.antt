@@ -1,16 +1,21 @@
 -- The result of reading two sources follows from the results of reading each source.
 use Rattle.std.proofs.Common.{◌≡◌, ℕ, arith, refl, inl, inr, Err}
 use Rattle.std.specs.Prelude.{Result}
+use Rattle.cif_file.specs.FileEnds.{CountsWhyNoFile, IsWhyNoFile, StopsReadingFile}
+use Rattle.cif_file.specs.SourceRead.{WantsAtStart}
+use Rattle.cif_file.specs.declared.fault.ReadFault as files
+use Rattle.cif_file.specs.declared.fault.ReadFault.TheVariants as file_faults
 use Rattle.docker_model.specs.file.File.{most_records}
 use Rattle.docker_model.specs.state.StateText.{Format, dks_2}
 use Rattle.docker_bytes.specs.ReadEnds.{CountsWhy, IsWhyUnread, StopsReading}
 use Rattle.docker_bytes.specs.SourceRead.{WantsMemory}
+use Rattle.docker_office.specs.Faults.{office_fault_of_file}
 use Rattle.docker_office.specs.OfficeReads.{CountsTaking, IsTakingOutcome, why_unread}
 use Rattle.docker_office.specs.declared.fault.OfficeFault.{OfficeFault}
 use Rattle.docker_office.specs.declared.fault.OfficeFault.TheVariants as office
 use Rattle.docker_cmd.specs.Prepared.{CountsSources, DeviceBytes, EndsReadingSources, FailsBy, HasNoSource, HoldsSomeState, IsWhyRefused}
 use Rattle.docker_cmd.specs.Prepared.{ReadsFew, ReadsFewOfFile, ReadsFewOfState, ReadsSources, most_bytes}
-use Rattle.docker_cmd.specs.Reads.{Sources, one_state, state_and_file, taken_file, two_states}
+use Rattle.docker_cmd.specs.Reads.{Sources, checked_file, one_state, state_and_file, taken_file, two_states}
 
 -- ---- reading one source
 
@@ -66,6 +71,26 @@ file_failed_alone A one one_now two office.Source counted = omega arith
 file_failed_alone A one one_now two office.Memory counted = (counted, refl)
 file_failed_alone A one one_now two office.Lapsed counted = counted
 file_failed_alone A one one_now two office.Sink counted = counted
+
+-- if checking the file in the only source ends with a fault, this fault is one for which the source
+-- may be refused
+pub check_refused : (left left_now second : DeviceBytes) (failed failed_now : ℕ) (cause : files.ReadFault)
+    → StopsReadingFile most_records left left_now (IsWhyNoFile WantsAtStart most_records left left_now cause) (CountsWhyNoFile cause failed failed_now)
+    → ReadsFew checked_file left left_now second second (IsWhyRefused checked_file left left_now second second (office_fault_of_file cause))
+check_refused left left_now second failed failed_now file_faults.Source ends =
+    record { first_few = ends.no_further; second_few = refl; ends = tt }
+check_refused left left_now second failed failed_now (file_faults.File fault) ends =
+    record { first_few = ends.no_further; second_few = refl; ends = ends.outcome }
+check_refused left left_now second failed failed_now file_faults.Memory ends =
+    record { first_few = ends.no_further; second_few = refl; ends = ends.outcome }
+
+-- if checking the file in the only source ends with a fault, the source has failed if and only if
+-- the fault is `Source`
+pub check_failed : (one one_now two : ℕ) (cause : files.ReadFault) → CountsWhyNoFile cause one one_now
+    → FailsBy one one_now two two (office_fault_of_file cause)
+check_failed one one_now two file_faults.Source counted = omega arith
+check_failed one one_now two (file_faults.File fault) counted = (counted, refl)
+check_failed one one_now two file_faults.Memory counted = (counted, refl)
 
 -- ---- reading two sources
 
