@@ -20,27 +20,28 @@ lost_more initial now (Some rest) text piece first more =
     first ∙ ap (option_map (λ r. text ++ r)) more ∙ ap (λ t. Some t) (sym (append_assoc text piece rest))
 
 -- before the first read, the number of fed bytes is 0
-pub at_start : {T Terms : Type 0} (takes : Taking T Terms) (terms : Terms) (text : List ℕ) (left : Option (List ℕ)) (taker : T) → takes taker terms text
-    → HasFed takes 0 terms text left left taker
-at_start takes terms text left taker taken =
-    record { bytes = []; size = refl; lost = lost_nothing left; taken = subst (takes taker terms) (sym (append-nil text)) taken }
+pub at_start : {T S : Type 0} (takes : Taking T S) (settings : S) (text : List ℕ) (left : Option (List ℕ)) (taker : T) → takes taker settings text
+    → HasFed takes 0 settings text left left taker
+at_start takes settings text left taker taken =
+    record { bytes = []; size = refl; lost = lost_nothing left; taken = subst (takes taker settings) (sym (append-nil text)) taken }
 
 -- if a taker has been fed bytes and then takes the next piece, it has been fed these bytes followed
 -- by the piece
-pub next_turn : {T Terms : Type 0} (takes : Taking T Terms) (fed n : ℕ) (terms : Terms) (text : List ℕ) (initial now next : Option (List ℕ)) (before after : T)
-    (piece : List ℕ) → (at : HasFed takes fed terms text initial now before) → length piece ≡ n → Reads now piece next
-    → takes after terms ((text ++ at.bytes) ++ piece) → HasFed takes (fed + n) terms text initial next after
-next_turn takes fed n terms text initial now next before after piece at long more taken = record {
+pub next_turn : {T S : Type 0} (takes : Taking T S) (fed n : ℕ) (settings : S) (text : List ℕ) (initial now next : Option (List ℕ)) (before after : T)
+    (piece : List ℕ) → (at : HasFed takes fed settings text initial now before) → length piece ≡ n → Reads now piece next
+    → takes after settings ((text ++ at.bytes) ++ piece) → HasFed takes (fed + n) settings text initial next after
+next_turn takes fed n settings text initial now next before after piece at long more taken = record {
   bytes = at.bytes ++ piece;
   size = (let size = at.size in let sum = length-append at.bytes piece in omega (arith, size, sum, long));
   lost = lost_more initial now next at.bytes piece at.lost more;
-  taken = subst (takes after terms) (append_assoc text at.bytes piece) taken;
+  taken = subst (takes after settings) (append_assoc text at.bytes piece) taken;
 }
 
 -- a read of no bytes leaves the fed bytes unchanged
-pub nothing_more : {T Terms : Type 0} (takes : Taking T Terms) (fed n : ℕ) (terms : Terms) (text : List ℕ) (initial now next : Option (List ℕ)) (taker : T)
-    (into : List ℕ) → HasFed takes fed terms text initial now taker → n ≡ 0 → Reads now (take n into) next → HasFed takes fed terms text initial next taker
-nothing_more takes fed n terms text initial now next taker into at none more = record {
+pub nothing_more : {T S : Type 0} (takes : Taking T S) (fed n : ℕ) (settings : S) (text : List ℕ) (initial now next : Option (List ℕ)) (taker : T)
+    (into : List ℕ) → HasFed takes fed settings text initial now taker → n ≡ 0 → Reads now (take n into) next
+    → HasFed takes fed settings text initial next taker
+nothing_more takes fed n settings text initial now next taker into at none more = record {
   bytes = at.bytes;
   size = at.size;
   lost = subst (λ bytes. Reads initial bytes next) (append-nil at.bytes) (lost_more initial now next at.bytes [] at.lost last);
@@ -51,40 +52,40 @@ nothing_more takes fed n terms text initial now next taker into at none more = r
     last = subst (λ m. Reads now (take m into) next) none more
 
 -- a failed read leaves the fed bytes unchanged
-pub fed_where_failed : {T Terms : Type 0} (takes : Taking T Terms) (fed : ℕ) (terms : Terms) (text : List ℕ) (initial now next : Option (List ℕ)) (taker : T)
-    → HasFed takes fed terms text initial now taker → next ≡ now → (count : ℕ) × HasFed takes count terms text initial next taker
-fed_where_failed takes fed terms text initial now next taker at same =
-    (fed, subst (λ left. HasFed takes fed terms text initial left taker) (sym same) at)
+pub fed_where_failed : {T S : Type 0} (takes : Taking T S) (fed : ℕ) (settings : S) (text : List ℕ) (initial now next : Option (List ℕ)) (taker : T)
+    → HasFed takes fed settings text initial now taker → next ≡ now → (count : ℕ) × HasFed takes count settings text initial next taker
+fed_where_failed takes fed settings text initial now next taker at same =
+    (fed, subst (λ left. HasFed takes fed settings text initial left taker) (sym same) at)
 
 -- suppose that a source returns one more piece of at most 65,536 bytes. Then it has returned at
 -- most this piece beyond the bytes that the taker has taken
-pub one_more : {T Terms : Type 0} (takes : Taking T Terms) (fed : ℕ) (terms : Terms) (text : List ℕ) (initial now next : Option (List ℕ)) (taker : T)
-    (piece : List ℕ) → HasFed takes fed terms text initial now taker → Reads now piece next → length piece ≤ 65536
-    → LosesOnePieceMore takes 65536 terms text initial next
-one_more takes fed terms text initial now next taker piece at more few =
+pub one_more : {T S : Type 0} (takes : Taking T S) (fed : ℕ) (settings : S) (text : List ℕ) (initial now next : Option (List ℕ)) (taker : T)
+    (piece : List ℕ) → HasFed takes fed settings text initial now taker → Reads now piece next → length piece ≤ 65536
+    → LosesOnePieceMore takes 65536 settings text initial next
+one_more takes fed settings text initial now next taker piece at more few =
     record { bytes = at.bytes; piece = piece; lost = lost_more initial now next at.bytes piece at.lost more; few = few; taker = taker; taken = at.taken }
 
 -- suppose that the taker has taken all bytes that a source returned. Then the source has returned
 -- at most one piece beyond the bytes that the taker has taken
-pub no_more : {T Terms : Type 0} (takes : Taking T Terms) (fed : ℕ) (terms : Terms) (text : List ℕ) (initial now next : Option (List ℕ)) (taker : T)
-    → HasFed takes fed terms text initial now taker → next ≡ now → LosesOnePieceMore takes 65536 terms text initial next
-no_more takes fed terms text initial now next taker at same =
-    one_more takes fed terms text initial now next taker [] at (subst (Reads now []) (sym same) (lost_nothing now)) (omega arith)
+pub no_more : {T S : Type 0} (takes : Taking T S) (fed : ℕ) (settings : S) (text : List ℕ) (initial now next : Option (List ℕ)) (taker : T)
+    → HasFed takes fed settings text initial now taker → next ≡ now → LosesOnePieceMore takes 65536 settings text initial next
+no_more takes fed settings text initial now next taker at same =
+    one_more takes fed settings text initial now next taker [] at (subst (Reads now []) (sym same) (lost_nothing now)) (omega arith)
 
 -- if a source returned nothing, it has returned at most one piece beyond the bytes that the taker
 -- has taken
-pub nothing_read : {T Terms : Type 0} (takes : Taking T Terms) (terms : Terms) (text : List ℕ) (left : Option (List ℕ)) (taker : T) → takes taker terms text
-    → LosesOnePieceMore takes 65536 terms text left left
-nothing_read takes terms text left taker taken = no_more takes 0 terms text left left left taker (at_start takes terms text left taker taken) refl
+pub nothing_read : {T S : Type 0} (takes : Taking T S) (settings : S) (text : List ℕ) (left : Option (List ℕ)) (taker : T) → takes taker settings text
+    → LosesOnePieceMore takes 65536 settings text left left
+nothing_read takes settings text left taker taken = no_more takes 0 settings text left left left taker (at_start takes settings text left taker taken) refl
 
 -- if the taker refuses the next piece, it has taken the earlier text followed by the fed bytes, and then refused this piece
-pub refused_behind : {T Terms Fault : Type 0} (takes : Taking T Terms) (refuses : Refusing T Terms Fault) (fed : ℕ) (terms : Terms) (text : List ℕ)
-    (initial now next : Option (List ℕ)) (before after : T) (piece : List ℕ) (fault : Fault) → (at : HasFed takes fed terms text initial now before)
-    → Reads now piece next → length piece ≤ 65536 → refuses after terms (text ++ at.bytes) piece fault
-    → HasRefused takes refuses 65536 terms text initial next after fault
+pub refused_behind : {T S Fault : Type 0} (takes : Taking T S) (refuses : Refusing T S Fault) (fed : ℕ) (settings : S) (text : List ℕ)
+    (initial now next : Option (List ℕ)) (before after : T) (piece : List ℕ) (fault : Fault) → (at : HasFed takes fed settings text initial now before)
+    → Reads now piece next → length piece ≤ 65536 → refuses after settings (text ++ at.bytes) piece fault
+    → HasRefused takes refuses 65536 settings text initial next after fault
 unfolding one_more
-refused_behind takes refuses fed terms text initial now next before after piece fault at more few refused =
-    record { more = one_more takes fed terms text initial now next before piece at more few; refused = refused }
+refused_behind takes refuses fed settings text initial now next before after piece fault at more few refused =
+    record { more = one_more takes fed settings text initial now next before piece at more few; refused = refused }
 
 -- suppose that the text, the fed bytes and the next piece have fewer than 2^64 bytes in total. Then
 -- the number of fed bytes plus the length of the piece fits in 64 bits

@@ -13,12 +13,12 @@ most_at_once = 65536
 -- at its end. `Source`: the source failed, and the taker has taken all bytes that were read before.
 -- `Refused`: the taker has taken all bytes before a piece, and refused the piece. `Memory`: nothing
 -- was read
-abbrev pub EndsFeeding : {T Terms Fault : Type 0} → Taking T Terms → Refusing T Terms Fault → T → T → Option (List ℕ) → Option (List ℕ)
+abbrev pub EndsFeeding : {T S Fault : Type 0} → Taking T S → Refusing T S Fault → T → T → Option (List ℕ) → Option (List ℕ)
     → Result ℕ (FeedFault Fault) → Type 0
 EndsFeeding takes refuses taker after left left_now (Ok count) =
-    AfterEach takes taker (λ terms text. HasFed takes count terms text left left_now after) × IsEnd left_now
+    AfterEach takes taker (λ settings text. HasFed takes count settings text left left_now after) × IsEnd left_now
 EndsFeeding takes refuses taker after left left_now (Err feed.Source) =
-    AfterEach takes taker (λ terms text. (count : ℕ) × HasFed takes count terms text left left_now after)
+    AfterEach takes taker (λ settings text. (count : ℕ) × HasFed takes count settings text left left_now after)
 EndsFeeding takes refuses taker after left left_now (Err feed.Memory) = (left_now ≡ left) × (after ≡ taker)
 EndsFeeding takes refuses taker after left left_now (Err (feed.Refused fault)) =
-    AfterEach takes taker (λ terms text. HasRefused takes refuses most_at_once terms text left left_now after fault)
+    AfterEach takes taker (λ settings text. HasRefused takes refuses most_at_once settings text left left_now after fault)

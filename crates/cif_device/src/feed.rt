@@ -26,28 +26,28 @@ pub trait Taker {
     /// The reason why the taker refuses a piece.
     type Fault: Drop;
 
-    // The terms of a taker, such as a limit on the text. They stay the same while the taker takes
-    // the text.
-    ghost Terms: { Type 0 };
+    // The settings of a taker, such as a limit on the text. They stay the same while the taker
+    // takes the text.
+    ghost Settings: { Type 0 };
 
-    // Whether this taker has taken this text under these terms, and refused no piece of it.
-    ghost takes: { Self → Terms → List ℕ → Type 0 };
+    // Whether this taker has taken this text with these settings, and refused no piece of it.
+    ghost takes: { Self → Settings → List ℕ → Type 0 };
 
-    // Whether this taker took this text under these terms, and then refused this piece with this
+    // Whether this taker took this text with these settings, and then refused this piece with this
     // fault.
-    ghost refuses: { Self → Terms → List ℕ → List ℕ → Self.Fault → Type 0 };
+    ghost refuses: { Self → Settings → List ℕ → List ℕ → Self.Fault → Type 0 };
 
     /// Takes the next bytes of the text.
     fn take(&mut self, piece: &[u8]) -> Result<(), Self::Fault>
-        ensures taken { OnOk result (AfterEach takes self.old (λ terms text.
-            takes self.new terms (text ++ piece.now))) }
-        ensures refused { IfErr result (λ fault. AfterEach takes self.old (λ terms text.
-            refuses self.new terms text piece.now fault)) };
+        ensures taken { OnOk result (AfterEach takes self.old (λ settings text.
+            takes self.new settings (text ++ piece.now))) }
+        ensures refused { IfErr result (λ fault. AfterEach takes self.old (λ settings text.
+            refuses self.new settings text piece.now fault)) };
 
     // Each text that the taker can take has fewer than 2^64 bytes. So if a source is endless, the
     // taker refuses one of its pieces sooner or later.
-    ghost bounded: { (taker : Self) (terms : Terms) (text : List ℕ) → takes taker terms text
-        → length text < 2 ^ 64 };
+    ghost bounded: { (taker : Self) (settings : Settings) (text : List ℕ)
+        → takes taker settings text → length text < 2 ^ 64 };
 }
 
 /// Feeds a taker all bytes that are left in a source, in pieces of at most 65,536 bytes, and
@@ -63,8 +63,9 @@ pub fn feed_all<S: Source, T: Taker>(
     requires taking { IsTaking T.takes taker.old }
     ensures ends { EndsFeeding T.takes T.refuses taker.old taker.new
         (S.left source.old) (S.left source.new) result }
-    ensures no_further { AfterEach T.takes taker.old (λ terms text.
-        LosesOnePieceMore T.takes most_at_once terms text (S.left source.old) (S.left source.new)) }
+    ensures no_further { AfterEach T.takes taker.old (λ settings text.
+        LosesOnePieceMore T.takes most_at_once settings text
+            (S.left source.old) (S.left source.new)) }
     ensures failures { CountsFailure (result ≡ Err FeedFault.Source)
         (S.failures source.old) (S.failures source.new) }
     ensures ended { OnOk result (S.ended source.new ≡ true) }

@@ -98,7 +98,7 @@ impl<K: Keeper> Taker for FileReading<K> {
 
     type Fault = FileFault;
 
-    ghost Terms = { ℕ };
+    ghost Settings = { ℕ };
 
     ghost takes = { TakesFile K.keeps };
 

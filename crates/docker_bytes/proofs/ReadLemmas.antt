@@ -20,7 +20,7 @@ use Rattle.docker_bytes.specs.declared.read.ReadFault.TheVariants as fault
 use Rattle.state_text.specs.FaultMeaning.{cause_meant}
 use Rattle.docker_bytes.specs.StateReading.{format_of, IsCauseSoFar, IsFaultReported, IsCauseAtEnd, IsUnended, IsWhole, IsWanting, IsMadeOf, IsStep, JoinsText}
 use Rattle.docker_bytes.specs.ParserRead.{ParserState, HasRead, IsUnread}
-use Rattle.docker_bytes.specs.StateTaken.{RefusesPart, StateTerms, TakesState}
+use Rattle.docker_bytes.specs.StateTaken.{RefusesPart, StateSettings, TakesState}
 use Rattle.docker_bytes.specs.SourceRead.{Held, ReadsState, ReadsMade, IsCauseOf, IsFaultOf, RefusesState}
 use Rattle.docker_bytes.specs.SourceRead.{ReadsOnePieceMore, ReadsAll, WantsSoFar, WantsMemory, JoinsState, RaisesState}
 use Rattle.docker_bytes.specs.ReadEnds.{as_it_is, CountsOutcome, CountsWhy, EndsReadingBy, EndsText, IsOutcome, IsWhyUnread, StopsReading, Wanting}
@@ -163,19 +163,19 @@ tail_told format limit text piece rest used More found below more at is = absurd
 -- ---- pieces
 
 -- the format and the limit with which a parser was made
-abbrev pub terms_of : {K : Type 0} → ParserState K → StateTerms
-terms_of parser = record { format = format_of parser.reading; limit = parser.reading.limit }
+abbrev pub settings_of : {K : Type 0} → ParserState K → StateSettings
+settings_of parser = record { format = format_of parser.reading; limit = parser.reading.limit }
 
 -- before its first piece, a parser has read the empty text
-pub at_start : {K : Type 0} (parser : ParserState K) → IsUnread parser → parser.reading.limit < 2 ^ 64 → TakesState parser (terms_of parser) []
+pub at_start : {K : Type 0} (parser : ParserState K) → IsUnread parser → parser.reading.limit < 2 ^ 64 → TakesState parser (settings_of parser) []
 at_start parser unread small = record { read = unread; small = small }
 
 -- if a call returns no fault for a piece, the parser has read the piece
 pub takes_more : {K : Type 0} (before after : ParserState K) (piece : List ℕ) {A : Type 0} (result : Result A ReadFault)
     → ((format : Format) (limit : ℕ) (text : List ℕ) → HasRead before format limit text → IsOk result → HasRead after format limit (text ++ piece))
-    → OnOk result (AfterEach TakesState before (λ terms text. TakesState after terms (text ++ piece)))
-takes_more before after piece (Ok done) read = λ terms text has.
-    record { read = read terms.format terms.limit text has.read refl; small = has.small }
+    → OnOk result (AfterEach TakesState before (λ settings text. TakesState after settings (text ++ piece)))
+takes_more before after piece (Ok done) read = λ settings text has.
+    record { read = read settings.format settings.limit text has.read refl; small = has.small }
 takes_more before after piece (Err told) read = tt
 
 -- if a call returns a fault for a piece, the parser has refused the piece
@@ -185,11 +185,11 @@ pub refuses_more : {K : Type 0} (before after : ParserState K) (piece : List ℕ
     → ((format : Format) (limit : ℕ) (text : List ℕ) → HasRead before format limit text → result ≡ Err fault.Memory
     → (at : ℕ) × IsWanting format limit text piece at)
     → result ≢ Err fault.Source
-    → IfErr result (λ told. AfterEach TakesState before (λ terms text. RefusesPart after terms text piece told))
+    → IfErr result (λ told. AfterEach TakesState before (λ settings text. RefusesPart after settings text piece told))
 refuses_more before after piece (Ok done) state memory source = tt
-refuses_more before after piece (Err told) state memory source = λ terms text has. record {
-  state = λ found is. state terms.format terms.limit text has.read found (ap Err is);
-  memory = λ is. memory terms.format terms.limit text has.read (ap Err is);
+refuses_more before after piece (Err told) state memory source = λ settings text has. record {
+  state = λ found is. state settings.format settings.limit text has.read found (ap Err is);
+  memory = λ is. memory settings.format settings.limit text has.read (ap Err is);
   apart = λ is. source (ap Err is);
 }
 
@@ -203,9 +203,9 @@ held_all (Some told) (Some rest) text lost end =
 
 -- if a parser was fed from a source until the source ended, it has read all bytes that the source
 -- held
-pub reads_all : {K : Type 0} (terms : StateTerms) (count : ℕ) (initial now : Option (List ℕ)) (parser : ParserState K)
-    → HasFed TakesState count terms [] initial now parser → IsEnd now → ReadsAll terms.format terms.limit initial parser
-reads_all terms count initial now parser at end =
+pub reads_all : {K : Type 0} (settings : StateSettings) (count : ℕ) (initial now : Option (List ℕ)) (parser : ParserState K)
+    → HasFed TakesState count settings [] initial now parser → IsEnd now → ReadsAll settings.format settings.limit initial parser
+reads_all settings count initial now parser at end =
     record { text = at.bytes; held = held_all initial now at.bytes at.lost end; read = at.taken.read }
 
 -- if a parser has read a text, the format and the limit of this reading are the parser's format and
@@ -222,37 +222,37 @@ pub as_asked : {K : Type 0} (parser : ParserState K) (format : Format) (limit : 
 as_asked parser format limit text P has told = subst (λ n. P format n) has.limit_is (subst (λ f. P f parser.reading.limit) has.format_is told)
 
 -- a fault that is returned for a piece is a fault of the text that the source held
-refused_within : {K : Type 0} (terms : StateTerms) (initial next : Option (List ℕ)) (parser : ParserState K) (found : StateFault)
-    → HasRefused TakesState RefusesPart 65536 terms [] initial next parser (fault.State found) → RefusesState terms.format terms.limit initial found
-refused_within terms initial next parser found has = by initial next has.more.lost
+refused_within : {K : Type 0} (settings : StateSettings) (initial next : Option (List ℕ)) (parser : ParserState K) (found : StateFault)
+    → HasRefused TakesState RefusesPart 65536 settings [] initial next parser (fault.State found) → RefusesState settings.format settings.limit initial found
+refused_within settings initial next parser found has = by initial next has.more.lost
   where
     text : List ℕ
     text = has.more.bytes ++ has.more.piece
 
-    of : (rest : List ℕ) → IsFaultOf terms.format terms.limit (text ++ rest) found
+    of : (rest : List ℕ) → IsFaultOf settings.format settings.limit (text ++ rest) found
     of = has.refused.state found refl
 
-    by : (initial next : Option (List ℕ)) → Reads initial text next → RefusesState terms.format terms.limit initial found
+    by : (initial next : Option (List ℕ)) → Reads initial text next → RefusesState settings.format settings.limit initial found
     by None next lost = record { text = text ++ []; held = tt; is = of [] }
     by (Some left) None lost = cc
     by (Some left) (Some rest) lost = record { text = text ++ rest; held = cc; is = of rest }
 
 -- the bytes read from the source are the text that the parser took, which has no fault, followed by
 -- at most one piece
-pub loses_few : {K : Type 0} (terms : StateTerms) (initial next : Option (List ℕ)) → LosesOnePieceMore (TakesState {K = K}) 65536 terms [] initial next
-    → ReadsOnePieceMore terms.format 65536 terms.limit initial next
-loses_few terms initial next more = record {
+pub loses_few : {K : Type 0} (settings : StateSettings) (initial next : Option (List ℕ)) → LosesOnePieceMore (TakesState {K = K}) 65536 settings [] initial next
+    → ReadsOnePieceMore settings.format 65536 settings.limit initial next
+loses_few settings initial next more = record {
   text = more.bytes;
   piece = more.piece;
   lost = more.lost;
   few = more.few;
-  sound = sound_text more.taker terms.format terms.limit more.bytes more.taken.read;
+  sound = sound_text more.taker settings.format settings.limit more.bytes more.taken.read;
 }
 
 -- if a parser refuses a piece because memory ran out, there was no memory for a part that ends in the piece
-wants_part : {K : Type 0} (terms : StateTerms) (initial next : Option (List ℕ)) (parser : ParserState K)
-    → HasRefused TakesState RefusesPart 65536 terms [] initial next parser fault.Memory → WantsSoFar terms.format 65536 terms.limit initial next
-wants_part terms initial next parser has =
+wants_part : {K : Type 0} (settings : StateSettings) (initial next : Option (List ℕ)) (parser : ParserState K)
+    → HasRefused TakesState RefusesPart 65536 settings [] initial next parser fault.Memory → WantsSoFar settings.format 65536 settings.limit initial next
+wants_part settings initial next parser has =
     let wanting = has.refused.memory refl in
     let more = has.more in
     inr (record { text = more.bytes; piece = more.piece; lost = more.lost; few = more.few; at = wanting.0; wanting = wanting.1 })
@@ -268,16 +268,16 @@ nothing_lost initial next same = subst (Reads initial []) (sym same) (at initial
     at (Some left) = refl
 
 -- if the parser refuses a piece, reading ends with the fault of this piece
-pub refused_ends : {K : Type 0} (terms : StateTerms) (initial next : Option (List ℕ)) (parser : ParserState K) (told : ReadFault) (failed failed_now : ℕ)
-    → ReadsOnePieceMore terms.format 65536 terms.limit initial next → failed_now ≡ failed
-    → HasRefused TakesState RefusesPart 65536 terms [] initial next parser told
-    → StopsReading terms.format terms.limit initial next (IsWhyUnread WantsSoFar terms.format terms.limit initial next (Some told))
+pub refused_ends : {K : Type 0} (settings : StateSettings) (initial next : Option (List ℕ)) (parser : ParserState K) (told : ReadFault) (failed failed_now : ℕ)
+    → ReadsOnePieceMore settings.format 65536 settings.limit initial next → failed_now ≡ failed
+    → HasRefused TakesState RefusesPart 65536 settings [] initial next parser told
+    → StopsReading settings.format settings.limit initial next (IsWhyUnread WantsSoFar settings.format settings.limit initial next (Some told))
     (CountsWhy (Some told) failed failed_now)
-refused_ends terms initial next parser fault.Source failed failed_now few same has = absurd (has.refused.apart refl)
-refused_ends terms initial next parser (fault.State found) failed failed_now few same has =
-    record { few = few; outcome = refused_within terms initial next parser found has; failures = same }
-refused_ends terms initial next parser fault.Memory failed failed_now few same has =
-    record { few = few; outcome = wants_part terms initial next parser has; failures = same }
+refused_ends settings initial next parser fault.Source failed failed_now few same has = absurd (has.refused.apart refl)
+refused_ends settings initial next parser (fault.State found) failed failed_now few same has =
+    record { few = few; outcome = refused_within settings initial next parser found has; failures = same }
+refused_ends settings initial next parser fault.Memory failed failed_now few same has =
+    record { few = few; outcome = wants_part settings initial next parser has; failures = same }
 
 -- `WantsMemory` also covers the end of the text, so a reason to stop that satisfies `WantsSoFar` also satisfies `WantsMemory`
 pub ends_early : (format : Format) (limit : ℕ) (initial next : Option (List ℕ)) (told : ReadFault) (failed failed_now : ℕ)

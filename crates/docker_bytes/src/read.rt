@@ -116,11 +116,11 @@ pub(crate) fn read_pieces<S: Source, K: Keeper>(
 }
 
 impl<K: Keeper> Taker for Parser<K> {
-    ghost use Rattle.docker_bytes.specs.StateTaken.{RefusesPart, StateTerms, TakesState, taken_is_bounded};
+    ghost use Rattle.docker_bytes.specs.StateTaken.{RefusesPart, StateSettings, TakesState, taken_is_bounded};
 
     type Fault = ReadFault;
 
-    ghost Terms = { StateTerms };
+    ghost Settings = { StateSettings };
 
     ghost takes = { TakesState };
 

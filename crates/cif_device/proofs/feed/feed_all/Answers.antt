@@ -12,8 +12,8 @@ pub returns-in_default-clause-ends : goal.returns-in_default-clause-ends
 returns-in_default-clause-ends g c = (refl, refl)
 
 pub returns-in_default-clause-no_further : goal.returns-in_default-clause-no_further
-returns-in_default-clause-no_further g c = λ terms text taken.
-    nothing_read g.T.Taker.takes terms text (g.S.Source.left c.args.source.now) c.args.taker.now taken
+returns-in_default-clause-no_further g c = λ settings text taken.
+    nothing_read g.T.Taker.takes settings text (g.S.Source.left c.args.source.now) c.args.taker.now taken
 
 pub returns-in_default-clause-failures : goal.returns-in_default-clause-failures
 returns-in_default-clause-failures g c = (
@@ -24,7 +24,7 @@ returns-in_default-clause-failures g c = (
 
 pub pieces-init : goal.pieces-init
 pieces-init g c = record {
-  turn = λ terms text taken. at_start g.T.Taker.takes terms text (g.S.Source.left c.args.source.now) c.args.taker.now taken;
+  turn = λ settings text taken. at_start g.T.Taker.takes settings text (g.S.Source.left c.args.source.now) c.args.taker.now taken;
   no_failure = refl;
   room = c.in-Ok.ensures.len;
   not_ended = λ was. was;
@@ -32,14 +32,14 @@ pieces-init g c = record {
 }
 
 pub returns-in_default-read-clause-ends : goal.returns-in_default-read-clause-ends
-returns-in_default-read-clause-ends g c = λ terms text taken.
-    fed_where_failed g.T.Taker.takes c.pieces.fed terms text (g.S.Source.left c.args.source.now) (g.S.Source.left c.pieces.source)
-    (g.S.Source.left c.read.new.self) c.pieces.taker (c.pieces.invariant.turn terms text taken) c.in_default-read.ensures.unmoved
+returns-in_default-read-clause-ends g c = λ settings text taken.
+    fed_where_failed g.T.Taker.takes c.pieces.fed settings text (g.S.Source.left c.args.source.now) (g.S.Source.left c.pieces.source)
+    (g.S.Source.left c.read.new.self) c.pieces.taker (c.pieces.invariant.turn settings text taken) c.in_default-read.ensures.unmoved
 
 pub returns-in_default-read-clause-no_further : goal.returns-in_default-read-clause-no_further
-returns-in_default-read-clause-no_further g c = λ terms text taken.
-    no_more g.T.Taker.takes c.pieces.fed terms text (g.S.Source.left c.args.source.now) (g.S.Source.left c.pieces.source)
-    (g.S.Source.left c.read.new.self) c.pieces.taker (c.pieces.invariant.turn terms text taken) c.in_default-read.ensures.unmoved
+returns-in_default-read-clause-no_further g c = λ settings text taken.
+    no_more g.T.Taker.takes c.pieces.fed settings text (g.S.Source.left c.args.source.now) (g.S.Source.left c.pieces.source)
+    (g.S.Source.left c.read.new.self) c.pieces.taker (c.pieces.invariant.turn settings text taken) c.in_default-read.ensures.unmoved
 
 pub returns-in_default-read-clause-failures : goal.returns-in_default-read-clause-failures
 returns-in_default-read-clause-failures g c =
@@ -49,9 +49,9 @@ pub returns-then-n-eq0-clause-ends : goal.returns-then-n-eq0-clause-ends
 returns-then-n-eq0-clause-ends g c =
     let room : 0 < length c.read.new.into = omega (arith, c.pieces.invariant.room, c.as_mut_slice.ensures.len, c.read.auto.into) in
     let end : IsEnd (g.S.Source.left c.pieces.source) = c.in-Ok-read.ensures.end c.if-n-eq0.true room in (
-      λ terms text taken.
-          nothing_more g.T.Taker.takes c.pieces.fed c.in-Ok-read.n terms text (g.S.Source.left c.args.source.now) (g.S.Source.left c.pieces.source)
-          (g.S.Source.left c.read.new.self) c.pieces.taker c.read.new.into (c.pieces.invariant.turn terms text taken)
+      λ settings text taken.
+          nothing_more g.T.Taker.takes c.pieces.fed c.in-Ok-read.n settings text (g.S.Source.left c.args.source.now) (g.S.Source.left c.pieces.source)
+          (g.S.Source.left c.read.new.self) c.pieces.taker c.read.new.into (c.pieces.invariant.turn settings text taken)
           c.if-n-eq0.true c.in-Ok-read.ensures.moved,
       end_stays (g.S.Source.left c.pieces.source) (g.S.Source.left c.read.new.self) (take c.in-Ok-read.n c.read.new.into) c.in-Ok-read.ensures.moved end,
     )
@@ -64,24 +64,25 @@ returns-then-n-eq0-clause-failures g c = (
 )
 
 pub returns-then-n-eq0-clause-no_further : goal.returns-then-n-eq0-clause-no_further
-returns-then-n-eq0-clause-no_further g c = λ terms text taken.
-    one_more g.T.Taker.takes c.pieces.fed terms text (g.S.Source.left c.args.source.now) (g.S.Source.left c.pieces.source)
-    (g.S.Source.left c.read.new.self) c.pieces.taker (take c.in-Ok-read.n c.read.new.into) (c.pieces.invariant.turn terms text taken) c.in-Ok-read.ensures.moved
+returns-then-n-eq0-clause-no_further g c = λ settings text taken.
+    one_more g.T.Taker.takes c.pieces.fed settings text (g.S.Source.left c.args.source.now) (g.S.Source.left c.pieces.source)
+    (g.S.Source.left c.read.new.self) c.pieces.taker (take c.in-Ok-read.n c.read.new.into) (c.pieces.invariant.turn settings text taken)
+    c.in-Ok-read.ensures.moved
     (at_once c.in-Ok-read.n c.pieces.piece.len c.read.new.into (c.read.auto.into ∙ c.as_mut_slice.ensures.len) c.pieces.invariant.room
     c.in-Ok-read.ensures.within)
 
 pub returns-in-Err-clause-ends : goal.returns-in-Err-clause-ends
-returns-in-Err-clause-ends g c = λ terms text taken.
-    let at = c.pieces.invariant.turn terms text taken in
+returns-in-Err-clause-ends g c = λ settings text taken.
+    let at = c.pieces.invariant.turn settings text taken in
     let long : length c.read.new.into ≡ c.pieces.piece.len = c.read.auto.into ∙ c.as_mut_slice.ensures.len in
     let same : take c.in-Ok-read.n c.deref.result.now ≡ take c.in-Ok-read.n c.read.new.into =
     same_front c.in-Ok-read.n c.pieces.piece.len c.deref.result.now c.read.new.into c.pieces.piece.items c.deref.ensures.value long
     c.in-Ok-read.ensures.within in
-    refused_behind g.T.Taker.takes g.T.Taker.refuses c.pieces.fed terms text (g.S.Source.left c.args.source.now) (g.S.Source.left c.pieces.source)
+    refused_behind g.T.Taker.takes g.T.Taker.refuses c.pieces.fed settings text (g.S.Source.left c.args.source.now) (g.S.Source.left c.pieces.source)
     (g.S.Source.left c.read.new.self) c.pieces.taker c.take.new.self (take c.in-Ok-read.n c.read.new.into) c.in-Err.fault at c.in-Ok-read.ensures.moved
     (at_once c.in-Ok-read.n c.pieces.piece.len c.read.new.into long c.pieces.invariant.room c.in-Ok-read.ensures.within)
-    (subst (λ piece. g.T.Taker.refuses c.take.new.self terms (text ++ at.bytes) piece c.in-Err.fault) same
-    (c.in-Err.ensures.refused terms (text ++ at.bytes) at.taken))
+    (subst (λ piece. g.T.Taker.refuses c.take.new.self settings (text ++ at.bytes) piece c.in-Err.fault) same
+    (c.in-Err.ensures.refused settings (text ++ at.bytes) at.taken))
 
 pub returns-in-Err-clause-failures : goal.returns-in-Err-clause-failures
 returns-in-Err-clause-failures g c = (
@@ -91,25 +92,26 @@ returns-in-Err-clause-failures g c = (
 )
 
 pub returns-in-Err-clause-no_further : goal.returns-in-Err-clause-no_further
-returns-in-Err-clause-no_further g c = λ terms text taken.
-    one_more g.T.Taker.takes c.pieces.fed terms text (g.S.Source.left c.args.source.now) (g.S.Source.left c.pieces.source)
-    (g.S.Source.left c.read.new.self) c.pieces.taker (take c.in-Ok-read.n c.read.new.into) (c.pieces.invariant.turn terms text taken) c.in-Ok-read.ensures.moved
+returns-in-Err-clause-no_further g c = λ settings text taken.
+    one_more g.T.Taker.takes c.pieces.fed settings text (g.S.Source.left c.args.source.now) (g.S.Source.left c.pieces.source)
+    (g.S.Source.left c.read.new.self) c.pieces.taker (take c.in-Ok-read.n c.read.new.into) (c.pieces.invariant.turn settings text taken)
+    c.in-Ok-read.ensures.moved
     (at_once c.in-Ok-read.n c.pieces.piece.len c.read.new.into (c.read.auto.into ∙ c.as_mut_slice.ensures.len) c.pieces.invariant.room
     c.in-Ok-read.ensures.within)
 
 pub overflow_add-fed : goal.overflow_add-fed
 overflow_add-fed g c =
     let asked = c.requires.taking in
-    let at = c.pieces.invariant.turn asked.terms asked.text asked.taken in
+    let at = c.pieces.invariant.turn asked.settings asked.text asked.taken in
     let long : length c.read.new.into ≡ c.pieces.piece.len = c.read.auto.into ∙ c.as_mut_slice.ensures.len in
     let same : take c.in-Ok-read.n c.deref.result.now ≡ take c.in-Ok-read.n c.read.new.into =
     same_front c.in-Ok-read.n c.pieces.piece.len c.deref.result.now c.read.new.into c.pieces.piece.items c.deref.ensures.value long
     c.in-Ok-read.ensures.within in
-    let taken = subst (λ piece. g.T.Taker.takes c.take.new.self asked.terms ((asked.text ++ at.bytes) ++ piece)) same
-    (c.in_default-take.ensures.taken asked.terms (asked.text ++ at.bytes) at.taken) in
+    let taken = subst (λ piece. g.T.Taker.takes c.take.new.self asked.settings ((asked.text ++ at.bytes) ++ piece)) same
+    (c.in_default-take.ensures.taken asked.settings (asked.text ++ at.bytes) at.taken) in
     fits_still c.pieces.fed c.in-Ok-read.n asked.text at.bytes (take c.in-Ok-read.n c.read.new.into) at.size
     (length-take-le c.in-Ok-read.n c.read.new.into c.in-Ok-read.ensures.within)
-    (g.met.T.Taker.bounded c.take.new.self asked.terms ((asked.text ++ at.bytes) ++ take c.in-Ok-read.n c.read.new.into) taken)
+    (g.met.T.Taker.bounded c.take.new.self asked.settings ((asked.text ++ at.bytes) ++ take c.in-Ok-read.n c.read.new.into) taken)
 
 pub pieces-preserved : goal.pieces-preserved
 pieces-preserved g c =
@@ -118,13 +120,13 @@ pieces-preserved g c =
     same_front c.in-Ok-read.n c.pieces.piece.len c.deref.result.now c.read.new.into c.pieces.piece.items c.deref.ensures.value long
     c.in-Ok-read.ensures.within in
     record {
-      turn = λ terms text taken.
-          let at = c.pieces.invariant.turn terms text taken in
-          next_turn g.T.Taker.takes c.pieces.fed c.in-Ok-read.n terms text (g.S.Source.left c.args.source.now) (g.S.Source.left c.pieces.source)
+      turn = λ settings text taken.
+          let at = c.pieces.invariant.turn settings text taken in
+          next_turn g.T.Taker.takes c.pieces.fed c.in-Ok-read.n settings text (g.S.Source.left c.args.source.now) (g.S.Source.left c.pieces.source)
           (g.S.Source.left c.read.new.self) c.pieces.taker c.take.new.self (take c.in-Ok-read.n c.read.new.into) at
           (length-take-le c.in-Ok-read.n c.read.new.into c.in-Ok-read.ensures.within) c.in-Ok-read.ensures.moved
-          (subst (λ piece. g.T.Taker.takes c.take.new.self terms ((text ++ at.bytes) ++ piece)) same
-          (c.in_default-take.ensures.taken terms (text ++ at.bytes) at.taken));
+          (subst (λ piece. g.T.Taker.takes c.take.new.self settings ((text ++ at.bytes) ++ piece)) same
+          (c.in_default-take.ensures.taken settings (text ++ at.bytes) at.taken));
       no_failure = c.in-Ok-read.ensures.no_failure ∙ c.pieces.invariant.no_failure;
       room = c.pieces.invariant.room;
       not_ended = λ was. going_on c.in-Ok-read.n (length c.read.new.into) (g.S.Source.ended c.pieces.source) (g.S.Source.ended c.read.new.self)

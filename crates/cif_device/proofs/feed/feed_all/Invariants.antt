@@ -6,7 +6,7 @@ use Rattle.cif_device.proofs.feed.feed_all.Given as goal
 abbrev pub invariant-pieces : goal.invariant-pieces
 invariant-pieces g l = record {
   turn : AfterEach g.T.Taker.takes l.fn.taker
-      (λ terms text. HasFed g.T.Taker.takes l.fed terms text (g.S.Source.left l.fn.source) (g.S.Source.left l.source) l.taker);
+      (λ settings text. HasFed g.T.Taker.takes l.fed settings text (g.S.Source.left l.fn.source) (g.S.Source.left l.source) l.taker);
   no_failure : g.S.Source.failures l.source ≡ g.S.Source.failures l.fn.source;
   room : vec_len l.piece ≡ 65536;
   not_ended : g.S.Source.ended l.fn.source ≡ false → g.S.Source.ended l.source ≡ false;

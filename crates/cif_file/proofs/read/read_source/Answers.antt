@@ -7,7 +7,7 @@ use Rattle.cif_file.proofs.read.read_source.Goals as goal
 
 pub feed_all-requires-clause-taking : goal.feed_all-requires-clause-taking
 feed_all-requires-clause-taking g c = record {
-  terms = c.args.limit;
+  settings = c.args.limit;
   text = [];
   taken = at_start g.K.Keeper.keeps c.args.limit c.new-reading.result c.new-reading.ensures c.requires.limit;
 }

@@ -2,42 +2,42 @@
 use Rattle.std.proofs.Common.{[], ap, inl, subst, Err}
 use Rattle.cif_device.specs.FeedEnds.{EndsFeeding}
 use Rattle.docker_bytes.specs.StateTaken.{RefusesPart, TakesState}
-use Rattle.docker_bytes.proofs.ReadLemmas.{at_start, loses_few, nothing_lost, reads_all, refused_ends, terms_of}
+use Rattle.docker_bytes.proofs.ReadLemmas.{at_start, loses_few, nothing_lost, reads_all, refused_ends, settings_of}
 use Rattle.docker_bytes.proofs.read.read_pieces.Goals as goal
 
 pub feed_all-requires-clause-taking : goal.feed_all-requires-clause-taking
 feed_all-requires-clause-taking g c = record {
-  terms = terms_of c.args.parser.now;
+  settings = settings_of c.args.parser.now;
   text = [];
   taken = at_start c.args.parser.now c.requires.unread c.requires.limit;
 }
 
 pub returns-in-Ok : goal.returns-in-Ok
 returns-in-Ok g c =
-    let terms = terms_of c.args.parser.now in
+    let settings = settings_of c.args.parser.now in
     let start = at_start c.args.parser.now c.requires.unread c.requires.limit in
     let left = g.S.Source.left c.args.source.now in
     let left_now = g.S.Source.left c.feed_all.new.source in
     record {
-      few = loses_few terms left left_now (c.in-Ok.ensures.no_further terms [] start);
-      outcome = reads_all terms c.in-Ok.field-0 left left_now c.feed_all.new.taker (c.in-Ok.ensures.ends.0 terms [] start) c.in-Ok.ensures.ends.1;
+      few = loses_few settings left left_now (c.in-Ok.ensures.no_further settings [] start);
+      outcome = reads_all settings c.in-Ok.field-0 left left_now c.feed_all.new.taker (c.in-Ok.ensures.ends.0 settings [] start) c.in-Ok.ensures.ends.1;
       failures = c.in-Ok.ensures.failures.1 (λ is. cc);
     }
 
 pub returns-in-Err-Source : goal.returns-in-Err-Source
 returns-in-Err-Source g c =
-    let terms = terms_of c.args.parser.now in
+    let settings = settings_of c.args.parser.now in
     let start = at_start c.args.parser.now c.requires.unread c.requires.limit in
     record {
-      few = loses_few terms (g.S.Source.left c.args.source.now) (g.S.Source.left c.feed_all.new.source)
-          (c.in-Err-Source.ensures.no_further terms [] start);
+      few = loses_few settings (g.S.Source.left c.args.source.now) (g.S.Source.left c.feed_all.new.source)
+          (c.in-Err-Source.ensures.no_further settings [] start);
       outcome = tt;
       failures = c.in-Err-Source.ensures.failures.0.0 (ap Err c.in-Err-Source.field-0-is);
     }
 
 pub returns-in-Err-Memory : goal.returns-in-Err-Memory
 returns-in-Err-Memory g c =
-    let terms = terms_of c.args.parser.now in
+    let settings = settings_of c.args.parser.now in
     let start = at_start c.args.parser.now c.requires.unread c.requires.limit in
     let left = g.S.Source.left c.args.source.now in
     let left_now = g.S.Source.left c.feed_all.new.source in
@@ -45,20 +45,20 @@ returns-in-Err-Memory g c =
     let same = subst (λ told. EndsFeeding TakesState RefusesPart c.args.parser.now c.feed_all.new.taker left left_now (Err told)) from
     c.in-Err-Memory.ensures.ends in
     record {
-      few = loses_few terms left left_now (c.in-Err-Memory.ensures.no_further terms [] start);
+      few = loses_few settings left left_now (c.in-Err-Memory.ensures.no_further settings [] start);
       outcome = inl (nothing_lost left left_now same.0);
       failures = c.in-Err-Memory.ensures.failures.1 (λ is. cc);
     }
 
 pub returns-in-Err-Refused : goal.returns-in-Err-Refused
 returns-in-Err-Refused g c =
-    let terms = terms_of c.args.parser.now in
+    let settings = settings_of c.args.parser.now in
     let start = at_start c.args.parser.now c.requires.unread c.requires.limit in
     let left = g.S.Source.left c.args.source.now in
     let left_now = g.S.Source.left c.feed_all.new.source in
     let from = c.in-Err-Refused.field-0-is in
     let refused = subst (λ told. EndsFeeding TakesState RefusesPart c.args.parser.now c.feed_all.new.taker left left_now (Err told)) from
     c.in-Err-Refused.ensures.ends in
-    refused_ends terms left left_now c.feed_all.new.taker c.in-Err-Refused.fault (g.S.Source.failures c.args.source.now)
-    (g.S.Source.failures c.feed_all.new.source) (loses_few terms left left_now (c.in-Err-Refused.ensures.no_further terms [] start))
-    (c.in-Err-Refused.ensures.failures.1 (λ is. cc)) (refused terms [] start)
+    refused_ends settings left left_now c.feed_all.new.taker c.in-Err-Refused.fault (g.S.Source.failures c.args.source.now)
+    (g.S.Source.failures c.feed_all.new.source) (loses_few settings left left_now (c.in-Err-Refused.ensures.no_further settings [] start))
+    (c.in-Err-Refused.ensures.failures.1 (λ is. cc)) (refused settings [] start)
