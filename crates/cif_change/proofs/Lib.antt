@@ -3,3 +3,4 @@ pub mod JoinedLines
 pub mod JourneyLemmas
 pub mod PackedPlaces
 pub mod Noted
+pub mod SameKeys

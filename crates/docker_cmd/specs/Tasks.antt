@@ -134,8 +134,3 @@ writes_of task = (row_of (subcommand_of task)).writes
 -- the output that a task writes
 abbrev pub output_of : TaskView → Output
 output_of task = output_of_kind (writes_of task) (tiploc_of task) (day_of task)
-
--- the horizon that a task sets for the state that it reads; None if the task sets no horizon
-abbrev pub horizon_of : TaskView → Option ℕ
-horizon_of (horizon_task day) = Some day
-horizon_of _ = None

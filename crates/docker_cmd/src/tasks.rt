@@ -4,7 +4,7 @@ ghost use Rattle.std.specs.Option.{option_copied};
 ghost use Rattle.std.specs.Str.{bytes_eq};
 ghost use Rattle.docker_cmd.specs.Job.{IsTaskOf};
 ghost use Rattle.docker_cmd.specs.Reads.{sources_meant};
-ghost use Rattle.docker_cmd.specs.Tasks.{day_of, horizon_of, ids_of, name_of, row_meant, row_of, sources_of, subcommand_named, subcommand_of, subcommands, task_meant, tiploc_of, usage_line, writes_of};
+ghost use Rattle.docker_cmd.specs.Tasks.{day_of, ids_of, name_of, row_meant, row_of, sources_of, subcommand_named, subcommand_of, subcommands, task_meant, tiploc_of, usage_line, writes_of};
 ghost use Rattle.docker_cmd.specs.Words.{NamesDay, NamesPlace, texts};
 
 use crate::reads::Sources;
@@ -288,16 +288,5 @@ impl Task {
         ensures { result ≡ writes_of (task_meant self) }
     {
         self.subcommand().row().writes
-    }
-
-    /// Returns the horizon that the task sets for the state that it has read; `None` if the task
-    /// sets no horizon.
-    pub fn horizon(self) -> Option<Day>
-        ensures { result ≡ horizon_of (task_meant self) }
-    {
-        match self {
-            Task::Horizon { day } => Some(day),
-            _ => None,
-        }
     }
 }

@@ -1,4 +1,6 @@
--- Converts stamps, ops, entries and rows from the code's types to the definitions' types.
+-- Converts stamps, floors, ops, entries and rows from the code's types to the definitions' types.
+use Rattle.std.specs.Prelude.{Option}
+use Rattle.std.specs.Option.{option_map}
 use Rattle.docker_model.specs.file.Change as changes
 use Rattle.docker_model.specs.state.Stamp as model
 use Rattle.docker_model.specs.state.Op as ops
@@ -17,6 +19,10 @@ file_stamp_meant stamp = record {
   moment = record { day = stamp.day; minute = stamp.minute };
   reference = stamp.reference;
 }
+
+-- converts a floor from the code's type to the definitions' type
+abbrev pub floor_meant : Option FileStamp → Option model.FileStamp
+floor_meant floor = option_map file_stamp_meant floor
 
 -- converts a stamp from the code's type to the definitions' type
 abbrev pub stamp_meant : Stamp → model.Stamp

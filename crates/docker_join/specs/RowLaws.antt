@@ -1,81 +1,14 @@
 -- The laws of the join of tables: it is commutative, associative and idempotent.
-use Rattle.std.proofs.Common.{◌≡◌, List, refl, ap, sym, ◌∙◌, subst, Contains, arith, Option, Some, None}
+use Rattle.std.proofs.Common.{◌≡◌, List, refl, ap, sym, ◌∙◌, subst, Contains, Option, Some, None}
 use Rattle.std.specs.Prelude.{⊤}
 use Rattle.docker_model.specs.file.Change as model
 use Rattle.cif_laws.proofs.lists.Membership.{all_members, member_of}
 use Rattle.state_laws.proofs.joins.KeyedRows as keyed
 use Rattle.state_laws.proofs.joins.PickLaws.{ArePickLaws}
-use Rattle.cif_line.specs.Letter.{stp_letter}
-use Rattle.cif_line.specs.declared.letter.Stp.{Stp}
-use Rattle.cif_line.specs.declared.letter.Stp.TheVariants as stp
 use Rattle.cif_change.specs.declared.key.Key.{Key}
-use Rattle.cif_change.specs.declared.key.Key.TheVariants as key
-use Rattle.cif_change.specs.declared.key.AssocKey.{AssocKey}
-use Rattle.cif_change.specs.declared.key.ScheduleKey.{ScheduleKey}
 use Rattle.cif_change.specs.Meaning.{key_meant}
+use Rattle.cif_change.proofs.SameKeys.{same_key}
 use Rattle.docker_join.specs.Rows.{AreAscending, AreValidRows, value_at, picked_value, IsJoinOfRows}
-
--- STP indicators with the same letter are equal
-same_stp : (a b : Stp) → stp_letter a ≡ stp_letter b → a ≡ b
-same_stp stp.Cancellation stp.Cancellation same = refl
-same_stp stp.Cancellation stp.New same = absurd (omega arith)
-same_stp stp.Cancellation stp.Overlay same = absurd (omega arith)
-same_stp stp.Cancellation stp.Permanent same = absurd (omega arith)
-same_stp stp.New stp.Cancellation same = absurd (omega arith)
-same_stp stp.New stp.New same = refl
-same_stp stp.New stp.Overlay same = absurd (omega arith)
-same_stp stp.New stp.Permanent same = absurd (omega arith)
-same_stp stp.Overlay stp.Cancellation same = absurd (omega arith)
-same_stp stp.Overlay stp.New same = absurd (omega arith)
-same_stp stp.Overlay stp.Overlay same = refl
-same_stp stp.Overlay stp.Permanent same = absurd (omega arith)
-same_stp stp.Permanent stp.Cancellation same = absurd (omega arith)
-same_stp stp.Permanent stp.New same = absurd (omega arith)
-same_stp stp.Permanent stp.Overlay same = absurd (omega arith)
-same_stp stp.Permanent stp.Permanent same = refl
-
-abbrev association_meant : AssocKey → model.AssociationKey
-association_meant k = record {
-  base = k.base;
-  associated = k.associated;
-  start = k.start;
-  location = k.location;
-  suffix = k.suffix;
-  indicator = stp_letter k.stp;
-}
-
-same_association : (a b : AssocKey) → association_meant a ≡ association_meant b → a ≡ b
-same_association a b same = λ i. record {
-  base = (same i).base;
-  associated = (same i).associated;
-  start = (same i).start;
-  location = (same i).location;
-  suffix = (same i).suffix;
-  stp = same_stp a.stp b.stp (λ j. (same j).indicator) i;
-}
-
-abbrev schedule_meant : ScheduleKey → model.ScheduleKey
-schedule_meant k = record { uid = k.uid; runs_from = k.runs_from; indicator = stp_letter k.stp }
-
-same_schedule : (a b : ScheduleKey) → schedule_meant a ≡ schedule_meant b → a ≡ b
-same_schedule a b same = λ i. record {
-  uid = (same i).uid;
-  runs_from = (same i).runs_from;
-  stp = same_stp a.stp b.stp (λ j. (same j).indicator) i;
-}
-
--- the conversion of keys is injective: keys of the code are equal if they are converted to equal
--- keys of the definitions
-pub same_key : (a b : Key) → key_meant a ≡ key_meant b → a ≡ b
-same_key (key.Tiploc a) (key.Tiploc b) same = ap key.Tiploc (let codes : a ≡ b = cc in codes)
-same_key (key.Tiploc a) (key.Assoc b) same = cc
-same_key (key.Tiploc a) (key.Schedule b) same = cc
-same_key (key.Assoc a) (key.Tiploc b) same = cc
-same_key (key.Assoc a) (key.Assoc b) same = ap key.Assoc (same_association a b (let keys : association_meant a ≡ association_meant b = cc in keys))
-same_key (key.Assoc a) (key.Schedule b) same = cc
-same_key (key.Schedule a) (key.Tiploc b) same = cc
-same_key (key.Schedule a) (key.Assoc b) same = cc
-same_key (key.Schedule a) (key.Schedule b) same = ap key.Schedule (same_schedule a b (let keys : schedule_meant a ≡ schedule_meant b = cc in keys))
 
 module _ {E : Type 0} where
   -- in ascending rows, the value at the key of any row is that row's value

@@ -1,11 +1,11 @@
 //! Stamps: which record of which file an entry comes from.
-ghost use Rattle.std.specs.Prelude.{IfOk, IsOk, ⊤};
+ghost use Rattle.std.specs.Prelude.{◌↔◌, IfOk, IsOk, IsTrue, ⊤};
 ghost use Rattle.std.specs.Ordering.{on, as_partial_cmp, eq_by_cmp, ord_max};
 ghost use Rattle.std.specs.Cmp.{partial_equiv_from_equiv, on_equiv, on_total, eq_by_cmp_equiv, partial_order_from_total};
 ghost use Rattle.std.proofs.Common.{refl};
-ghost use Rattle.docker_model.specs.state.Stamp.{file_stamp_cmp, stamp_cmp};
+ghost use Rattle.docker_model.specs.state.Stamp.{file_stamp_cmp, stamp_cmp, IsKept};
 ghost use Rattle.cif_laws.proofs.orders.Orders.{file_stamp_total, stamp_total};
-ghost use Rattle.docker_join.specs.Meaning.{file_stamp_meant, stamp_meant};
+ghost use Rattle.docker_join.specs.Meaning.{file_stamp_meant, floor_meant, stamp_meant};
 ghost use Rattle.docker_model.specs.state.Order.{IsGreater};
 ghost use Rattle.cif_laws.proofs.orders.Greater.{greater_closed, greater_one, greater_commutes, greater_associates, greater_itself, greater_max};
 ghost use Rattle.docker_join.specs.Exact.{exact_file_stamp, exact_stamp};
@@ -25,6 +25,19 @@ pub struct FileStamp {
     pub minute: u16,
     /// The current file reference in the file's header.
     pub reference: [u8; 7],
+}
+
+impl FileStamp {
+    /// Whether a file with this stamp is kept, with its entries: its stamp isn't below the floor.
+    /// Returns true if there is no floor.
+    pub fn is_kept(&self, floor: &Option<FileStamp>) -> bool
+        ensures { IsTrue result ↔ IsKept (floor_meant floor.now) (file_stamp_meant self.now) }
+    {
+        match floor {
+            None => true,
+            Some(least) => *least <= *self,
+        }
+    }
 }
 
 impl PartialEq for FileStamp {

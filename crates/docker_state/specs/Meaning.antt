@@ -1,13 +1,10 @@
--- Converts ledger items, floors and states from the code's types to the definitions' types.
-use Rattle.std.specs.Prelude.{ℕ, List, map, Option}
-use Rattle.std.specs.Option.{option_map}
+-- Converts ledger items and states from the code's types to the definitions' types.
+use Rattle.std.specs.Prelude.{ℕ, List, map}
 use Rattle.docker_model.specs.state.Stamp as stamps
 use Rattle.docker_model.specs.state.State as states
 use Rattle.cif_line.specs.Letter.{extract_letter}
 use Rattle.cif_change.specs.declared.key.Key.{Key}
-use Rattle.docker_join.specs.declared.stamp.FileStamp.{FileStamp}
 use Rattle.docker_join.specs.declared.entry.Entry.{Entry}
-use Rattle.docker_join.specs.Meaning.{file_stamp_meant}
 use Rattle.docker_join.specs.Meaning.{row_meant}
 use Rattle.docker_state.specs.declared.item.LedgerItem.{LedgerItem}
 
@@ -18,10 +15,6 @@ item_meant item = record {
   indicator = extract_letter item.indicator;
   last_reference = item.last_reference;
 }
-
--- converts a floor from the code's type to the definitions' type
-abbrev pub floor_meant : Option FileStamp → Option stamps.FileStamp
-floor_meant floor = option_map file_stamp_meant floor
 
 -- converts a horizon, a ledger and rows of the code to a state of the definitions
 abbrev pub state_meant : ℕ → List LedgerItem → List (Key × Entry) → states.State

@@ -11,9 +11,9 @@ use Rattle.state_laws.specs.Staging.{IsToStage}
 use Rattle.cif_change.specs.declared.key.Key.{Key}
 use Rattle.docker_join.specs.declared.stamp.FileStamp.{FileStamp}
 use Rattle.docker_join.specs.declared.entry.Entry.{Entry}
-use Rattle.docker_join.specs.Meaning.{row_meant}
+use Rattle.docker_join.specs.Meaning.{row_meant, floor_meant}
 use Rattle.docker_state.specs.declared.item.LedgerItem.{LedgerItem}
-use Rattle.docker_state.specs.Meaning.{floor_meant, item_meant}
+use Rattle.docker_state.specs.Meaning.{item_meant}
 
 -- the floor of both ledgers together, the ledger items received, and the entries that are staged
 pub record Staging : Type 0 where

@@ -4,8 +4,8 @@ ghost use Rattle.std.specs.Prelude.{map, IsTrue, Contains};
 ghost use Rattle.docker_model.specs.state.Stamp.{ledger_item_cmp, IsKept};
 ghost use Rattle.docker_model.specs.state.Order.{IsStrictlyAscending};
 ghost use Rattle.docker_model.specs.state.State.{raise_horizon, IsJoin};
-ghost use Rattle.docker_join.specs.Meaning.{row_meant};
-ghost use Rattle.docker_state.specs.Meaning.{floor_meant, item_meant};
+ghost use Rattle.docker_join.specs.Meaning.{row_meant, floor_meant};
+ghost use Rattle.docker_state.specs.Meaning.{item_meant};
 ghost use Rattle.docker_state.specs.Staging.{HasNoneToStage};
 
 use crate::item::LedgerItem;

@@ -1,11 +1,11 @@
 //! The floor: the file stamp of the newest full extract in a state's ledger. Ledger items and
 //! entries whose file stamp is below the floor are dropped.
-ghost use Rattle.std.specs.Prelude.{◌≡◌, ◌==◌, ◌↔◌, ◌++◌, map, find, IsTrue};
+ghost use Rattle.std.specs.Prelude.{◌≡◌, ◌==◌, ◌++◌, map, find};
 ghost use Rattle.std.specs.Option.{option_copied};
-ghost use Rattle.docker_model.specs.state.Stamp.{IsFloor, IsKept};
+ghost use Rattle.docker_model.specs.state.Stamp.{IsFloor};
 ghost use Rattle.docker_model.specs.state.State.{IsLedger};
-ghost use Rattle.docker_join.specs.Meaning.{file_stamp_meant};
-ghost use Rattle.docker_state.specs.Meaning.{floor_meant, item_meant};
+ghost use Rattle.docker_join.specs.Meaning.{floor_meant};
+ghost use Rattle.docker_state.specs.Meaning.{item_meant};
 
 use crate::item::LedgerItem;
 use docker_join::{FileStamp, Pick};
@@ -40,16 +40,5 @@ pub(crate) fn common_floor(first: Option<FileStamp>, second: Option<FileStamp>) 
         (Some(one), None) => Some(one),
         (None, Some(other)) => Some(other),
         (Some(one), Some(other)) => Some(one.pick(other)),
-    }
-}
-
-/// Whether a file stamp isn't below a floor, so that the file and its entries are kept. Returns
-/// true if there is no floor.
-pub(crate) fn is_kept(floor: &Option<FileStamp>, stamp: &FileStamp) -> bool
-    ensures { IsTrue result ↔ IsKept (floor_meant floor.now) (file_stamp_meant stamp.now) }
-{
-    match floor {
-        None => true,
-        Some(least) => *least <= *stamp,
     }
 }

@@ -3,11 +3,10 @@
 ghost use Rattle.std.specs.Prelude.{◌≡◌, ◌+◌, ◌≤◌, ◌↔◌, ◌++◌, [], length, map, vec_len, vec_capacity, IfSome, IsTrue, Contains};
 ghost use Rattle.docker_model.specs.state.Stamp.{file_stamp_cmp, ledger_item_cmp, IsKept};
 ghost use Rattle.docker_model.specs.state.Order.{IsBelow, IsStrictlyAscending};
-ghost use Rattle.docker_join.specs.Meaning.{file_stamp_meant};
-ghost use Rattle.docker_state.specs.Meaning.{floor_meant, item_meant};
+ghost use Rattle.docker_join.specs.Meaning.{file_stamp_meant, floor_meant};
+ghost use Rattle.docker_state.specs.Meaning.{item_meant};
 ghost use Rattle.docker_state.specs.Staging.{HasIfKept, HasKeptItems};
 
-use crate::floor::is_kept;
 use crate::item::LedgerItem;
 use docker_join::FileStamp;
 use std::alloc::Global;
@@ -84,7 +83,7 @@ pub(crate) fn kept_items(mut items: Vec<LedgerItem>, floor: &Option<FileStamp>) 
 fn is_kept_item(floor: &Option<FileStamp>, item: &LedgerItem) -> bool
     ensures { IsTrue result ↔ IsKept (floor_meant floor.now) (item_meant item.now).stamp }
 {
-    is_kept(floor, &item.stamp())
+    item.stamp().is_kept(floor)
 }
 
 /// Whether a ledger has each of these items that isn't below the floor.

@@ -8,11 +8,11 @@ ghost use Rattle.docker_model.specs.state.Order.{IsStrictlyAscending};
 ghost use Rattle.docker_model.specs.state.State.{IsLedger, IsGoodEntry, IsJoin, IsValid};
 ghost use Rattle.state_laws.specs.Staging.{IsToStage, IsStaged, IsCommit, staged_state};
 ghost use Rattle.cif_change.specs.Meaning.{key_meant};
-ghost use Rattle.docker_join.specs.Meaning.{entry_meant};
-ghost use Rattle.docker_state.specs.Meaning.{floor_meant, item_meant};
+ghost use Rattle.docker_join.specs.Meaning.{entry_meant, floor_meant};
+ghost use Rattle.docker_state.specs.Meaning.{item_meant};
 ghost use Rattle.docker_state.specs.Staging.{IsAboveStaged, IsOffered, HasNothingNew, with_staged};
 
-use crate::floor::{common_floor, floor_of, is_kept};
+use crate::floor::{common_floor, floor_of};
 use crate::indexing::index_if;
 use crate::item::LedgerItem;
 use crate::ledger::{has_kept_items, is_above_all};
@@ -147,11 +147,11 @@ pub(crate) fn is_to_stage(
     // If the entry's file is newer than every file in our ledger, the entry is greater than any of
     // our entries. Then our entry for the same key doesn't have to be looked up.
     if is_above_all(state.ledger(), &entry.stamp.file) {
-        return is_kept(floor, &entry.stamp.file);
+        return entry.stamp.file.is_kept(floor);
     }
     match state.get_near(key, near) {
-        Some(own) => is_kept(floor, &entry.stamp.file) && own < entry,
-        None => is_kept(floor, &entry.stamp.file),
+        Some(own) => entry.stamp.file.is_kept(floor) && own < entry,
+        None => entry.stamp.file.is_kept(floor),
     }
 }
 

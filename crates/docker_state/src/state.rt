@@ -11,7 +11,7 @@ ghost use Rattle.docker_model.specs.state.Lapse.{lapse_entries, lapse_table};
 ghost use Rattle.std.specs.Option.{option_copied, option_map};
 ghost use Rattle.cif_change.specs.Meaning.{key_meant};
 ghost use Rattle.docker_model.specs.state.Stamp.{IsFloor};
-ghost use Rattle.docker_join.specs.Meaning.{entry_meant, file_stamp_meant, row_meant};
+ghost use Rattle.docker_join.specs.Meaning.{entry_meant, file_stamp_meant, row_meant, floor_meant};
 ghost use Rattle.docker_join.specs.Rows.{AreAscending};
 ghost use Rattle.docker_model.specs.state.Summary.{IsSummary, HaveDistinctMoments};
 ghost use Rattle.docker_model.specs.state.Table as tables;
@@ -23,7 +23,7 @@ ghost use Rattle.docker_laws.specs.Thinning.{IsStateOfChanges};
 ghost use Rattle.docker_state.specs.Indexed.{IsIndexIfAny};
 ghost use Rattle.docker_state.specs.MadeState.{HaveRecords, IsMadeState, MakeValid};
 ghost use Rattle.docker_state.specs.Live.{live_rows, AreInKeyOrder};
-ghost use Rattle.docker_state.specs.Meaning.{floor_meant, item_meant, state_meant};
+ghost use Rattle.docker_state.specs.Meaning.{item_meant, state_meant};
 
 use crate::floor::{common_floor, floor_of};
 use crate::indexing::{lapse_index, picked_index, room_for_notes};

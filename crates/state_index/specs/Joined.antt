@@ -15,16 +15,12 @@ use Rattle.cif_change.specs.declared.key.Key.{Key}
 use Rattle.cif_change.specs.NamedPlaces.{call_places, link_places}
 use Rattle.docker_join.specs.declared.stamp.FileStamp as stamp
 use Rattle.docker_join.specs.declared.entry.Entry.{Entry}
-use Rattle.docker_join.specs.Meaning.{file_stamp_meant, entry_meant, row_meant}
+use Rattle.docker_join.specs.Meaning.{entry_meant, row_meant}
 use Rattle.docker_join.specs.Rows.{IsJoinOfRows}
 use Rattle.state_index.specs.SpotOrder.{Spot}
 use Rattle.state_index.specs.declared.posting.Posting.{Posting}
 use Rattle.state_index.specs.declared.moves.Moves.{Moves}
 use Rattle.state_index.specs.Spots.{Places, spots_of}
-
--- converts a floor from the code's type to the definitions' type
-abbrev pub floor_meant : Option stamp.FileStamp → Option FileStamp
-floor_meant floor = option_map file_stamp_meant floor
 
 -- Says that some entry in the list, for the same key, isn't below the floor, and that `lapse_entry horizon` turns that entry into this one.
 abbrev pub LapsesTo : List (model.Key × ops.Entry) → Option FileStamp → ℕ → model.Key → ops.Entry → Type 0

@@ -2,11 +2,11 @@
 ghost use Rattle.std.specs.Prelude.{◌≡◌, ◌+◌, ◌<◌, ◌≤◌, ◌^◌, List, [], ◌∷◌, ◌++◌, vec_len, vec_capacity, length, map, IfOk};
 ghost use Rattle.docker_model.specs.file.Change as model;
 ghost use Rattle.docker_model.specs.state.Op as ops;
-ghost use Rattle.docker_join.specs.Meaning.{file_stamp_meant, op_meant, row_meant};
+ghost use Rattle.docker_join.specs.Meaning.{floor_meant, op_meant, row_meant};
 ghost use Rattle.docker_join.specs.Rows.{AreAscending};
 ghost use Rattle.docker_model.specs.state.Lapse.{lapse};
-ghost use Rattle.state_index.specs.Turns.{AtKey, turn_meant, turns_of, firsts, seconds, is_kept, is_put, wins, goes, after, first_moves, second_moves};
-ghost use Rattle.state_index.specs.Joined.{floor_meant, AreJoined, AreMoves, HasGained, HasRows};
+ghost use Rattle.state_index.specs.Turns.{AtKey, turn_meant, turns_of, firsts, seconds, is_put, wins, goes, after, first_moves, second_moves};
+ghost use Rattle.state_index.specs.Joined.{AreJoined, AreMoves, HasGained, HasRows};
 
 use crate::turns::{Turn, Turns};
 use cif_change::{Key, Memory};
@@ -147,7 +147,7 @@ fn wins(one: &Entry, other: &Entry) -> bool
 fn index_of(entry: &Entry, floor: &Option<FileStamp>, horizon: u16, at: u32) -> Option<u32>
     ensures { result ≡ goes (floor_meant floor.now) horizon at entry.now }
 {
-    if is_kept(floor, &entry.stamp.file) && stays_put(&entry.op, horizon) {
+    if entry.stamp.file.is_kept(floor) && stays_put(&entry.op, horizon) {
         Some(at)
     } else {
         None
@@ -160,21 +160,10 @@ fn index_after(entry: &Entry, floor: &Option<FileStamp>, at: u32) -> u32
     requires { at + 1 < 2 ^ 32 }
     ensures { result ≡ after (floor_meant floor.now) at entry.now }
 {
-    if is_kept(floor, &entry.stamp.file) {
+    if entry.stamp.file.is_kept(floor) {
         at + 1
     } else {
         at
-    }
-}
-
-/// Whether a file stamp isn't below a floor, so that the file's entries are kept. Returns true if
-/// there is no floor.
-fn is_kept(floor: &Option<FileStamp>, stamp: &FileStamp) -> bool
-    ensures { result ≡ is_kept (floor_meant floor.now) (file_stamp_meant stamp.now) }
-{
-    match floor {
-        None => true,
-        Some(least) => *least <= *stamp,
     }
 }
 

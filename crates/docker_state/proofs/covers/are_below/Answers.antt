@@ -2,8 +2,7 @@ use Rattle.std.proofs.Common.{subst}
 use Rattle.std.specs.Prelude.{Option}
 use Rattle.docker_model.specs.state.Stamp.{IsKept}
 use Rattle.docker_join.specs.declared.stamp.FileStamp.{FileStamp}
-use Rattle.docker_join.specs.Meaning.{file_stamp_meant}
-use Rattle.docker_state.specs.Meaning.{floor_meant}
+use Rattle.docker_join.specs.Meaning.{file_stamp_meant, floor_meant}
 use Rattle.docker_state.proofs.NothingToStage.{not_kept}
 use Rattle.docker_state.proofs.covers.are_below.Goals as goal
 

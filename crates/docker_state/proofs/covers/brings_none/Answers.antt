@@ -2,7 +2,7 @@ use Rattle.std.proofs.Common.{List, subst, sym, Contains}
 use Rattle.docker_model.specs.file.Change.{Key}
 use Rattle.docker_model.specs.state.Op.{Entry}
 use Rattle.docker_model.specs.state.Stamp.{LedgerItem}
-use Rattle.docker_state.specs.Meaning.{floor_meant}
+use Rattle.docker_join.specs.Meaning.{floor_meant}
 use Rattle.docker_state.specs.Staging.{HasNoneToStage}
 use Rattle.docker_state.proofs.NothingToStage.{below_brings_none}
 use Rattle.docker_state.proofs.covers.brings_none.Goals as goal

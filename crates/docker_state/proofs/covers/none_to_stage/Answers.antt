@@ -1,5 +1,4 @@
-use Rattle.docker_join.specs.Meaning.{row_meant}
-use Rattle.docker_state.specs.Meaning.{floor_meant}
+use Rattle.docker_join.specs.Meaning.{row_meant, floor_meant}
 use Rattle.docker_state.proofs.NothingToStage.{none_of_no_row, none_of_rest, untold}
 use Rattle.docker_state.proofs.covers.none_to_stage.Goals as goal
 

@@ -1,6 +1,5 @@
 use Rattle.std.proofs.Common.{map, length}
-use Rattle.docker_join.specs.Meaning.{row_meant}
-use Rattle.docker_state.specs.Meaning.{floor_meant}
+use Rattle.docker_join.specs.Meaning.{row_meant, floor_meant}
 use Rattle.docker_state.specs.Staging.{HasNoneToStage}
 use Rattle.docker_state.proofs.covers.none_to_stage.Given as goal
 

@@ -1,5 +1,6 @@
 use Rattle.std.proofs.Common.{map, true, rules}
-use Rattle.docker_state.specs.Meaning.{floor_meant, item_meant}
+use Rattle.docker_join.specs.Meaning.{floor_meant}
+use Rattle.docker_state.specs.Meaning.{item_meant}
 use Rattle.docker_state.proofs.LedgerSearch.{has_all, one_more_has}
 use Rattle.docker_state.proofs.ledger.has_kept_items.Goals as goal
 

@@ -1,6 +1,7 @@
 use Rattle.std.proofs.Common.{map}
 use Rattle.std.specs.List.{AllWithin}
-use Rattle.docker_state.specs.Meaning.{floor_meant, item_meant}
+use Rattle.docker_join.specs.Meaning.{floor_meant}
+use Rattle.docker_state.specs.Meaning.{item_meant}
 use Rattle.docker_state.specs.Staging.{HasIfKept}
 use Rattle.docker_state.proofs.ledger.has_kept_items.Given as goal
 

@@ -2,8 +2,7 @@ use Rattle.std.proofs.Common.{List, Some, None, sym, subst, Contains}
 use Rattle.docker_model.specs.state.Op.{entry_cmp}
 use Rattle.docker_model.specs.state.Stamp.{LedgerItem, IsKept}
 use Rattle.cif_change.specs.Meaning.{key_meant}
-use Rattle.docker_join.specs.Meaning.{entry_meant}
-use Rattle.docker_state.specs.Meaning.{floor_meant}
+use Rattle.docker_join.specs.Meaning.{entry_meant, floor_meant}
 use Rattle.docker_state.proofs.Newest.{newest_tells}
 use Rattle.docker_state.proofs.StagingLemmas.{to_stage_tells, below_tells}
 use Rattle.docker_state.proofs.staging.is_to_stage.Goals as goal

@@ -1,7 +1,8 @@
 use Rattle.std.proofs.Common.{List, map, subst}
 use Rattle.std.specs.Prelude.{◌↔◌, IsTrue}
 use Rattle.docker_state.specs.declared.item.LedgerItem.{LedgerItem}
-use Rattle.docker_state.specs.Meaning.{floor_meant, item_meant}
+use Rattle.docker_join.specs.Meaning.{floor_meant}
+use Rattle.docker_state.specs.Meaning.{item_meant}
 use Rattle.docker_state.specs.Staging.{Staging, HasKeptItems}
 use Rattle.docker_state.proofs.StagingLemmas.{nothing_new_tells}
 use Rattle.docker_state.proofs.staging.Staging.has_nothing_new.Goals as goal

@@ -1,6 +1,7 @@
 use Rattle.std.proofs.Common.{List, map, subst}
 use Rattle.docker_model.specs.state.Stamp.{LedgerItem}
-use Rattle.docker_state.specs.Meaning.{floor_meant, item_meant}
+use Rattle.docker_join.specs.Meaning.{floor_meant}
+use Rattle.docker_state.specs.Meaning.{item_meant}
 use Rattle.docker_state.specs.Staging.{HasKeptItems}
 use Rattle.docker_state.proofs.NothingToStage.{covered}
 use Rattle.docker_state.proofs.state.State.covers.Goals as goal

@@ -2,7 +2,8 @@ use Rattle.std.proofs.Common.{List, map, subst}
 use Rattle.docker_model.specs.state.Stamp.{IsFloor}
 use Rattle.docker_model.specs.state.State.{State}
 use Rattle.docker_state.specs.declared.item.LedgerItem.{LedgerItem}
-use Rattle.docker_state.specs.Meaning.{floor_meant, item_meant}
+use Rattle.docker_join.specs.Meaning.{floor_meant}
+use Rattle.docker_state.specs.Meaning.{item_meant}
 use Rattle.docker_state.proofs.state.State.floor.Goals as goal
 
 pub returns : goal.returns

@@ -7,9 +7,9 @@ use Rattle.state_laws.proofs.joins.JoinValid.{join_is_valid}
 use Rattle.cif_change.specs.declared.key.Key.{Key}
 use Rattle.docker_join.specs.declared.entry.Entry.{Entry}
 use Rattle.docker_join.specs.Rows.{AreAscending}
-use Rattle.docker_join.specs.Meaning.{row_meant}
+use Rattle.docker_join.specs.Meaning.{row_meant, floor_meant}
 use Rattle.docker_state.specs.declared.item.LedgerItem.{LedgerItem}
-use Rattle.docker_state.specs.Meaning.{floor_meant, item_meant, state_meant}
+use Rattle.docker_state.specs.Meaning.{item_meant, state_meant}
 use Rattle.docker_state.proofs.StateJoin.{HasUnion, HasKeptRows, states_joined}
 use Rattle.docker_state.proofs.state.State.join_rows.Goals as goal
 

@@ -3,10 +3,10 @@ use Rattle.docker_model.specs.state.State.{State, IsJoin}
 use Rattle.docker_model.specs.state.Stamp.{IsFloor}
 use Rattle.cif_change.specs.declared.key.Key.{Key}
 use Rattle.docker_join.specs.declared.entry.Entry.{Entry}
-use Rattle.docker_join.specs.Meaning.{row_meant}
+use Rattle.docker_join.specs.Meaning.{row_meant, floor_meant}
 use Rattle.state_index.specs.Joined.{AreJoined, AreMoves}
 use Rattle.state_index.specs.Spots.{IsIndexOf}
-use Rattle.docker_state.specs.Meaning.{floor_meant, item_meant, state_meant}
+use Rattle.docker_state.specs.Meaning.{item_meant, state_meant}
 use Rattle.docker_state.proofs.StateJoin.{rows_joined}
 use Rattle.docker_state.proofs.state.State.joined_index.Goals as goal
 

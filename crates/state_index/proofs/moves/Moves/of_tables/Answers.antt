@@ -1,4 +1,4 @@
-use Rattle.state_index.specs.Joined.{floor_meant}
+use Rattle.docker_join.specs.Meaning.{floor_meant}
 use Rattle.state_index.proofs.JoinedRows.{moves_are}
 use Rattle.state_index.proofs.moves.Moves.of_tables.Goals as goal
 

@@ -1,5 +1,5 @@
 use Rattle.std.proofs.Common.{◌≡◌, ◌+◌, ◌≤◌, ◌++◌, length, vec_len, vec_capacity}
-use Rattle.state_index.specs.Joined.{floor_meant}
+use Rattle.docker_join.specs.Meaning.{floor_meant}
 use Rattle.state_index.specs.Turns.{turns_of, firsts, seconds, first_moves, second_moves}
 use Rattle.state_index.proofs.moves.Moves.walk.Given as goal
 
