@@ -30,7 +30,7 @@ use Rattle.docker_office.specs.declared.fault.OfficeFault.{OfficeFault}
 use Rattle.docker_office.specs.declared.fault.OfficeFault.TheVariants as office
 use Rattle.docker_office.specs.Faults.{IsOfFile, IsOfState, office_fault_of_file, office_fault_of_state}
 use Rattle.docker_office.specs.Office.{HoldsFile, TakesFile, KnowsFileToo, HoldsState, no_state}
-use Rattle.docker_office.specs.OfficeReads.{CountsTaking, IsTakingOutcome, StopsTaking, why_unread}
+use Rattle.docker_office.specs.OfficeReads.{CountsTaking, IsTakingOutcome, why_unread}
 
 -- ---- two results that are both `Ok` or both `Err`
 
@@ -74,12 +74,10 @@ unread_by_office wants format limit left left_now failures failures_now state_fa
 -- if the reader of files returns a fault, the office returns a fault with the same meaning
 pub untaken : {A : Type 0} (limit : ℕ) (IsMade : A → Type 0) (left left_now : BytesLeft) (failures failures_now : ℕ) (cause : files.ReadFault)
     → StopsReadingFile limit left left_now (IsWhyNoFile WantsMemory limit left left_now cause) (CountsWhyNoFile cause failures failures_now)
-    → StopsTaking limit left left_now (IsTakingOutcome limit IsMade left left_now (Err (office_fault_of_file cause)))
+    → StopsReadingFile limit left left_now (IsTakingOutcome limit IsMade left left_now (Err (office_fault_of_file cause)))
     (CountsTaking {A = A} failures failures_now (Err (office_fault_of_file cause)))
-untaken limit IsMade left left_now failures failures_now file_faults.Source ends =
-    record { no_further = ends.no_further; outcome = ends.outcome; failures = ends.failures }
-untaken limit IsMade left left_now failures failures_now (file_faults.File fault) ends =
-    record { no_further = ends.no_further; outcome = ends.outcome; failures = ends.failures }
+untaken limit IsMade left left_now failures failures_now file_faults.Source ends = ends
+untaken limit IsMade left left_now failures failures_now (file_faults.File fault) ends = ends
 untaken limit IsMade left left_now failures failures_now file_faults.Memory ends =
     record { no_further = ends.no_further; outcome = inl ends.outcome; failures = ends.failures }
 
@@ -88,12 +86,12 @@ untaken limit IsMade left left_now failures failures_now file_faults.Memory ends
 pub taken_whole : {A : Type 0} (limit : ℕ) (IsMade : A → Type 0) (left left_now : BytesLeft) (failures failures_now : ℕ) (read : FileRead)
     (result : Result A OfficeFault) → StopsReadingFile limit left left_now (ReadsText limit left read × IsEnd left_now) (failures_now ≡ failures)
     → ((made : A) → result ≡ Ok made → IsMade made) → IfErr result (λ fault. fault ≡ office.Memory)
-    → StopsTaking limit left left_now (IsTakingOutcome limit IsMade left left_now result) (CountsTaking failures failures_now result)
+    → StopsReadingFile limit left left_now (IsTakingOutcome limit IsMade left left_now result) (CountsTaking failures failures_now result)
 taken_whole limit IsMade left left_now failures failures_now read (Ok made) ends is only =
     record { no_further = ends.no_further; outcome = (is made refl, ends.outcome.1); failures = ends.failures }
 taken_whole {A} limit IsMade left left_now failures failures_now read (Err fault) ends is only =
     subst
-    (λ (told : OfficeFault). StopsTaking limit left left_now (IsTakingOutcome limit IsMade left left_now (Err told))
+    (λ (told : OfficeFault). StopsReadingFile limit left left_now (IsTakingOutcome limit IsMade left left_now (Err told))
     (CountsTaking {A = A} failures failures_now (Err told)))
     (sym only)
     (record { no_further = ends.no_further; outcome = inr (holds_file limit left read ends.outcome.0); failures = ends.failures })
