@@ -1,13 +1,14 @@
 -- The rows of a join, and their spots. A walk over both tables finds, for each key, the row with the greater entry. `Moves` has the index of each row in the
 -- join. A spot is a TIPLOC with the index of a row there.
-use Rattle.std.proofs.Common.{◌≡◌, ℕ, List, [], ◌∷◌, map, ap, sym, ◌∙◌, subst, Bool, true, false, cond, ◌⊎◌, Contains}
-use Rattle.std.specs.Prelude.{Option, ◌↔◌, filter}
+use Rattle.std.proofs.Common.{◌≡◌, ℕ, List, [], ◌∷◌, map, refl, ap, sym, ◌∙◌, subst, Bool, true, false, cond, ◌⊎◌, Some, None, Contains}
+use Rattle.std.specs.Prelude.{Option, ◌↔◌, filter, not}
 use Rattle.std.specs.List.{AllByRecursion}
 use Rattle.std.specs.Cmp.{IsTotalOrder, on_total}
-use Rattle.std.specs.Ordering.{on}
+use Rattle.std.specs.Ordering.{on, is_gt}
 use Rattle.std.specs.declared.cmp.Ordering.{Ordering}
+use Rattle.std.specs.declared.cmp.Ordering.TheVariants.{Less, Equal, Greater}
 use Rattle.docker_model.specs.file.Change as model
-use Rattle.docker_model.specs.state.Stamp.{FileStamp}
+use Rattle.docker_model.specs.state.Stamp.{FileStamp, file_stamp_cmp, IsKept}
 use Rattle.docker_model.specs.state.Op as ops
 use Rattle.docker_model.specs.state.Op.{key_cmp}
 use Rattle.docker_model.specs.state.Order.{IsBelow, IsStrictlyAscending}
@@ -22,17 +23,35 @@ use Rattle.docker_join.specs.Rows.{AreAscending, IsJoinOfRows}
 use Rattle.docker_join.specs.RowLaws.{same_rows}
 use Rattle.docker_join.proofs.MeantOrder.{ascending_meant}
 use Rattle.docker_join.proofs.MergedRows.{walk, walk_joins}
-use Rattle.state_index.specs.Turns.{AtKey, firsts, is_put, turns_of, first_moves, second_moves}
+use Rattle.state_index.specs.Turns.{AtKey, firsts, is_kept, is_put, turns_of, first_moves, second_moves}
 use Rattle.state_index.specs.declared.moves.Moves.{Moves}
 use Rattle.state_index.specs.Spots.{Places, spots_of}
 use Rattle.state_index.specs.Joined.{LapsesTo, AreJoined, AreMoves, HasMovedSpots, moved_spots, AreRising}
 use Rattle.state_index.specs.SpotOrder.{Spot}
-use Rattle.state_index.proofs.KeptStamps.{keeps_is, is_keeps}
 use Rattle.state_index.proofs.Positions.{Keyed}
 use Rattle.state_index.proofs.TurnRows.{Row, picked, winner, firsts_are, seconds_are, winners_are, turns_level}
 use Rattle.state_index.proofs.RisingMoves.{first_rising, second_rising}
 use Rattle.state_index.proofs.JoinedSpots.{keeps, kept_lapsed, turns_out}
 use Rattle.state_index.proofs.RowPlaces.{no_calls, no_links}
+
+-- a stamp that passes the test `is_kept floor` isn't below the floor
+pub keeps_is : (floor : Option FileStamp) (stamp : FileStamp) → is_kept floor stamp ≡ true → IsKept floor stamp
+keeps_is None stamp h = tt
+keeps_is (Some floor) stamp h = by (file_stamp_cmp floor stamp) h
+  where
+    by : (o : Ordering) → not (is_gt o) ≡ true → ¬ (o ≡ Greater)
+    by Less passes = λ greater. cc
+    by Equal passes = λ greater. cc
+    by Greater fails = absurd (let bad : false ≡ true = fails in cc)
+
+pub is_keeps : (floor : Option FileStamp) (stamp : FileStamp) → IsKept floor stamp → is_kept floor stamp ≡ true
+is_keeps None stamp kept = refl
+is_keeps (Some floor) stamp kept = by (file_stamp_cmp floor stamp) kept
+  where
+    by : (o : Ordering) → ¬ (o ≡ Greater) → not (is_gt o) ≡ true
+    by Less below = refl
+    by Equal below = refl
+    by Greater below = absurd (below refl)
 
 -- removing elements from an ascending list leaves an ascending list
 module _ {A : Type 0} (cmp : A → A → Ordering) (test : A → Bool) where

@@ -1,6 +1,5 @@
 pub mod Search
 pub mod Positions
-pub mod KeptStamps
 pub mod Union
 pub mod MovedSpots
 pub mod TurnRows
