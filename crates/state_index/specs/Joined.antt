@@ -13,7 +13,6 @@ use Rattle.docker_model.specs.state.Op.{entry_cmp}
 use Rattle.docker_model.specs.state.State as states
 use Rattle.cif_change.specs.declared.key.Key.{Key}
 use Rattle.cif_change.specs.NamedPlaces.{call_places, link_places}
-use Rattle.docker_join.specs.declared.stamp.FileStamp as stamp
 use Rattle.docker_join.specs.declared.entry.Entry.{Entry}
 use Rattle.docker_join.specs.Meaning.{entry_meant, row_meant}
 use Rattle.docker_join.specs.Rows.{IsJoinOfRows}
