@@ -105,6 +105,9 @@ pub const ROUND_LEAVES: &[u8] = b"0900  D 1A10 C10001 P   1   SL      0900 ASHFE
 /// The docker line for C10001, which leaves Ashfeld at 09:05.
 pub const LEAVES_0905: &[u8] = b"0905  D 1A10 C10001 P   1   SL      0905 ASHFELD BRAYTON";
 
+/// The docker line for C10001, which leaves Ashfeld at 09:05, according to its overlay.
+pub const LEAVES_AS_OVERLAY: &[u8] = b"0905  D 1A10 C10001 O   1   SL      0905 ASHFELD BRAYTON";
+
 /// The docker line for C10001, which leaves Ashfeld at 09:10.
 pub const LEAVES_0910: &[u8] = b"0910  D 1A10 C10001 P   1   SL      0910 ASHFELD BRAYTON";
 
