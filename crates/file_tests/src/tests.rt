@@ -11,7 +11,7 @@ use std::process::Abort;
 use test_records::{
     AA_DIVIDE, BODY_OF_TA, BODY_OF_TI, BS, BS_CANCELLED, BS_DELETED, BS_NIGHT, BS_NO_DAY,
     BS_OVERLAY, CR_5E51, HD, HD_10B, HD_X, LI_0000, LI_0005, LI_0010, LN, LO, LO_0915, LO_2355,
-    LO_2400, LT, LT_0020, TA, TA_SAME, TI, TI_BLANK, ZZ, text,
+    LO_2400, LT, LT_0020, TA, TA_SAME, TI, TI_BLANK, TI_TAB, ZZ, text,
 };
 
 mod compare;
@@ -22,10 +22,6 @@ mod thin;
 /// A line of 79 characters.
 const SHORT: &[u8] =
     b"TIASHFELD         ASHFIELD CENTRAL                                             ";
-
-/// A TIPLOC insert with a tab, which isn't printable, in column 20.
-const TAB: &[u8] =
-    b"TIASHFELD         A\tHFIELD CENTRAL                                              ";
 
 /// A terminus at 00:01.
 const LT_0001: &[u8] =
@@ -180,7 +176,7 @@ const REFUSED: &[Refused] = &[
     (&[BS], 1, FileCause::Place, "BS first"),
     (&[HD_X], 1, FileCause::Field(47), "indicator X"),
     (&[HD, SHORT], 2, FileCause::Length, "79 characters"),
-    (&[HD, TAB], 2, FileCause::Byte(20), "a tab"),
+    (&[HD, TI_TAB], 2, FileCause::Byte(20), "a tab"),
     (&[HD, LN], 2, FileCause::Kind, "LN"),
     (&[HD, ZZ, LI_0000], 3, FileCause::After, "LI after ZZ"),
     (&[HD, BS, LT], 3, FileCause::Place, "LT after BS"),
