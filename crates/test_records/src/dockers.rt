@@ -188,7 +188,7 @@ pub const PASSES_AS_5E51: &[u8] = b"1210  P 5E51 C50001 P                    ASH
 /// identity.
 pub const COMES_AS_5E51: &[u8] = b"1230  A 5E51 C50001 P                    ASHFELD BRAYTON";
 
-/// The lines of a whole docker, in order.
+/// The lines of a whole docker or of another printed text, in order.
 pub type Lines = &'static [&'static [u8]];
 
 /// The docker of Ashfeld with one line: C10001 leaves at 09:00.
