@@ -2,7 +2,8 @@
 ghost use Rattle.std.specs.Prelude.{◌<◌};
 
 use crate::compare::{same, same_in};
-use crate::expected::USAGE;
+use crate::expected::{DAY_REFUSED, DONE, FAILED, FILE_WITHOUT_END, STATE_WITHOUT_MARK, USAGE};
+use crate::records::lines_text;
 use cif_file::{FileCause, FileFault};
 use cif_line::{Failed, Fuse, Kept, Sink, write_all};
 use docker_cmd::OfficeFault;
@@ -58,15 +59,16 @@ fn bytes_of(rt: &impl Abort, alloc: Global, answer: &Answer) -> Kept {
     kept
 }
 
-/// Asserts the bytes of an answer.
-pub(crate) fn answers(rt: &impl Abort, alloc: Global, answer: &Answer, wanted: &str) {
+/// Asserts that the bytes of an answer are these lines.
+pub(crate) fn answers(rt: &impl Abort, alloc: Global, answer: &Answer, lines: &[&[u8]]) {
     let kept = bytes_of(rt, alloc, answer);
-    same(rt, kept.bytes(), wanted.as_bytes());
+    let wanted = lines_text(rt, alloc, lines);
+    same(rt, kept.bytes(), wanted.as_slice());
 }
 
-/// Asserts the bytes of the answer to a refused request.
-fn refuses(rt: &impl Abort, alloc: Global, fault: OfficeFault, wanted: &str) {
-    answers(rt, alloc, &Answer::Refused(fault), wanted);
+/// Asserts that the bytes of the answer to a refused request are these lines.
+fn refuses(rt: &impl Abort, alloc: Global, fault: OfficeFault, lines: &[&[u8]]) {
+    answers(rt, alloc, &Answer::Refused(fault), lines);
 }
 
 /// Returns the fault of a file that is refused at this record.
@@ -81,28 +83,26 @@ fn state_fault(at: u64, cause: StateCause) -> OfficeFault {
 
 #[test]
 fn answers_without_a_text(rt: HostRuntime) {
-    answers(&rt, rt.alloc(), &Answer::Done, "0 0 0\n");
+    answers(&rt, rt.alloc(), &Answer::Done, DONE);
     answers(&rt, rt.alloc(), &Answer::Usage, USAGE);
     let page = Page::new(rt.alloc());
-    answers(&rt, rt.alloc(), &Answer::Text(page), "0 0 0\n");
+    answers(&rt, rt.alloc(), &Answer::Text(page), DONE);
 }
 
 #[test]
 fn answers_to_refused_requests(rt: HostRuntime) {
     let alloc = rt.alloc();
-    let lapsed = "1 1 52\ndocker: day refused: before horizon plus three days\n";
-    refuses(&rt, alloc, OfficeFault::Lapsed, lapsed);
-    let memory = "3 1 23\ndocker: want of memory\n";
+    refuses(&rt, alloc, OfficeFault::Lapsed, DAY_REFUSED);
+    let memory: &[&[u8]] = &[b"3 1 23", b"docker: want of memory"];
     refuses(&rt, alloc, OfficeFault::Memory, memory);
-    let device = "4 1 22\ndocker: device failed\n";
-    refuses(&rt, alloc, OfficeFault::Source, device);
-    refuses(&rt, alloc, OfficeFault::Sink, device);
-    let no_end = "1 1 38\ndocker: file refused: record 5: NoEnd\n";
-    refuses(&rt, alloc, file_fault(5, FileCause::NoEnd), no_end);
-    let byte = "1 1 40\ndocker: file refused: record 2: Byte 20\n";
+    refuses(&rt, alloc, OfficeFault::Source, FAILED);
+    refuses(&rt, alloc, OfficeFault::Sink, FAILED);
+    let no_end = file_fault(5, FileCause::NoEnd);
+    refuses(&rt, alloc, no_end, FILE_WITHOUT_END);
+    let byte: &[&[u8]] = &[b"1 1 40", b"docker: file refused: record 2: Byte 20"];
     refuses(&rt, alloc, file_fault(2, FileCause::Byte(20)), byte);
-    let mark = "1 1 38\ndocker: state refused: offset 0: Mark\n";
-    refuses(&rt, alloc, state_fault(0, StateCause::Mark), mark);
+    let no_mark = state_fault(0, StateCause::Mark);
+    refuses(&rt, alloc, no_mark, STATE_WITHOUT_MARK);
 }
 
 /// Writes pieces on a page, and checks the answer that has the page as its text.
@@ -113,7 +113,8 @@ fn an_answer_with_a_text(rt: HostRuntime) {
     write_all(&mut page, b"two\n").expect(&rt, "room");
     same(&rt, page.text(), b"one\ntwo\n".as_slice());
     same(&rt, page.failures(), 0);
-    answers(&rt, rt.alloc(), &Answer::Text(page), "0 2 8\none\ntwo\n");
+    let lines: &[&[u8]] = &[b"0 2 8", b"one", b"two"];
+    answers(&rt, rt.alloc(), &Answer::Text(page), lines);
 }
 
 /// Writes an answer, whose text is the usage line, to a sink that takes one byte per write. Only
@@ -148,5 +149,6 @@ fn an_output_that_fails_within_an_answer(rt: HostRuntime) {
     stops_at(&rt, alloc, 14, "2 1 217\ndesk:");
     let (done, sink) = broken_at(&rt, alloc, 226);
     same(&rt, done, Ok(()));
-    same(&rt, sink.device().bytes(), USAGE.as_bytes());
+    let whole = lines_text(&rt, alloc, USAGE);
+    same(&rt, sink.device().bytes(), whole.as_slice());
 }

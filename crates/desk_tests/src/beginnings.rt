@@ -2,9 +2,9 @@
 
 ghost use Rattle.std.specs.Prelude.{◌≡◌};
 
-use crate::compare::{same, same_in};
-use crate::expected::DEVICE;
-use crate::records::*;
+use crate::compare::same;
+use crate::expected::{DEVICE, NO_MARK_LINE, NO_SESSION};
+use crate::records::{lines_text, state_text};
 use crate::session_parts::{READING, WRITING, room};
 use crate::shelves::{shelf_of, shelf_with, text_of};
 use cif_line::Bytes;
@@ -12,29 +12,24 @@ use docker_desk::serve;
 use docker_host::{Host, Shelf};
 use std::alloc::Global;
 use std::process::Abort;
+use test_records::files::MORNING;
+use test_records::states::MORNING_STATE;
 
 /// The input of a session that can't begin.
 const INPUT: &[u8] = b"files\nsave\n";
 
-/// The usage line, which reports that the words aren't the words of a session.
-const USAGE_LINE: &str = "\
-desk: usage: [--write] STATE, and then a line for each request: print TIPLOC DATE \
-| permanent TIPLOC DATE | train UID DATE | files | places | known | renew \
-| with --write take FILE | merge OTHER | horizon DATE | save
-";
-
-/// Asserts the status and the reported line of a session that can't begin with this folder. The
+/// Asserts the status and the reported lines of a session that can't begin with this folder. The
 /// session must read no input, write no answer, and leave this text in the file `S`.
 fn can_t_begin(
     rt: &impl Abort,
     alloc: Global,
     words: &[&str],
     folder: Shelf,
-    end: (u8, &str, &[u8]),
+    end: (u8, &[&[u8]], &[u8]),
 )
     requires { folder.failures ≡ 0 }
 {
-    let (status, line, text) = end;
+    let (status, lines, text) = end;
     let mut host = Host {
         input: Bytes::new(INPUT, 1),
         folder,
@@ -43,16 +38,18 @@ fn can_t_begin(
     };
     let ended = serve(alloc, words, &mut host);
     same(rt, ended, status);
-    same_in(rt, line, host.faults.bytes(), line.as_bytes());
+    let reported = lines_text(rt, alloc, lines);
+    same(rt, host.faults.bytes(), reported.as_slice());
     let silent = (b"".as_slice(), INPUT);
     same(rt, (host.output.bytes(), host.input.left()), silent);
     same(rt, text_of(&host.folder), text);
 }
 
 /// Asserts the reported line of a session that can't begin because the file `S` has this text.
-fn refuses_text(rt: &impl Abort, alloc: Global, words: &[&str], text: &[u8], line: &str) {
+fn refuses_text(rt: &impl Abort, alloc: Global, words: &[&str], text: &[u8], line: &[u8]) {
     let folder = shelf_with(rt, alloc, "S", text);
-    can_t_begin(rt, alloc, words, folder, (1, line, text));
+    let lines: &[&[u8]] = &[line];
+    can_t_begin(rt, alloc, words, folder, (1, lines, text));
 }
 
 /// Words that aren't the words of a session.
@@ -78,7 +75,7 @@ fn words_of_no_session(rt: HostRuntime) {
     let text = state_text(&rt, alloc, MORNING_STATE);
     for words in OTHER_WORDS {
         let folder = shelf_of(&rt, alloc, MORNING_STATE);
-        can_t_begin(&rt, alloc, words, folder, (2, USAGE_LINE, text.as_slice()));
+        can_t_begin(&rt, alloc, words, folder, (2, NO_SESSION, text.as_slice()));
     }
 }
 
@@ -89,13 +86,12 @@ fn a_state_that_can_t_be_read(rt: HostRuntime) {
     can_t_begin(&rt, alloc, READING, Shelf::new(alloc, 0), missing);
     let others = shelf_with(&rt, alloc, "S2", b"");
     can_t_begin(&rt, alloc, WRITING, others, missing);
-    let empty = "docker: state refused: offset 0: Short\n";
+    let empty = b"docker: state refused: offset 0: Short";
     refuses_text(&rt, alloc, READING, b"", empty);
-    let file = file_text(&rt, alloc, MORNING);
-    let mark = "docker: state refused: offset 0: Mark\n";
-    refuses_text(&rt, alloc, WRITING, file.as_slice(), mark);
+    let file = lines_text(&rt, alloc, MORNING);
+    refuses_text(&rt, alloc, WRITING, file.as_slice(), NO_MARK_LINE);
     let text = state_text(&rt, alloc, MORNING_STATE);
     let cut = text.as_slice().get(..310).expect(&rt, "310 bytes");
-    let short = "docker: state refused: offset 41: Short\n";
+    let short = b"docker: state refused: offset 41: Short";
     refuses_text(&rt, alloc, WRITING, cut, short);
 }

@@ -2,8 +2,8 @@
 
 use crate::answers::answers;
 use crate::compare::same;
-use crate::expected::{ANSWER_18_JUNE, ANSWER_0900, DAY_REFUSED};
-use crate::records::*;
+use crate::expected::{ANSWER_18_JUNE, ANSWER_0900, DAY_REFUSED, DONE, FILES};
+use crate::records::state_text;
 use crate::shelves::{shelf_with, text_of};
 use cif_line::{Bytes, Day, Tiploc};
 use docker_desk::Desk;
@@ -11,6 +11,7 @@ use docker_host::Folder;
 use docker_office::Office;
 use std::alloc::Global;
 use std::process::Abort;
+use test_records::states::{EMPTY_STATE, LAPSED_STATE, MORNING_STATE, Parts};
 
 /// Returns a desk whose office has read this state.
 pub(crate) fn desk_of(rt: &impl Abort, alloc: Global, state: Parts) -> Desk {
@@ -27,9 +28,9 @@ pub(crate) fn day_of(rt: &impl Abort, date: &str) -> Day {
 }
 
 /// Asserts the answer of a desk to a request for the docker of Ashfeld on this day.
-pub(crate) fn prints(rt: &impl Abort, alloc: Global, desk: &Desk, date: &str, wanted: &str) {
+pub(crate) fn prints(rt: &impl Abort, alloc: Global, desk: &Desk, date: &str, lines: &[&[u8]]) {
     let place = Tiploc::from_text("ASHFELD").expect(rt, "a TIPLOC");
-    answers(rt, alloc, &desk.print(&place, day_of(rt, date)), wanted);
+    answers(rt, alloc, &desk.print(&place, day_of(rt, date)), lines);
 }
 
 /// Asserts that a desk has unsaved changes if and only if `unsaved` is set, and that the desk then
@@ -49,8 +50,7 @@ fn dockers_and_files(rt: HostRuntime) {
     let desk = desk_of(&rt, alloc, MORNING_STATE);
     prints(&rt, alloc, &desk, "2024-06-10", ANSWER_0900);
     prints(&rt, alloc, &desk, "2024-06-18", ANSWER_18_JUNE);
-    let files = "0 1 34\n2024-06-09 2100 DFROC1A U DFROC1Z\n";
-    answers(&rt, alloc, &desk.files(), files);
+    answers(&rt, alloc, &desk.files(), FILES);
     ends(&rt, alloc, desk, false, MORNING_STATE);
 }
 
@@ -59,7 +59,7 @@ fn a_desk_that_knows_nothing(rt: HostRuntime) {
     let alloc = rt.alloc();
     let desk = desk_of(&rt, alloc, EMPTY_STATE);
     prints(&rt, alloc, &desk, "2024-06-18", ANSWER_18_JUNE);
-    answers(&rt, alloc, &desk.files(), "0 0 0\n");
+    answers(&rt, alloc, &desk.files(), DONE);
     ends(&rt, alloc, desk, false, EMPTY_STATE);
 }
 

@@ -4,7 +4,8 @@ ghost use Rattle.std.specs.Prelude.{None};
 use cif_line::{Failed, Source};
 
 /// A source that returns at most 100 bytes per read. It records whether it has reported its end,
-/// and whether it was read after that. It never fails.
+/// and whether it was read after that. It never fails. Unlike `Bytes`, it also returns what it has
+/// recorded, so that a test can compare it.
 #[derive(Drop)]
 pub(crate) struct EndRecorder<'a> {
     rest: &'a [u8],

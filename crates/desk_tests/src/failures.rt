@@ -3,9 +3,9 @@ ghost use Rattle.std.specs.Prelude.{◌<◌};
 
 use crate::compare::same;
 use crate::expected::{
-    ANSWER_0900, ANSWER_0905, DEVICE, DEVICE_UNSAVED, DONE, FAILED, FILES, UNSAVED,
+    ANSWER_0900, ANSWER_0905, BOTH_FILES, DEVICE, DEVICE_UNSAVED, DONE, FAILED, FILES, UNSAVED,
 };
-use crate::records::*;
+use crate::records::{lines_text, state_text};
 use crate::session_parts::{READING, WRITING, joined, room};
 use crate::shelves::{shelf_of_morning, text_of};
 use cif_line::{Bytes, Fuse, Source};
@@ -13,6 +13,8 @@ use docker_desk::serve;
 use docker_host::{Fails, Host};
 use std::alloc::Global;
 use std::process::Abort;
+use test_records::dockers::Lines;
+use test_records::states::MORNING_STATE;
 
 /// Asserts that an output with room for `bytes` bytes receives exactly the first `bytes` bytes of
 /// the answers to two requests, and that the session then reads nothing more.
@@ -27,7 +29,8 @@ fn output_has_room_for(rt: &impl Abort, alloc: Global, bytes: usize) {
     let answers = joined(rt, alloc, &[FILES, ANSWER_0900]);
     let front = answers.as_slice().get(..bytes).expect(rt, "answers");
     same(rt, (ended, host.output.bytes()), (4, front));
-    same(rt, host.faults.bytes(), DEVICE.as_bytes());
+    let reported = lines_text(rt, alloc, DEVICE);
+    same(rt, host.faults.bytes(), reported.as_slice());
     same(rt, host.input.left(), b"files\n".as_slice());
 }
 
@@ -42,7 +45,7 @@ fn an_output_that_fails(rt: HostRuntime) {
 
 /// Asserts the status, the answers and the reported lines of a session in which the desk may write.
 /// Its input returns one byte per read, and only the read with this number fails.
-fn input_fails_at(rt: &impl Abort, alloc: Global, read: u64, answers: &[&str], end: (u8, &str))
+fn input_fails_at(rt: &impl Abort, alloc: Global, read: u64, answers: &[Lines], end: (u8, Lines))
     requires { 0 < read }
 {
     let mut host = Host {
@@ -54,18 +57,19 @@ fn input_fails_at(rt: &impl Abort, alloc: Global, read: u64, answers: &[&str], e
     let ended = serve(alloc, WRITING, &mut host);
     let wanted = joined(rt, alloc, answers);
     same(rt, (ended, host.output.bytes()), (end.0, wanted.as_slice()));
-    same(rt, host.faults.bytes(), end.1.as_bytes());
+    let reported = lines_text(rt, alloc, end.1);
+    same(rt, host.faults.bytes(), reported.as_slice());
 }
 
 #[test]
 fn an_input_that_fails(rt: HostRuntime) {
-    let both = "0 2 68\n2024-06-09 2100 DFROC1A U DFROC1Z\n2024-06-10 2100 DFROC1B U DFROC1A\n";
+    let both: &[Lines] = &[DONE, BOTH_FILES];
     input_fails_at(&rt, rt.alloc(), 1, &[], (4, DEVICE));
     input_fails_at(&rt, rt.alloc(), 8, &[], (4, DEVICE));
     input_fails_at(&rt, rt.alloc(), 9, &[DONE], (4, DEVICE_UNSAVED));
     input_fails_at(&rt, rt.alloc(), 14, &[DONE], (4, DEVICE_UNSAVED));
-    input_fails_at(&rt, rt.alloc(), 15, &[DONE, both], (4, DEVICE_UNSAVED));
-    input_fails_at(&rt, rt.alloc(), 16, &[DONE, both], (1, UNSAVED));
+    input_fails_at(&rt, rt.alloc(), 15, both, (4, DEVICE_UNSAVED));
+    input_fails_at(&rt, rt.alloc(), 16, both, (1, UNSAVED));
 }
 
 /// Asserts that a session continues even if each of its saves fails because the folder fails at the
@@ -82,7 +86,8 @@ fn store_fails(rt: &impl Abort, alloc: Global, fails: Fails) {
     let ended = serve(alloc, WRITING, &mut host);
     let wanted = joined(rt, alloc, &[DONE, FAILED, ANSWER_0905]);
     same(rt, (ended, host.output.bytes()), (1, wanted.as_slice()));
-    same(rt, host.faults.bytes(), UNSAVED.as_bytes());
+    let reported = lines_text(rt, alloc, UNSAVED);
+    same(rt, host.faults.bytes(), reported.as_slice());
     let kept = state_text(rt, alloc, MORNING_STATE);
     same(rt, text_of(&host.folder), kept.as_slice());
 }

@@ -3,16 +3,16 @@
 use crate::answers::answers;
 use crate::desks::{day_of, desk_of, prints};
 use crate::expected::{ANSWER_18_JUNE, ANSWER_0900, ANSWER_OVERLAID, DAY_REFUSED};
-use crate::records::*;
+use crate::records::OVERLAID_STATE;
 use cif_line::Tiploc;
 use docker_desk::Desk;
 use std::alloc::Global;
 use std::process::Abort;
 
 /// Asserts the answer of a desk to a request for the permanent docker of Ashfeld on this day.
-fn keeps(rt: &impl Abort, alloc: Global, desk: &Desk, date: &str, wanted: &str) {
+fn keeps(rt: &impl Abort, alloc: Global, desk: &Desk, date: &str, lines: &[&[u8]]) {
     let place = Tiploc::from_text("ASHFELD").expect(rt, "a TIPLOC");
-    answers(rt, alloc, &desk.permanent(&place, day_of(rt, date)), wanted);
+    answers(rt, alloc, &desk.permanent(&place, day_of(rt, date)), lines);
 }
 
 /// The docker shows the overlay, and the permanent docker shows the schedule that the overlay

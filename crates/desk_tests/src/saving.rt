@@ -4,7 +4,7 @@
 use crate::compare::same;
 use crate::desks::{desk_of, ends, prints};
 use crate::expected::ANSWER_0905;
-use crate::records::*;
+use crate::records::{BOTH_STATE, REVISION, REVISION_STATE, lines_text, state_text};
 use crate::shelves::{put, shelf_of, text_of};
 use crate::taking::taken;
 use docker_cmd::OfficeFault;
@@ -13,12 +13,13 @@ use docker_host::{Fails, Folder, Shelf, Sight};
 use docker_office::{StateCause, StateFault};
 use std::alloc::Global;
 use std::process::Abort;
+use test_records::states::{EMPTY_STATE, MORNING_STATE, Parts};
 
 /// Returns a desk that has read the state of the morning train and taken the revision, but hasn't
 /// saved.
 fn desk_with_revision(rt: &impl Abort, alloc: Global) -> Desk {
     let mut desk = desk_of(rt, alloc, MORNING_STATE);
-    let file = file_text(rt, alloc, REVISION);
+    let file = lines_text(rt, alloc, REVISION);
     same(rt, taken(rt, alloc, &mut desk, file.as_slice()), Ok(()));
     desk
 }
@@ -143,7 +144,7 @@ fn a_file_that_is_no_state_any_more(rt: HostRuntime) {
     let mut others = Shelf::new(alloc, 0);
     let failed = Err(OfficeFault::Source);
     renews(&rt, &mut desk, &mut seen, &mut others, failed, false);
-    let file = file_text(&rt, alloc, REVISION);
+    let file = lines_text(&rt, alloc, REVISION);
     put(&rt, &mut folder, "S", file.as_slice());
     let refused = Err(OfficeFault::State(NO_MARK));
     renews(&rt, &mut desk, &mut seen, &mut folder, refused, false);

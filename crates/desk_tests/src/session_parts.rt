@@ -1,9 +1,11 @@
 //! Words and sinks for the tests of sessions.
 ghost use Rattle.std.specs.Prelude.{◌≡◌};
 
+use crate::records::lines_text;
 use cif_line::Kept;
 use std::alloc::Global;
 use std::process::Abort;
+use test_records::dockers::Lines;
 
 /// The words of a session in which the desk may write.
 pub(crate) const WRITING: &[&str] = &["--write", "S"];
@@ -18,11 +20,12 @@ pub(crate) fn room(rt: &impl Abort, alloc: Global, bytes: usize) -> Kept
     Kept::new(alloc, bytes).expect(rt, "room")
 }
 
-/// Returns the concatenation of these texts.
-pub(crate) fn joined(rt: &impl Abort, alloc: Global, texts: &[&str]) -> Vec<u8> {
+/// Returns the concatenation of these answers.
+pub(crate) fn joined(rt: &impl Abort, alloc: Global, answers: &[Lines]) -> Vec<u8> {
     let mut all = Vec::new(alloc);
-    for text in texts {
-        all.extend_from_slice(text.as_bytes()).expect(rt, "room");
+    for lines in answers {
+        let answer = lines_text(rt, alloc, lines);
+        all.extend_from_slice(answer.as_slice()).expect(rt, "room");
     }
     all
 }

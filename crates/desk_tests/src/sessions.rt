@@ -4,7 +4,7 @@ ghost use Rattle.std.specs.Prelude.{◌<◌};
 use crate::compare::same_in;
 use crate::end_recorder::EndRecorder;
 use crate::expected::*;
-use crate::records::*;
+use crate::records::{BOTH_STATE, lines_text, state_text};
 use crate::session_parts::{READING, WRITING, joined, room};
 use crate::shelves::{shelf_of_morning, text_of};
 use cif_line::Bytes;
@@ -12,15 +12,17 @@ use docker_desk::serve;
 use docker_host::Host;
 use std::alloc::Global;
 use std::process::Abort;
+use test_records::dockers::Lines;
+use test_records::states::{LAPSED_STATE, MORNING_STATE, Parts};
 
 /// A row: the words and the input of a session on a file with the state of the morning train, the
-/// answers, the reported line, and the status. The last column is the state in the file after the
+/// answers, the reported lines, and the status. The last column is the state in the file after the
 /// session.
 type Row = (
     &'static [&'static str],
     &'static str,
-    &'static [&'static str],
-    &'static str,
+    &'static [Lines],
+    Lines,
     u8,
     Parts,
 );
@@ -30,7 +32,7 @@ type Row = (
 fn goes_in_pieces(rt: &impl Abort, alloc: Global, row: &Row, step: usize)
     requires { 0 < step }
 {
-    let (words, input, answers, line, status, state) = *row;
+    let (words, input, answers, reported, status, state) = *row;
     let mut host = Host {
         input: Bytes::new(input.as_bytes(), step),
         folder: shelf_of_morning(rt, alloc),
@@ -41,7 +43,8 @@ fn goes_in_pieces(rt: &impl Abort, alloc: Global, row: &Row, step: usize)
     same_in(rt, input, ended, status);
     let wanted = joined(rt, alloc, answers);
     same_in(rt, input, host.output.bytes(), wanted.as_slice());
-    same_in(rt, input, host.faults.bytes(), line.as_bytes());
+    let wanted = lines_text(rt, alloc, reported);
+    same_in(rt, input, host.faults.bytes(), wanted.as_slice());
     let kept = state_text(rt, alloc, state);
     same_in(rt, input, text_of(&host.folder), kept.as_slice());
 }
@@ -57,12 +60,12 @@ fn go(rt: &impl Abort, alloc: Global, rows: &[Row]) {
 
 /// Rows of sessions that only read.
 const READ: &[Row] = &[
-    (READING, "", &[], "", 0, MORNING_STATE),
+    (READING, "", &[], &[], 0, MORNING_STATE),
     (
         READING,
         "print ASHFELD 2024-06-10\nfiles\nrenew\npermanent ASHFELD 2024-06-18\n",
         &[ANSWER_0900, FILES, DONE, ANSWER_18_JUNE],
-        "",
+        &[],
         0,
         MORNING_STATE,
     ),
@@ -70,7 +73,7 @@ const READ: &[Row] = &[
         READING,
         "take F2\nmerge S2\nhorizon 2024-06-15\nsave\nprint ASHFELD 2024-06-10\n",
         &[USAGE, USAGE, USAGE, USAGE, ANSWER_0900],
-        "",
+        &[],
         0,
         MORNING_STATE,
     ),
@@ -78,7 +81,7 @@ const READ: &[Row] = &[
         READING,
         "\nfiles now\nfiles\r\nfiles",
         &[USAGE, USAGE, USAGE, USAGE],
-        "",
+        &[],
         0,
         MORNING_STATE,
     ),
@@ -90,7 +93,7 @@ const CHANGED: &[Row] = &[
         WRITING,
         "take F2\nprint ASHFELD 2024-06-10\nsave\nfiles\nsave\n",
         &[DONE, ANSWER_0905, DONE, BOTH_FILES, DONE],
-        "",
+        &[],
         0,
         BOTH_STATE,
     ),
@@ -98,7 +101,7 @@ const CHANGED: &[Row] = &[
         WRITING,
         "merge S2\nrenew\nfiles\nsave\n",
         &[DONE, DONE, BOTH_FILES, DONE],
-        "",
+        &[],
         0,
         BOTH_STATE,
     ),
@@ -106,7 +109,7 @@ const CHANGED: &[Row] = &[
         WRITING,
         "horizon 2024-06-15\nprint ASHFELD 2024-06-17\nprint ASHFELD 2024-06-18\nsave\n",
         &[DONE, DAY_REFUSED, ANSWER_18_JUNE, DONE],
-        "",
+        &[],
         0,
         LAPSED_STATE,
     ),
@@ -114,7 +117,7 @@ const CHANGED: &[Row] = &[
         WRITING,
         "save\nprint ASHFELD 2024-06-10\n",
         &[DONE, ANSWER_0900],
-        "",
+        &[],
         0,
         MORNING_STATE,
     ),
@@ -150,37 +153,32 @@ const LEFT_UNSAVED: &[Row] = &[
     ),
 ];
 
+/// The answer to a request whose file should be an extract, but holds a state.
+const FILE_OF_A_STATE: Lines = &[b"1 1 39", b"docker: file refused: record 1: Length"];
+
 /// Rows of sessions with refused requests. Refused requests change nothing.
 const REFUSED: &[Row] = &[
     (
         WRITING,
         "take F9\nprint ASHFELD 2024-06-10\n",
         &[FAILED, ANSWER_0900],
-        "",
+        &[],
         0,
         MORNING_STATE,
     ),
     (
         WRITING,
         "take F3\nmerge S9\nfiles\n",
-        &[
-            "1 1 38\ndocker: file refused: record 5: NoEnd\n",
-            FAILED,
-            FILES,
-        ],
-        "",
+        &[FILE_WITHOUT_END, FAILED, FILES],
+        &[],
         0,
         MORNING_STATE,
     ),
     (
         WRITING,
         "merge F2\ntake S2\nfiles\n",
-        &[
-            "1 1 38\ndocker: state refused: offset 0: Mark\n",
-            "1 1 39\ndocker: file refused: record 1: Length\n",
-            FILES,
-        ],
-        "",
+        &[STATE_WITHOUT_MARK, FILE_OF_A_STATE, FILES],
+        &[],
         0,
         MORNING_STATE,
     ),

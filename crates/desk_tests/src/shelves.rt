@@ -1,10 +1,11 @@
 //! Folders in memory for the tests.
 ghost use Rattle.std.specs.Prelude.{◌≡◌};
 
-use crate::records::*;
+use crate::records::{OPEN, REVISION, REVISION_STATE, lines_text, state_text};
 use docker_host::Shelf;
 use std::alloc::Global;
 use std::process::Abort;
+use test_records::states::{MORNING_STATE, Parts};
 
 /// Writes a text to a file, as another command would.
 pub(crate) fn put(rt: &impl Abort, shelf: &mut Shelf, name: &str, text: &[u8])
@@ -37,9 +38,9 @@ pub(crate) fn shelf_of_morning(rt: &impl Abort, alloc: Global) -> Shelf
     ensures { result.failures ≡ 0 }
 {
     let mut shelf = shelf_of(rt, alloc, MORNING_STATE);
-    let revision = file_text(rt, alloc, REVISION);
+    let revision = lines_text(rt, alloc, REVISION);
     put(rt, &mut shelf, "F2", revision.as_slice());
-    let open = file_text(rt, alloc, OPEN);
+    let open = lines_text(rt, alloc, OPEN);
     put(rt, &mut shelf, "F3", open.as_slice());
     let other = state_text(rt, alloc, REVISION_STATE);
     put(rt, &mut shelf, "S2", other.as_slice());

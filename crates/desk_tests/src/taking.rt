@@ -5,7 +5,7 @@ ghost use Rattle.std.specs.Prelude.{◌≡◌};
 use crate::compare::same;
 use crate::desks::{desk_of, ends, prints};
 use crate::expected::{ANSWER_0900, ANSWER_0905};
-use crate::records::*;
+use crate::records::{BOTH_STATE, OPEN, REVISION, REVISION_STATE, lines_text, state_text};
 use crate::shelves::shelf_with;
 use cif_file::{FileCause, FileFault};
 use docker_cmd::OfficeFault;
@@ -14,6 +14,7 @@ use docker_host::{Fails, Shelf};
 use docker_office::{StateCause, StateFault};
 use std::alloc::Global;
 use std::process::Abort;
+use test_records::states::MORNING_STATE;
 
 /// Has a desk take the file `F2` of a shelf, and returns the result.
 fn take(desk: &mut Desk, shelf: &mut Shelf) -> Result<(), OfficeFault>
@@ -47,7 +48,7 @@ fn received(
 fn a_file_is_taken(rt: HostRuntime) {
     let alloc = rt.alloc();
     let mut desk = desk_of(&rt, alloc, MORNING_STATE);
-    let file = file_text(&rt, alloc, REVISION);
+    let file = lines_text(&rt, alloc, REVISION);
     same(&rt, taken(&rt, alloc, &mut desk, file.as_slice()), Ok(()));
     prints(&rt, alloc, &desk, "2024-06-10", ANSWER_0905);
     same(&rt, taken(&rt, alloc, &mut desk, file.as_slice()), Ok(()));
@@ -58,7 +59,8 @@ fn a_file_is_taken(rt: HostRuntime) {
 fn files_that_are_refused(rt: HostRuntime) {
     let alloc = rt.alloc();
     let mut desk = desk_of(&rt, alloc, MORNING_STATE);
-    let (open, file) = (file_text(&rt, alloc, OPEN), file_text(&rt, alloc, REVISION));
+    let open = lines_text(&rt, alloc, OPEN);
+    let file = lines_text(&rt, alloc, REVISION);
     let failed = Err(OfficeFault::Source);
     same(&rt, take(&mut desk, &mut Shelf::new(alloc, 0)), failed);
     let no_end = FileFault {
@@ -100,7 +102,7 @@ fn fault_at(at: u64, cause: StateCause) -> StateFault {
 fn states_that_are_refused(rt: HostRuntime) {
     let alloc = rt.alloc();
     let mut desk = desk_of(&rt, alloc, MORNING_STATE);
-    let file = file_text(&rt, alloc, REVISION);
+    let file = lines_text(&rt, alloc, REVISION);
     refuses_state(
         &rt,
         alloc,

@@ -3,47 +3,40 @@
 use crate::answers::answers;
 use crate::desks::{day_of, desk_of};
 use crate::expected::DAY_REFUSED;
-use crate::records::*;
+use crate::records::BOTH_STATE;
 use cif_line::Uid;
 use docker_desk::Desk;
 use std::alloc::Global;
 use std::process::Abort;
+use test_records::dockers::Lines;
+use test_records::states::{LAPSED_STATE, MORNING_STATE};
+use test_records::trains::{END, NONE_ON_15_JUNE, RUNS_ON_10_JUNE};
+use test_records::{BS, LO, LO_0905, LT};
 
 /// The answer that shows the morning train on 10 June. The train's schedule begins with the second
 /// record of the update of 9 June.
-const RUNS: &str = "\
-0 5 405
-TRAIN  C10001  2024-06-10 P RUNS      2024-06-09 2100 DFROC1A          2        
-BSNC100012406102406141111100 POO1A10                                           P
-LOASHFELD 0900 09001  SL                                                        
-LTBRAYTON 0930 09322  FL                                                        
-END                                                                             
-";
+const RUNS: Lines = &[b"0 5 405", RUNS_ON_10_JUNE, BS, LO, LT, END];
 
 /// The answer that shows the revision of the morning train. The revised schedule begins with the
 /// second record of the update of 10 June.
-const REVISED: &str = "\
-0 5 405
-TRAIN  C10001  2024-06-10 P RUNS      2024-06-10 2100 DFROC1B          2        
-BSNC100012406102406141111100 POO1A10                                           P
-LOASHFELD 0905 09051  SL                                                        
-LTBRAYTON 0930 09322  FL                                                        
-END                                                                             
-";
+const REVISED: Lines = &[
+    b"0 5 405",
+    b"TRAIN  C10001  2024-06-10 P RUNS      2024-06-10 2100 DFROC1B          2        ",
+    BS,
+    LO_0905,
+    LT,
+    END,
+];
 
 /// The answer if no schedule of C10001 runs on the day of the request, Saturday 15 June.
-const NONE_RUNS: &str = "\
-0 2 162
-TRAIN  C10001  2024-06-15   NONE                                                
-END                                                                             
-";
+const NONE_RUNS: Lines = &[b"0 2 162", NONE_ON_15_JUNE, END];
 
 /// The answer if no schedule of the UID is known.
-const UNKNOWN: &str = "\
-0 2 162
-TRAIN  C10009  2024-06-10   NONE                                                
-END                                                                             
-";
+const UNKNOWN: Lines = &[
+    b"0 2 162",
+    b"TRAIN  C10009  2024-06-10   NONE                                                ",
+    END,
+];
 
 /// Asserts the answer of a desk to a request for a train on a day.
 fn answers_train(
@@ -52,10 +45,10 @@ fn answers_train(
     desk: &Desk,
     uid: &[u8; 6],
     date: &str,
-    wanted: &str,
+    lines: &[&[u8]],
 ) {
     let uid = Uid::from_field(uid).expect(rt, "a UID");
-    answers(rt, alloc, &desk.train(&uid, day_of(rt, date)), wanted);
+    answers(rt, alloc, &desk.train(&uid, day_of(rt, date)), lines);
 }
 
 #[test]

@@ -8,10 +8,11 @@ use cif_file::{
 use cif_line::{Bytes, Day, Extract, Line, Stp, Tiploc, Uid};
 use std::alloc::Global;
 use std::process::Abort;
+use test_records::files::{AMENDED, DELETED_AT_NO_TIME, MORNING, NIGHT, OPEN, PLACE, RENAMED};
 use test_records::{
     AA_DIVIDE, BODY_OF_TA, BODY_OF_TI, BS, BS_CANCELLED, BS_DELETED, BS_NIGHT, BS_NO_DAY,
-    BS_OVERLAY, CR_5E51, HD, HD_10B, HD_X, LI_0000, LI_0005, LI_0010, LN, LO, LO_0915, LO_2355,
-    LO_2400, LT, LT_0020, TA, TA_SAME, TI, TI_BLANK, ZZ, text,
+    BS_OVERLAY, CR_5E51, HD, HD_X, LI_0000, LI_0005, LI_0010, LN, LO, LO_0915, LO_2355, LO_2400,
+    LT, LT_0020, TI_BLANK, TI_TAB, ZZ, text,
 };
 
 mod compare;
@@ -23,10 +24,6 @@ mod thin;
 const SHORT: &[u8] =
     b"TIASHFELD         ASHFIELD CENTRAL                                             ";
 
-/// A TIPLOC insert with a tab, which isn't printable, in column 20.
-const TAB: &[u8] =
-    b"TIASHFELD         A\tHFIELD CENTRAL                                              ";
-
 /// A terminus at 00:01.
 const LT_0001: &[u8] =
     b"LTBRAYTON 0001     2  FL                                                        ";
@@ -35,15 +32,20 @@ const LT_0001: &[u8] =
 const LT_0006: &[u8] =
     b"LTBRAYTON 0006     2  FL                                                        ";
 
-/// The records of a small file with one schedule, which many of these tests read.
-const F2: [&[u8]; 5] = [HD, BS, LO, LT, ZZ];
+/// A file with a schedule, its overlay and its cancellation.
+const OVERLAID: &[&[u8]] = &[HD, BS, LO, LT, BS_OVERLAY, LO_0915, LT, BS_CANCELLED, ZZ];
+
+/// A file in which an association stands between two schedules.
+const LINKED: &[&[u8]] = &[
+    HD, BS, LO, LT, AA_DIVIDE, BS_NIGHT, LO_2355, CR_5E51, LI_0010, LT_0020, ZZ,
+];
 
 /// The fault with this cause at this record.
 fn at(number: u32, cause: FileCause) -> FileFault {
     FileFault { number, cause }
 }
 
-/// The key of C10001's schedule in `F2`.
+/// The key of C10001's schedule in `MORNING`.
 fn schedule(rt: &impl Abort) -> Key {
     Key::Schedule(ScheduleKey {
         uid: Uid::from_field(b"C10001").expect(rt, "a UID"),
@@ -57,8 +59,8 @@ fn line(rt: &impl Abort, text: &[u8]) -> Line {
     Line::new(text).expect(rt, "a line")
 }
 
-/// Asserts that a file is `F2`.
-fn check_f2(rt: &impl Abort, file: CifFile) {
+/// Asserts that a file is `MORNING`.
+fn check_morning(rt: &impl Abort, file: CifFile) {
     check_header(rt, &file);
     same(rt, file.records(), 5);
     same(rt, file.changes().len(), 1);
@@ -69,7 +71,7 @@ fn check_f2(rt: &impl Abort, file: CifFile) {
     same(rt, file.into_changes().len(), 1);
 }
 
-/// Asserts that a file has the header of `F2`.
+/// Asserts that a file has the header of `MORNING`.
 fn check_header(rt: &impl Abort, file: &CifFile) {
     let header = file.header();
     same(rt, header.day().number(), 23536);
@@ -88,7 +90,7 @@ fn lines_of(act: &Act) -> Option<&Lines> {
     }
 }
 
-/// Asserts that an act puts the three lines of the schedule in `F2`.
+/// Asserts that an act puts the three lines of the schedule in `MORNING`.
 fn check_lines(rt: &impl Abort, act: &Act) {
     let lines = lines_of(act).expect(rt, "a schedule");
     same(rt, lines.len(), 3);
@@ -180,7 +182,7 @@ const REFUSED: &[Refused] = &[
     (&[BS], 1, FileCause::Place, "BS first"),
     (&[HD_X], 1, FileCause::Field(47), "indicator X"),
     (&[HD, SHORT], 2, FileCause::Length, "79 characters"),
-    (&[HD, TAB], 2, FileCause::Byte(20), "a tab"),
+    (&[HD, TI_TAB], 2, FileCause::Byte(20), "a tab"),
     (&[HD, LN], 2, FileCause::Kind, "LN"),
     (&[HD, ZZ, LI_0000], 3, FileCause::After, "LI after ZZ"),
     (&[HD, BS, LT], 3, FileCause::Place, "LT after BS"),
@@ -197,9 +199,9 @@ const REFUSED: &[Refused] = &[
     ),
 ];
 
-/// Asserts that `F2`, with its five records, is refused if the limit is three records.
+/// Asserts that `MORNING`, with its five records, is refused if the limit is three records.
 fn check_limit(rt: &impl Abort, alloc: Global) {
-    let text = text(alloc, &F2, b"\n").expect(rt, "room");
+    let text = text(alloc, MORNING, b"\n").expect(rt, "room");
     let fault = read_pieces(alloc, &[text.as_slice()], 3).err();
     same(rt, fault, Some(at(4, FileCause::TooMany)));
 }
@@ -251,76 +253,60 @@ fn put(key: &Key, body: [u8; 63]) -> Change {
 type Accepted = (&'static [&'static [u8]], &'static [u32]);
 
 const ACCEPTED: &[Accepted] = &[
-    (
-        &[HD, BS_NIGHT, LO_2355, LI_0000, LI_0010, LT_0020, ZZ],
-        &[2],
-    ),
+    (NIGHT, &[2]),
     (
         &[HD, BS_NIGHT, LO_2355, LI_0010, LI_0005, LT_0006, ZZ],
         &[2],
     ),
-    (
-        &[HD, BS, LO, LT, BS_OVERLAY, LO_0915, LT, BS_CANCELLED, ZZ],
-        &[2, 5, 8],
-    ),
-    (
-        &[
-            HD, BS, LO, LT, AA_DIVIDE, BS_NIGHT, LO_2355, CR_5E51, LI_0010, LT_0020, ZZ,
-        ],
-        &[2, 5, 6],
-    ),
+    (OVERLAID, &[2, 5, 8]),
+    (LINKED, &[2, 5, 6]),
 ];
 
 #[test]
 fn accepted_texts(rt: HostRuntime) {
     let deleted = [deletion(&schedule(&rt))];
-    changes_are(
-        &rt,
-        rt.alloc(),
-        &[HD, BS_DELETED, LO_2400, LT, ZZ],
-        &deleted,
-    );
+    changes_are(&rt, rt.alloc(), DELETED_AT_NO_TIME, &deleted);
     for (records, numbers) in ACCEPTED {
         changes_stand_at(&rt, rt.alloc(), records, numbers);
     }
 }
 
-/// Asserts that a text is read as `F2`.
-fn check_f2_text(rt: &impl Abort, alloc: Global, text: &[u8]) {
+/// Asserts that a text is read as `MORNING`.
+fn check_morning_text(rt: &impl Abort, alloc: Global, text: &[u8]) {
     let file = read_pieces(alloc, &[text], 5).expect(rt, "a file");
-    check_f2(rt, file);
+    check_morning(rt, file);
 }
 
-/// Asserts that the records of `F2`, each with this line end, are read as `F2`.
-fn check_f2_ends(rt: &impl Abort, alloc: Global, end: &[u8]) {
-    let whole = text(alloc, &F2, end).expect(rt, "room");
-    check_f2_text(rt, alloc, whole.as_slice());
+/// Asserts that the records of `MORNING`, each with this line end, are read as `MORNING`.
+fn check_morning_ends(rt: &impl Abort, alloc: Global, end: &[u8]) {
+    let whole = text(alloc, MORNING, end).expect(rt, "room");
+    check_morning_text(rt, alloc, whole.as_slice());
 }
 
-/// Asserts that `F2` is accepted without a line feed after its last record.
-fn check_f2_open(rt: &impl Abort, alloc: Global) {
-    let mut whole = text(alloc, &F2, b"\n").expect(rt, "room");
+/// Asserts that `MORNING` is accepted without a line feed after its last record.
+fn check_morning_open(rt: &impl Abort, alloc: Global) {
+    let mut whole = text(alloc, MORNING, b"\n").expect(rt, "room");
     whole.pop();
-    check_f2_text(rt, alloc, whole.as_slice());
+    check_morning_text(rt, alloc, whole.as_slice());
 }
 
-/// Asserts that `F2` is accepted in pieces of one byte.
-fn check_f2_bytes(rt: &impl Abort, alloc: Global) {
-    let whole = text(alloc, &F2, b"\n").expect(rt, "room");
+/// Asserts that `MORNING` is accepted in pieces of one byte.
+fn check_morning_bytes(rt: &impl Abort, alloc: Global) {
+    let whole = text(alloc, MORNING, b"\n").expect(rt, "room");
     let mut parser = FileParser::new(alloc, 4_294_967_294);
     for byte in &whole {
         parser.feed(&[*byte]).expect(rt, "a good byte");
     }
     let file = parser.finish().expect(rt, "a file");
-    check_f2(rt, file);
+    check_morning(rt, file);
 }
 
 #[test]
 fn four_texts_of_one_file(rt: HostRuntime) {
-    check_f2_ends(&rt, rt.alloc(), b"\n");
-    check_f2_bytes(&rt, rt.alloc());
-    check_f2_ends(&rt, rt.alloc(), b"\r\n");
-    check_f2_open(&rt, rt.alloc());
+    check_morning_ends(&rt, rt.alloc(), b"\n");
+    check_morning_bytes(&rt, rt.alloc());
+    check_morning_ends(&rt, rt.alloc(), b"\r\n");
+    check_morning_open(&rt, rt.alloc());
 }
 
 /// The key of a timing point.
@@ -333,14 +319,14 @@ fn renames(rt: HostRuntime) {
     let alloc = rt.alloc();
     let old = tiploc(&rt, "ASHFELD");
     let new = tiploc(&rt, "ASHFLDN");
-    changes_are(&rt, alloc, &[HD, TI, ZZ], &[put(&old, BODY_OF_TI)]);
+    changes_are(&rt, alloc, PLACE, &[put(&old, BODY_OF_TI)]);
     let renamed = [deletion(&old), put(&new, BODY_OF_TA)];
-    changes_are(&rt, alloc, &[HD_10B, TA, ZZ], &renamed);
-    changes_are(&rt, alloc, &[HD, TA_SAME, ZZ], &[put(&old, BODY_OF_TI)]);
+    changes_are(&rt, alloc, RENAMED, &renamed);
+    changes_are(&rt, alloc, AMENDED, &[put(&old, BODY_OF_TI)]);
 }
 
-/// The fault of the first `length` bytes of `F2`. Each line has `width` bytes, including its line
-/// end.
+/// The fault of the first `length` bytes of `MORNING`. Each line has `width` bytes, including its
+/// line end.
 fn cut_fault(length: u32, width: u32) -> Option<FileFault>
     requires { 80 < width }
 {
@@ -360,12 +346,12 @@ fn cut_fault(length: u32, width: u32) -> Option<FileFault>
     Some(at(records.saturating_add(1), FileCause::NoEnd))
 }
 
-/// Asserts that each proper prefix of `F2` has the fault that `cut_fault` returns. Each line has
-/// `width` bytes, including its line end.
+/// Asserts that each proper prefix of `MORNING` has the fault that `cut_fault` returns. Each line
+/// has `width` bytes, including its line end.
 fn check_cuts(rt: &impl Abort, alloc: Global, end: &[u8], width: u32)
     requires { 80 < width }
 {
-    let whole = text(alloc, &F2, end).expect(rt, "room");
+    let whole = text(alloc, MORNING, end).expect(rt, "room");
     let mut cut = Vec::new(alloc);
     let mut length: u32 = 0;
     for byte in &whole {
@@ -502,8 +488,8 @@ fn file_or_out_of_memory(
 
 #[test]
 fn out_of_memory(rt: HostRuntime) {
-    if let Some(file) = file_or_out_of_memory(&rt, rt.alloc(), &[HD, BS, LO, LT], ZZ) {
-        check_f2(&rt, file);
+    if let Some(file) = file_or_out_of_memory(&rt, rt.alloc(), OPEN, ZZ) {
+        check_morning(&rt, file);
     }
     if let Some(file) = file_or_out_of_memory(&rt, rt.alloc(), &[HD, BS_DELETED], ZZ) {
         same(&rt, file.changes().len(), 1);

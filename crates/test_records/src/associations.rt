@@ -25,6 +25,10 @@ pub const AA_NO_END_DIVIDE: &[u8] =
 pub const AA_DIVIDE: &[u8] =
     b"AANC30001C300022406102406101000000VVSCOLWELL2 TP                               P";
 
+/// The cancellation of `AA_DIVIDE`.
+pub const AA_DIVIDE_CANCELLED: &[u8] =
+    b"AANC30001C300022406102406101000000VVSCOLWELL2 TP                               C";
+
 /// An association: C40002 is the next working of C40001 at Colwell, and starts on the next day.
 pub const AA_N: &[u8] =
     b"AANC40001C400022406102406101000000NPNCOLWELL  TP                               P";

@@ -105,6 +105,9 @@ pub const ROUND_LEAVES: &[u8] = b"0900  D 1A10 C10001 P   1   SL      0900 ASHFE
 /// The docker line for C10001, which leaves Ashfeld at 09:05.
 pub const LEAVES_0905: &[u8] = b"0905  D 1A10 C10001 P   1   SL      0905 ASHFELD BRAYTON";
 
+/// The docker line for C10001, which leaves Ashfeld at 09:05, according to its overlay.
+pub const LEAVES_AS_OVERLAY: &[u8] = b"0905  D 1A10 C10001 O   1   SL      0905 ASHFELD BRAYTON";
+
 /// The docker line for C10001, which leaves Ashfeld at 09:10.
 pub const LEAVES_0910: &[u8] = b"0910  D 1A10 C10001 P   1   SL      0910 ASHFELD BRAYTON";
 
@@ -185,7 +188,7 @@ pub const PASSES_AS_5E51: &[u8] = b"1210  P 5E51 C50001 P                    ASH
 /// identity.
 pub const COMES_AS_5E51: &[u8] = b"1230  A 5E51 C50001 P                    ASHFELD BRAYTON";
 
-/// The lines of a whole docker, in order.
+/// The lines of a whole docker or of another printed text, in order.
 pub type Lines = &'static [&'static [u8]];
 
 /// The docker of Ashfeld with one line: C10001 leaves at 09:00.

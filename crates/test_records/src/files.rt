@@ -1,7 +1,7 @@
 //! The files of the worked examples, each given as the list of its records.
 
 use crate::associations::{
-    AA_BLANK, AA_DIVIDE, AA_JOIN, AA_LAST, AA_N, AA_OTHER, AA_P, AA_S, AA_X,
+    AA_BLANK, AA_DIVIDE, AA_DIVIDE_CANCELLED, AA_JOIN, AA_LAST, AA_N, AA_OTHER, AA_P, AA_S, AA_X,
 };
 use crate::headers::{HD, HD_5A, HD_7B, HD_8A, HD_9B, HD_9C, HD_10B, HD_EARLY, HD_FULL, ZZ};
 use crate::locations::{
@@ -114,21 +114,33 @@ pub const TWO_NIGHTS: File = &[HD, BS_NIGHT, LO_2355, LI_0010, LI_COLWELL_0005, 
 /// A file with a train that runs past three midnights, which no schedule may do.
 pub const THREE_NIGHTS: File = &[HD, BS_NIGHT, LO_2355, LI_0010, LI_COLWELL_0005, LT_0001, ZZ];
 
+/// A file with two trains, and then these further records. The first train calls at Colwell twice.
+/// At the second of these calls, the second train divides from the first.
+macro_rules! division {
+    ($($more:expr),*) => {
+        &[
+            HD,
+            BS_C30001,
+            LO_1000_PLAIN,
+            LI_1010,
+            LI_1040,
+            LT_1100_PLAIN,
+            BS_C30002,
+            LO_COLWELL_1045,
+            LT_DUNMERE_1100,
+            AA_DIVIDE,
+            $($more,)*
+            ZZ,
+        ]
+    };
+}
+
 /// A file with two trains. The first train calls at Colwell twice. At the second of these calls,
 /// the second train divides from the first.
-pub const DIVISION_FILE: File = &[
-    HD,
-    BS_C30001,
-    LO_1000_PLAIN,
-    LI_1010,
-    LI_1040,
-    LT_1100_PLAIN,
-    BS_C30002,
-    LO_COLWELL_1045,
-    LT_DUNMERE_1100,
-    AA_DIVIDE,
-    ZZ,
-];
+pub const DIVISION_FILE: File = division!();
+
+/// A file with the two trains of `DIVISION_FILE`. The division is cancelled.
+pub const DIVISION_CANCELLED: File = division!(AA_DIVIDE_CANCELLED);
 
 /// A file with a train whose identity changes on the way.
 pub const IDENTITY: File = &[

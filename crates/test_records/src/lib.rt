@@ -11,6 +11,7 @@ mod schedules;
 pub mod states;
 mod texts;
 mod tiplocs;
+pub mod trains;
 
 pub use associations::{
     AA_BLANK, AA_DIVIDE, AA_ENDS_1960, AA_ENDS_2059, AA_JOIN, AA_LAST, AA_N, AA_NO_END,

@@ -3,7 +3,6 @@ mod choice;
 mod compare;
 mod files;
 mod refusals;
-mod texts;
 
 use self::compare::same;
 use cif_file::read_pieces;

@@ -7,17 +7,23 @@ use test_records::dockers::{
     AGAIN_COMES, AGAIN_LEAVES, COMES_2350, DIVIDES, FIRST_COMES, FIRST_LEAVES, OTHER_LEAVES,
     WORKS_ON, WORKS_ON_UNKNOWN,
 };
-use test_records::files::DIVISION_FILE;
-use test_records::{
-    AA_BLANK, AA_LAST, AA_N, AA_OTHER, AA_P, AA_S, AA_X, BS_C40001, BS_C40001_CANCELLED,
-    BS_C40001_LAST, BS_C40002, BS_C40002_CANCELLED, HD, LO_2300, LO_COLWELL_0010, LT_ASHFELD_0100,
-    LT_COLWELL_2350, ZZ,
+use test_records::files::{
+    DAY_BEFORE, DIVISION_FILE, NEXT_DAY, NO_INDICATOR, SAME_DAY, UNKNOWN_CATEGORY,
+    UNKNOWN_INDICATOR,
 };
+use test_records::{
+    AA_LAST, AA_N, BS_C40001, BS_C40001_CANCELLED, BS_C40001_LAST, BS_C40002, BS_C40002_CANCELLED,
+    HD, LO_2300, LO_COLWELL_0010, LT_ASHFELD_0100, LT_COLWELL_2350, ZZ,
+};
+
+/// Asserts that the docker of Colwell on 10 June has these lines, if only this file is known.
+fn at_colwell(rt: &impl Abort, alloc: Global, file: &[&[u8]], lines: &[&[u8]]) {
+    shows(rt, alloc, &[file], "COLWELL", "2024-06-10", lines);
+}
 
 /// A train calls twice at one place, and another train divides from it at the second call.
 #[test]
 fn suffixes(rt: HostRuntime) {
-    let file = DIVISION_FILE;
     let lines: &[&[u8]] = &[
         FIRST_COMES,
         FIRST_LEAVES,
@@ -26,7 +32,7 @@ fn suffixes(rt: HostRuntime) {
         AGAIN_LEAVES,
         OTHER_LEAVES,
     ];
-    shows(&rt, rt.alloc(), &[file], "COLWELL", "2024-06-10", lines);
+    at_colwell(&rt, rt.alloc(), DIVISION_FILE, lines);
 }
 
 /// An associated train that would start on the day after the last day of the calendar has the
@@ -53,7 +59,7 @@ fn without(rt: &impl Abort, alloc: Global, cancellation: &[u8], lines: &[&[u8]])
         AA_N,
         ZZ,
     ];
-    shows(rt, alloc, &[file], "COLWELL", "2024-06-10", lines);
+    at_colwell(rt, alloc, file, lines);
 }
 
 /// If the next working is cancelled, its train identity is `????`.
@@ -69,23 +75,6 @@ fn cancelled_base(rt: HostRuntime) {
     without(&rt, rt.alloc(), BS_C40001_CANCELLED, &[]);
 }
 
-/// Asserts the docker lines at Colwell on 10 June. The file has C40001, this association, and
-/// C40002 on 11 June.
-fn works_on(rt: &impl Abort, alloc: Global, association: &[u8], lines: &[&[u8]]) {
-    let file: &[&[u8]] = &[
-        HD,
-        BS_C40001,
-        LO_2300,
-        LT_COLWELL_2350,
-        BS_C40002,
-        LO_COLWELL_0010,
-        LT_ASHFELD_0100,
-        association,
-        ZZ,
-    ];
-    shows(rt, alloc, &[file], "COLWELL", "2024-06-10", lines);
-}
-
 /// Checks each date indicator, an unknown date indicator, and an unknown category. An association
 /// with an unknown date indicator or an unknown category has no line.
 #[test]
@@ -93,10 +82,10 @@ fn date_indicators(rt: HostRuntime) {
     let only: &[&[u8]] = &[COMES_2350];
     let known: &[&[u8]] = &[COMES_2350, WORKS_ON];
     let unknown: &[&[u8]] = &[COMES_2350, WORKS_ON_UNKNOWN];
-    works_on(&rt, rt.alloc(), AA_N, known);
-    works_on(&rt, rt.alloc(), AA_S, unknown);
-    works_on(&rt, rt.alloc(), AA_BLANK, unknown);
-    works_on(&rt, rt.alloc(), AA_P, unknown);
-    works_on(&rt, rt.alloc(), AA_X, only);
-    works_on(&rt, rt.alloc(), AA_OTHER, only);
+    at_colwell(&rt, rt.alloc(), NEXT_DAY, known);
+    at_colwell(&rt, rt.alloc(), SAME_DAY, unknown);
+    at_colwell(&rt, rt.alloc(), NO_INDICATOR, unknown);
+    at_colwell(&rt, rt.alloc(), DAY_BEFORE, unknown);
+    at_colwell(&rt, rt.alloc(), UNKNOWN_INDICATOR, only);
+    at_colwell(&rt, rt.alloc(), UNKNOWN_CATEGORY, only);
 }

@@ -12,21 +12,16 @@ use test_records::dockers::{
     FIRST_LEAVES, LEAVES_0900, LEAVES_0910, LEAVES_0915, LEAVES_AS_NEW, LEAVES_ELSEWHERE,
     NIGHT_COMES, NIGHT_LEAVES, OTHER_LEAVES, WORKS_ON, WORKS_ON_AS_NEW, WORKS_ON_UNKNOWN,
 };
-use test_records::files::{EACH_DAY, WEEK};
+use test_records::files::{DIVISION_CANCELLED, EACH_DAY, WEEK};
 use test_records::{
-    AA_DIVIDE, AA_N, BS, BS_C30001, BS_C30002, BS_C40001, BS_C40002, BS_C40002_CANCELLED, BS_NEW,
-    BS_NIGHT, BS_OVERLAY, BS_WEEK, BS_WEEKEND, HD, LI_0000, LI_1010, LI_1040, LO, LO_0910,
-    LO_1000_PLAIN, LO_2300, LO_2355, LO_COLWELL_0010, LO_COLWELL_1045, LT, LT_0020, LT_1100_PLAIN,
-    LT_ASHFELD_0100, LT_COLWELL_2350, LT_DUNMERE_1100, TI, ZZ, text,
+    AA_N, BS, BS_C40001, BS_C40002, BS_C40002_CANCELLED, BS_NEW, BS_NIGHT, BS_OVERLAY, BS_WEEK,
+    BS_WEEKEND, HD, LI_0000, LO, LO_0910, LO_2300, LO_2355, LO_COLWELL_0010, LO_COLWELL_1045, LT,
+    LT_0020, LT_ASHFELD_0100, LT_COLWELL_2350, LT_DUNMERE_1100, TI, ZZ, text,
 };
 
 /// The cancellation of C20001 on 10 June.
 const BS_NIGHT_CANCELLED: &[u8] =
     b"BSNC200012406102406101000000 POO2B20                                           C";
-
-/// The cancellation of the association by which C30002 divides from C30001.
-const AA_DIVIDE_CANCELLED: &[u8] =
-    b"AANC30001C300022406102406101000000VVSCOLWELL2 TP                               C";
 
 /// The association by which C40001 becomes C40002 on the next day. It has the STP indicator `N`.
 const AA_NEW: &[u8] =
@@ -148,20 +143,7 @@ fn cancelled_night_train(rt: HostRuntime) {
 #[test]
 fn cancelled_association(rt: HostRuntime) {
     let alloc = rt.alloc();
-    let files: &[&[&[u8]]] = &[&[
-        HD,
-        BS_C30001,
-        LO_1000_PLAIN,
-        LI_1010,
-        LI_1040,
-        LT_1100_PLAIN,
-        BS_C30002,
-        LO_COLWELL_1045,
-        LT_DUNMERE_1100,
-        AA_DIVIDE,
-        AA_DIVIDE_CANCELLED,
-        ZZ,
-    ]];
+    let files: &[&[&[u8]]] = &[DIVISION_CANCELLED];
     let today: &[&[u8]] = &[
         FIRST_COMES,
         FIRST_LEAVES,

@@ -2,46 +2,27 @@
 ghost use Rattle.std.specs.Prelude.{◌<◌};
 
 use super::compare::{same, same_in};
-use super::{F2, at};
+use super::{LINKED, OVERLAID, at};
 use cif_file::{FileCause, ReadFault, judge_file};
 use cif_line::{Bytes, Extract};
 use std::alloc::Global;
 use std::process::Abort;
-use test_records::{
-    AA_DIVIDE, BS, BS_CANCELLED, BS_DELETED, BS_NIGHT, BS_OVERLAY, CR_5E51, HD, LI_0010, LO,
-    LO_0915, LO_2355, LO_2400, LT, LT_0020, TA, TA_SAME, TI, ZZ, text,
-};
+use test_records::files::{AMENDED, DELETED, DELETED_AT_NO_TIME, MORNING, PLACE};
+use test_records::{HD, TA, ZZ, text};
 
 /// The records of a file, how many records and changes it has, and a name for the row.
 type Row = (&'static [&'static [u8]], u32, u64, &'static str);
 
 const ROWS: &[Row] = &[
     (&[HD, ZZ], 2, 0, "no unit"),
-    (&F2, 5, 1, "a schedule"),
-    (&[HD, BS_DELETED, ZZ], 3, 1, "a deletion"),
-    (
-        &[HD, BS_DELETED, LO_2400, LT, ZZ],
-        5,
-        1,
-        "a deletion's journey",
-    ),
-    (&[HD, TI, ZZ], 3, 1, "an insertion"),
+    (MORNING, 5, 1, "a schedule"),
+    (DELETED, 3, 1, "a deletion"),
+    (DELETED_AT_NO_TIME, 5, 1, "a deletion's journey"),
+    (PLACE, 3, 1, "an insertion"),
     (&[HD, TA, ZZ], 3, 2, "a rename"),
-    (&[HD, TA_SAME, ZZ], 3, 1, "an amendment of the same code"),
-    (
-        &[HD, BS, LO, LT, BS_OVERLAY, LO_0915, LT, BS_CANCELLED, ZZ],
-        9,
-        3,
-        "an overlay and a cancellation",
-    ),
-    (
-        &[
-            HD, BS, LO, LT, AA_DIVIDE, BS_NIGHT, LO_2355, CR_5E51, LI_0010, LT_0020, ZZ,
-        ],
-        11,
-        3,
-        "an association between schedules",
-    ),
+    (AMENDED, 3, 1, "an amendment of the same code"),
+    (OVERLAID, 9, 3, "an overlay and a cancellation"),
+    (LINKED, 11, 3, "an association between schedules"),
 ];
 
 /// Asserts that `judge_file`, reading a text in pieces of `step` bytes, returns these counts.
@@ -71,7 +52,7 @@ fn counts(rt: HostRuntime) {
 
 #[test]
 fn a_limit_on_records(rt: HostRuntime) {
-    let whole = text(rt.alloc(), &F2, b"\r\n").expect(&rt, "room");
+    let whole = text(rt.alloc(), MORNING, b"\r\n").expect(&rt, "room");
     let mut source = Bytes::new(whole.as_slice(), 7);
     let count = judge_file(rt.alloc(), &mut source, 5).expect(&rt, "a file");
     same(&rt, count.changes(), 1);

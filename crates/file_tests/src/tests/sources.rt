@@ -2,11 +2,12 @@
 ghost use Rattle.std.specs.Prelude.{◌<◌};
 
 use super::compare::{prints, same, same_in};
-use super::{F2, at, check_f2};
+use super::{at, check_morning};
 use cif_file::{FileCause, FileFault, ReadFault, judge_file, read_file};
 use cif_line::{Bytes, Endless, Failed, Source};
 use std::alloc::Global;
 use std::process::Abort;
+use test_records::files::MORNING;
 use test_records::{HD, TI, text};
 
 /// A source that fails at the end of its bytes and at every later read. Contracts can't refer to
@@ -44,14 +45,14 @@ impl Source for Broken<'_> {
     }
 }
 
-/// Asserts that this text, read in pieces of `step` bytes, is read as `F2`. Also asserts that the
-/// text is refused if the limit is four records.
+/// Asserts that this text, read in pieces of `step` bytes, is read as `MORNING`. Also asserts that
+/// the text is refused if the limit is four records.
 fn check_reads(rt: &impl Abort, alloc: Global, text: &[u8], step: usize)
     requires { 0 < step }
 {
     let mut source = Bytes::new(text, step);
     let file = read_file(alloc, &mut source, 5).expect(rt, "a file");
-    check_f2(rt, file);
+    check_morning(rt, file);
     same(rt, source.left().is_empty(), true);
     let mut source = Bytes::new(text, step);
     let fault = read_file(alloc, &mut source, 4).err();
@@ -61,7 +62,7 @@ fn check_reads(rt: &impl Abort, alloc: Global, text: &[u8], step: usize)
 
 #[test]
 fn a_file_by_reads_of_any_length(rt: HostRuntime) {
-    let whole = text(rt.alloc(), &F2, b"\n").expect(&rt, "room");
+    let whole = text(rt.alloc(), MORNING, b"\n").expect(&rt, "room");
     check_reads(&rt, rt.alloc(), whole.as_slice(), 1);
     check_reads(&rt, rt.alloc(), whole.as_slice(), 7);
     check_reads(&rt, rt.alloc(), whole.as_slice(), 81);
@@ -96,7 +97,7 @@ fn front_fails(rt: &impl Abort, alloc: Global, text: &[u8], length: usize, name:
 
 #[test]
 fn sources_that_fail(rt: HostRuntime) {
-    let whole = text(rt.alloc(), &F2, b"\n").expect(&rt, "room");
+    let whole = text(rt.alloc(), MORNING, b"\n").expect(&rt, "room");
     front_fails(&rt, rt.alloc(), whole.as_slice(), 0, "0 bytes");
     front_fails(&rt, rt.alloc(), whole.as_slice(), 81, "81 bytes");
     front_fails(&rt, rt.alloc(), whole.as_slice(), 100, "100 bytes");

@@ -5,9 +5,9 @@ use cif_file::{Act, Body, read_thin};
 use cif_line::{Bytes, Day, Tiploc};
 use std::alloc::Global;
 use std::process::Abort;
+use test_records::files::PUT_AND_DELETED;
 use test_records::{
-    BS, BS_DELETED, BS_NIGHT, BS_WEEKEND, HD, LI_0000, LI_0010, LO, LO_2355, LT, LT_0020, TI, ZZ,
-    text,
+    BS_DELETED, BS_NIGHT, BS_WEEKEND, HD, LI_0000, LI_0010, LO, LO_2355, LT, LT_0020, TI, ZZ, text,
 };
 
 /// A file with a timing point, a night train on 10 June, and a train on 15 and 16 June. The file
@@ -15,9 +15,6 @@ use test_records::{
 const MIXED: [&[u8]; 12] = [
     HD, TI, BS_NIGHT, LO_2355, LI_0000, LI_0010, LT_0020, BS_WEEKEND, LO, LT, BS_DELETED, ZZ,
 ];
-
-/// A file that puts a schedule and then deletes it.
-const PUT_AND_DELETED: [&[u8]; 6] = [HD, BS, LO, LT, BS_DELETED, ZZ];
 
 /// How many lines an act puts. A deletion puts none.
 fn lines_of(act: &Act) -> usize {
@@ -74,7 +71,7 @@ fn a_deletion_of_a_kept_key(rt: HostRuntime) {
     keeps(
         &rt,
         rt.alloc(),
-        &PUT_AND_DELETED,
+        PUT_AND_DELETED,
         "ASHFELD",
         "2024-06-10",
         &[3, 0],
@@ -82,7 +79,7 @@ fn a_deletion_of_a_kept_key(rt: HostRuntime) {
     keeps(
         &rt,
         rt.alloc(),
-        &PUT_AND_DELETED,
+        PUT_AND_DELETED,
         "ASHFELD",
         "2024-07-10",
         &[],

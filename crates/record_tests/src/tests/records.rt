@@ -6,7 +6,7 @@ use cif_line::{
     kind, origin, terminus, tiploc,
 };
 use std::process::Abort;
-use test_records::{BS, CR_5E51, HD, LI_0000, LI_0010, LO, LT, TA, TI};
+use test_records::{BODY_OF_TI, BS, CR_5E51, HD, LI_0000, LI_0010, LO, LT, TA, TI};
 
 // The line with this text.
 fn line(rt: &impl Abort, text: &[u8]) -> Line {
@@ -197,11 +197,7 @@ fn a_timing_point(rt: HostRuntime) {
     let point = tiploc_of(&rt, &line);
     same(&rt, point.code().bytes(), b"ASHFELD");
     same(&rt, point.description(), b"ASHFIELD CENTRAL          ");
-    same(
-        &rt,
-        point.details(),
-        b"         ASHFIELD CENTRAL                                      ",
-    );
+    same(&rt, point.details(), &BODY_OF_TI);
     same(&rt, point.new_code(), None);
 }
 

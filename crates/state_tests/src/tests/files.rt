@@ -8,10 +8,13 @@ use docker_join::Merge;
 use docker_state::State;
 use std::alloc::Global;
 use std::process::Abort;
+use test_records::files::{
+    DELETED, DELETION, EIGHTH, FIFTH, FULL, LATER, LONGER, MORNING, NINTH, PLACE, PUT_AND_DELETED,
+    RENAMED, REVISION, SEVENTH,
+};
 use test_records::{
-    BODY_OF_TA, BS, BS_C10002, BS_C10003, BS_DELETED, BS_LONGER, BS_REVISED, HD, HD_5A, HD_7B,
-    HD_8A, HD_9B, HD_9C, HD_10B, HD_FULL, LO, LO_0850, LO_0905, LO_1000, LO_1100, LT, LT_0935,
-    LT_1030, LT_1130, TA, TI, ZZ,
+    BODY_OF_TA, BS, BS_C10002, BS_DELETED, BS_LONGER, HD_10B, HD_FULL, LO, LO_0850, LO_0905,
+    LO_1000, LO_1100, LT, LT_0935, LT_1030, LT_1130, TI, ZZ,
 };
 
 /// Asserts that a state has no entry for a timing point.
@@ -28,7 +31,7 @@ fn no_file(rt: HostRuntime) {
     has_none_at(&rt, &empty, "ASHFELD");
     let twice = joined(&rt, alloc, empty, State::empty(alloc));
     state_is(&rt, alloc, &twice, &[]);
-    let one = state(&rt, alloc, &[HD, TI, ZZ]);
+    let one = state(&rt, alloc, PLACE);
     let before = shown(&rt, alloc, &one);
     same(&rt, before.is_empty(), false);
     let all = joined(&rt, alloc, twice, one);
@@ -41,15 +44,15 @@ fn file_is(rt: &impl Abort, alloc: Global, file: &[&[u8]], lines: &[&[u8]]) {
     made_is(rt, alloc, state(rt, alloc, file), lines);
 }
 
-/// What is shown for the state of a file that puts a schedule and then deletes it.
-const PUT_AND_DELETED: &[&[u8]] = &[
+/// What is shown for the state of `PUT_AND_DELETED`.
+const ONLY_DELETED: &[&[u8]] = &[
     b"item 23536 1260 DFROC1A U DFROC1Z",
     b"C10001 23537: record 5 of 23536 1260 DFROC1A",
     b"deleted",
 ];
 
 /// What is shown for the state of a full extract that puts a schedule and then deletes it.
-const PUT_AND_DELETED_IN_FULL: &[&[u8]] = &[
+const ONLY_DELETED_IN_FULL: &[&[u8]] = &[
     b"item 23536 1260 DFROC1A F DFROC1Z",
     b"floor 23536 1260 DFROC1A",
     b"C10001 23537: record 5 of 23536 1260 DFROC1A",
@@ -59,10 +62,9 @@ const PUT_AND_DELETED_IN_FULL: &[&[u8]] = &[
 #[test]
 fn one_file(rt: HostRuntime) {
     let alloc = rt.alloc();
-    let update: &[&[u8]] = &[HD, BS, LO, LT, BS_DELETED, ZZ];
-    file_is(&rt, alloc, update, PUT_AND_DELETED);
+    file_is(&rt, alloc, PUT_AND_DELETED, ONLY_DELETED);
     let full: &[&[u8]] = &[HD_FULL, BS, LO, LT, BS_DELETED, ZZ];
-    file_is(&rt, alloc, full, PUT_AND_DELETED_IN_FULL);
+    file_is(&rt, alloc, full, ONLY_DELETED_IN_FULL);
 }
 
 /// Joins the states of two files, and joins the result with the first state again.
@@ -85,9 +87,6 @@ fn pair_is(rt: &impl Abort, alloc: Global, one: &[&[u8]], other: &[&[u8]], lines
     made_is(rt, alloc, merged_back(rt, alloc, one, other), lines);
     made_is(rt, alloc, merged_twice(rt, alloc, one, other), lines);
 }
-
-/// A file with one schedule.
-const ONE_SCHEDULE: &[&[u8]] = &[HD, BS, LO, LT, ZZ];
 
 /// What is shown for the join of a schedule and its revision.
 pub(super) const REVISED: &[&[u8]] = &[
@@ -112,7 +111,7 @@ const DELETED_FIRST: &[&[u8]] = &[
 ];
 
 /// What is shown for the join of a TIPLOC insert and a later amendment with a new code.
-const RENAMED: &[&[u8]] = &[
+const WITH_NEW_CODE: &[&[u8]] = &[
     b"item 23536 1260 DFROC1A U DFROC1Z",
     b"item 23537 1260 DFROC1B U DFROC1A",
     b"ASHFELD: record 2 of 23537 1260 DFROC1B",
@@ -141,19 +140,14 @@ const OF_ONE_STAMP: &[&[u8]] = &[
 #[test]
 fn two_files(rt: HostRuntime) {
     let alloc = rt.alloc();
-    let revision: &[&[u8]] = &[HD_10B, BS_REVISED, LO_0905, LT_0935, ZZ];
-    pair_is(&rt, alloc, ONE_SCHEDULE, revision, REVISED);
-    let deletion: &[&[u8]] = &[HD_9B, BS_DELETED, ZZ];
-    let older: &[&[u8]] = &[HD_8A, BS, LO, LT, ZZ];
-    pair_is(&rt, alloc, deletion, older, DELETED_FIRST);
-    let (inserted, amended): (&[&[u8]], &[&[u8]]) = (&[HD, TI, ZZ], &[HD_10B, TA, ZZ]);
-    pair_is(&rt, alloc, inserted, amended, RENAMED);
-    let full: &[&[u8]] = &[HD_FULL, BS, LO, LT, ZZ];
-    pair_is(&rt, alloc, ONE_SCHEDULE, full, OF_ONE_STAMP);
+    pair_is(&rt, alloc, MORNING, REVISION, REVISED);
+    pair_is(&rt, alloc, DELETION, EIGHTH, DELETED_FIRST);
+    pair_is(&rt, alloc, PLACE, RENAMED, WITH_NEW_CODE);
+    pair_is(&rt, alloc, MORNING, FULL, OF_ONE_STAMP);
 }
 
-/// Asserts which of two schedules with equal stamps the join takes: the one with this basic
-/// schedule and this origin.
+/// Asserts which of two schedules with equal stamps the join of `MORNING` and this file takes: the
+/// one with this basic schedule and this origin.
 fn stays(rt: &impl Abort, alloc: Global, other: &[&[u8]], basic: &[u8], origin: &[u8]) {
     let lines: &[&[u8]] = &[
         b"item 23536 1260 DFROC1A U DFROC1Z",
@@ -166,17 +160,17 @@ fn stays(rt: &impl Abort, alloc: Global, other: &[&[u8]], basic: &[u8], origin: 
         origin,
         LT,
     ];
-    pair_is(rt, alloc, ONE_SCHEDULE, other, lines);
+    pair_is(rt, alloc, MORNING, other, lines);
 }
 
+/// Of two puts with equal stamps, the put that ends later stays. If both end on the same day, the
+/// put with the greater bytes stays. Of a put and a deletion, the put stays.
 #[test]
 fn equal_stamps(rt: HostRuntime) {
     let alloc = rt.alloc();
-    let later_end: &[&[u8]] = &[HD, BS_LONGER, LO_0850, LT, ZZ];
-    stays(&rt, alloc, later_end, BS_LONGER, LO_0850);
-    let greater_bytes: &[&[u8]] = &[HD, BS, LO_0905, LT, ZZ];
-    stays(&rt, alloc, greater_bytes, BS, LO_0905);
-    stays(&rt, alloc, &[HD, BS_DELETED, ZZ], BS, LO);
+    stays(&rt, alloc, LONGER, BS_LONGER, LO_0850);
+    stays(&rt, alloc, LATER, BS, LO_0905);
+    stays(&rt, alloc, DELETED, BS, LO);
 }
 
 /// What is shown for the join of an update, a later full extract and an even later update.
@@ -216,15 +210,12 @@ fn three_are(rt: &impl Abort, alloc: Global, first: &[&[u8]], second: &[&[u8]], 
 #[test]
 fn a_late_full_extract(rt: HostRuntime) {
     let alloc = rt.alloc();
-    let u5: &[&[u8]] = &[HD_5A, BS_C10003, BS, LO, LT, ZZ];
-    let f7: &[&[u8]] = &[HD_7B, BS_C10002, LO_1000, LT_1030, ZZ];
-    let u9: &[&[u8]] = &[HD_9C, BS, LO_1100, LT_1130, ZZ];
-    three_are(&rt, alloc, u5, f7, u9);
-    three_are(&rt, alloc, u5, u9, f7);
-    three_are(&rt, alloc, f7, u5, u9);
-    three_are(&rt, alloc, f7, u9, u5);
-    three_are(&rt, alloc, u9, u5, f7);
-    three_are(&rt, alloc, u9, f7, u5);
+    three_are(&rt, alloc, FIFTH, SEVENTH, NINTH);
+    three_are(&rt, alloc, FIFTH, NINTH, SEVENTH);
+    three_are(&rt, alloc, SEVENTH, FIFTH, NINTH);
+    three_are(&rt, alloc, SEVENTH, NINTH, FIFTH);
+    three_are(&rt, alloc, NINTH, FIFTH, SEVENTH);
+    three_are(&rt, alloc, NINTH, SEVENTH, FIFTH);
 }
 
 /// Joins two states. If memory runs out, tries once more with the two states that the call has
@@ -280,8 +271,8 @@ fn of_file_succeeds(rt: &impl Abort, alloc: Global, records: &[&[u8]]) {
 #[test]
 fn out_of_memory(rt: HostRuntime) {
     let alloc = rt.alloc();
-    let one = state(&rt, alloc, ONE_SCHEDULE);
+    let one = state(&rt, alloc, MORNING);
     let other = state(&rt, alloc, &[HD_10B, TI, ZZ]);
     join_succeeds(&rt, alloc, one, other);
-    of_file_succeeds(&rt, alloc, ONE_SCHEDULE);
+    of_file_succeeds(&rt, alloc, MORNING);
 }

@@ -4,12 +4,10 @@ use super::{joined, made_is, set, set_on};
 use docker_state::State;
 use std::alloc::Global;
 use std::process::Abort;
-use test_records::{
-    AA_NO_END, BODY_OF_TI, BS, BS_C10003, BS_JULY, BS_NO_END, BS_REVISED, HD, HD_8A, HD_10B, LO,
-    LO_0905, LT, LT_0935, TI, ZZ,
-};
+use test_records::files::{JULY, MORNING, REVISION};
+use test_records::{AA_NO_END, BODY_OF_TI, BS, BS_C10003, BS_NO_END, HD, LO, LT, TI, ZZ};
 
-/// What is shown for a schedule if the horizon is its last day.
+/// What is shown for the schedule of `MORNING` if the horizon is its last day.
 const LIVE: &[&[u8]] = &[
     b"horizon 23541",
     b"item 23536 1260 DFROC1A U DFROC1Z",
@@ -31,11 +29,10 @@ const LAPSED: &[&[u8]] = &[
     b"lapsed",
 ];
 
-/// Asserts that a schedule is shown as these lines after these horizons were set, one after
-/// another.
+/// Asserts that the schedule of `MORNING` is shown as these lines after these horizons were set,
+/// one after another.
 fn under_is(rt: &impl Abort, alloc: Global, days: &[&str], lines: &[&[u8]]) {
-    let file: &[&[u8]] = &[HD, BS, LO, LT, ZZ];
-    made_is(rt, alloc, set_on(rt, alloc, file, days), lines);
+    made_is(rt, alloc, set_on(rt, alloc, MORNING, days), lines);
 }
 
 #[test]
@@ -46,13 +43,8 @@ fn a_horizon(rt: HostRuntime) {
     under_is(&rt, alloc, &["2024-06-15", "2024-06-10"], LAPSED);
 }
 
-/// A file that revises a schedule.
-const REVISION: &[&[u8]] = &[HD_10B, BS_REVISED, LO_0905, LT_0935, ZZ];
-
-/// A file that is older than `REVISION`, in which the same schedule ends later.
-const OLDER: &[&[u8]] = &[HD_8A, BS_JULY, LO, LT, ZZ];
-
-/// What is shown for the join of `REVISION` and `OLDER` if the horizon is after the revision's end.
+/// What is shown for the join of `REVISION` and `JULY` if the horizon is after the revision's end.
+/// `JULY` is older than `REVISION`, and the schedule ends later in it.
 const REVISION_LAPSED: &[&[u8]] = &[
     b"horizon 23542",
     b"item 23535 1260 DFROC1A U DFROC1Z",
@@ -86,11 +78,11 @@ fn a_horizon_between_two_files(rt: HostRuntime) {
     let alloc = rt.alloc();
     let none: &[&str] = &[];
     let day: &[&str] = &["2024-06-15"];
-    lapses(&rt, alloc, (REVISION, day), (OLDER, none), none);
-    lapses(&rt, alloc, (OLDER, day), (REVISION, none), none);
-    lapses(&rt, alloc, (OLDER, none), (REVISION, day), none);
-    lapses(&rt, alloc, (OLDER, day), (REVISION, day), none);
-    lapses(&rt, alloc, (REVISION, none), (OLDER, none), day);
+    lapses(&rt, alloc, (REVISION, day), (JULY, none), none);
+    lapses(&rt, alloc, (JULY, day), (REVISION, none), none);
+    lapses(&rt, alloc, (JULY, none), (REVISION, day), none);
+    lapses(&rt, alloc, (JULY, day), (REVISION, day), none);
+    lapses(&rt, alloc, (REVISION, none), (JULY, none), day);
 }
 
 /// What is shown if the horizon is the last possible day. The file has a timing point, an

@@ -7,7 +7,7 @@ use docker_join::{Entry, Op};
 use docker_state::{LedgerItem, Parts, State};
 use std::alloc::Global;
 use std::process::Abort;
-use test_records::{BS_DELETED, HD, ZZ};
+use test_records::files::DELETED;
 
 /// Asserts that the entry added last has this key. For `None`, asserts that no entry was added.
 fn last_is(rt: &impl Abort, parts: &Parts, wanted: Option<Key>) {
@@ -46,7 +46,7 @@ fn rebuilt(rt: &impl Abort, alloc: Global, one: &State) -> State {
 #[test]
 fn parts(rt: HostRuntime) {
     let alloc = rt.alloc();
-    let one = state(&rt, alloc, &[HD, BS_DELETED, ZZ]);
+    let one = state(&rt, alloc, DELETED);
     let again = rebuilt(&rt, alloc, &one);
     let before = shown(&rt, alloc, &one);
     shown_again(&rt, alloc, &again, before.as_slice());

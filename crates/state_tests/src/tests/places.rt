@@ -8,10 +8,10 @@ use cif_line::{Bytes, Tiploc, Uid};
 use docker_state::{PlaceRows, State};
 use std::alloc::Global;
 use std::process::Abort;
+use test_records::files::{DELETION, DIVISION_FILE, EIGHTH};
 use test_records::{
-    AA_DIVIDE, BS, BS_C30001, BS_C30002, BS_C30002_DELETED, BS_DELETED, HD, HD_8A, HD_9B, HD_10B,
-    LI_1010, LI_1040, LO, LO_1000_PLAIN, LO_COLWELL_1045, LT, LT_1100_PLAIN, LT_DUNMERE_1100, ZZ,
-    text,
+    AA_DIVIDE, BS, BS_C30001, BS_C30002, BS_C30002_DELETED, HD_10B, LI_1010, LI_1040, LO,
+    LO_1000_PLAIN, LO_COLWELL_1045, LT, LT_1100_PLAIN, LT_DUNMERE_1100, ZZ, text,
 };
 
 /// Appends a key and its body to a text.
@@ -60,24 +60,11 @@ fn found_is(rt: &impl Abort, alloc: Global, state: &State, tiploc: &str, lines: 
     same(rt, found.as_slice(), wanted.as_slice());
 }
 
-/// A file with the schedules C30001 and C30002, which both call at Colwell, and with an association
-/// of the two trains there. C30001 calls twice. The file's state has three rows: the association,
-/// C30001 and C30002.
-const FILE: &[&[u8]] = &[
-    HD,
-    BS_C30001,
-    LO_1000_PLAIN,
-    LI_1010,
-    LI_1040,
-    LT_1100_PLAIN,
-    BS_C30002,
-    LO_COLWELL_1045,
-    LT_DUNMERE_1100,
-    AA_DIVIDE,
-    ZZ,
-];
+/// A file that is later than `DIVISION_FILE`. It deletes C30002 and puts C10001.
+const LATER: &[&[u8]] = &[HD_10B, BS_C30002_DELETED, BS, LO, LT, ZZ];
 
-/// What is found at Colwell in the state of `FILE`.
+/// What is found at Colwell in the state of `DIVISION_FILE`. The state has three rows: the
+/// association, C30001 and C30002.
 const AT_COLWELL: &[&[u8]] = &[
     b"calls 1: C30001 23537",
     BS_C30001,
@@ -105,8 +92,8 @@ const AT_ELM: &[&[u8]] = &[
     LT_DUNMERE_1100,
 ];
 
-/// What is found at Colwell after C10001 was put and C30002 deleted: the rows with the indexes 0
-/// and 2. The state then has four rows.
+/// What is found at Colwell in the join with the state of `LATER`: the rows with the indexes 0 and
+/// 2. The join has four rows.
 const LEFT_AT_COLWELL: &[&[u8]] = &[
     b"calls 2: C30001 23537",
     BS_C30001,
@@ -118,7 +105,7 @@ const LEFT_AT_COLWELL: &[&[u8]] = &[
     AA_DIVIDE,
 ];
 
-/// What is found at Ashfeld after C10001 was put and C30002 deleted.
+/// What is found at Ashfeld in this join.
 const AT_ASHFELD: &[&[u8]] = &[
     b"calls 1: C10001 23537",
     BS,
@@ -135,14 +122,13 @@ const AT_ASHFELD: &[&[u8]] = &[
 #[test]
 fn places(rt: HostRuntime) {
     let alloc = rt.alloc();
-    let one = state(&rt, alloc, FILE);
+    let one = state(&rt, alloc, DIVISION_FILE);
     found_is(&rt, alloc, &one, "COLWELL", AT_COLWELL);
     found_is(&rt, alloc, &one, "ELM", AT_ELM);
-    let later = state(&rt, alloc, &[HD_10B, BS_C30002_DELETED, BS, LO, LT, ZZ]);
-    let both = joined(&rt, alloc, later, one);
+    let both = joined(&rt, alloc, state(&rt, alloc, LATER), one);
     found_is(&rt, alloc, &both, "COLWELL", LEFT_AT_COLWELL);
     found_is(&rt, alloc, &both, "ASHFELD", AT_ASHFELD);
-    let lapsed = set_on(&rt, alloc, FILE, &["2024-06-11"]);
+    let lapsed = set_on(&rt, alloc, DIVISION_FILE, &["2024-06-11"]);
     found_is(&rt, alloc, &lapsed, "COLWELL", &[]);
 }
 
@@ -157,11 +143,10 @@ fn unindexed(rt: &impl Abort, alloc: Global, records: &[&[u8]]) -> State {
 #[test]
 fn places_without_an_index(rt: HostRuntime) {
     let alloc = rt.alloc();
-    let one = unindexed(&rt, alloc, FILE);
+    let one = unindexed(&rt, alloc, DIVISION_FILE);
     found_is(&rt, alloc, &one, "COLWELL", AT_COLWELL);
     found_is(&rt, alloc, &one, "ELM", AT_ELM);
-    let later = unindexed(&rt, alloc, &[HD_10B, BS_C30002_DELETED, BS, LO, LT, ZZ]);
-    let both = joined(&rt, alloc, later, one);
+    let both = joined(&rt, alloc, unindexed(&rt, alloc, LATER), one);
     found_is(&rt, alloc, &both, "COLWELL", LEFT_AT_COLWELL);
     found_is(&rt, alloc, &both, "ASHFELD", AT_ASHFELD);
 }
@@ -169,10 +154,8 @@ fn places_without_an_index(rt: HostRuntime) {
 #[test]
 fn places_of_what_was_deleted(rt: HostRuntime) {
     let alloc = rt.alloc();
-    let deletion: &[&[u8]] = &[HD_9B, BS_DELETED, ZZ];
-    let before: &[&[u8]] = &[HD_8A, BS, LO, LT, ZZ];
-    let one = pair(&rt, alloc, deletion, before);
+    let one = pair(&rt, alloc, DELETION, EIGHTH);
     found_is(&rt, alloc, &one, "ASHFELD", &[]);
-    let other = pair(&rt, alloc, before, deletion);
+    let other = pair(&rt, alloc, EIGHTH, DELETION);
     found_is(&rt, alloc, &other, "ASHFELD", &[]);
 }

@@ -14,10 +14,8 @@ use docker_join::{Entry, Op};
 use docker_state::{Staging, State};
 use std::alloc::Global;
 use std::process::Abort;
-use test_records::{
-    BS, BS_C10002, BS_C10003, BS_REVISED, HD, HD_5A, HD_7B, HD_10B, LO, LO_0905, LO_1000, LT,
-    LT_0935, LT_1030, ZZ,
-};
+use test_records::files::{FIFTH, MORNING, REVISION, SEVENTH};
+use test_records::{BS_C10002, LO_1000, LT_1030};
 
 /// A copy of this op.
 fn copied(rt: &impl Abort, alloc: Global, op: &Op) -> Op
@@ -111,19 +109,7 @@ fn received_is(
     receive_is(rt, alloc, &mut own, &received, 0, lines);
 }
 
-/// A file with one schedule.
-const SCHEDULE: &[&[u8]] = &[HD, BS, LO, LT, ZZ];
-
-/// A file that is later than `SCHEDULE` and revises its schedule.
-const REVISION: &[&[u8]] = &[HD_10B, BS_REVISED, LO_0905, LT_0935, ZZ];
-
-/// An update that deletes one schedule and puts another.
-const UPDATE: &[&[u8]] = &[HD_5A, BS_C10003, BS, LO, LT, ZZ];
-
-/// A full extract that is later than `UPDATE`, with a third schedule.
-const EXTRACT: &[&[u8]] = &[HD_7B, BS_C10002, LO_1000, LT_1030, ZZ];
-
-/// What is shown for a state whose ledger has only the file `EXTRACT`.
+/// What is shown for a state whose ledger has only the full extract `SEVENTH`.
 const EXTRACT_ONLY: &[&[u8]] = &[
     b"item 23534 1260 DFROC1B F DFROC1A",
     b"floor 23534 1260 DFROC1B",
@@ -140,12 +126,12 @@ const EXTRACT_ONLY: &[&[u8]] = &[
 #[test]
 fn staging(rt: HostRuntime) {
     let alloc = rt.alloc();
-    let schedule = state(&rt, alloc, SCHEDULE);
-    received_is(&rt, alloc, schedule, REVISION, 1, REVISED);
-    let both = pair(&rt, alloc, SCHEDULE, REVISION);
-    received_is(&rt, alloc, both, SCHEDULE, 0, REVISED);
-    let extract = state(&rt, alloc, EXTRACT);
-    received_is(&rt, alloc, extract, UPDATE, 0, EXTRACT_ONLY);
-    let update = state(&rt, alloc, UPDATE);
-    received_is(&rt, alloc, update, EXTRACT, 1, EXTRACT_ONLY);
+    let morning = state(&rt, alloc, MORNING);
+    received_is(&rt, alloc, morning, REVISION, 1, REVISED);
+    let both = pair(&rt, alloc, MORNING, REVISION);
+    received_is(&rt, alloc, both, MORNING, 0, REVISED);
+    let extract = state(&rt, alloc, SEVENTH);
+    received_is(&rt, alloc, extract, FIFTH, 0, EXTRACT_ONLY);
+    let update = state(&rt, alloc, FIFTH);
+    received_is(&rt, alloc, update, SEVENTH, 1, EXTRACT_ONLY);
 }

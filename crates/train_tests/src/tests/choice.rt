@@ -1,10 +1,10 @@
 //! Which schedule is chosen for each day, and the records that are printed for it.
 
-use super::texts::{END, NONE_ON_17_JUNE};
 use super::{joined, says};
 use docker_state::State;
 use std::alloc::Global;
 use std::process::Abort;
+use test_records::trains::{END, NONE_ON_17_JUNE};
 use test_records::{
     BS_C10002_WEEK, BS_CANCELLED, BS_NEW, BS_OVERLAY, BS_SUNDAY, BS_WEEK, HD, LO, LO_0915, LO_0920,
     LO_0940, LT, ZZ,

@@ -1,10 +1,10 @@
 //! Which of two files the chosen schedule comes from.
 
-use super::texts::END;
 use super::{joined, says};
 use std::alloc::Global;
 use std::process::Abort;
 use test_records::files::WEEK;
+use test_records::trains::{END, NONE_ON_15_JUNE};
 use test_records::{
     BS_CANCELLED_DELETED, BS_DELETED_PLAIN, BS_OVERLAY, BS_REVISED_SHORTER, BS_SHORTER, BS_WEEK,
     HD_10B_0605, LO, LO_0915, LO_0920, LT, ZZ,
@@ -37,10 +37,6 @@ const REVISED: &[u8] =
 /// The heading for 12 June, on which no schedule of C10001 runs.
 const NONE: &[u8] =
     b"TRAIN  C10001  2024-06-12   NONE                                                ";
-
-/// The heading for 15 June, on which no schedule of C10001 runs. The revision ends on 13 June.
-const NONE_AFTER: &[u8] =
-    b"TRAIN  C10001  2024-06-15   NONE                                                ";
 
 /// Asserts that the text for C10001 on this day has these lines, after these files are joined in
 /// this order.
@@ -76,12 +72,18 @@ fn restored(rt: HostRuntime) {
 }
 
 /// A second file revises the permanent schedule of the first file. The revision is stored with the
-/// transaction `N`.
+/// transaction `N`, and its last day is 13 June.
 #[test]
 fn revised(rt: HostRuntime) {
     let revised: &[&[u8]] = &[REVISED, BS_SHORTER, LO_0920, LT, END];
     let files: &[&[&[u8]]] = &[WEEK, REVISES];
     files_say(&rt, rt.alloc(), files, "2024-06-12", revised);
-    files_say(&rt, rt.alloc(), files, "2024-06-15", &[NONE_AFTER, END]);
+    files_say(
+        &rt,
+        rt.alloc(),
+        files,
+        "2024-06-15",
+        &[NONE_ON_15_JUNE, END],
+    );
     files_say(&rt, rt.alloc(), &[REVISES, WEEK], "2024-06-12", revised);
 }

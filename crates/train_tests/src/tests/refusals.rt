@@ -2,7 +2,6 @@
 //! sink fails.
 
 use super::compare::same;
-use super::texts::{END, NONE_ON_17_JUNE};
 use super::{day, joined, says, uid};
 use cif_line::Kept;
 use docker_state::State;
@@ -10,15 +9,12 @@ use docker_train::{DockerFault, TrainFault, find_train, print_train, uid_of_word
 use std::alloc::Global;
 use std::process::Abort;
 use test_records::files::EACH_DAY;
+use test_records::trains::{END, NONE_ON_17_JUNE, RUNS_ON_10_JUNE};
 use test_records::{BS_WEEK, LO, LT, text};
 
 /// The heading for 13 June.
 const THURSDAY: &[u8] =
     b"TRAIN  C10001  2024-06-13 P RUNS      2024-06-09 2100 DFROC1A          2        ";
-
-/// The heading for 10 June.
-const MONDAY: &[u8] =
-    b"TRAIN  C10001  2024-06-10 P RUNS      2024-06-09 2100 DFROC1A          2        ";
 
 /// Asserts that a day is refused for C10001, and that nothing is written.
 fn is_refused(rt: &impl Abort, alloc: Global, state: &State, on: &str) {
@@ -66,7 +62,8 @@ fn lapsed(rt: HostRuntime) {
 /// and the bytes that the sink then has.
 fn takes(rt: &impl Abort, alloc: Global, state: &State, room: usize, wanted: Option<TrainFault>) {
     let mut kept = Kept::new(alloc, room).expect(rt, "room");
-    let all = text(alloc, &[MONDAY, BS_WEEK, LO, LT, END], b"\n").expect(rt, "a text");
+    let lines: &[&[u8]] = &[RUNS_ON_10_JUNE, BS_WEEK, LO, LT, END];
+    let all = text(alloc, lines, b"\n").expect(rt, "a text");
     let (uid, day) = (uid(rt, "C10001"), day(rt, "2024-06-10"));
     same(rt, print_train(state, &uid, day, &mut kept).err(), wanted);
     same(
