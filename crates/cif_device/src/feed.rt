@@ -65,7 +65,7 @@ pub fn feed_all<S: Source, T: Taker>(
         (S.left source.old) (S.left source.new) result }
     ensures no_further { AfterEach T.takes taker.old (λ settings text.
         LosesOnePieceMore T.takes most_at_once settings text
-            (S.left source.old) (S.left source.new)) }
+        (S.left source.old) (S.left source.new)) }
     ensures failures { CountsFailure (result ≡ Err FeedFault.Source)
         (S.failures source.old) (S.failures source.new) }
     ensures ended { OnOk result (S.ended source.new ≡ true) }
