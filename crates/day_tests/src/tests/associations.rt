@@ -16,9 +16,9 @@ use test_records::{
     HD, LO_2300, LO_COLWELL_0010, LT_ASHFELD_0100, LT_COLWELL_2350, ZZ,
 };
 
-/// Asserts that the docker of Colwell on 10 June has these lines, if only this file is known.
-fn at_colwell(rt: &impl Abort, alloc: Global, file: &[&[u8]], lines: &[&[u8]]) {
-    shows(rt, alloc, &[file], "COLWELL", "2024-06-10", lines);
+/// Asserts that the docker of Colwell on 10 June has these lines, if only these files are known.
+fn at_colwell(rt: &impl Abort, alloc: Global, files: &[&[&[u8]]], lines: &[&[u8]]) {
+    shows(rt, alloc, files, "COLWELL", "2024-06-10", lines);
 }
 
 /// A train calls twice at one place, and another train divides from it at the second call.
@@ -32,7 +32,7 @@ fn suffixes(rt: HostRuntime) {
         AGAIN_LEAVES,
         OTHER_LEAVES,
     ];
-    at_colwell(&rt, rt.alloc(), DIVISION_FILE, lines);
+    at_colwell(&rt, rt.alloc(), &[DIVISION_FILE], lines);
 }
 
 /// An associated train that would start on the day after the last day of the calendar has the
@@ -59,7 +59,7 @@ fn without(rt: &impl Abort, alloc: Global, cancellation: &[u8], lines: &[&[u8]])
         AA_N,
         ZZ,
     ];
-    at_colwell(rt, alloc, file, lines);
+    at_colwell(rt, alloc, &[file], lines);
 }
 
 /// If the next working is cancelled, its train identity is `????`.
@@ -82,10 +82,10 @@ fn date_indicators(rt: HostRuntime) {
     let only: &[&[u8]] = &[COMES_2350];
     let known: &[&[u8]] = &[COMES_2350, WORKS_ON];
     let unknown: &[&[u8]] = &[COMES_2350, WORKS_ON_UNKNOWN];
-    at_colwell(&rt, rt.alloc(), NEXT_DAY, known);
-    at_colwell(&rt, rt.alloc(), SAME_DAY, unknown);
-    at_colwell(&rt, rt.alloc(), NO_INDICATOR, unknown);
-    at_colwell(&rt, rt.alloc(), DAY_BEFORE, unknown);
-    at_colwell(&rt, rt.alloc(), UNKNOWN_INDICATOR, only);
-    at_colwell(&rt, rt.alloc(), UNKNOWN_CATEGORY, only);
+    at_colwell(&rt, rt.alloc(), &[NEXT_DAY], known);
+    at_colwell(&rt, rt.alloc(), &[SAME_DAY], unknown);
+    at_colwell(&rt, rt.alloc(), &[NO_INDICATOR], unknown);
+    at_colwell(&rt, rt.alloc(), &[DAY_BEFORE], unknown);
+    at_colwell(&rt, rt.alloc(), &[UNKNOWN_INDICATOR], only);
+    at_colwell(&rt, rt.alloc(), &[UNKNOWN_CATEGORY], only);
 }
