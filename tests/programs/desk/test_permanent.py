@@ -5,13 +5,12 @@ import random
 
 import records
 from desks import DAY_REFUSED, DONE, Answer, Desk, docker, ends_well
-
+from dockers import LINES
+from outcomes import docker_text
 from tables import each
 
 CODES = ["ASHFELD", "BRAYTON", "CORHAM", "DUNMERE"]
 DAYS = [f"2024-06-{day:02}" for day in range(8, 18)]
-HEAD = b"DOCKER ASHFELD 2024-06-%02d %-26b    \n"
-END = b"END" + 53 * b" " + b"\n"
 
 
 def schedule(uid, first, last, days, stp, at, along, train="1A10"):
@@ -47,21 +46,21 @@ def is_permanent(part):
 WEEK = ("240610", "240616", "1111111")
 DIRECT = ["ASHFELD", "BRAYTON"]
 PERMANENT = schedule("C10001", *WEEK, "P", 540, DIRECT)
-LEAVES = b"0900  D 1A10 C10001 P   1   SL      0900 ASHFELD BRAYTON\n"
-LEAVES_LATER = b"0910  D 1A10 C10001 P   1   SL      0910 ASHFELD BRAYTON\n"
+LEAVES = LINES["LEAVES_0900"]
 
 
 @each(("short", "day", "wanted"), {
-    "overlaid": (schedule("C10001", "240611", "240611", "0100000", "O", 555, DIRECT), 11, LEAVES),
-    "cancelled": (schedule("C10001", "240611", "240611", "0100000", "C", 0, []), 11, LEAVES),
+    "overlaid": (schedule("C10001", "240611", "240611", "0100000", "O", 555, DIRECT), 11, [LEAVES]),
+    "cancelled": (schedule("C10001", "240611", "240611", "0100000", "C", 0, []), 11, [LEAVES]),
     "moved away": (
-        schedule("C10001", "240611", "240611", "0100000", "O", 555, ["CORHAM", "DUNMERE"]), 11, LEAVES,
+        schedule("C10001", "240611", "240611", "0100000", "O", 555, ["CORHAM", "DUNMERE"]), 11,
+        [LEAVES],
     ),
-    "a new train": (schedule("C10009", "240611", "240611", "0100000", "N", 555, DIRECT), 11, LEAVES),
+    "a new train": (schedule("C10009", "240611", "240611", "0100000", "N", 555, DIRECT), 11, [LEAVES]),
     "a later permanent schedule": (
-        schedule("C10001", "240611", "240611", "0100000", "P", 550, DIRECT), 11, LEAVES_LATER,
+        schedule("C10001", "240611", "240611", "0100000", "P", 550, DIRECT), 11, [LINES["LEAVES_0910"]],
     ),
-    "a day without a train": ("", 17, b""),
+    "a day without a train": ("", 17, []),
 })
 def test_a_day_to_the_letter(short, day, wanted):
     text = records.extract(
@@ -71,7 +70,8 @@ def test_a_day_to_the_letter(short, day, wanted):
     with Desk("STATE") as now:
         got = now.ask(f"permanent ASHFELD 2024-06-{day}")
         ends_well(now)
-    assert got == Answer(0, HEAD % (day, b"ASHFELD JUNCTION") + wanted + END)
+    lines = docker_text("ASHFELD", f"2024-06-{day}", *wanted, name="ASHFELD JUNCTION")
+    assert got == Answer(0, lines)
 
 
 def test_days_that_are_refused():
@@ -81,7 +81,8 @@ def test_days_that_are_refused():
         for day in range(8, 15):
             assert now.ask(f"permanent ASHFELD 2024-06-{day:02}") == DAY_REFUSED, day
             assert now.ask(f"print ASHFELD 2024-06-{day:02}") == DAY_REFUSED, day
-        assert now.ask("permanent ASHFELD 2024-06-15") == Answer(0, HEAD % (15, b"") + LEAVES + END)
+        lines = docker_text("ASHFELD", "2024-06-15", LEAVES)
+        assert now.ask("permanent ASHFELD 2024-06-15") == Answer(0, lines)
 
 
 class Plan(random.Random):

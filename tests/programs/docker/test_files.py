@@ -1,5 +1,5 @@
 """`check` and `day`, on files that are accepted and on files that are refused."""
-from dockers import LINES
+from dockers import EVENING_AT_COLWELL, LINES
 from given import BAD
 from outcomes import accepted, file_refused, prints
 from programs import ROOT, docker
@@ -46,16 +46,5 @@ def test_the_example_with_associations():
     divides."""
     example = str(ROOT / "examples/association.cif")
     assert docker("day", example, "COLWELL", "2024-06-11") == prints(
-        "COLWELL", "2024-06-11",
-        "0004H A 1C65 C60005 P   2           0005 ASHFELD DUNMERE",
-        "0006  D 1C65 C60005 P   2           0006 ASHFELD DUNMERE",
-        "0725  A 1C60 C60001 P   2   SL      0725 ASHFELD DUNMERE",
-        "0725  J 1C60 C60001 P   2                C60002  2C62   ",
-        "0728  A 2C62 C60002 P   3           0728 BRAYTON COLWELL",
-        "0735  D 1C60 C60001 P   2   SL      0735 ASHFELD DUNMERE",
-        "1835  A 1C63 C60003 P   1   FL      1835 DUNMERE ASHFELD",
-        "1835  V 1C63 C60003 P   1                C60004  2C64   ",
-        "1841  D 1C63 C60003 P   1   FL      1841 DUNMERE ASHFELD",
-        "1845  D 2C64 C60004 P   1           1845 COLWELL BRAYTON",
-        name="COLWELL JUNCTION",
+        "COLWELL", "2024-06-11", *EVENING_AT_COLWELL, name="COLWELL JUNCTION",
     )

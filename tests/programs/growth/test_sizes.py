@@ -11,6 +11,7 @@ import typing
 
 import pytest
 from checks import holds, named
+from dockers import event, works_on
 from outcomes import DONE, accepted, done, holds_only, prints, ran_out
 from programs import docker, give, held, preloading
 from records import (
@@ -88,8 +89,8 @@ def last_docker(half):
     """The docker of the last place, where the last schedule leaves and works on."""
     uid, place = f"{half.uid}{ROWS - 1:05}", half.last_place()
     return prints(
-        place, DAY, f"0900  N 1A10 {uid} P                    {half.uid}00000  1A10",
-        f"0900  D 1A10 {uid} P               0900 {place} MEETING",
+        place, DAY, works_on("0900", uid, f"{half.uid}00000"),
+        event("0900", "D", uid, place, "MEETING", "0900"),
     )
 
 
@@ -126,7 +127,7 @@ def test_merge(large):
     "the last place of the second file": (SECOND.last_place(), last_docker(SECOND)),
     "a place in the schedule of 200 lines": (
         "L000198",
-        prints("L000198", DAY, "1010  P 1A10 Z00000 P                    BEYOND  MEETING"),
+        prints("L000198", DAY, event("1010", "P", "Z00000", "BEYOND", "MEETING")),
     ),
 })
 def test_print_from_the_joined_state(large, place, wanted):

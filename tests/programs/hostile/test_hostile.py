@@ -8,6 +8,7 @@ import signal
 
 import pytest
 from checks import same
+from dockers import event, works_on
 from outcomes import DONE, done, holds_only, prints
 from programs import docker, give, in_seconds
 from records import ALWAYS, NO_END, association, basic, extract, header, origin, record, terminus
@@ -87,9 +88,14 @@ def in_a_ring():
     return [record(f"TA{old}{'':9}{'A PLACE':54}{new}") for old, new in renamed]
 
 
-COMES = [f"0830  A 1A10 {uid} P               0830 BEFORE  MEETING" for uid in uids("A")]
-WORKS_ON = [f"0830  N 1A10 {uid} P                    B00001  1A10" for uid in uids("A")]
-UNKNOWN = [f"0830  N 1A10 A00001 P                    {uid}  ????" for uid in uids("B")]
+COMES = [event("0830", "A", uid, "BEFORE", "MEETING", "0830") for uid in uids("A")]
+WORKS_ON = [works_on("0830", uid, "B00001") for uid in uids("A")]
+UNKNOWN = [works_on("0830", "A00001", uid, identity="????") for uid in uids("B")]
+
+
+def leaves_meeting(uid, stp="P"):
+    """The line of a train that leaves Meeting for Beyond."""
+    return event("0900", "D", uid, "MEETING", "BEYOND", "0900", stp)
 
 
 def dockers(*lines):
@@ -106,26 +112,21 @@ def answers(wanted, *words):
 
 
 @each("units, place, wanted", {
-    "schedules of one UID": (
-        of_one_uid, "MEETING", dockers("0900  D 1A10 A00001 N               0900 MEETING BEYOND"),
-    ),
+    "schedules of one UID": (of_one_uid, "MEETING", dockers(leaves_meeting("A00001", "N"))),
     "associations of one group": (
         of_one_group, "MEETING",
         dockers(
-            "0900  N 1A10 A00001 N                    B00001  1A10",
-            "0900  D 1A10 A00001 P               0900 MEETING BEYOND",
-            "0900  D 1A10 B00001 P               0900 MEETING BEYOND",
+            works_on("0900", "A00001", "B00001", stp="N"),
+            leaves_meeting("A00001"), leaves_meeting("B00001"),
         ),
     ),
     "bases of one partner of as many schedules": (
         of_one_partner, "MEETING",
-        dockers(
-            *COMES, *WORKS_ON, "0900  D 1A10 B00001 N               0900 MEETING BEYOND",
-        ),
+        dockers(*COMES, *WORKS_ON, leaves_meeting("B00001", "N")),
     ),
     "partners of a base whose call comes after as many lines": (
         after_many_lines, "MEETING",
-        dockers("0830  A 1A10 A00001 P               0830 BEFORE  MEETING", *UNKNOWN),
+        dockers(event("0830", "A", "A00001", "BEFORE", "MEETING", "0830"), *UNKNOWN),
     ),
     "TIPLOCs renamed in a ring": (
         in_a_ring, "P000000", prints("P000000", DAY, name="A PLACE"),
