@@ -293,13 +293,13 @@ module _ (state : State) (valid : IsValid state) (uid : List ℕ) (rows piece : 
       outer (inl front) = inner (Contains-append_cases (map row_meant is.before) (map row_meant piece) pair front)
       outer (inr back) = absurd (let bad : Greater ≡ Equal = sym (stands Greater is.behind is.above pair back) ∙ tied in cc)
 
-  Told : model.Key → Body → Type 0
-  Told key body = (schedule : ScheduleKey) × (lines : List (List ℕ)) × (key ≡ schedule_key schedule) × (body ≡ schedule_body lines) ×
+  IsLiveSchedule : model.Key → Body → Type 0
+  IsLiveSchedule key body = (schedule : ScheduleKey) × (lines : List (List ℕ)) × (key ≡ schedule_key schedule) × (body ≡ schedule_body lines) ×
       (live_table state key ≡ Some body) × (schedule.uid ≡ uid)
 
-  told : (key : model.Key) (body : Body) → PutThere (map row_meant piece) key body → Told key body
-  unfolding Told
-  told key body put =
+  live_schedule_of : (key : model.Key) (body : Body) → PutThere (map row_meant piece) key body → IsLiveSchedule key body
+  unfolding IsLiveSchedule
+  live_schedule_of key body put =
       let among = in_entries (key, put.0) put.1 in
       let schedule = of_uid_is key uid (stands Equal piece is.here (key, put.0) put.1) in
       let good : IsOpOf key put.0.op = (All-contains (IsGoodEntry state.ledger) state.entries (key, put.0) valid.entries.0 among).op in
@@ -308,8 +308,8 @@ module _ (state : State) (valid : IsValid state) (uid : List ℕ) (rows piece : 
       let lines = schedule_of schedule.0 body body_good in
       (schedule.0, lines.0, schedule.1, lines.1, live_put state valid key body (put.0, among, put.2), schedule.2)
 
-  back : (key : model.Key) (body : Body) → Told key body → Contains (live_rows (map row_meant piece)) (key, body)
-  unfolding Told
+  back : (key : model.Key) (body : Body) → IsLiveSchedule key body → Contains (live_rows (map row_meant piece)) (key, body)
+  unfolding IsLiveSchedule
   back key body made =
       let put = live_has state key body made.4 in
       let tied : to_uid key uid ≡ Equal =
@@ -318,11 +318,11 @@ module _ (state : State) (valid : IsValid state) (uid : List ℕ) (rows piece : 
 
   -- the live rows in `piece`, which has the UID's rows, are exactly the UID's live schedules
   pub live_of_uid : (walked : List (model.Key × Body)) → walked ≡ live_rows (map row_meant piece) → AreOfUid (live_table state) uid walked
-  unfolding Told
+  unfolding IsLiveSchedule
   live_of_uid walked walked_is = subst (AreOfUid (live_table state) uid) (sym walked_is) (record {
     ascending = ascends (map row_meant piece) piece_up;
     members = λ key body. (
-      λ among. told key body (from_live (map row_meant piece) key body among),
+      λ among. live_schedule_of key body (from_live (map row_meant piece) key body among),
       λ made. back key body made,
     );
   })

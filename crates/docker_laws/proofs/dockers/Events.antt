@@ -91,11 +91,11 @@ time_of_placed : (lines : List (List ℕ)) (placed : Placed) → Contains (place
 time_of_placed lines placed among =
     by (Contains-flat_map (λ (p : ℕ × List ℕ). map (λ (time : Occasion × ℕ). (p.0, time)) (times_of p.1)) (enumerate_from 0 lines) placed among)
   where
-    Told : Type 0
-    Told = (line : List ℕ) × (placed.0 < length lines) × (get_or lines placed.0 [] ≡ line) × Contains (times_of line) placed.1
+    IsOfRecord : Type 0
+    IsOfRecord = (line : List ℕ) × (placed.0 < length lines) × (get_or lines placed.0 [] ≡ line) × Contains (times_of line) placed.1
 
     at : (n : ℕ) (line : List ℕ) (k : ℕ) → n ≡ 0 + k → k < length lines → get_or lines k [] ≡ line → (time : Occasion × ℕ) → Contains (times_of line) time
-        → (n, time) ≡ placed → Told
+        → (n, time) ≡ placed → IsOfRecord
     at n line k place low is time inside same =
         let first : placed.0 ≡ k = sym (ap (λ (v : Placed). v.0) same) ∙ (let e : n ≡ k = omega arith in e) in (
           line,
@@ -105,7 +105,7 @@ time_of_placed lines placed among =
         )
 
     by : (piece : ℕ × List ℕ) × Contains (enumerate_from 0 lines) piece × Contains (map (λ (time : Occasion × ℕ). (piece.0, time)) (times_of piece.1)) placed
-        → Told
+        → IsOfRecord
     by (piece, there, inside) =
         let stands = stands_at 0 lines piece [] there in
         let time = Contains-map (λ (t : Occasion × ℕ). (piece.0, t)) (times_of piece.1) placed inside in
