@@ -232,10 +232,10 @@ fn first_answers(programs: &Programs, files: &Files, subjects: &Subjects) -> Res
             if spent.output.as_bytes() != answer.text {
                 return Err(Error::other("the desk prints another docker"));
             }
-            times.0.push([spent.seconds, spent.processor]);
+            times.0.push([spent.seconds, spent.processor()]);
         }
         let spent = run(&[programs.state_times, "read", &files.state], Input::None)?;
-        reading.0.push([time_of(said_by(&spent)?, "reading the text")?, spent.processor]);
+        reading.0.push([time_of(said_by(&spent)?, "reading the text")?, spent.processor()]);
     }
     println!("The least of {ROUNDS} runs in turn; {place} is the busiest place.\n");
     println!("| What | Time, s | Processor, s | × `docker print` | × the library |\n|---|---|---|---|---|");

@@ -10,14 +10,17 @@ mod make;
 mod measure;
 mod mutate;
 mod network;
+mod office;
 mod plain;
 mod plan;
 mod random;
 mod records;
 mod shapes;
 mod state;
+mod statistics;
 #[cfg(test)]
 mod tests;
+mod waits;
 
 use std::fs::File;
 use std::io::{Error, Result};
@@ -25,7 +28,7 @@ use std::process::ExitCode;
 
 const USAGE: &str = "usage: extract full SCHEDULES SEED FILE | extract update SCHEDULES BASE_SEED SEED DAY FILE | \
 extract judge FILE | extract flip FILE SEED | extract compare DOCKER FILE SEED FLIPS | extract measure DOCKER FILE.. | extract state STATE_TIMES FILE UPDATE FOLDER | \
-extract commands DOCKER FILE UPDATE FOLDER [PEER] | extract desk DOCKER DESK STATE_TIMES FILE UPDATE FOLDER DAY SEED | extract shapes DOCKER RECORDS SEED FOLDER | extract growth DOCKER FOLDER WORD.. | extract plain WORD.. | extract mutate DOCKER FOLDER SEED TIMES FILE..";
+extract commands DOCKER FILE UPDATE FOLDER PAIRS PEER WORD.. | extract waits DOCKER FILE UPDATE FOLDER PLANTED WORD.. | extract desk DOCKER DESK STATE_TIMES FILE UPDATE FOLDER DAY SEED | extract shapes DOCKER RECORDS SEED FOLDER | extract growth DOCKER FOLDER WORD.. | extract plain WORD.. | extract mutate DOCKER FOLDER SEED TIMES FILE..";
 
 fn main() -> ExitCode {
     let words: Vec<String> = std::env::args().skip(1).collect();
@@ -67,10 +70,12 @@ fn job(words: &[&str]) -> Option<Result<u8>> {
         }
         ["growth", program, folder, words @ ..] => growth::tables(program, folder, words).map(|passes| u8::from(!passes)),
         ["plain", words @ ..] if !words.is_empty() => plain::run(words),
-        ["commands", program, path, update, folder] => {
-            own_path().and_then(|own| commands::table(program, &[&own, "plain"], path, update, folder)).map(|()| 0)
+        ["commands", program, path, update, folder, pairs, peer, words @ ..] => {
+            command_tables([program, peer], [path, update, folder], count(pairs)?, words).map(|same| u8::from(!same))
         }
-        ["commands", program, path, update, folder, peer] => commands::table(program, &[peer], path, update, folder).map(|()| 0),
+        ["waits", program, path, update, folder, planted, words @ ..] => {
+            waits::tables(program, [path, update], folder, planted, words).map(|()| 0)
+        }
         ["desk", docker, desk, state_times, path, update, folder, day, seed] => {
             desk_tables([docker, desk, state_times], path, update, folder, day, number(seed)?).map(|()| 0)
         }
@@ -78,6 +83,14 @@ fn job(words: &[&str]) -> Option<Result<u8>> {
         ["state", program, path, update, folder] => state::table(program, path, update, folder).map(|()| 0),
         _ => return None,
     })
+}
+
+/// Measures the commands. If there is no peer, they are compared with the plain program, which is a
+/// part of this program.
+fn command_tables([program, peer]: [&str; 2], [path, update, folder]: [&str; 3], pairs: usize, words: &[&str]) -> Result<bool> {
+    let own = own_path()?;
+    let plain: &[&str] = if peer.is_empty() { &[&own, "plain"] } else { &[peer] };
+    commands::Bench { program, plain, pairs }.tables(path, update, folder, words)
 }
 
 /// Measures a desk. For comparison it runs the plain program, which is a part of this program.

@@ -9,14 +9,23 @@ use std::time::Instant;
 /// The costs and the output of a program.
 pub struct Spent {
     pub seconds: f64,
-    /// Processor seconds of the program, and of the system on its behalf.
-    pub processor: f64,
+    /// Processor seconds of the program's own code.
+    pub user: f64,
+    /// Processor seconds of the system on the program's behalf.
+    pub system: f64,
     /// Peak resident memory in bytes.
     pub memory: u64,
     /// The exit status, or -1 if a signal ended it.
     pub status: i32,
     pub output: String,
     pub errors: String,
+}
+
+impl Spent {
+    /// Processor seconds of the program, and of the system on its behalf.
+    pub fn processor(&self) -> f64 {
+        self.user + self.system
+    }
 }
 
 #[derive(Clone, Copy)]
@@ -39,8 +48,9 @@ extern "C" {
     fn wait4(process: c_int, status: *mut c_int, options: c_int, usage: *mut Usage) -> c_int;
 }
 
-/// Waits until a program ends. Returns its exit status, its processor seconds and its peak memory.
-fn wait(child: &Child) -> Result<(i32, f64, u64)> {
+/// Waits until a program ends. Returns its exit status, the processor seconds of its own code and of
+/// the system, and its peak memory.
+fn wait(child: &Child) -> Result<(i32, [f64; 2], u64)> {
     let mut usage = Usage { times: [0; 4], peak_resident: 0, others: [0; 13] };
     let mut status = 0;
     // SAFETY: the child belongs to this process and nobody has waited for it yet, and both pointers
@@ -51,7 +61,7 @@ fn wait(child: &Child) -> Result<(i32, f64, u64)> {
     }
     let exit = if status & 0x7F == 0 { status >> 8 & 0xFF } else { -1 };
     let [seconds, millionths, system_seconds, system_millionths] = usage.times.map(|part| part as f64);
-    let processor = seconds + system_seconds + (millionths + system_millionths) / 1e6;
+    let processor = [seconds + millionths / 1e6, system_seconds + system_millionths / 1e6];
     Ok((exit, processor, usage.peak_resident as u64 * 1024))
 }
 
@@ -76,13 +86,13 @@ pub fn run(words: &[&str], input: Input) -> Result<Spent> {
     if let Some(mut pipe) = child.stderr.take() {
         pipe.read_to_end(&mut errors)?;
     }
-    let (status, processor, memory) = wait(&child)?;
+    let (status, [user, system], memory) = wait(&child)?;
     let seconds = began.elapsed().as_secs_f64();
     if let Some(cat) = feeder {
         wait(&cat)?;
     }
     let text = |bytes: Vec<u8>| String::from_utf8_lossy(&bytes).into_owned();
-    Ok(Spent { seconds, processor, memory, status, output: text(output), errors: text(errors) })
+    Ok(Spent { seconds, user, system, memory, status, output: text(output), errors: text(errors) })
 }
 
 fn start(words: &[&str], input: Stdio, output: Stdio) -> Result<Child> {
@@ -186,7 +196,7 @@ fn measure(row: &mut Row) -> Result<()> {
         return Err(Error::other(format!("{name} ended with {status}, {output:?}, {errors:?}; wanted 0, {wanted:?}")));
     }
     row.best = row.best.min(spent.seconds);
-    row.best_processor = row.best_processor.min(spent.processor);
+    row.best_processor = row.best_processor.min(spent.processor());
     row.memory = row.memory.max(spent.memory);
     Ok(())
 }
@@ -224,7 +234,7 @@ fn print_growth(before: &Growth, after: &Growth) {
     }
 }
 
-/// The processors and the memory of the machine.
+/// The processors, the memory and the load of the machine.
 pub fn machine() -> String {
     let processors = std::thread::available_parallelism().map_or(0, |count| count.get());
     let after = |path: &str, name: &str| {
@@ -235,5 +245,11 @@ pub fn machine() -> String {
     let model = after("/proc/cpuinfo", "model name").map_or(String::new(), |model| format!(" ({model})"));
     let memory = after("/proc/meminfo", "MemTotal").and_then(|text| text.split(' ').next()?.parse::<f64>().ok());
     let memory = memory.map_or("unknown".to_string(), |units| format!("{:.1} GB", units * 1024.0 / 1e9));
-    format!("machine: {processors} processors{model}, {memory} of memory")
+    format!("machine: {processors} processors{model}, {memory} of memory, {}", load())
+}
+
+/// How many processes ran or wanted to run, on average over the last minute.
+pub fn load() -> String {
+    let text = fs::read_to_string("/proc/loadavg").unwrap_or_default();
+    format!("load {}", text.split(' ').next().filter(|load| !load.is_empty()).unwrap_or("unknown"))
 }

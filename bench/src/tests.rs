@@ -1,11 +1,15 @@
-//! Tests of the plain reader on texts whose answers are known, and of the shape of extracts.
+//! Tests of the plain reader on texts whose answers are known, of the shape of extracts, and of the
+//! costs of processes. The statistics are tested on values worked out by hand.
 
 use crate::flip::Flip;
 use crate::growth::shapes::{ledger, Makes, DATE, PLACE, SHAPES};
 use crate::judge::{judge_stream, judge_text, line_of, Answer, Cause, Counts, Fault, LIMIT};
 use crate::make;
+use crate::measure::{run, Input};
 use crate::plain;
 use crate::random::Random;
+use crate::statistics::Spread;
+use crate::waits::{functions, is_load, Wait};
 use std::fs;
 use std::io::{Read, Result};
 
@@ -430,4 +434,133 @@ fn hostile_shapes() {
     }
     let joined = kept(&["merge", "STATE", "OTHER"], &[ledger(60, false), ledger(60, true)]);
     assert_eq!(plain::answer(&["files", "STATE"], &[joined]).output.lines().count(), 120);
+}
+
+// ---------------------------------------------------------------- costs of a process
+
+#[test]
+fn costs_of_the_program_and_of_the_system() {
+    let own = run(&["awk", "BEGIN { while (count < 3000000) count++ }"], Input::None).unwrap();
+    assert!(own.user > 4.0 * own.system, "{} s and {} s", own.user, own.system);
+    // The system fills the blocks with zeros.
+    let words = ["dd", "if=/dev/zero", "of=/dev/null", "bs=1M", "count=2000", "status=none"];
+    let system = run(&words, Input::None).unwrap();
+    assert!(system.system > 4.0 * system.user, "{} s and {} s", system.user, system.system);
+    assert_eq!(system.processor(), system.user + system.system);
+}
+
+// ---------------------------------------------------------------- statistics
+
+fn spread(values: &[f64]) -> [f64; 3] {
+    let Spread { lower, median, upper } = Spread::of(values).unwrap();
+    [lower, median, upper]
+}
+
+#[test]
+fn spreads_of_values() {
+    // The ranks are 1, 2 and 3 of 0 to 4.
+    assert_eq!(spread(&[50.0, 10.0, 30.0, 20.0, 40.0]), [20.0, 30.0, 40.0]);
+    // One slow run changes none of the three.
+    assert_eq!(spread(&[4e9, 10.0, 30.0, 20.0, 40.0]), [20.0, 30.0, 40.0]);
+    // The ranks are 0.75, 1.5 and 2.25 of 0 to 3.
+    assert_eq!(spread(&[8.0, 1.0, 2.0, 4.0]), [1.75, 3.0, 5.0]);
+    // The ranks are 0.25, 0.5 and 0.75 of 0 and 1.
+    assert_eq!(spread(&[3.0, 1.0]), [1.5, 2.0, 2.5]);
+    assert_eq!(spread(&[7.0]), [7.0, 7.0, 7.0]);
+    assert_eq!(Spread::of(&[]), None);
+    // Of 25 values, the ranks are 6, 12 and 18.
+    let squares: Vec<f64> = (0..25).rev().map(|number| f64::from(number * number)).collect();
+    assert_eq!(spread(&squares), [36.0, 144.0, 324.0]);
+}
+
+#[test]
+fn spreads_of_ratios() {
+    // The ratios are 1.5, 0.5, 2, 1 and 3. The medians of the first and of the second values are 4
+    // and 2, so the ratio of the medians is 2, and not 1.5.
+    let pairs = [[6.0, 4.0], [1.0, 2.0], [4.0, 2.0], [2.0, 2.0], [9.0, 3.0]];
+    assert_eq!(Spread::of_ratios(&pairs), Some(Spread { lower: 1.0, median: 1.5, upper: 2.0 }));
+    // A pair without a ratio is left out.
+    assert_eq!(Spread::of_ratios(&[[3.0, 2.0], [1.0, 0.0]]), Spread::of(&[1.5]));
+    assert_eq!(Spread::of_ratios(&[[0.0, 0.0]]), None);
+    assert_eq!(Spread { lower: 0.994, median: 1.026, upper: 1.5 }.to_string(), "1.03 (0.99 to 1.50)");
+}
+
+// ---------------------------------------------------------------- waits for loads
+
+/// Two functions as `perf annotate` prints them.
+const ANNOTATED: &str = "\
+ Percent |	Source code & Disassembly of planted for cpu-clock:u (6423 samples, percent: local period)
+----------------------------------------------------------------------------------------------------------
+         :
+         : 3    Disassembly of section .text:
+         :
+         : 5    00000000000011b0 <spanning>:
+         : 6    spanning():
+    0.00 :   11ba:   lea    0x2e6f(%rip),%rcx        # 4030 <room>
+    0.06 :   11c8:   mov    %rax,(%rcx)
+    9.79 :   11cb:   shr    $0x3,%rax
+    0.05 :   11cf:   mov    %rax,0x2e62(%rip)        # 4038 <room+0x8>
+    5.28 :   11d6:   mov    0x2e57(%rip),%rax        # 4034 <room+0x4>
+   70.06 :   11dd:   lea    0x1(%rax,%rax,2),%rax
+   14.76 :   11e2:   sub    $0x1,%edx
+    0.00 :   11e5:   jne    11c8 <spanning+0x18>
+ Percent |	Source code & Disassembly of planted for cpu-clock:u (20 samples, percent: local period)
+----------------------------------------------------------------------------------------------------------
+         : 5    0000000000001170 <<a::B as c::D>::taken>:
+   10.00 :   1170:   movdqu 0x2(%rdi),%xmm0
+   30.00 :   1174:   cmpb   $0x41,(%rdi,%rax,1)
+    5.00 :   1178:   je     1174 <<a::B as c::D>::taken+0x4>
+   55.00 :   117a:   ret
+";
+
+#[test]
+fn waits_for_loads() {
+    let [spanning, taken] = <[_; 2]>::try_from(functions(ANNOTATED)).ok().unwrap();
+    let names = [&*spanning.name, &*taken.name];
+    assert_eq!((names, spanning.samples, taken.samples), (["spanning", "<a::B as c::D>::taken"], 6423.0, 20.0));
+    let wait = |address: &str, load: &str, share, is_jumped_to| Wait {
+        address: address.to_string(),
+        load: load.to_string(),
+        share,
+        is_jumped_to,
+    };
+    // The stores before 11cb and 11d6 are no loads, and neither is the `lea` before 11e2.
+    assert_eq!(spanning.waits(0.05), [wait("11d6", "mov 0x2e57(%rip),%rax", 0.7006, false)]);
+    // The samples at 1178 are 5 percent, and not more.
+    assert_eq!(taken.waits(0.05), [wait("1170", "movdqu 0x2(%rdi),%xmm0", 0.3, true)]);
+    let both = [wait("1170", "movdqu 0x2(%rdi),%xmm0", 0.3, true), wait("1174", "cmpb $0x41,(%rdi,%rax,1)", 0.05, false)];
+    assert_eq!(taken.waits(0.04), both);
+    assert!(functions("").is_empty());
+}
+
+#[test]
+fn instructions_that_load() {
+    let loads = [
+        "mov 0x8(%rax,%rbx,4),%ecx",
+        "mov %fs:0x28,%rax",
+        "movdqu (%rdx),%xmm0",
+        "movzbl 0x50(%rbx,%rbp,1),%eax",
+        "pshufb 0x10(%rsp),%xmm1",
+        "vpshufb (%rsi),%ymm1,%ymm2",
+        "cmp $0x3,(%rax)",
+        "lock xadd %eax,(%rdx)",
+        "addq $0x1,0x8(%rsp)",
+        "rep movsq %ds:(%rsi),%es:(%rdi)",
+    ];
+    let others = [
+        "mov %eax,(%rcx)",
+        "movb $0x1,0x8(%rax,%rbx,4)",
+        "movups %xmm0,0x12(%rsp)",
+        "sete 0x8(%rsp)",
+        "rep stos %al,%es:(%rdi)",
+        "lea 0x1(%rax,%rax,2),%rdi",
+        "nopl 0x0(%rax)",
+        "prefetcht0 (%rax)",
+        "call *0x8(%rax)",
+        "jmp *(%rax)",
+        "add $0x1,%rdx",
+        "ret",
+    ];
+    assert!(loads.iter().all(|text| is_load(text)), "{loads:?}");
+    assert!(!others.iter().any(|text| is_load(text)), "{others:?}");
 }

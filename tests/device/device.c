@@ -10,7 +10,7 @@
 //   it opens a file under the number of a standard stream
 //   it reads a file again after its end
 //   it writes nothing to a file
-//   it renames a file whose written bytes aren't all flushed
+//   it renames a file whose written bytes aren't all flushed, or gives it a hard link
 #define _GNU_SOURCE
 #include <dlfcn.h>
 #include <errno.h>
@@ -176,3 +176,12 @@ int rename(const char *from, const char *to) {
 }
 
 int unlink(const char *path) { return fails("unlink") ? -1 : NEXT(unlink)(path); }
+
+int link(const char *from, const char *to) {
+  if (memchr(is_unflushed, 1, FOLLOWED)) make("WRONG", "link");
+  return fails("link") ? -1 : NEXT(link)(from, to);
+}
+
+ssize_t readlink(const char *restrict path, char *restrict into, size_t size) {
+  return fails("readlink") ? -1 : NEXT(readlink)(path, into, size);
+}

@@ -114,3 +114,13 @@ int unlink(const char *path) {
   meet("unlink", path, "");
   return NEXT(unlink)(path);
 }
+
+int link(const char *from, const char *to) {
+  meet("link", from, to);
+  return NEXT(link)(from, to);
+}
+
+ssize_t readlink(const char *restrict path, char *restrict into, size_t size) {
+  meet("readlink", path, "");
+  return NEXT(readlink)(path, into, size);
+}

@@ -102,7 +102,7 @@ impl Folder<'_> {
         let words: Vec<&str> = program.iter().copied().chain(words.iter().map(String::as_str)).collect();
         let spent = run(&words, Input::None)?;
         match (spent.status, &*spent.errors) {
-            (0, "") => Ok((spent.processor, spent.output)),
+            (0, "") => Ok((spent.processor(), spent.output)),
             (status, errors) => Err(Error::other(format!("{}: {words:?} ended with {status}: {errors}", self.shape.name))),
         }
     }

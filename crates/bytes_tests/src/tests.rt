@@ -213,7 +213,7 @@ fn refused_by(
     let read = read_ledger(alloc, &mut source, limit).err();
     same(rt, read, Some(ReadFault::State(fault)));
     let mut source = Bytes::new(text, step);
-    let read = read_raised(alloc, &mut source, day(rt), limit, false).err();
+    let read = read_raised(alloc, &mut source, day(rt), limit).err();
     same(rt, read, Some(ReadFault::State(fault)));
 }
 

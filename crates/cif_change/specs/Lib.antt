@@ -3,5 +3,3 @@ pub mod Joined
 pub mod Acts
 pub mod Cause
 pub mod JourneyRead
-pub mod NamedPlaces
-pub mod Noted

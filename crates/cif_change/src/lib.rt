@@ -1,6 +1,5 @@
 //! What an extract changes: keys, the bodies put under them, and the orders of both. The crate also
-//! has the reader of a schedule's lines, the causes for which a record is refused, and notes of the
-//! places that changes and rows name.
+//! has the reader of a schedule's lines, and the causes for which a record is refused.
 #![tactic(auto)]
 
 mod cause;
@@ -10,12 +9,6 @@ mod journey;
 mod journey_times;
 mod key;
 mod lines;
-mod memo;
-mod names;
-mod notes;
-mod noting;
-mod piece;
-mod places;
 mod progress;
 mod same;
 mod stage;
@@ -27,8 +20,5 @@ pub use cif_line::{Day, Memory, Tiploc};
 pub use journey::Journey;
 pub use key::{AssocKey, Key, ScheduleKey};
 pub use lines::Lines;
-pub use names::PlaceNames;
-pub use notes::Notes;
-pub use piece::Piece;
 pub use progress::Progress;
 pub use steps::progress_after_basic;

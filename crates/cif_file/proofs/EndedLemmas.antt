@@ -1,5 +1,5 @@
 -- Lemmas on what the reader returns at the end of a file: the file with its changes, or its counts.
-use Rattle.std.proofs.Common.{◌≡◌, ℕ, ◌+◌, ◌*◌, ◌≤◌, Bool, true, false, List, [], ◌∷◌, length, Some, None, refl, sym, subst, arith, length-append}
+use Rattle.std.proofs.Common.{◌≡◌, ℕ, ◌+◌, ◌*◌, ◌≤◌, Bool, true, false, List, [], ◌∷◌, length, Some, None, refl, arith, length-append}
 use Rattle.std.proofs.lemmas.List.{length-map}
 use Rattle.std.specs.Prelude.{Option}
 use Rattle.docker_model.specs.file.File.{most_records}
@@ -10,7 +10,7 @@ use Rattle.cif_file.specs.declared.kept.FileSoFar.{FileSoFar}
 use Rattle.cif_file.specs.declared.tally.Tally.{Tally}
 use Rattle.cif_file.specs.KeeperRead.{KeepsAll, CountsChanges}
 use Rattle.cif_file.specs.EndedRead.{file_ended, parts_ended, count_ended}
-use Rattle.cif_file.specs.MadeChanges.{AreNotesOf, ArePartsOfFile}
+use Rattle.cif_file.specs.MadeChanges.{ArePartsOfFile}
 use Rattle.cif_file.specs.FileRead.{IsRead, IsCounted}
 use Rattle.cif_file.specs.ParserRead.{IsOfFileText, IsCountOfFileText, IsEndedText, ParserState, WasFed, IsReading, EndsBy}
 use Rattle.cif_file.specs.SourceRead.{ReadsText, CountsText, ReadsEnded}
@@ -51,7 +51,7 @@ pub of_file : (limit : ℕ) (text : List ℕ) (ended : Ended FileSoFar) → IsEn
 of_file limit text ended is = record {
   records = is.records;
   is_text = is.is_text;
-  of_records = record { header_is = is.of_records.header_is; count_is = is.of_records.count_is; changes_are = is.of_records.kept.1.changes_are };
+  of_records = record { header_is = is.of_records.header_is; count_is = is.of_records.count_is; changes_are = is.of_records.kept.1 };
 }
 
 -- the file that the reader returns was read from the records of a CIF file with at most `most_records` records
@@ -62,13 +62,10 @@ is_read limit text ended few is =
     let within = is.is_text.within in
     record { records = is.records; of_records = file.of_records; is_file = is.is_text.is; few = omega arith }
 
--- the parts that the reader returns belong to the file. If there are notes, they are correct for the file's changes
+-- the parts that the reader returns belong to the file
 are_parts : (limit : ℕ) (text : List ℕ) (ended : Ended FileSoFar) → limit ≤ most_records → IsEndedText KeepsAll limit text ended
     → ArePartsOfFile (parts_ended ended)
-are_parts limit text ended few is = record {
-  read = is_read limit text ended few is;
-  noted = subst (λ (all : List Change). AreNotesOf all ended.keeper.made.notes) (sym is.of_records.kept.1.changes_are) is.of_records.kept.1.noted;
-}
+are_parts limit text ended few is = is_read limit text ended few is
 
 -- the limit of a reader is at most `most_records`
 limit_at : (reading : FileReading FileSoFar) (limit : ℕ) (text : List ℕ) → IsReading KeepsAll reading limit text → limit ≤ most_records

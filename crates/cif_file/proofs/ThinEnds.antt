@@ -9,7 +9,6 @@ use Rattle.cif_file.specs.declared.ended.Ended.{Ended}
 use Rattle.cif_file.specs.declared.thin_kept.ThinSoFar.{ThinSoFar}
 use Rattle.cif_file.specs.EndedRead.{IsEnded, thin_parts_ended, thin_ended}
 use Rattle.cif_file.specs.FileRead.{IsOfRecords}
-use Rattle.cif_file.specs.MadeChanges.{AreNotesOf}
 use Rattle.cif_file.specs.SourceRead.{ReadsThin, ReadsEnded}
 use Rattle.cif_file.specs.ThinKept.{KeepsThin}
 use Rattle.cif_file.specs.ThinRead.{AreThinParts}
@@ -29,7 +28,7 @@ module _ {P : Type 0} (place : List ℕ) (day : ℕ) where
       subst (λ p. IsThinning p ended.keeper.thinned.day ended.keeper.so_far.changes (thin_ended ended).kept) (sym has.place_is)
       (subst (λ d. IsThinning place d ended.keeper.so_far.changes (thin_ended ended).kept) (sym has.day_is)
       (subst (λ (all : List Change). IsThinning place day all (thin_ended ended).kept) (sym is.kept.so_far)
-      (subst (IsThinning place day (changes records)) (sym has.made.changes_are) has.thinning)))
+      (subst (IsThinning place day (changes records)) (sym has.made) has.thinning)))
 
   -- if the reader returns a thin file for the text that a source held, it is a thin file of that text
   pub reads_thin : (there : List ℕ) (on : ℕ) (limit : ℕ) (left : Option (List ℕ)) (ended : Ended (ThinSoFar P)) → there ≡ place → on ≡ day
@@ -53,11 +52,7 @@ module _ {P : Type 0} (place : List ℕ) (day : ℕ) where
   reads_thin_parts limit left ended few reads =
       let is = reads.of_text in
       let within = is.is_text.within in
-      let made = is.of_records.kept.thinned.made in
       record {
-        read = record {
-          read = record { records = is.records; of_records = file_of is.records ended is.of_records; is_file = is.is_text.is; few = omega arith };
-          thinning = enough_of is.records ended is.of_records;
-        };
-        noted = subst (λ (all : List Change). AreNotesOf all ended.keeper.thinned.made.notes) (sym made.changes_are) made.noted;
+        read = record { records = is.records; of_records = file_of is.records ended is.of_records; is_file = is.is_text.is; few = omega arith };
+        thinning = enough_of is.records ended is.of_records;
       }

@@ -1,7 +1,9 @@
 -- Lemmas on why the changes that are kept are enough for the docker of one place on one day. The thin form of a change (`thin_change`) has only what this
 -- docker needs.
 use Rattle.std.proofs.Common.{◌≡◌, ℕ, ◌∙◌, inl, inr, Bool, true, false, cond, List, [], ◌∷◌, ◌++◌}
-use Rattle.std.proofs.Common.{length, subst, refl, ap, sym, Some, None, arith, append_assoc}
+use Rattle.std.proofs.Common.{length, map, subst, refl, ap, sym, Some, None, arith, append_assoc}
+use Rattle.std.specs.Global.{Vec}
+use Rattle.std.proofs.lemmas.List.{map-append}
 use Rattle.std.specs.Prelude.{Option, Contains, ◌⊎◌, ◌||◌, not}
 use Rattle.std.specs.Ordering.{on, is_eq}
 use Rattle.std.specs.BTreeSet as set
@@ -63,6 +65,12 @@ keys_of_more old new added kept more known change among key same = by (Contains-
     by (inl before) = still_has old new added.key key more (known change before key same)
     by (inr last) =
         has_added old new added.key key more (same ∙ sym (ap (λ (c : Change). c.key) (Contains-single (change_meant added) change last)))
+
+-- pushing a change appends it to the changes
+pub makes_pushed : (old : Vec code.Change) (change : code.Change) (new : Vec code.Change) → new.items ≡ old.items ++ change ∷ []
+    → Makes old (change_meant change ∷ []) new
+makes_pushed old change new pushed before made =
+    ap (map change_meant) pushed ∙ map-append change_meant old.items (change ∷ []) ∙ ap (λ all. all ++ change_meant change ∷ []) made
 
 -- before the first change, no change has to be kept: the empty list is a thinning of the empty list
 pub none_thinned : (place : List ℕ) (day : ℕ) (thinned : Thinned) → thinned.place ≡ place → thinned.day ≡ day → HasMade thinned.made []

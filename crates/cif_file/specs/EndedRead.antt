@@ -23,8 +23,7 @@ abbrev pub parts_ended : Ended FileSoFar → FileParts
 parts_ended ended = record {
   header = ended.header;
   records = ended.records;
-  changes = ended.keeper.made.changes;
-  notes = ended.keeper.made.notes;
+  changes = ended.keeper.made;
 }
 
 -- converts the `Ended` of a keeper that keeps all changes to the file that was read
@@ -37,8 +36,7 @@ abbrev pub thin_parts_ended : {P : Type 0} → Ended (ThinSoFar P) → FileParts
 thin_parts_ended ended = record {
   header = ended.header;
   records = ended.records;
-  changes = ended.keeper.thinned.made.changes;
-  notes = ended.keeper.thinned.made.notes;
+  changes = ended.keeper.thinned.made;
 }
 
 -- converts the `Ended` of a keeper that keeps only what the docker of a place on a day needs. The

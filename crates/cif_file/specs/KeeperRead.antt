@@ -58,7 +58,7 @@ AddsSingle keeps old number line new =
     (lines : Lines) (made : List Change) → keeps old lines made → keeps new lines (made ++ changes_of_record number line [])
 
 -- Says that a `FileSoFar` holds exactly these lines, with the transaction of the first set to N,
--- and exactly these changes. If there are notes, they are correct for the changes.
+-- and exactly these changes.
 abbrev pub KeepsAll : FileSoFar → Lines → List Change → Type 0
 KeepsAll kept lines changes = (kept.lines.items ≡ with_new_first lines) × HasMade kept.made changes
 

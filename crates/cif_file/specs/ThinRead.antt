@@ -6,7 +6,6 @@ use Rattle.docker_laws.specs.Thinning.{IsThinning}
 use Rattle.cif_change.specs.Meaning.{change_meant}
 use Rattle.cif_file.specs.declared.parts.FileParts.{FileParts}
 use Rattle.cif_file.specs.FileRead.{FileRead, IsRead}
-use Rattle.cif_file.specs.MadeChanges.{AreNotesOf}
 
 -- a file that was read, the place and the day of a docker, and the changes that were kept for this
 -- docker
@@ -31,7 +30,6 @@ thin_of_parts place day all parts = record {
   kept = map change_meant parts.changes.items;
 }
 
--- Says that these are the parts of a thin file and that the notes, if there are any, are correct for the kept changes.
-pub record AreThinParts (place : List ℕ) (day : ℕ) (all : List Change) (parts : FileParts) : Type 0 where
-  pub read : IsThinRead (thin_of_parts place day all parts)
-  pub noted : AreNotesOf (map change_meant parts.changes.items) parts.notes
+-- Says that these are the parts of a thin file.
+abbrev pub AreThinParts : List ℕ → ℕ → List Change → FileParts → Type 0
+AreThinParts place day all parts = IsThinRead (thin_of_parts place day all parts)

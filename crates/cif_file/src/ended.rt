@@ -8,7 +8,6 @@ use crate::count::FileCount;
 use crate::file::CifFile;
 use crate::header_line::HeaderLine;
 use crate::kept::FileSoFar;
-use crate::made::Made;
 use crate::parts::FileParts;
 use crate::place::PlaceDay;
 use crate::tally::Tally;
@@ -38,12 +37,11 @@ impl Ended<FileSoFar> {
             records,
             keeper,
         } = self;
-        let Made { changes, notes } = keeper.into_made();
+        let FileSoFar { made, .. } = keeper;
         FileParts {
             header,
             records,
-            changes,
-            notes,
+            changes: made,
         }
         .into_file()
     }
@@ -70,12 +68,10 @@ impl<P: PlaceDay> Ended<ThinSoFar<P>> {
             made,
             ..
         } = thinned;
-        let Made { changes, notes } = made;
         let parts = FileParts {
             header,
             records,
-            changes,
-            notes,
+            changes: made,
         };
         ThinFile::of(place, day, parts, so_far)
     }

@@ -58,7 +58,7 @@ impl CifFile {
         changes
     }
 
-    /// Takes the file apart into its header, the number of its records, its changes and its notes.
+    /// Takes the file apart into its header, the number of its records, and its changes.
     pub fn into_parts(self) -> FileParts
         ensures file { file_of_parts result ≡ self }
         ensures parts { ArePartsOfFile result }

@@ -1,11 +1,13 @@
 //! The keeper that keeps all changes of a file.
-ghost use Rattle.std.specs.Prelude.{◌≡◌, []};
+ghost use Rattle.std.specs.Prelude.{[], OnOk};
 ghost use Rattle.cif_file.specs.KeeperRead.{KeepsAll};
+ghost use Rattle.cif_file.specs.MadeChanges.{Makes};
+ghost use Rattle.cif_file.specs.SingleChanges.{listed};
 
 use crate::keeper::Keeper;
-use crate::made::Made;
 use crate::opened::Opened;
-use crate::single::{Single, changes_of};
+use crate::single::{Single, SingleChanges, changes_of};
+use cif_change::Change;
 use cif_line::{Basic, Line};
 use std::alloc::{AllocError, Global};
 
@@ -15,28 +17,19 @@ use std::alloc::{AllocError, Global};
 pub(crate) struct FileSoFar {
     alloc: Global,
     lines: Vec<Line>,
-    made: Made,
+    pub(crate) made: Vec<Change>,
 }
 
 impl FileSoFar {
-    /// A keeper that has kept nothing yet. If `noted` is true, it will note the places that changes
-    /// name.
-    pub(crate) fn new(alloc: Global, noted: bool) -> FileSoFar
+    /// A keeper that has kept nothing yet.
+    pub(crate) fn new(alloc: Global) -> FileSoFar
         ensures { KeepsAll result [] [] }
     {
         FileSoFar {
             alloc,
             lines: Vec::new(alloc),
-            made: Made::new(alloc, noted),
+            made: Vec::new(alloc),
         }
-    }
-
-    /// The changes, and the notes of the places that they name, if places were noted.
-    pub(crate) fn into_made(self) -> Made
-        ensures { result ≡ self.made }
-    {
-        let FileSoFar { made, .. } = self;
-        made
     }
 }
 
@@ -65,6 +58,18 @@ impl Keeper for FileSoFar {
     }
 
     fn add_single(&mut self, number: u32, single: &Single<'_>) -> Result<(), AllocError> {
-        self.made.push_all(changes_of(number, single))
+        push_all(&mut self.made, changes_of(number, single))
     }
+}
+
+/// Appends the one or two changes of a record that is a unit by itself.
+fn push_all(made: &mut Vec<Change>, changes: SingleChanges) -> Result<(), AllocError>
+    ensures { OnOk result (Makes made.old (listed changes) made.new) }
+{
+    let SingleChanges { first, last } = changes;
+    if let Some(change) = first {
+        made.push(change)?;
+    }
+    made.push(last)?;
+    Ok(())
 }

@@ -97,7 +97,7 @@ impl<K: Keeper> FileReading<K> {
         }
         let mut rest = text;
         while let Some((front, behind)) = split_eighty(rest) {
-            let Ok(line) = Line::new(front) else {
+            let Some(line) = Line::of(front) else {
                 return Ok(rest);
             };
             self.records.take_line(&line)?;
@@ -169,7 +169,7 @@ impl FileParser {
         ensures { HasRead result limit [] }
     {
         FileParser {
-            reading: FileReading::new(FileSoFar::new(alloc, true), limit),
+            reading: FileReading::new(FileSoFar::new(alloc), limit),
             fault: None,
         }
     }

@@ -30,24 +30,7 @@ pub fn read_file<S: Source>(alloc: Global, source: &mut S, limit: u32) -> Result
     ensures { EndsReadingFile WantsMemory S.left S.failures limit
         (ReadsText limit (S.left source.old)) source.old source.new result }
 {
-    read_file_noting(alloc, source, limit, true)
-}
-
-/// Reads a source like `read_file`, and notes the places that the changes name only if `noted` is
-/// true. Without notes the state of the file has no index, and making the state takes less time and
-/// memory.
-pub fn read_file_noting<S: Source>(
-    alloc: Global,
-    source: &mut S,
-    limit: u32,
-    noted: bool,
-) -> Result<CifFile, ReadFault>
-    requires failures { S.failures source.old < 2 ^ 64 - 1 }
-    requires limit { limit ≤ MOST_RECORDS }
-    ensures { EndsReadingFile WantsMemory S.left S.failures limit
-        (ReadsText limit (S.left source.old)) source.old source.new result }
-{
-    match read_source(alloc, source, FileSoFar::new(alloc, noted), limit) {
+    match read_source(alloc, source, FileSoFar::new(alloc), limit) {
         Ok(ended) => Ok(ended.into_file()),
         Err(fault) => Err(fault),
     }

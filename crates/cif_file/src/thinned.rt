@@ -8,7 +8,6 @@ ghost use Rattle.cif_file.specs.SingleChanges.{AreNeverThin, IsNeverThin, listed
 ghost use Rattle.cif_file.specs.ThinKept.{has_key, HasThinned, Thins, ThinsAll, ThinsOpened};
 
 use crate::calling::{lines_for, may_matter};
-use crate::made::Made;
 use crate::opened::Opened;
 use crate::single::SingleChanges;
 use cif_change::{Act, Body, Change, Key};
@@ -23,12 +22,11 @@ pub(crate) struct Thinned {
     pub(crate) place: Tiploc,
     pub(crate) day: Day,
     keys: BTreeSet<Key>,
-    pub(crate) made: Made,
+    pub(crate) made: Vec<Change>,
 }
 
 impl Thinned {
-    /// A `Thinned` that has kept nothing yet. Places are never noted: the docker is made by a walk
-    /// over the few changes that are kept.
+    /// A `Thinned` that has kept nothing yet.
     pub(crate) fn new(alloc: Global, place: Tiploc, day: Day) -> Thinned
         ensures { HasThinned place day result [] }
     {
@@ -37,7 +35,7 @@ impl Thinned {
             place,
             day,
             keys: BTreeSet::new(alloc),
-            made: Made::new(alloc, false),
+            made: Vec::new(alloc),
         }
     }
 
@@ -72,7 +70,10 @@ impl Thinned {
             → Thins place day self.old whole self.new) }
     {
         match self.keys.insert(change.key) {
-            Ok(_) => self.made.push(change),
+            Ok(_) => {
+                self.made.push(change)?;
+                Ok(())
+            }
             Err(_) => Err(AllocError),
         }
     }

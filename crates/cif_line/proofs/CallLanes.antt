@@ -1,7 +1,7 @@
 -- The five times of an intermediate location, each read in its own lane of a vector. The lemmas
 -- show that each lane tests and reads its field as the definitions say.
 use Rattle.std.proofs.Common.{◌≡◌, ℕ, zero, suc, ◌+◌, ◌-◌, ◌*◌, ◌%◌, ◌^◌, ◌<◌, ◌≤◌, nat_eq, nat_lt, Bool, true, false, cond, ◌&&◌, List}
-use Rattle.std.proofs.Common.{[], ◌∷◌, ◌++◌, length, get_or, replicate, bit_and, bit_or, Fits, w8, refl, sym, ap, subst, ◌∙◌, arith}
+use Rattle.std.proofs.Common.{[], ◌∷◌, ◌++◌, length, get_or, bit_and, bit_or, Fits, w8, refl, sym, ap, subst, ◌∙◌, arith}
 use Rattle.std.specs.Prelude.{◌==◌, ◌||◌, nat_le}
 use Rattle.std.specs.Char.{is_ascii_digit}
 use Rattle.std.proofs.lemmas.Bool.{agree_below_at, leb-true, ltb-true}
@@ -43,34 +43,55 @@ above b = (b + 65488) % 65536
 abbrev spells : ℕ → ℕ → ℕ
 spells a b = ((above a * 10) % 65536 + above b) % 65536
 
--- whether five bytes are a time, by the test that a lane computes: four digits, an hour below 24, a
--- minute below 60, then `H` or a space
-abbrev time_test : ℕ → ℕ → ℕ → ℕ → ℕ → Bool
-time_test a b c d e =
+-- the test that a lane computes of four bytes and an end: four digits, an hour below 24, a minute
+-- below 60, then `H` or a space
+abbrev time_test : ℕ → ℕ → ℕ → ℕ → Bool → Bool → Bool
+time_test a b c d half space =
     (((((nat_le (above a) 9 && nat_le (above b) 9) && nat_le (above c) 9) && nat_le (above d) 9) && nat_lt (spells a b) 24) && nat_lt (spells c d) 60)
-    && ((e == 72) || (e == 32))
+    && (half || space)
 
-abbrev blank_test : ℕ → ℕ → ℕ → ℕ → ℕ → Bool
-blank_test a b c d e =
-    (((nat_eq (above a) 65520 && nat_eq (above b) 65520) && nat_eq (above c) 65520) && nat_eq (above d) 65520) && nat_eq e 32
+abbrev blank_test : ℕ → ℕ → ℕ → ℕ → Bool → Bool
+blank_test a b c d space =
+    (((nat_eq (above a) 65520 && nat_eq (above b) 65520) && nat_eq (above c) 65520) && nat_eq (above d) 65520) && space
 
--- the test whether five bytes are a time, as a mask: the bitwise AND of the masks of the individual
--- tests
-abbrev time_mask : ℕ → ℕ → ℕ → ℕ → ℕ → ℕ
-time_mask a b c d e =
+-- the mask of the test whether a lane ends in a space. A public time has no last byte, so the lane of
+-- a public time always passes
+abbrev space_mask : ℕ → Bool → ℕ
+space_mask e public = bit_or (mask (e == 32)) (mask public)
+
+-- a lane of a scheduled time ends in a space if and only if its last byte is a space
+scheduled_end : (e : ℕ) → space_mask e false ≡ mask (e == 32)
+scheduled_end e = by (e == 32)
+  where
+    by : (p : Bool) → bit_or (mask p) (mask false) ≡ mask p
+    by true = refl
+    by false = refl
+
+-- each lane of a public time counts as one that ends in a space
+public_end : (e : ℕ) → space_mask e true ≡ mask true
+public_end e = by (e == 32)
+  where
+    by : (p : Bool) → bit_or (mask p) (mask true) ≡ mask true
+    by true = refl
+    by false = refl
+
+-- the test whether four bytes and an end are a time, as a mask: the bitwise AND of the masks of the
+-- individual tests
+abbrev time_mask : ℕ → ℕ → ℕ → ℕ → ℕ → ℕ → ℕ
+time_mask a b c d half space =
     bit_and
     (bit_and
     (bit_and
     (bit_and (bit_and (bit_and (mask (nat_le (above a) 9)) (mask (nat_le (above b) 9))) (mask (nat_le (above c) 9))) (mask (nat_le (above d) 9)))
     (mask (nat_lt (spells a b) 24))) (mask (nat_lt (spells c d) 60)))
-    (bit_or (mask (e == 72)) (mask (e == 32)))
+    (bit_or half space)
 
 abbrev blank_mask : ℕ → ℕ → ℕ → ℕ → ℕ → ℕ
-blank_mask a b c d e =
+blank_mask a b c d space =
     bit_and
     (bit_and (bit_and (bit_and (mask (nat_eq (above a) 65520)) (mask (nat_eq (above b) 65520))) (mask (nat_eq (above c) 65520)))
     (mask (nat_eq (above d) 65520)))
-    (mask (nat_eq e 32))
+    space
 
 -- the half minutes that a lane computes from its five bytes, modulo 2^16. The result is right only
 -- if the bytes are a time
@@ -84,24 +105,33 @@ five_and p q r s t =
     ∙ (λ i. bit_and (masks_and ((p && q) && r) s i) (mask t))
     ∙ masks_and (((p && q) && r) && s) t
 
-time_masked : (a b c d e : ℕ) → time_mask a b c d e ≡ mask (time_test a b c d e)
-time_masked a b c d e =
+time_masked : (a b c d : ℕ) (half space : Bool) → time_mask a b c d (mask half) (mask space) ≡ mask (time_test a b c d half space)
+time_masked a b c d half space =
     (λ i. bit_and
     (bit_and
     (five_and (nat_le (above a) 9) (nat_le (above b) 9) (nat_le (above c) 9) (nat_le (above d) 9) (nat_lt (spells a b) 24) i)
     (mask (nat_lt (spells c d) 60)))
-    (masks_or (e == 72) (e == 32) i))
+    (masks_or half space i))
     ∙ (λ i. bit_and
     (masks_and ((((nat_le (above a) 9 && nat_le (above b) 9) && nat_le (above c) 9) && nat_le (above d) 9) && nat_lt (spells a b) 24)
     (nat_lt (spells c d) 60) i)
-    (mask ((e == 72) || (e == 32))))
+    (mask (half || space)))
     ∙ masks_and
     (((((nat_le (above a) 9 && nat_le (above b) 9) && nat_le (above c) 9) && nat_le (above d) 9) && nat_lt (spells a b) 24) && nat_lt (spells c d) 60)
-    ((e == 72) || (e == 32))
+    (half || space)
 
-blank_masked : (a b c d e : ℕ) → blank_mask a b c d e ≡ mask (blank_test a b c d e)
-blank_masked a b c d e =
-    five_and (nat_eq (above a) 65520) (nat_eq (above b) 65520) (nat_eq (above c) 65520) (nat_eq (above d) 65520) (nat_eq e 32)
+blank_masked : (a b c d : ℕ) (space : Bool) → blank_mask a b c d (mask space) ≡ mask (blank_test a b c d space)
+blank_masked a b c d space =
+    five_and (nat_eq (above a) 65520) (nat_eq (above b) 65520) (nat_eq (above c) 65520) (nat_eq (above d) 65520) space
+
+-- the top bit of a lane is set if and only if one of the lane's two tests passes
+lane_set : (a b c d : ℕ) (half space : Bool)
+    → top 15 (bit_or (time_mask a b c d (mask half) (mask space)) (blank_mask a b c d (mask space)))
+    ≡ (time_test a b c d half space || blank_test a b c d space)
+lane_set a b c d half space =
+    (λ i. top 15 (bit_or (time_masked a b c d half space i) (blank_masked a b c d space i)))
+    ∙ ap (top 15) (masks_or (time_test a b c d half space) (blank_test a b c d space))
+    ∙ mask_set (time_test a b c d half space || blank_test a b c d space)
 
 -- ---- the tests of a lane equal the tests in the definitions
 
@@ -138,7 +168,7 @@ in_order true false c d h m x y z hour minute = refl
 in_order false b c d h m x y z hour minute = refl
 
 module _ (a b c d e : ℕ) (la : a < 256) (lb : b < 256) (lc : c < 256) (ld : d < 256) (le : e < 256) where
-  time_is : time_test a b c d e ≡ is_present_time (a ∷ b ∷ c ∷ d ∷ e ∷ [])
+  time_is : time_test a b c d (e == 72) (e == 32) ≡ is_present_time (a ∷ b ∷ c ∷ d ∷ e ∷ [])
   time_is =
       (λ i. (((((digit_test a la i && digit_test b lb i) && digit_test c lc i) && digit_test d ld i) && nat_lt (spells a b) 24)
       && nat_lt (spells c d) 60)
@@ -161,16 +191,22 @@ module _ (a b c d e : ℕ) (la : a < 256) (lb : b < 256) (lc : c < 256) (ld : d 
   or_swapped false true = refl
   or_swapped false false = refl
 
-  -- the top bit of a lane is set if and only if the lane's field is blank or a time
-  pub lane_good : top 15 (bit_or (time_mask a b c d e) (blank_mask a b c d e)) ≡ is_scheduled_time (a ∷ b ∷ c ∷ d ∷ e ∷ [])
-  lane_good =
-      (λ i. top 15 (bit_or (time_masked a b c d e i) (blank_masked a b c d e i)))
-      ∙ ap (top 15) (masks_or (time_test a b c d e) (blank_test a b c d e))
-      ∙ mask_set (time_test a b c d e || blank_test a b c d e)
-      ∙ (λ i. time_is i
+  -- one of a lane's two tests passes if and only if the lane's field is blank or a time
+  pub tests_good : (time_test a b c d (e == 72) (e == 32) || blank_test a b c d (e == 32)) ≡ is_scheduled_time (a ∷ b ∷ c ∷ d ∷ e ∷ [])
+  tests_good =
+      (λ i. time_is i
       || ((((space_test a la i && space_test b lb i) && space_test c lc i) && space_test d ld i) && (e == 32)))
       ∙ (λ i. is_present_time (a ∷ b ∷ c ∷ d ∷ e ∷ []) || regrouped (a == 32) (b == 32) (c == 32) (d == 32) (e == 32) i)
       ∙ or_swapped (is_present_time (a ∷ b ∷ c ∷ d ∷ e ∷ [])) _
+
+  -- the top bit of a lane is set if and only if the lane's field is blank or a time
+  pub lane_good :
+      top 15 (bit_or (time_mask a b c d (mask (e == 72)) (space_mask e false)) (blank_mask a b c d (space_mask e false)))
+      ≡ is_scheduled_time (a ∷ b ∷ c ∷ d ∷ e ∷ [])
+  lane_good =
+      (λ i. top 15 (bit_or (time_mask a b c d (mask (e == 72)) (scheduled_end e i)) (blank_mask a b c d (scheduled_end e i))))
+      ∙ lane_set a b c d (e == 72) (e == 32)
+      ∙ tests_good
 
   digits_of : is_present_time (a ∷ b ∷ c ∷ d ∷ e ∷ []) ≡ true
       → (is_ascii_digit a ≡ true) × (is_ascii_digit b ≡ true) × (is_ascii_digit c ≡ true) × (is_ascii_digit d ≡ true)
@@ -202,9 +238,13 @@ module _ (a b c d e : ℕ) (la : a < 256) (lb : b < 256) (lc : c < 256) (ld : d 
       summed hour minute false lh lm = omega arith
 
   -- a lane computes the half minutes of its field, or 65535 if the field has no time
-  pub lane_told : cond (top 15 (time_mask a b c d e)) (lane_half_minutes a b c d e) 65535 ≡ half_minutes_or_none (a ∷ b ∷ c ∷ d ∷ e ∷ [])
+  pub lane_told :
+      cond (top 15 (time_mask a b c d (mask (e == 72)) (space_mask e false))) (lane_half_minutes a b c d e) 65535
+      ≡ half_minutes_or_none (a ∷ b ∷ c ∷ d ∷ e ∷ [])
   lane_told =
-      (λ i. cond ((ap (top 15) (time_masked a b c d e) ∙ mask_set (time_test a b c d e) ∙ time_is) i) (lane_half_minutes a b c d e) 65535)
+      (λ i. cond (top 15 (time_mask a b c d (mask (e == 72)) (scheduled_end e i))) (lane_half_minutes a b c d e) 65535)
+      ∙ (λ i. cond ((ap (top 15) (time_masked a b c d (e == 72) (e == 32)) ∙ mask_set (time_test a b c d (e == 72) (e == 32)) ∙ time_is) i)
+      (lane_half_minutes a b c d e) 65535)
       ∙ by (is_present_time (a ∷ b ∷ c ∷ d ∷ e ∷ [])) refl
     where
       by : (present : Bool) → is_present_time (a ∷ b ∷ c ∷ d ∷ e ∷ []) ≡ present
@@ -228,6 +268,22 @@ public_lane a b c d = by (a == 32) (b == 32) (c == 32) (d == 32) (is_clock (a �
     by true false r s false = refl
     by false q r s true = refl
     by false q r s false = refl
+
+-- the top bit of the lane of a public time is set if and only if the field is blank or a time. The
+-- last byte, which is a byte of another field, doesn't matter
+public_good : (a b c d e : ℕ) → a < 256 → b < 256 → c < 256 → d < 256
+    → top 15 (bit_or (time_mask a b c d (mask (e == 72)) (space_mask e true)) (blank_mask a b c d (space_mask e true)))
+    ≡ is_public_time (a ∷ b ∷ c ∷ d ∷ [])
+public_good a b c d e la lb lc ld =
+    (λ i. top 15 (bit_or (time_mask a b c d (mask (e == 72)) (public_end e i)) (blank_mask a b c d (public_end e i))))
+    ∙ lane_set a b c d (e == 72) true
+    ∙ by (e == 72)
+    ∙ tests_good a b c d 32 la lb lc ld (omega arith)
+    ∙ public_lane a b c d
+  where
+    by : (half : Bool) → (time_test a b c d half true || blank_test a b c d true) ≡ (time_test a b c d false true || blank_test a b c d true)
+    by true = refl
+    by false = refl
 
 -- ---- eight lanes at once
 
@@ -290,27 +346,37 @@ cells_are zero (x ∷ xs) size = absurd (omega arith)
 cells_are (suc n) [] size = absurd (omega arith)
 cells_are (suc n) (x ∷ xs) size = ap (λ rest. x ∷ rest) (cells_are n xs (omega arith))
 
--- the byte at an index of the 32 bytes that a vector loads from a line: columns 11 to 26, followed
--- by columns 26 to 41. `end_picked` has sixteen spaces in place of columns 26 to 41
+-- the byte at an index of the first two blocks of a line, which are columns 1 to 32
 abbrev pub picked : List ℕ → ℕ → ℕ
-picked line k = get_or (chunk 10 16 line ++ chunk 25 16 line) k 0
+picked line k = get_or (chunk 0 16 line ++ chunk 16 16 line) k 0
 
-abbrev pub end_picked : List ℕ → ℕ → ℕ
-end_picked line k = get_or (chunk 10 16 line ++ replicate 16 32) k 0
+-- the first byte of the third block: column 33
+abbrev pub last_picked : List ℕ → ℕ
+last_picked line = get_or (chunk 32 8 line) 0 0
 
--- the half minutes that a lane computes from the loaded bytes at five indexes, or 65535 if these
--- bytes aren't a time
+-- the half minutes that the lane of a scheduled time computes from the loaded bytes at five indexes,
+-- or 65535 if these bytes aren't a time
 abbrev pub tells : List ℕ → ℕ → ℕ → ℕ → ℕ → ℕ → ℕ
 tells line a b c d e =
-    cond (top 15 (time_mask (picked line a) (picked line b) (picked line c) (picked line d) (end_picked line e)))
-    (lane_half_minutes (picked line a) (picked line b) (picked line c) (picked line d) (end_picked line e)) 65535
+    cond (top 15 (time_mask (picked line a) (picked line b) (picked line c) (picked line d) (mask (picked line e == 72)) (space_mask (picked line e) false)))
+    (lane_half_minutes (picked line a) (picked line b) (picked line c) (picked line d) (picked line e)) 65535
 
--- whether a lane is set: the loaded bytes at these five indexes are blank or a time
+-- whether a lane is set: its four bytes and its end are blank or a time
+abbrev pub lane_is_set : ℕ → ℕ → ℕ → ℕ → ℕ → Bool → Bool
+lane_is_set a b c d e public =
+    top 15 (bit_or (time_mask a b c d (mask (e == 72)) (space_mask e public)) (blank_mask a b c d (space_mask e public)))
+
+-- whether the lane of a scheduled time is set, by the indexes of its five bytes
 abbrev pub set_lane : List ℕ → ℕ → ℕ → ℕ → ℕ → ℕ → Bool
-set_lane line a b c d e =
-    top 15
-    (bit_or (time_mask (picked line a) (picked line b) (picked line c) (picked line d) (end_picked line e))
-    (blank_mask (picked line a) (picked line b) (picked line c) (picked line d) (end_picked line e)))
+set_lane line a b c d e = lane_is_set (picked line a) (picked line b) (picked line c) (picked line d) (picked line e) false
+
+-- whether the lanes of the public arrival and the public departure are set. Both lanes repeat the
+-- last byte of lane 0
+abbrev pub arrival_lane : List ℕ → Bool
+arrival_lane line = lane_is_set (picked line 25) (picked line 26) (picked line 27) (picked line 28) (picked line 14) true
+
+abbrev pub departure_lane : List ℕ → Bool
+departure_lane line = lane_is_set (picked line 29) (picked line 30) (picked line 31) (last_picked line) (picked line 14) true
 
 -- Says that each element of a line fits in a byte.
 abbrev pub AreBytes : List ℕ → Type 0
@@ -320,62 +386,58 @@ module _ (line : List ℕ) (size : length line ≡ 80) (bytes : AreBytes line) w
   in_cells : AreBytes (cells 80 line)
   in_cells = subst AreBytes (sym (cells_are 80 line size)) bytes
 
-  pub arrival_told : tells line 0 1 2 3 4 ≡ half_minutes_or_none (columns 11 15 line)
+  pub arrival_told : tells line 10 11 12 13 14 ≡ half_minutes_or_none (columns 11 15 line)
   arrival_told =
-      subst (λ l. tells l 0 1 2 3 4 ≡ half_minutes_or_none (columns 11 15 l)) (cells_are 80 line size)
+      subst (λ l. tells l 10 11 12 13 14 ≡ half_minutes_or_none (columns 11 15 l)) (cells_are 80 line size)
       (lane_told _ _ _ _ _ (in_cells 10).fits (in_cells 11).fits (in_cells 12).fits (in_cells 13).fits (in_cells 14).fits)
 
-  pub departure_told : tells line 5 6 7 8 9 ≡ half_minutes_or_none (columns 16 20 line)
+  pub departure_told : tells line 15 16 17 18 19 ≡ half_minutes_or_none (columns 16 20 line)
   departure_told =
-      subst (λ l. tells l 5 6 7 8 9 ≡ half_minutes_or_none (columns 16 20 l)) (cells_are 80 line size)
+      subst (λ l. tells l 15 16 17 18 19 ≡ half_minutes_or_none (columns 16 20 l)) (cells_are 80 line size)
       (lane_told _ _ _ _ _ (in_cells 15).fits (in_cells 16).fits (in_cells 17).fits (in_cells 18).fits (in_cells 19).fits)
 
-  pub pass_told : tells line 10 11 12 13 14 ≡ half_minutes_or_none (columns 21 25 line)
+  pub pass_told : tells line 20 21 22 23 24 ≡ half_minutes_or_none (columns 21 25 line)
   pass_told =
-      subst (λ l. tells l 10 11 12 13 14 ≡ half_minutes_or_none (columns 21 25 l)) (cells_are 80 line size)
+      subst (λ l. tells l 20 21 22 23 24 ≡ half_minutes_or_none (columns 21 25 l)) (cells_are 80 line size)
       (lane_told _ _ _ _ _ (in_cells 20).fits (in_cells 21).fits (in_cells 22).fits (in_cells 23).fits (in_cells 24).fits)
 
-  arrival_good : set_lane line 0 1 2 3 4 ≡ is_scheduled_time (columns 11 15 line)
+  arrival_good : set_lane line 10 11 12 13 14 ≡ is_scheduled_time (columns 11 15 line)
   arrival_good =
-      subst (λ l. set_lane l 0 1 2 3 4 ≡ is_scheduled_time (columns 11 15 l)) (cells_are 80 line size)
+      subst (λ l. set_lane l 10 11 12 13 14 ≡ is_scheduled_time (columns 11 15 l)) (cells_are 80 line size)
       (lane_good _ _ _ _ _ (in_cells 10).fits (in_cells 11).fits (in_cells 12).fits (in_cells 13).fits (in_cells 14).fits)
 
-  departure_good : set_lane line 5 6 7 8 9 ≡ is_scheduled_time (columns 16 20 line)
+  departure_good : set_lane line 15 16 17 18 19 ≡ is_scheduled_time (columns 16 20 line)
   departure_good =
-      subst (λ l. set_lane l 5 6 7 8 9 ≡ is_scheduled_time (columns 16 20 l)) (cells_are 80 line size)
+      subst (λ l. set_lane l 15 16 17 18 19 ≡ is_scheduled_time (columns 16 20 l)) (cells_are 80 line size)
       (lane_good _ _ _ _ _ (in_cells 15).fits (in_cells 16).fits (in_cells 17).fits (in_cells 18).fits (in_cells 19).fits)
 
-  pass_good : set_lane line 10 11 12 13 14 ≡ is_scheduled_time (columns 21 25 line)
+  pass_good : set_lane line 20 21 22 23 24 ≡ is_scheduled_time (columns 21 25 line)
   pass_good =
-      subst (λ l. set_lane l 10 11 12 13 14 ≡ is_scheduled_time (columns 21 25 l)) (cells_are 80 line size)
+      subst (λ l. set_lane l 20 21 22 23 24 ≡ is_scheduled_time (columns 21 25 l)) (cells_are 80 line size)
       (lane_good _ _ _ _ _ (in_cells 20).fits (in_cells 21).fits (in_cells 22).fits (in_cells 23).fits (in_cells 24).fits)
 
-  public_arrival_good : set_lane line 16 17 18 19 16 ≡ is_public_time (columns 26 29 line)
+  public_arrival_good : arrival_lane line ≡ is_public_time (columns 26 29 line)
   public_arrival_good =
-      subst (λ l. set_lane l 16 17 18 19 16 ≡ is_public_time (columns 26 29 l)) (cells_are 80 line size)
-      (lane_good (get_or (cells 80 line) 25 0) (get_or (cells 80 line) 26 0) (get_or (cells 80 line) 27 0) (get_or (cells 80 line) 28 0) 32
-      (in_cells 25).fits (in_cells 26).fits (in_cells 27).fits (in_cells 28).fits (omega arith)
-      ∙ public_lane (get_or (cells 80 line) 25 0) (get_or (cells 80 line) 26 0) (get_or (cells 80 line) 27 0) (get_or (cells 80 line) 28 0))
+      subst (λ l. arrival_lane l ≡ is_public_time (columns 26 29 l)) (cells_are 80 line size)
+      (public_good _ _ _ _ (get_or (cells 80 line) 14 0) (in_cells 25).fits (in_cells 26).fits (in_cells 27).fits (in_cells 28).fits)
 
-  public_departure_good : set_lane line 20 21 22 23 16 ≡ is_public_time (columns 30 33 line)
+  public_departure_good : departure_lane line ≡ is_public_time (columns 30 33 line)
   public_departure_good =
-      subst (λ l. set_lane l 20 21 22 23 16 ≡ is_public_time (columns 30 33 l)) (cells_are 80 line size)
-      (lane_good (get_or (cells 80 line) 29 0) (get_or (cells 80 line) 30 0) (get_or (cells 80 line) 31 0) (get_or (cells 80 line) 32 0) 32
-      (in_cells 29).fits (in_cells 30).fits (in_cells 31).fits (in_cells 32).fits (omega arith)
-      ∙ public_lane (get_or (cells 80 line) 29 0) (get_or (cells 80 line) 30 0) (get_or (cells 80 line) 31 0) (get_or (cells 80 line) 32 0))
+      subst (λ l. departure_lane l ≡ is_public_time (columns 30 33 l)) (cells_are 80 line size)
+      (public_good _ _ _ _ (get_or (cells 80 line) 14 0) (in_cells 29).fits (in_cells 30).fits (in_cells 31).fits (in_cells 32).fits)
 
   -- all eight lanes are set if and only if the five time fields are good
   pub all_set :
       nat_eq
       (mask_l
-      (set_lane line 0 1 2 3 4 ∷ set_lane line 5 6 7 8 9 ∷ set_lane line 10 11 12 13 14 ∷ set_lane line 16 17 18 19 16
-      ∷ set_lane line 20 21 22 23 16 ∷ set_lane line 0 1 2 3 4 ∷ set_lane line 0 1 2 3 4 ∷ set_lane line 0 1 2 3 4 ∷ [])
+      (set_lane line 10 11 12 13 14 ∷ set_lane line 15 16 17 18 19 ∷ set_lane line 20 21 22 23 24 ∷ arrival_lane line
+      ∷ departure_lane line ∷ set_lane line 10 11 12 13 14 ∷ set_lane line 10 11 12 13 14 ∷ set_lane line 10 11 12 13 14 ∷ [])
       % 2 ^ 64)
       255
       ≡ ((((is_scheduled_time (columns 11 15 line) && is_scheduled_time (columns 16 20 line)) && is_scheduled_time (columns 21 25 line))
       && is_public_time (columns 26 29 line))
       && is_public_time (columns 30 33 line))
   all_set =
-      eight (set_lane line 0 1 2 3 4) (set_lane line 5 6 7 8 9) (set_lane line 10 11 12 13 14) (set_lane line 16 17 18 19 16)
-      (set_lane line 20 21 22 23 16)
+      eight (set_lane line 10 11 12 13 14) (set_lane line 15 16 17 18 19) (set_lane line 20 21 22 23 24) (arrival_lane line)
+      (departure_lane line)
       ∙ (λ i. (((arrival_good i && departure_good i) && pass_good i) && public_arrival_good i) && public_departure_good i)

@@ -7,7 +7,7 @@ ghost use Rattle.docker_bytes.specs.SourceRead.{ReadsState};
 use crate::read::{ReadFault, read_format};
 use cif_line::Source;
 use state_text::format::Format;
-use state_text::{State, Whole};
+use state_text::{Indexing, State};
 use std::alloc::Global;
 
 /// Reads a source as `read_state` does, but accepts a text with the mark `DKS1`. A text with this
@@ -18,21 +18,5 @@ pub fn migrate<S: Source>(alloc: Global, source: &mut S, limit: u64) -> Result<S
     ensures { EndsReading S.left S.failures dks_1 limit
         (ReadsState dks_1 limit (S.left source.old)) source.old source.new result }
 {
-    migrate_noting(alloc, source, limit, true)
-}
-
-/// Like `migrate`, but notes the timing points of the entries for the index only if `noted` is
-/// true. Without these notes the state has no index, and making the state takes less time and
-/// memory.
-pub fn migrate_noting<S: Source>(
-    alloc: Global,
-    source: &mut S,
-    limit: u64,
-    noted: bool,
-) -> Result<State, ReadFault>
-    requires { S.failures source.old < 2 ^ 64 - 1 }
-    ensures { EndsReading S.left S.failures dks_1 limit
-        (ReadsState dks_1 limit (S.left source.old)) source.old source.new result }
-{
-    read_format(alloc, Format::Dks1, Whole::new(alloc, noted), source, limit)
+    read_format(alloc, Format::Dks1, Indexing::new(alloc), source, limit)
 }

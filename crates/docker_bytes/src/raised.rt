@@ -11,21 +11,20 @@ use state_text::{HorizonDay, Lapsing, State};
 use std::alloc::Global;
 use std::marker::Brand;
 
-/// Reads a source as `read_state_noting` does, and raises the horizon of its state to a day. An
-/// entry whose body ended before this day lapses as soon as it is read, so its body takes no memory
+/// Reads a source as `read_unindexed` does, and raises the horizon of its state to a day. An entry
+/// whose body ended before this day lapses as soon as it is read, so its body takes no memory
 /// afterwards. If the text's horizon isn't before the day, it stays as it is.
 pub fn read_raised<S: Source>(
     alloc: Global,
     source: &mut S,
     day: Day,
     limit: u64,
-    noted: bool,
 ) -> Result<State, ReadFault>
     requires { S.failures source.old < 2 ^ 64 - 1 }
     ensures { EndsReading S.left S.failures dks_2 limit
         (RaisesState dks_2 limit (S.left source.old) day) source.old source.new result }
 {
-    raised_to::<Brand, S>(alloc, source, day, limit, noted)
+    raised_to::<Brand, S>(alloc, source, day, limit)
 }
 
 /// Like `read_raised`, for the day that the type `D` determines.
@@ -34,13 +33,12 @@ fn raised_to<D: HorizonDay, S: Source>(
     source: &mut S,
     day: Day,
     limit: u64,
-    noted: bool,
 ) -> Result<State, ReadFault>
     requires failures { S.failures source.old < 2 ^ 64 - 1 }
     requires day { day ≡ D.day }
     ensures { EndsReading S.left S.failures dks_2 limit
         (RaisesState dks_2 limit (S.left source.old) day) source.old source.new result }
 {
-    let keeper: Lapsing<D> = Lapsing::new(alloc, day, noted);
+    let keeper: Lapsing<D> = Lapsing::new(alloc, day);
     read_format(alloc, Format::Dks2, keeper, source, limit)
 }

@@ -13,7 +13,7 @@ use crate::fault::StateFault;
 use crate::parser::Parser;
 use cif_line::{FeedFault, Source, Taker, feed_all};
 use state_text::format::Format;
-use state_text::{Keeper, Maker, State, StateCause, Whole};
+use state_text::{Indexing, Keeper, Maker, State, StateCause, Whole};
 use std::alloc::Global;
 use std::error::Error;
 use std::fmt;
@@ -45,31 +45,30 @@ impl fmt::Display for ReadFault {
 impl Error for ReadFault {}
 
 /// Reads a source to its end, or to the first fault, and returns the state whose text the source
-/// held. The call reads pieces of at most 65,536 bytes, and nothing after the piece that determines
-/// the result. So if a source never ends, the call reads at most up to the piece that contains the
-/// byte at offset `limit`.
+/// held, with an index. The call reads pieces of at most 65,536 bytes, and nothing after the piece
+/// that determines the result. So if a source never ends, the call reads at most up to the piece
+/// that contains the byte at offset `limit`.
 pub fn read_state<S: Source>(alloc: Global, source: &mut S, limit: u64) -> Result<State, ReadFault>
     requires { S.failures source.old < 2 ^ 64 - 1 }
     ensures { EndsReading S.left S.failures dks_2 limit
         (ReadsState dks_2 limit (S.left source.old)) source.old source.new result }
 {
-    read_state_noting(alloc, source, limit, true)
+    read_format(alloc, Format::Dks2, Indexing::new(alloc), source, limit)
 }
 
-/// Like `read_state`, but notes the timing points of the entries for the index only if `noted` is
-/// true. Without these notes the state has no index, and making the state takes less time and
-/// memory.
-pub fn read_state_noting<S: Source>(
+/// Like `read_state`, but reads a text in the given format, and the state has no index. So reading
+/// takes less time and memory, and the rows for a place are found by a walk over all rows.
+pub fn read_unindexed<S: Source>(
     alloc: Global,
+    format: Format,
     source: &mut S,
     limit: u64,
-    noted: bool,
 ) -> Result<State, ReadFault>
     requires { S.failures source.old < 2 ^ 64 - 1 }
-    ensures { EndsReading S.left S.failures dks_2 limit
-        (ReadsState dks_2 limit (S.left source.old)) source.old source.new result }
+    ensures { EndsReading S.left S.failures (format_meant format) limit
+        (ReadsState (format_meant format) limit (S.left source.old)) source.old source.new result }
 {
-    read_format(alloc, Format::Dks2, Whole::new(alloc, noted), source, limit)
+    read_format(alloc, format, Whole::new(alloc), source, limit)
 }
 
 /// Like `read_state`, but reads a text in the given format. Passes the parts to `keeper`, which

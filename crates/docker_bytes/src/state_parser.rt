@@ -9,7 +9,7 @@ ghost use Rattle.docker_bytes.specs.ParserRead.{HasRead, HasFailed};
 use crate::fault::{StateFault, Step};
 use crate::parser::Parser;
 use state_text::format::Format;
-use state_text::{State, Whole};
+use state_text::{Indexing, State};
 use std::alloc::Global;
 use std::marker::Model;
 
@@ -17,7 +17,7 @@ use std::marker::Model;
 /// the complete parts, and at most 80 bytes of the next part.
 #[derive(Debug, Drop)]
 pub struct StateParser {
-    parser: Parser<Whole>,
+    parser: Parser<Indexing>,
 }
 
 impl Model for StateParser {
@@ -35,7 +35,7 @@ impl StateParser {
         ensures { HasRead result dks_2 limit [] }
     {
         StateParser {
-            parser: Parser::new(alloc, Format::Dks2, limit, Whole::new(alloc, true)),
+            parser: Parser::new(alloc, Format::Dks2, limit, Indexing::new(alloc)),
         }
     }
 
@@ -66,10 +66,10 @@ impl StateParser {
         self.parser.feed(piece)
     }
 
-    /// Returns the state whose text was read. Returns the fault `Short` if the text ends before the
-    /// state does; its offset is the beginning of the incomplete item. Returns the fault `Memory`
-    /// only after a complete text; its offset is the end of the text. If `feed` returned a fault,
-    /// returns this fault.
+    /// Returns the state whose text was read, with an index. Returns the fault `Short` if the text
+    /// ends before the state does; its offset is the beginning of the incomplete item. Returns the
+    /// fault `Memory` only after a complete text; its offset is the end of the text. If `feed`
+    /// returned a fault, returns this fault.
     pub fn finish(self) -> Result<State, StateFault>
         ensures ok { (format : formats.Format) (limit : ℕ) (text : List ℕ) →
             HasRead self format limit text →

@@ -316,14 +316,14 @@ PrintsDocker prepared = IsDocker (output_of prepared.job.task)
 
 -- writing an output to a sink ended with this result. On success the sink has gained the text. If
 -- the sink failed, it has gained a proper prefix of the text. If a docker can't be made, the sink
--- is unchanged
+-- is unchanged. The day of a docker is refused if and only if the result is `Lapsed`
 abbrev pub EndsEmitting : {K : Type 0} → (K → DeviceBytes) → (K → ℕ) → Output → ReadView → K → K → Result ⊤ OfficeFault → Type 0
 EndsEmitting taken failures output read old new (Ok done) =
-    GainsText output read (taken old) (taken new) × (failures new ≡ failures old)
+    GainsText output read (taken old) (taken new) × (¬ IsRefusedDocker output read) × (failures new ≡ failures old)
 EndsEmitting taken failures output read old new (Err office.Sink) =
-    GainsTextPart output read (taken old) (taken new) × (failures new ≡ failures old + 1)
+    GainsTextPart output read (taken old) (taken new) × (¬ IsRefusedDocker output read) × (failures new ≡ failures old + 1)
 EndsEmitting taken failures output read old new (Err office.Lapsed) = IsRefusedDocker output read × (new ≡ old)
-EndsEmitting taken failures output read old new (Err office.Memory) = IsDocker output × (new ≡ old)
+EndsEmitting taken failures output read old new (Err office.Memory) = IsDocker output × (¬ IsRefusedDocker output read) × (new ≡ old)
 EndsEmitting taken failures output read old new (Err (office.File fault)) = ⊥
 EndsEmitting taken failures output read old new (Err (office.State fault)) = ⊥
 EndsEmitting taken failures output read old new (Err office.Source) = ⊥

@@ -7,13 +7,13 @@ ghost use Rattle.docker_cmd.specs.Tasks.{output_of, sources_of};
 
 use crate::jobs::Job;
 use crate::sources::{
-    MOST_BYTES, counts_of_file, office_of_older_state, office_of_state_and_file,
-    office_of_two_states, office_raised,
+    MOST_BYTES, counts_of_file, office_of_state_and_file, office_of_two_states, office_raised,
 };
 use crate::tasks::Task;
 use cif_file::{FileCount, MOST_RECORDS};
 use cif_line::Source;
 use docker_office::{LedgerOffice, Office, OfficeFault, PlaceOffice};
+use state_text::format::Format;
 use std::alloc::Global;
 
 /// What a job keeps in memory. It determines what the job writes.
@@ -44,7 +44,7 @@ pub(crate) fn hold<S: Source, T: Source>(
     ensures written { IfOk result (IsWrittenFrom (output_of job.now.task)) }
 {
     match job.task() {
-        Task::New => Ok(Holding::Whole(Office::unindexed(alloc))),
+        Task::New => Ok(Holding::Whole(Office::new(alloc))),
         Task::Check => Ok(Holding::Counts(counts_of_file(alloc, first)?)),
         Task::Day { place, day } => {
             let office = PlaceOffice::take(alloc, place, day, first, MOST_RECORDS)?;
@@ -58,6 +58,9 @@ pub(crate) fn hold<S: Source, T: Source>(
         }
         Task::Files => Ok(Holding::Ledger(LedgerOffice::read(alloc, first, MOST_BYTES)?)),
         Task::Horizon { day } => Ok(Holding::Whole(office_raised(alloc, first, day)?)),
-        Task::Migrate => Ok(Holding::Whole(office_of_older_state(alloc, first)?)),
+        Task::Migrate => {
+            let office = Office::read(alloc, Format::Dks1, first, MOST_BYTES)?;
+            Ok(Holding::Whole(office))
+        }
     }
 }

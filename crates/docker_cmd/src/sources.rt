@@ -2,8 +2,8 @@
 ghost use Rattle.std.specs.Prelude.{◌-◌, ◌^◌, ◌<◌, ℕ};
 ghost use Rattle.cif_file.specs.SourceRead.{CountsText};
 ghost use Rattle.docker_model.specs.file.File.{most_records};
-ghost use Rattle.docker_model.specs.state.StateText.{dks_1, dks_2};
-ghost use Rattle.docker_bytes.specs.SourceRead.{RaisesState, ReadsState};
+ghost use Rattle.docker_model.specs.state.StateText.{dks_2};
+ghost use Rattle.docker_bytes.specs.SourceRead.{RaisesState};
 ghost use Rattle.docker_cmd.specs.Prepared.{CountsSources, DeviceBytes, EndsReadingSources, JoinsBehind, ReadsSources, TakesBehind, most_bytes};
 ghost use Rattle.docker_cmd.specs.Reads.{checked_file, state_and_file, two_states};
 ghost use Rattle.docker_office.specs.OfficeReads.{EndsReadingState};
@@ -11,6 +11,7 @@ ghost use Rattle.docker_office.specs.OfficeReads.{EndsReadingState};
 use cif_file::{FileCount, MOST_RECORDS, judge_file};
 use cif_line::{Day, Source};
 use docker_office::{Office, OfficeFault};
+use state_text::format::Format;
 use std::alloc::Global;
 
 /// The most bytes that a state's text may have.
@@ -31,18 +32,7 @@ pub(crate) fn counts_of_file<S: Source>(
     Ok(judge_file(alloc, source, MOST_RECORDS)?)
 }
 
-/// Returns an office that has reloaded the state in a source.
-fn office_of_state<S: Source>(alloc: Global, source: &mut S) -> Result<Office, OfficeFault>
-    requires { S.failures source.old < 2 ^ 64 - 1 }
-    ensures { EndsReadingState S.left S.failures dks_2 most_bytes
-        (ReadsState dks_2 most_bytes (S.left source.old)) source.old source.new result }
-{
-    let mut office = Office::unindexed(alloc);
-    office.reload(source, MOST_BYTES)?;
-    Ok(office)
-}
-
-/// Returns an office that has reloaded the state in a source and set its horizon to this day.
+/// Returns an office that has read the state in a source and set its horizon to this day.
 pub(crate) fn office_raised<S: Source>(
     alloc: Global,
     source: &mut S,
@@ -52,28 +42,13 @@ pub(crate) fn office_raised<S: Source>(
     ensures { EndsReadingState S.left S.failures dks_2 most_bytes
         (RaisesState dks_2 most_bytes (S.left source.old) day) source.old source.new result }
 {
-    let mut office = Office::unindexed(alloc);
+    let mut office = Office::new(alloc);
     office.reload_under(source, day, MOST_BYTES)?;
     Ok(office)
 }
 
-/// Returns an office that has reloaded the state in a source. The state's text is in the older
-/// format, `DKS1`.
-pub(crate) fn office_of_older_state<S: Source>(
-    alloc: Global,
-    source: &mut S,
-) -> Result<Office, OfficeFault>
-    requires { S.failures source.old < 2 ^ 64 - 1 }
-    ensures { EndsReadingState S.left S.failures dks_1 most_bytes
-        (ReadsState dks_1 most_bytes (S.left source.old)) source.old source.new result }
-{
-    let mut office = Office::unindexed(alloc);
-    office.migrate(source, MOST_BYTES)?;
-    Ok(office)
-}
-
-/// Returns a new office that has reloaded the state in the first source and then taken the file in
-/// the second source.
+/// Returns an office that has read the state in the first source and then taken the file in the
+/// second source.
 pub(crate) fn office_of_state_and_file<S: Source, T: Source>(
     alloc: Global,
     first: &mut S,
@@ -85,13 +60,13 @@ pub(crate) fn office_of_state_and_file<S: Source, T: Source>(
         (TakesBehind (S.left first.old) (T.left second.old)) state_and_file
         first.old first.new second.old second.new result }
 {
-    let mut taker = office_of_state(alloc, first)?;
+    let mut taker = Office::read(alloc, Format::Dks2, first, MOST_BYTES)?;
     taker.take(second, MOST_RECORDS)?;
     Ok(taker)
 }
 
-/// Returns a new office that has reloaded the state in the first source and then received the state
-/// in the second source.
+/// Returns an office that has read the state in the first source and then received the state in the
+/// second source.
 pub(crate) fn office_of_two_states<S: Source, T: Source>(
     alloc: Global,
     first: &mut S,
@@ -103,7 +78,7 @@ pub(crate) fn office_of_two_states<S: Source, T: Source>(
         (JoinsBehind (S.left first.old) (T.left second.old)) two_states
         first.old first.new second.old second.new result }
 {
-    let mut receiver = office_of_state(alloc, first)?;
+    let mut receiver = Office::read(alloc, Format::Dks2, first, MOST_BYTES)?;
     receiver.receive(second, MOST_BYTES)?;
     Ok(receiver)
 }

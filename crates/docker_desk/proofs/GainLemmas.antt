@@ -6,14 +6,14 @@ use Rattle.docker_model.specs.state.State.{State}
 use Rattle.docker_model.specs.state.StateText.{dks_2, state_text}
 use Rattle.docker_model.specs.records.Date.{IsDay}
 use Rattle.docker_cmd.specs.Prepared.{most_bytes}
-use Rattle.docker_cmd.specs.Saved.{AreGained, Gain, Gains, HoldsVersion, file_gained, horizon_gained, version_gained}
+use Rattle.docker_cmd.specs.Saved.{AreGained, Gain, Gains, HoldsVersion, IsSaved, file_gained, horizon_gained, version_gained}
 use Rattle.docker_host.specs.History.{Bytes, Event, Text, looked}
 use Rattle.docker_bytes.specs.SourceRead.{JoinsState}
 use Rattle.docker_office.specs.Office.{TakesFile}
 use Rattle.docker_office.specs.declared.fault.OfficeFault.{OfficeFault}
 use Rattle.docker_desk.specs.Desk.{EndsReceiving, EndsRenewing, EndsSaving, EndsTaking}
 use Rattle.docker_desk.specs.Doing.{AreSteps, DoesAsked, DoesRequest, Joins, Renews, Saves, answer_of}
-use Rattle.docker_desk.specs.Learning.{GainedBy, GainsAsked, GainsDone, GainsFile, GainsVersion, IsPlaced, renewing}
+use Rattle.docker_desk.specs.Learning.{GainedBy, GainsAsked, GainsDone, GainsFile, GainsVersion, IsPlaced, IsUnsaved, MayBePlaced, renewing}
 use Rattle.docker_desk.specs.SessionViews.{SessionView, Setting, Step}
 use Rattle.docker_desk.specs.Reading.{Reading, StopsInFile, StopsInState, events_of, opening_of}
 use Rattle.docker_desk.specs.Replies.{AnswerView, done_with, no_request, refused_for}
@@ -21,7 +21,7 @@ use Rattle.docker_desk.specs.Requests.{RequestView, print_request, permanent_req
 use Rattle.docker_desk.specs.Requests.{known_request, renew_request, take_request, merge_request, horizon_request, save_request}
 use Rattle.docker_desk.specs.Serving.{BeginsAt}
 use Rattle.docker_desk.specs.declared.compared.Compared.{Compared}
-use Rattle.docker_desk.proofs.HeardLemmas.{held_after_look, held_once}
+use Rattle.docker_desk.proofs.HeardLemmas.{held_after_look, held_once, unsaved_by}
 use Rattle.docker_desk.proofs.KnownLemmas.{day_asked, never_unasked, same_refused, same_saved}
 
 module _ (earlier : List (List ℕ)) where
@@ -138,6 +138,21 @@ module _ (earlier : List (List ℕ)) where
         (λ day same. day_asked setting.may_write step.line step.request day are.1.0.asks same) are.1.0.does gained.1.1.0)
         (gained_steps step.after last steps gained.1.0 are.1.1 gained.1.1.1.0)))
 
+    -- the text that `save` writes to a draft, if STATE held version number `own` of `earlier` when
+    -- the session began
+    saved_text : (first before : SessionView) (steps : List Step) (old : List Event) (own : ℕ) (gains : List Gain)
+        → (begins : BeginsAt setting.name old first) → HoldsVersion earlier begins.held own → AreSteps setting first steps before
+        → GainedBy setting earlier steps gains → IsSaved earlier own gains (state_text dks_2 before.desk.state)
+    saved_text first before steps old own gains begins holds are gained = record {
+      held = begins.held;
+      holds = holds;
+      first = first.desk.state;
+      reads = begins.state;
+      last = before.desk.state;
+      gained = gained_steps first before steps gains are gained;
+      text_is = refl;
+    }
+
     -- suppose that STATE held version number `own` of `earlier` when the session began. Then `save`
     -- stores the text of a state that was read from that version, and that then gained what the
     -- desk's state gained in the steps before `save`
@@ -151,15 +166,19 @@ module _ (earlier : List (List ℕ)) where
             → IsPlaced setting earlier own gains before after
         by (Ok done) told stores = record {
           text = state_text dks_2 before.desk.state;
-          saved = record {
-            held = begins.held;
-            holds = holds;
-            first = first.desk.state;
-            reads = begins.state;
-            last = before.desk.state;
-            gained = gained_steps first before steps gains are gained;
-            text_is = refl;
-          };
+          saved = saved_text first before steps old own gains begins holds are gained;
           asked = stores;
         }
         by (Err fault) told stores = let never : ⊥ = cc in absurd never
+
+    -- the same, if `save` was refused
+    pub may_place_version : (first before after : SessionView) (steps : List Step) (old : List Event) (own : ℕ) (gains : List Gain) (fault : OfficeFault)
+        → (begins : BeginsAt setting.name old first) → HoldsVersion earlier begins.held own → AreSteps setting first steps before
+        → GainedBy setting earlier steps gains → Saves setting before (refused_for fault) after
+        → IsUnsaved setting before after fault (MayBePlaced setting earlier own gains before after)
+    may_place_version first before after steps old own gains fault begins holds are gained does =
+        unsaved_by setting before after fault (MayBePlaced setting earlier own gains before after) (λ unplaced. record {
+          text = state_text dks_2 before.desk.state;
+          saved = saved_text first before steps old own gains begins holds are gained;
+          asked = unplaced;
+        }) does

@@ -1,12 +1,14 @@
 -- What a desk learns from the files that `take`, `merge` and `renew` read.
-use Rattle.std.proofs.Common.{◌≡◌, ℕ, List, [], ◌∷◌, ◌++◌, refl, sym, ◌∙◌, subst, Some, None, Ok, Err}
+use Rattle.std.proofs.Common.{◌≡◌, ℕ, List, [], ◌∷◌, ◌++◌, refl, sym, ◌∙◌, subst, inl, inr, Some, None, Ok, Err}
 use Rattle.std.specs.Prelude.{Option, Result, ⊤}
 use Rattle.docker_model.specs.run.Run.{Known, nothing, united}
 use Rattle.docker_model.specs.state.StateText.{dks_2, state_text}
 use Rattle.docker_cmd.specs.Prepared.{most_bytes}
+use Rattle.docker_host.specs.Asked.{IsUnplaced}
 use Rattle.docker_host.specs.History.{Bytes, Event, Text, looked}
 use Rattle.docker_bytes.specs.SourceRead.{JoinsState}
 use Rattle.docker_office.specs.declared.fault.OfficeFault.{OfficeFault}
+use Rattle.docker_office.specs.declared.fault.OfficeFault.TheVariants as office
 use Rattle.docker_desk.specs.Desk.{EndsReceiving, EndsRenewing, EndsSaving, EndsTaking}
 use Rattle.docker_desk.specs.Reading.{Reading, StopsInFile, StopsInState, events_of, opening_of}
 use Rattle.docker_desk.specs.declared.compared.Compared.{Compared}
@@ -16,7 +18,7 @@ use Rattle.docker_desk.specs.Replies.{AnswerView, done_with, no_request, refused
 use Rattle.docker_desk.specs.SessionViews.{SessionView, Setting, Step}
 use Rattle.docker_desk.specs.Doing.{AreSteps, DoesAsked, DoesRequest, Joins, Renews, Saves, answer_of}
 use Rattle.docker_desk.specs.Learning.{AllHearKnown, AreLearned, Hears, HearsFile, HearsKnown, HearsState}
-use Rattle.docker_desk.specs.Learning.{HoldsKnown, IsKnown, Learns, PlacesKnown, ReceivesKnown, renewing}
+use Rattle.docker_desk.specs.Learning.{HoldsKnown, IsKnown, IsUnsaved, Learns, MayPlaceKnown, PlacesKnown, ReceivesKnown, renewing}
 use Rattle.docker_desk.proofs.KnownLemmas.{known_read}
 
 -- ---- events determine bytes
@@ -39,6 +41,25 @@ held_after_look name old new first second one two =
     let same = one_more old (looked name ∷ events_of name first) (looked name ∷ events_of name second) (sym one ∙ two) in cc
 
 -- ---- a state is received or saved
+
+-- if `save` was refused, it stored nothing, or replacing the file with the draft failed
+pub unsaved_by : (setting : Setting) (before after : SessionView) (fault : OfficeFault) (MayBe : Type 0)
+    → (IsUnplaced setting.names_bytes setting.name before.look (state_text dks_2 before.desk.state) before.history after.history → MayBe)
+    → Saves setting before (refused_for fault) after → IsUnsaved setting before after fault MayBe
+unsaved_by setting before after fault MayBe may does = by does.result does.told does.stores
+  where
+    by : (result : Result ⊤ OfficeFault) → refused_for fault ≡ answer_of result
+        → EndsSaving setting.names_bytes setting.name before.look (state_text dks_2 before.desk.state) before.history after.history result
+        → IsUnsaved setting before after fault MayBe
+    by (Ok done) told stores = let never : ⊥ = cc in absurd never
+    by (Err office.Sink) told (inl undrafted) = inl undrafted
+    by (Err office.Sink) told (inr (inl dropped)) = inr (inl dropped)
+    by (Err office.Sink) told (inr (inr unplaced)) = let same : fault ≡ office.Sink = cc in inr (inr (same, may unplaced))
+    by (Err office.Memory) told stores = inl stores
+    by (Err office.Source) told stores = absurd stores
+    by (Err office.Lapsed) told stores = absurd stores
+    by (Err (office.File cause)) told stores = absurd stores
+    by (Err (office.State cause)) told stores = absurd stores
 
 module _ (before after : SessionView) (known : Known) where
   -- if a file held the text of a summary, and the desk received this state, the desk learned this
@@ -98,6 +119,18 @@ module _ (before after : SessionView) (known : Known) where
         asked = stores;
       }
       by (Err fault) told stores = let never : ⊥ = cc in absurd never
+
+  -- if `save` was refused, it stored nothing, or the draft holds the text of the summary of what is
+  -- known
+  pub may_place_known : (setting : Setting) (fault : OfficeFault) → IsKnown known before.desk.state → Saves setting before (refused_for fault) after
+      → IsUnsaved setting before after fault (MayPlaceKnown setting before after known)
+  may_place_known setting fault is does =
+      unsaved_by setting before after fault (MayPlaceKnown setting before after known) (λ unplaced. record {
+        text = state_text dks_2 before.desk.state;
+        good = is.good;
+        is = (before.desk.state, is.is, refl);
+        asked = unplaced;
+      }) does
 
 -- ---- what a session learns from its steps
 

@@ -1,6 +1,6 @@
 -- What a desk knows in a session. At each point the desk's state is the summary of the files and
 -- the horizon that the desk knows.
-use Rattle.std.specs.Prelude.{◌≡◌, ◌↔◌, ℕ, List, [], ◌∷◌, ◌++◌, Option, Some, None, option_map, ⊤}
+use Rattle.std.specs.Prelude.{◌≡◌, ◌↔◌, ◌⊎◌, ℕ, List, [], ◌∷◌, ◌++◌, Option, Some, None, option_map, ⊤}
 use Rattle.docker_model.specs.file.File.{most_records}
 use Rattle.docker_model.specs.state.State.{State, live_table}
 use Rattle.docker_model.specs.state.Lapse.{IsDayRefused}
@@ -15,9 +15,12 @@ use Rattle.docker_train.specs.TrainText.{Stamped, train_text}
 use Rattle.docker_train.specs.Origin.{CameFrom}
 use Rattle.docker_cmd.specs.Saved.{Gain, HoldsFile, HoldsVersion, IsSaved, file_gained, horizon_gained, version_gained}
 use Rattle.docker_cmd.specs.Prepared.{most_bytes}
+use Rattle.docker_host.specs.Asked.{IsDropped, IsUndrafted, IsUnplaced}
 use Rattle.docker_host.specs.History.{Event, Text, drafted, looked, named_if, placed}
 use Rattle.docker_bytes.specs.SourceRead.{JoinsState}
 use Rattle.docker_office.specs.Office.{HoldsState, TakesFile}
+use Rattle.docker_office.specs.declared.fault.OfficeFault.{OfficeFault}
+use Rattle.docker_office.specs.declared.fault.OfficeFault.TheVariants.{Sink}
 use Rattle.docker_desk.specs.Requests.{RequestView, print_request, permanent_request, train_request, files_request, places_request}
 use Rattle.docker_desk.specs.Requests.{known_request, renew_request, take_request, merge_request, horizon_request, save_request}
 use Rattle.docker_desk.specs.Replies.{AnswerView, done_with, no_request, refused_for}
@@ -141,6 +144,23 @@ pub record PlacesKnown (setting : Setting) (before after : SessionView) (known :
   pub asked : after.history ≡ before.history ++ drafted setting.name before.look
       ∷ placed setting.name (named_if setting.names_bytes text) ∷ looked setting.name ∷ []
 
+-- `save` was refused for this fault. Either it stored nothing: no draft was made, or the draft was
+-- discarded. Or a device failed while a draft replaced the state's file, and `MayBe` says which text
+-- the draft holds. In that case the file holds either that text or what it held before
+abbrev pub IsUnsaved : Setting → SessionView → SessionView → OfficeFault → Type 0 → Type 0
+IsUnsaved setting before after fault MayBe =
+    IsUndrafted setting.name before.look before.history after.history
+    ⊎ (IsDropped setting.name before.look before.history after.history
+    ⊎ ((fault ≡ Sink) × MayBe))
+
+-- replacing the state's file failed, and the draft holds the text of the summary of this knowledge
+pub record MayPlaceKnown (setting : Setting) (before after : SessionView) (known : Known) : Type 0 where
+  pub text : List ℕ
+  pub good : IsGoodKnown dks_2 known
+  pub is : IsMessageOf dks_2 known text
+  pub asked : IsUnplaced setting.names_bytes setting.name before.look text before.history
+      after.history
+
 -- the named file was opened and held the text of an extract. The state gained this extract and
 -- nothing else
 pub record GainsFile (name : Text) (before after : SessionView) (gains : List Gain) : Type 0 where
@@ -205,6 +225,15 @@ pub record IsPlaced (setting : Setting) (earlier : List Text) (own : ℕ) (gains
   pub saved : IsSaved earlier own gains text
   pub asked : after.history ≡ before.history ++ drafted setting.name before.look
       ∷ placed setting.name (named_if setting.names_bytes text) ∷ looked setting.name ∷ []
+
+-- replacing the state's file failed. The draft holds the text of a state that was read from version
+-- number `own` of `earlier`, and that then gained `gains`
+pub record MayBePlaced (setting : Setting) (earlier : List Text) (own : ℕ) (gains : List Gain)
+    (before after : SessionView) : Type 0 where
+  pub text : Text
+  pub saved : IsSaved earlier own gains text
+  pub asked : IsUnplaced setting.names_bytes setting.name before.look text before.history
+      after.history
 
 -- there is a session with a point at which the desk has this knowledge and this state
 pub record KnowsAt (setting : Setting) (known : Known) (state : State) : Type 0 where

@@ -18,13 +18,14 @@ ghost use Rattle.docker_train.specs.TrainText.{IsTrainText};
 ghost use Rattle.state_lists.specs.Known.{IsKnownText};
 ghost use Rattle.state_lists.specs.Places.{IsPlacesText};
 ghost use Rattle.docker_office.specs.Office.{HoldsState};
+ghost use Rattle.docker_office.specs.declared.fault.OfficeFault.{OfficeFault};
 ghost use Rattle.docker_office.specs.RunEnds.{EndsWith, PrintsAs};
 ghost use Rattle.docker_desk.specs.Answering.{EndsSession, answers_of, lines_of};
 ghost use Rattle.docker_desk.specs.Doing.{AreSteps, DoesRequest};
-ghost use Rattle.docker_desk.specs.Learning.{AllHearKnown, AreLearned, GainedBy, HearsState, HoldsKnown, IsKnown, IsPlaced, IsTrainOf, KeepsAs, KnowsAt, PlacesKnown, renewing};
+ghost use Rattle.docker_desk.specs.Learning.{AllHearKnown, AreLearned, GainedBy, HearsState, HoldsKnown, IsKnown, IsPlaced, IsTrainOf, IsUnsaved, KeepsAs, KnowsAt, MayBePlaced, MayPlaceKnown, PlacesKnown, renewing};
 ghost use Rattle.docker_desk.specs.SessionViews.{SessionView, Setting, Step};
 ghost use Rattle.docker_desk.specs.Reading.{events_of};
-ghost use Rattle.docker_desk.specs.Replies.{done_with};
+ghost use Rattle.docker_desk.specs.Replies.{done_with, refused_for};
 ghost use Rattle.docker_desk.specs.Requests.{merge_request, renew_request, save_request};
 ghost use Rattle.docker_desk.specs.Looking.{IsGoodLook};
 ghost use Rattle.docker_desk.specs.Serving.{BeginsAt};
@@ -81,26 +82,41 @@ pub fn known_texts_are_heard()
 {}
 
 /// If a desk replaces its state's file, the new text is the text of a summary: the summary of what
-/// the desk then knew.
+/// the desk then knew. If replacing the file failed, the file holds either this text or what it held
+/// before. A `save` that is refused for any other reason stores nothing.
 pub fn saves_tell_what_is_known()
-    ensures { (setting : Setting) (text : List ℕ) (before after : SessionView) (known : Known)
-        → IsKnown known before.desk.state
+    ensures saved { (setting : Setting) (text : List ℕ) (before after : SessionView)
+        (known : Known) → IsKnown known before.desk.state
         → DoesRequest setting save_request before (done_with text) after
         → PlacesKnown setting before after known }
+    ensures refused { (setting : Setting) (fault : OfficeFault) (before after : SessionView)
+        (known : Known) → IsKnown known before.desk.state
+        → DoesRequest setting save_request before (refused_for fault) after
+        → IsUnsaved setting before after fault (MayPlaceKnown setting before after known) }
 {}
 
 /// What a desk saves is a new version of its state's file. The new version is the text of a state
 /// that was read from version number `own` of `earlier`. Before `save`, this state gained what the
 /// desk's state gained in the earlier steps of the session. `earlier` lists the texts of all
-/// versions, of any state's file, that were made before the new one.
+/// versions, of any state's file, that were made before the new one. If replacing the file failed,
+/// the file holds either the new version or what it held before. A `save` that is refused for any
+/// other reason stores nothing.
 pub fn saves_are_versions()
-    ensures { (setting : Setting) (first before after : SessionView) (steps : List Step)
+    ensures saved { (setting : Setting) (first before after : SessionView) (steps : List Step)
         (old : List Event) (earlier : List (List ℕ)) (own : ℕ) (gains : List Gain)
         (answer : List ℕ) → (begins : BeginsAt setting.name old first)
         → HoldsVersion earlier begins.held own → AreSteps setting first steps before
         → GainedBy setting earlier steps gains
         → DoesRequest setting save_request before (done_with answer) after
         → IsPlaced setting earlier own gains before after }
+    ensures refused { (setting : Setting) (first before after : SessionView) (steps : List Step)
+        (old : List Event) (earlier : List (List ℕ)) (own : ℕ) (gains : List Gain)
+        (fault : OfficeFault) → (begins : BeginsAt setting.name old first)
+        → HoldsVersion earlier begins.held own → AreSteps setting first steps before
+        → GainedBy setting earlier steps gains
+        → DoesRequest setting save_request before (refused_for fault) after
+        → IsUnsaved setting before after fault
+        (MayBePlaced setting earlier own gains before after) }
 {}
 
 /// A session can be split at any step. The steps before that step end at a point, and the later

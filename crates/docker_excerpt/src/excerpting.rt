@@ -123,9 +123,7 @@ impl Excerpting {
     }
 
     /// Makes the excerpt of the state whose parts were taken. `horizon` is the state's horizon, if
-    /// it has one. Returns `Memory` if memory runs out, or if more than 4,294,967,295 entries or
-    /// places are kept, because entries and places have 32-bit numbers. After `Memory`, the kept
-    /// entries are dropped.
+    /// it has one. If memory runs out, the kept entries are dropped.
     pub fn finish(self, horizon: Option<Day>) -> Result<Excerpt, Memory>
         requires { IsValid (under (horizon_meant horizon) self.told) }
         ensures { IfOk result (λ excerpt. excerpt ≡ record {
@@ -140,7 +138,7 @@ impl Excerpting {
         let rows = walk.finish()?;
         let (parts, given) = ledger.into_parts();
         let whole = with_rows(parts, rows)?;
-        let state = whole.finish()?;
+        let state = whole.finish_unindexed();
         Ok(Excerpt::of(place, day, under_horizon(state, horizon), given))
     }
 }

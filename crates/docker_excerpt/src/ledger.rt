@@ -52,7 +52,7 @@ impl Ledger {
         ensures { result ≡ record { horizon = 0; ledger = []; entries = [] } }
     {
         Ledger {
-            parts: Parts::unindexed(alloc),
+            parts: Parts::new(alloc),
             last: None,
             count: 0,
             given: Given::new(),

@@ -1,16 +1,17 @@
 //! Drafts of real files. The new text of a regular file is written to a draft in the same folder.
 //! The draft is then renamed over the file. So the file is complete at any time: it has the old
-//! text or the new text. A pipe or a device is written to directly, without a draft.
+//! text or the new text. A pipe or a device is written to directly, without a draft. One look
+//! decides which of these is done. What came under the name after the look is never written to.
 ghost use Rattle.std.specs.Prelude.{◌≡◌, None, IfOk};
 
 use crate::draft_place::DraftPlace;
 use crate::folder::OpenFault;
+use crate::missing::path_of_missing;
 use crate::transfers::write_some;
 use crate::version::Version;
 use cif_device::{Failed, Sink};
 use std::fs;
-use std::fs::{File, Metadata};
-use std::io::ErrorKind;
+use std::fs::File;
 use std::marker::Model;
 
 /// A draft: the new text of a file, while this text is being written.
@@ -41,8 +42,8 @@ impl Model for DraftFile {
 
 impl DraftFile {
     /// Makes an empty draft for the named file, if the file under the name is still the one that
-    /// was seen. The draft is in the folder of the file, even if the file doesn't exist yet. But if
-    /// the name is a link to a missing file, that file is made and written directly.
+    /// was seen. The draft is in the folder of the file, even if the file doesn't exist yet. If the
+    /// name is a link, the draft is in the folder of the file to which the link leads.
     pub(crate) fn make(
         rt: &HostRuntime,
         name: &str,
@@ -60,10 +61,10 @@ impl DraftFile {
         })
     }
 
-    /// Replaces the file with the draft. Returns the version that the next look will find, or
-    /// `None` if that version can't be known. For example, it can't be known for a file that was
-    /// written directly. If the file can't be replaced, removes the draft if possible and returns
-    /// `Failed`.
+    /// Replaces the file with the draft, if the file under the name is still the one that was seen.
+    /// Returns the version that the next look will find, or `None` if that version can't be known.
+    /// For example, it can't be known for a file that was written directly. If the file can't be
+    /// replaced, removes the draft if possible and returns `Failed`.
     pub(crate) fn place(self, rt: &HostRuntime) -> Result<Option<Placed>, Failed> {
         let DraftFile {
             name,
@@ -77,8 +78,8 @@ impl DraftFile {
         // The version is read from the open draft, before the draft has the name of the file. So
         // the version can't be the version of any other file.
         let version = Version::of_open(&file);
-        if place.replace(rt, &file).is_err() {
-            place.remove(rt);
+        if place.put(rt, name.as_str(), &file).is_err() {
+            place.remove(rt, &file);
             return Err(Failed);
         }
         let Some(version) = version else {
@@ -90,64 +91,53 @@ impl DraftFile {
     /// Removes the draft, if possible.
     pub(crate) fn remove(&self, rt: &HostRuntime) {
         if let Some(place) = &self.place {
-            place.remove(rt);
+            place.remove(rt, &self.file);
         }
     }
 }
 
-/// Opens a draft for the named file, if the file under the name is still the one that was seen.
+/// Opens a draft for the named file, if the file under the name is still the one that was seen. Only
+/// what was seen decides how the draft is opened.
 fn open_draft(
     rt: &HostRuntime,
     name: &str,
     seen: Option<Version>,
 ) -> Result<(File, Option<DraftPlace>), OpenFault> {
-    match fs::metadata(rt, name) {
-        Ok(there) if there.is_file() => {
-            let path = fs::canonicalize(rt, name)?.into_string();
-            open_in_folder_of(rt, name, path, Some(there), seen)
-        }
-        Ok(there) => {
-            if !is_still_pipe(seen, &Version::of(&there)) {
-                return Err(OpenFault::Failed);
-            }
-            Ok((File::create(rt, name)?, None))
-        }
-        Err(error) if error.kind() == ErrorKind::NotFound => {
-            if fs::symlink_metadata(rt, name).is_err() {
-                let path = String::from_str(rt.alloc(), name)?;
-                return open_in_folder_of(rt, name, path, None, seen);
-            }
-            if seen.is_some() {
-                return Err(OpenFault::Failed);
-            }
-            Ok((File::create(rt, name)?, None))
-        }
-        Err(error) => Err(OpenFault::from(error)),
-    }
-}
-
-/// Opens a draft in the folder of the file with this path, if the file under the name is still the
-/// one that was seen.
-fn open_in_folder_of(
-    rt: &HostRuntime,
-    name: &str,
-    path: String,
-    old: Option<Metadata>,
-    seen: Option<Version>,
-) -> Result<(File, Option<DraftPlace>), OpenFault> {
-    let (file, place) = DraftPlace::make(rt, path, old)?;
-    if Version::under(rt, name) != seen {
-        place.remove(rt);
+    let (file, place) = match seen {
+        Some(seen) if seen.is_regular() => open_over(rt, name, seen)?,
+        Some(seen) => return Ok((open_pipe(rt, name, seen)?, None)),
+        None => open_new(rt, name)?,
+    };
+    if !place.is_as_seen(rt, name) {
+        place.remove(rt, &file);
         return Err(OpenFault::Failed);
     }
     Ok((file, Some(place)))
 }
 
-/// Whether a pipe or a device was seen, and is still the file under the name.
-fn is_still_pipe(seen: Option<Version>, there: &Version) -> bool {
-    match seen {
-        Some(seen) => seen.is_same_pipe(there),
-        None => false,
+/// Opens a draft that will replace the regular file that was seen.
+fn open_over(rt: &HostRuntime, name: &str, seen: Version) -> Result<(File, DraftPlace), OpenFault> {
+    let path = fs::canonicalize(rt, name)?.into_string();
+    let there = fs::metadata(rt, path.as_str())?;
+    if Version::of(&there) != seen {
+        return Err(OpenFault::Failed);
+    }
+    DraftPlace::make(rt, path, Some(there))
+}
+
+/// Opens a draft for a file that wasn't there.
+fn open_new(rt: &HostRuntime, name: &str) -> Result<(File, DraftPlace), OpenFault> {
+    let path = path_of_missing(rt, name)?;
+    DraftPlace::make(rt, path, None)
+}
+
+/// Opens the pipe or the device that was seen, for writing. The opening changes no file, even if
+/// another file has come under the name. In this case the call fails before anything is written.
+fn open_pipe(rt: &HostRuntime, name: &str, seen: Version) -> Result<File, OpenFault> {
+    let file = File::options().write(true).open(rt, name)?;
+    match Version::of_open(&file) {
+        Some(opened) if seen.is_same_pipe(&opened) => Ok(file),
+        _ => Err(OpenFault::Failed),
     }
 }
 

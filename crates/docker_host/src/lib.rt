@@ -10,6 +10,7 @@ mod folder;
 mod history;
 mod host;
 mod input_device;
+mod missing;
 mod open_file;
 mod output_device;
 mod page;

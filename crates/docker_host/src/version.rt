@@ -2,12 +2,16 @@
 use std::fs;
 use std::fs::{File, Metadata};
 use std::os::unix::fs::MetadataExt;
+use std::time::SystemTime;
 
-/// The version of a file: its identity, its size, and the time when it was last written.
+/// The version of a file: its identity, its size, and the time when it was last written. A new file
+/// may get the number of a file that was removed. So the time when the file was made is part of its
+/// identity, if the file system records this time.
 #[derive(Clone, Copy, PartialEq, Eq)]
 pub(crate) struct Version {
     device: u64,
     node: u64,
+    made: Option<SystemTime>,
     regular: bool,
     size: u64,
     seconds: i64,
@@ -20,6 +24,7 @@ impl Version {
         Version {
             device: file.dev(),
             node: file.ino(),
+            made: file.created().ok(),
             regular: file.is_file(),
             size: file.size(),
             seconds: file.mtime(),
@@ -38,9 +43,18 @@ impl Version {
         fs::metadata(rt, name).ok().map(|file| Version::of(&file))
     }
 
+    /// Whether this is the version of a regular file.
+    pub(crate) fn is_regular(&self) -> bool {
+        self.regular
+    }
+
     /// Whether both versions are of the same pipe or device. The times of the last write are
     /// ignored.
     pub(crate) fn is_same_pipe(&self, other: &Version) -> bool {
-        !self.regular && !other.regular && self.device == other.device && self.node == other.node
+        !self.regular
+            && !other.regular
+            && self.device == other.device
+            && self.node == other.node
+            && self.made == other.made
     }
 }

@@ -11,23 +11,23 @@ ghost use Rattle.docker_model.specs.state.Summary.{IsSummary};
 ghost use Rattle.docker_office.specs.Faults.{IsOfDocker};
 ghost use Rattle.docker_office.specs.Office.{HoldsState, JoinsSummaries, KnowsFileToo, PrintsDocker, PrintsPart, TakesFile, no_state};
 ghost use Rattle.docker_office.specs.OfficeReads.{EndsReadingState, EndsTakingFile};
+ghost use Rattle.state_text.specs.FormatMeaning.{format_meant};
 
 use crate::fault::OfficeFault;
 use crate::files::write_files;
-use cif_file::{MOST_RECORDS, read_file_noting};
+use cif_file::{MOST_RECORDS, read_file};
 use cif_line::{Day, Memory, Sink, Source, Tiploc};
-use docker_bytes::{join_state, migrate_noting, read_raised, read_state_noting, write_state};
+use docker_bytes::{join_state, migrate, read_raised, read_state, read_unindexed, write_state};
 use docker_day::{Merge, State, docker, write_docker};
+use state_text::format::Format;
 use std::alloc::Global;
 use std::marker::Model;
 use std::mem;
 
-/// An office. Its state is the summary of the files and the horizon that the office knows. `noted`
-/// says whether the states that the office reads get an index.
+/// An office. Its state is the summary of the files and the horizon that the office knows.
 #[derive(Debug, Drop)]
 pub struct Office {
     alloc: Global,
-    noted: bool,
     state: State,
 }
 
@@ -47,22 +47,27 @@ impl Office {
     {
         Office {
             alloc,
-            noted: true,
             state: State::empty(alloc),
         }
     }
 
-    /// Like `new`, but the office's state has no index, so reading takes less time and memory. An
-    /// office that prints no docker needs no index.
-    pub fn unindexed(alloc: Global) -> Office
-        ensures empty { result ≡ no_state }
-        ensures summary { IsSummary [] 0 result }
+    /// Returns an office whose state is read from a source. The state has no index, so reading takes
+    /// less time and memory than `reload`. An office that prints no docker needs no index. The text
+    /// is in the given format. A text with more than `limit` bytes is refused. The call fails with
+    /// `State`, `Source` or `Memory`.
+    pub fn read<S: Source>(
+        alloc: Global,
+        format: Format,
+        source: &mut S,
+        limit: u64,
+    ) -> Result<Office, OfficeFault>
+        requires { S.failures source.old < 2 ^ 64 - 1 }
+        ensures { EndsReadingState S.left S.failures (format_meant format) limit
+            (ReadsState (format_meant format) limit (S.left source.old))
+            source.old source.new result }
     {
-        Office {
-            alloc,
-            noted: false,
-            state: State::unindexed(alloc),
-        }
+        let state = read_unindexed(alloc, format, source, limit)?;
+        Ok(Office { alloc, state })
     }
 
     /// Returns the office's state.
@@ -90,8 +95,8 @@ impl Office {
             → KnowsFileToo limit (S.left source.old) files horizon self.new }
         ensures unchanged { IsErr result → self.new ≡ self.old }
     {
-        let file = read_file_noting(self.alloc, source, limit, self.noted)?;
-        let Ok(taken) = State::of_file(self.alloc, file) else {
+        let file = read_file(self.alloc, source, limit)?;
+        let Ok(taken) = State::of_file_unindexed(self.alloc, file) else {
             return Err(OfficeFault::Memory);
         };
         self.join(taken)
@@ -133,9 +138,10 @@ impl Office {
         Ok(())
     }
 
-    /// Replaces the office's state with the state whose text a source holds. The office forgets
-    /// every file that isn't in the new state. A text with more than `limit` bytes is refused. If
-    /// the call fails, with `State`, `Source` or `Memory`, the office is unchanged.
+    /// Replaces the office's state with the state whose text a source holds, and makes the index of
+    /// the new state. The office forgets every file that isn't in the new state. A text with more
+    /// than `limit` bytes is refused. If the call fails, with `State`, `Source` or `Memory`, the
+    /// office is unchanged.
     pub fn reload<S: Source>(&mut self, source: &mut S, limit: u64) -> Result<(), OfficeFault>
         requires { S.failures source.old < 2 ^ 64 - 1 }
         ensures reads { EndsReadingState S.left S.failures dks_2 limit
@@ -145,13 +151,13 @@ impl Office {
             → HoldsState dks_2 limit (S.left source.old) sent → self.new ≡ sent }
         ensures unchanged { IsErr result → self.new ≡ self.old }
     {
-        self.state = read_state_noting(self.alloc, source, limit, self.noted)?;
+        self.state = read_state(self.alloc, source, limit)?;
         Ok(())
     }
 
-    /// Like `reload`, but also sets the horizon of the new state, as `set_horizon` does. The entries
-    /// lapse as they are read, so a body that lapses takes no memory afterwards. If the call fails,
-    /// with `State`, `Source` or `Memory`, the office is unchanged.
+    /// Like `reload`, but makes no index, and also sets the horizon of the new state, as
+    /// `set_horizon` does. The entries lapse as they are read, so a body that lapses takes no memory
+    /// afterwards. If the call fails, with `State`, `Source` or `Memory`, the office is unchanged.
     pub fn reload_under<S: Source>(
         &mut self,
         source: &mut S,
@@ -167,7 +173,7 @@ impl Office {
             → self.new ≡ raise_horizon day sent }
         ensures unchanged { IsErr result → self.new ≡ self.old }
     {
-        self.state = read_raised(self.alloc, source, day, limit, self.noted)?;
+        self.state = read_raised(self.alloc, source, day, limit)?;
         Ok(())
     }
 
@@ -182,7 +188,7 @@ impl Office {
             source.old source.new result }
         ensures unchanged { IsErr result → self.new ≡ self.old }
     {
-        self.state = migrate_noting(self.alloc, source, limit, self.noted)?;
+        self.state = migrate(self.alloc, source, limit)?;
         Ok(())
     }
 

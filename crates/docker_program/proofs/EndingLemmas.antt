@@ -167,9 +167,9 @@ run_done run performs = done_by run performs.ending performs.status_is performs.
 
 part_to : (run : Run) (job : JobView) (rest : Bytes) (stored : Option Text)
     (has : HasRead run.old run.new (WritesPart (from_first_look run.names_bytes run.old)) job rest) → AsksFor run.words run.old.input job rest
-    → stored_by job ≡ stored → WritesPartTo stored (from_first_look run.names_bytes run.old) (writing run.old run.new has.read) has.prepared → IsUndone run
+    → stored_by job ≡ stored → WritesPartTo stored (from_first_look run.names_bytes run.old) (writing run.old run.new has.read) has.prepared → IsUndone run 4
 part_to run job rest None has asks is writes =
-    inl (nothing_stored run (none_same run.old.history has.read run.new.history (read_none run job rest has) writes.1))
+    inl (nothing_stored run (none_same run.old.history has.read run.new.history (read_none run job rest has) writes.2))
 part_to run job rest (Some name) has asks is (inl undrafted_is, kept) =
     inl (nothing_stored run (none_more run.old.history has.read run.new.history (undrafted name (length run.old.history) ∷ [])
     (read_none run job rest has) undrafted_is (tt, tt)))
@@ -178,6 +178,7 @@ part_to run job rest (Some name) has asks is (inr (inl dropped_is), kept) =
     (drafted name (length run.old.history) ∷ dropped name ∷ []) (read_none run job rest has) dropped_is (tt, (tt, tt))))
 part_to run job rest (Some name) has asks is (inr (inr may), kept) =
     inr (
+      refl,
       job,
       has.is.opened.read,
       may.text,
@@ -191,7 +192,7 @@ part_to run job rest (Some name) has asks is (inr (inr may), kept) =
       },
     )
 
-part_of : (run : Run) → IsAsked run.words run.old.input (HasRead run.old run.new (WritesPart (from_first_look run.names_bytes run.old))) → IsUndone run
+part_of : (run : Run) → IsAsked run.words run.old.input (HasRead run.old run.new (WritesPart (from_first_look run.names_bytes run.old))) → IsUndone run 4
 part_of run ends =
     part_to run ends.job ends.rest (stored_by ends.job) ends.holds ends.asks refl
     (subst (λ (j : JobView). WritesPartTo (stored_by j) (from_first_look run.names_bytes run.old) (writing run.old run.new ends.holds.read)
@@ -201,20 +202,20 @@ want_none : (run : Run) (job : JobView) (rest : Bytes) (stored : Option Text)
     (has : HasRead run.old run.new (WantsToWrite (from_first_look run.names_bytes run.old)) job rest)
     → WantsToWriteTo stored (from_first_look run.names_bytes run.old) (writing run.old run.new has.read) has.prepared
     → NoStoring run.old.history run.new.history
-want_none run job rest None has wants = none_same run.old.history has.read run.new.history (read_none run job rest has) wants.1
+want_none run job rest None has wants = none_same run.old.history has.read run.new.history (read_none run job rest has) wants.2
 want_none run job rest (Some name) has wants =
     none_more run.old.history has.read run.new.history (undrafted name (length run.old.history) ∷ []) (read_none run job rest has) wants (tt, tt)
 
 -- if a command left the folder's history unchanged, the command stored nothing
-unasked : (run : Run) → run.new.history ≡ run.old.history → IsUndone run
-unasked run same = inl (nothing_stored run (none_same run.old.history run.old.history run.new.history (none_here run.old.history) same))
+unasked : (run : Run) (status : ℕ) → run.new.history ≡ run.old.history → IsUndone run status
+unasked run status same = inl (nothing_stored run (none_same run.old.history run.old.history run.new.history (none_here run.old.history) same))
 
 undone_by : (run : Run) (status : ℕ) (ending : Option Fault) → status ≢ 0 → status ≡ ending_status ending
-    → EndsBy run.words run.names_bytes run.old run.new ending → IsUndone run
+    → EndsBy run.words run.names_bytes run.old run.new ending → IsUndone run status
 undone_by run status None some same ends = absurd (some same)
-undone_by run status (Some (Job job.Usage)) some same ends = unasked run ends.0.unasked
-undone_by run status (Some (Job job.Memory)) some same ends = unasked run ends.0.unasked
-undone_by run status (Some (Job job.Source)) some same ends = unasked run ends.0.unasked
+undone_by run status (Some (Job job.Usage)) some same ends = unasked run status ends.0.unasked
+undone_by run status (Some (Job job.Memory)) some same ends = unasked run status ends.0.unasked
+undone_by run status (Some (Job job.Source)) some same ends = unasked run status ends.0.unasked
 undone_by run status (Some (Office (office.File fault))) some same ends =
     inl (nothing_stored run (none_if_opened run ends.0.job ends.0.rest run.new.history ends.0.holds.0))
 undone_by run status (Some (Office (office.State fault))) some same ends =
@@ -224,15 +225,15 @@ undone_by run status (Some (Office office.Lapsed)) some same ends =
     (read_none run ends.0.job ends.0.rest ends.0.holds) ends.0.holds.holds.1))
 undone_by run status (Some (Office office.Source)) some same ends =
     inl (nothing_stored run (none_if_failed run ends.0.job ends.0.rest run.new.history ends.0.holds))
-undone_by run status (Some (Office office.Sink)) some same ends = part_of run ends
+undone_by run status (Some (Office office.Sink)) some same ends = subst (λ (n : ℕ). IsUndone run n) (sym same) (part_of run ends)
 undone_by run status (Some (Office office.Memory)) some same (asked, kept) = by asked.holds
   where
-    by : WantsMemory run.names_bytes run.old run.new asked.job asked.rest → IsUndone run
+    by : WantsMemory run.names_bytes run.old run.new asked.job asked.rest → IsUndone run status
     by (inl (inl fails)) = inl (nothing_stored run (none_if_unopened run asked.job asked.rest run.new.history fails))
     by (inl (inr wants)) = inl (nothing_stored run (none_if_opened run asked.job asked.rest run.new.history wants.0))
     by (inr has) = inl (nothing_stored run (want_none run asked.job asked.rest (stored_by has.prepared.job) has has.holds))
 
 -- if a command ended with a status other than 0, it stored nothing, or may have stored the output
 -- of its job
-pub run_undone : (run : Run) (status : ℕ) → IsRun run status → status ≢ 0 → IsUndone run
+pub run_undone : (run : Run) (status : ℕ) → IsRun run status → status ≢ 0 → IsUndone run status
 run_undone run status performs some = undone_by run status performs.ending some performs.status_is performs.ends

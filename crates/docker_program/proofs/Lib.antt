@@ -1,5 +1,6 @@
 pub mod JobSourcesLemmas
 pub mod ProgramLemmas
+pub mod PrintingLemmas
 pub mod EndingLemmas
 pub mod CommandLemmas
 pub mod VersionLemmas

@@ -107,10 +107,12 @@ abbrev pub IsDone : Run → Type 0
 IsDone run = (job : JobView) × (read : SourcesRead) × (text : List ℕ)
     × (Stores run job read text ⊎ Prints run job read text)
 
--- a command stored nothing, or it may have stored the text of its job's output
-abbrev pub IsUndone : Run → Type 0
-IsUndone run = StoresNothing run
-    ⊎ ((job : JobView) × (read : SourcesRead) × (text : List ℕ) × MayStore run job read text)
+-- a command that ended with this status stored nothing, or it may have stored the text of its job's
+-- output. It may have stored the text only if the status is 4 (a device failed)
+abbrev pub IsUndone : Run → ℕ → Type 0
+IsUndone run status = StoresNothing run
+    ⊎ ((status ≡ 4) × (job : JobView) × (read : SourcesRead) × (text : List ℕ)
+    × MayStore run job read text)
 
 -- ---- what a command knows
 

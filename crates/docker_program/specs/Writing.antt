@@ -59,20 +59,23 @@ WritesTo (Some name) by written prepared =
     StoresOutput by written prepared name × (written.output_now ≡ written.output)
 
 -- the job didn't write its whole output, because a device failed. If the job prints, the output
--- device gained a proper prefix of the output. If the job writes a file, no draft was made, or the
--- draft was discarded, or replacing the file with the draft failed. Nothing else changed
+-- device gained a proper prefix of the output, which isn't a docker for a day that is refused. If
+-- the job writes a file, no draft was made, or the draft was discarded, or replacing the file with
+-- the draft failed. Nothing else changed
 abbrev pub WritesPartTo : Option Text → Drafting → Written → PreparedView → Type 0
 WritesPartTo None by written prepared =
-    GainsPart prepared written.output written.output_now × (written.now ≡ written.before)
+    GainsPart prepared written.output written.output_now × (¬ IsRefused prepared)
+    × (written.now ≡ written.before)
 WritesPartTo (Some name) by written prepared =
     (IsUndrafted name by.look written.before written.now
     ⊎ IsDropped name by.look written.before written.now
     ⊎ MayStoreOutput by written prepared name) × (written.output_now ≡ written.output)
 
 -- memory ran out before anything was written. If the job prints, there was no memory for the
--- docker. If the job writes a file, there was no memory for a draft, and no draft was made
+-- docker, and the day of the docker isn't refused. If the job writes a file, there was no memory for a draft, and no draft was made
 abbrev pub WantsToWriteTo : Option Text → Drafting → Written → PreparedView → Type 0
-WantsToWriteTo None by written prepared = PrintsDocker prepared × (written.now ≡ written.before)
+WantsToWriteTo None by written prepared =
+    PrintsDocker prepared × (¬ IsRefused prepared) × (written.now ≡ written.before)
 WantsToWriteTo (Some name) by written prepared =
     IsUndrafted name by.look written.before written.now
 

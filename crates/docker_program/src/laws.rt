@@ -15,11 +15,12 @@ ghost use Rattle.docker_program.specs.Sources.{SourcesRead};
 
 /// A command that ends with status 0 has stored or printed the output of its job, which is made
 /// from what its sources held. A command that ends with another status has stored nothing, unless
-/// replacing the file with a draft of the whole output failed. In that case the file holds either
-/// the whole output or what it held before.
+/// replacing the file with a draft of the whole output failed. In that case the status is 4, and the
+/// file holds either the whole output or what it held before.
 pub fn commands_store_or_print()
     ensures done { (run : Run) → IsRun run 0 → IsDone run }
-    ensures undone { (run : Run) (status : ℕ) → IsRun run status → status ≢ 0 → IsUndone run }
+    ensures undone { (run : Run) (status : ℕ) → IsRun run status → status ≢ 0
+        → IsUndone run status }
 {}
 
 /// Suppose that STATE held the text of the summary of some files and a horizon. Suppose also that

@@ -32,7 +32,7 @@ use Rattle.docker_join.specs.Records.{HasRecords}
 use Rattle.docker_join.specs.Rows.{AreAscending}
 use Rattle.docker_state.specs.declared.item.LedgerItem.{LedgerItem}
 use Rattle.docker_state.specs.Meaning.{item_meant, state_meant}
-use Rattle.state_index.specs.Rooms.{AreMadeBy}
+use Rattle.state_index.specs.Rooms.{Item, changed_items}
 use Rattle.docker_state.specs.Rows.{made_by}
 use Rattle.docker_state.specs.MadeState.{HaveRecords, IsMadeState, MakeValid}
 use Rattle.docker_laws.specs.Thinning.{IsThinning, IsStateOfChanges}
@@ -225,13 +225,13 @@ valid_of_kept place day item all kept lines item_is is_file few all_are thinning
 -- suppose that rows have, for each key, the greatest of the entries that changes make. Then each of the rows is a row that some change makes
 pub rows_made_by : (file : FileStamp) (all : List model.Change) (made rows : List (Key × Entry)) → map row_meant made ≡ map (made_by file) all
     → ((key : model.Key) (entry : ops.Entry) → Contains (map row_meant rows) (key, entry) ↔ IsGreatestAmong (map row_meant made) key entry)
-    → AreMadeBy all (map row_meant rows)
+    → (row : model.Key × ops.Entry) → Contains (map row_meant rows) row → Contains {X = Item} (changed_items all) (row.0, row.1.op)
 rows_made_by file all made rows made_is in_rows row among =
     let inside : Contains (map (made_by file) all) row =
     subst (λ (xs : List (model.Key × ops.Entry)). Contains xs row) made_is ((in_rows row.0 row.1).0 among).among in
     let found = Contains-map (made_by file) all row inside in
-    subst (Contains {X = model.Key × ops.Op} (map (λ (change : model.Change). (change.key, op_of change.act)) all)) (λ i. ((found.2 i).0, (found.2 i).1.op))
-    (map-Contains (λ (change : model.Change). (change.key, op_of change.act)) all found.0 found.1)
+    subst (Contains {X = Item} (changed_items all)) (λ i. ((found.2 i).0, (found.2 i).1.op))
+    (map-Contains {B = Item} (λ (change : model.Change). (change.key, op_of change.act)) all found.0 found.1)
 
 -- if a file was read into `parts`, the changes in `parts` are the changes that the file makes
 pub changes_are : (file : FileRead) (parts : FileParts) → file_of_parts parts ≡ file → map change_meant parts.changes.items ≡ file.changes_made

@@ -16,7 +16,8 @@ use Rattle.state_index.specs.declared.index.Index.{Index}
 use Rattle.docker_join.specs.declared.entry.Entry.{Entry}
 use Rattle.docker_join.specs.Meaning.{row_meant}
 use Rattle.docker_state.specs.declared.item.LedgerItem.{LedgerItem}
-use Rattle.docker_state.specs.Indexed.{IsIndexIfAny}
+use Rattle.state_index.specs.Rooms.{items_of}
+use Rattle.docker_state.specs.Indexed.{HasRoomIfAny, IsIndexIfAny}
 use Rattle.docker_state.specs.Meaning.{item_meant, state_meant}
 
 module _ (own day : ℕ) (low : own ≤ day) (ledger : List LedgerItem) (rows after : List (Key × Entry))
@@ -39,17 +40,11 @@ under_own own day low rows have =
     sym (entries_stay own (map row_meant rows) (recursion_from_All (λ (entry : model.Key × ops.Entry). HasNotToLapse own entry.1.op) (map row_meant rows) have))
     ∙ ap (λ h. lapse_entries h (map row_meant rows)) (sym (max-eq_left low))
 
--- after rows have lapsed, the updated index is the index of the lapsed rows
-pub lapsed_index : (rows after : List (Key × Entry)) (horizon : ℕ) → map row_meant after ≡ lapse_entries horizon (map row_meant rows)
-    → (slice : List (Key × Entry)) → slice ≡ after → (index later : Option Index) → IsIndexIfAny (map row_meant rows) index
-    → ((before : List (model.Key × ops.Entry)) (h : ℕ) → map row_meant slice ≡ lapse_entries h before → IsIndexIfAny before index
-    → IsIndexIfAny (map row_meant slice) later)
-    → IsIndexIfAny (map row_meant after) later
-lapsed_index rows after horizon lapsed slice same index later is lapses =
-    subst (λ (xs : List (Key × Entry)). IsIndexIfAny (map row_meant xs) later) same
-    (lapses (map row_meant rows) horizon (ap (map row_meant) same ∙ lapsed) is)
-
--- if no row has lapsed, the index is still the index of the rows
+-- if no row has lapsed, the index is still the index of the rows, and its memory is still enough
 pub same_index : (rows after : List (Key × Entry)) → after ≡ rows → (index : Option Index) → IsIndexIfAny (map row_meant rows) index
     → IsIndexIfAny (map row_meant after) index
 same_index rows after same index is = subst (λ (xs : List (Key × Entry)). IsIndexIfAny (map row_meant xs) index) (sym same) is
+
+pub same_room : (rows after : List (Key × Entry)) → after ≡ rows → (index : Option Index) → HasRoomIfAny (items_of (map row_meant rows)) index
+    → HasRoomIfAny (items_of (map row_meant after)) index
+same_room rows after same index has = subst (λ (xs : List (Key × Entry)). HasRoomIfAny (items_of (map row_meant xs)) index) (sym same) has

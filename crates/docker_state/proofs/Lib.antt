@@ -1,3 +1,4 @@
+pub mod Union
 pub mod LedgerUnion
 pub mod FloorTest
 pub mod StateLemmas
@@ -7,10 +8,8 @@ pub mod LapsedTables
 pub mod StateJoin
 pub mod LastRows
 pub mod GreatestRows
-pub mod LastMade
 pub mod FileState
 pub mod PlainRows
-pub mod Indexes
 pub mod SiftedRows
 pub mod PartsLemmas
 pub mod LiveTable
@@ -22,3 +21,4 @@ pub mod Newest
 pub mod NothingToStage
 pub mod Timetables
 pub mod Gap
+pub mod IndexRooms

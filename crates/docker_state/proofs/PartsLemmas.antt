@@ -1,7 +1,6 @@
 -- Lemmas on adding a good entry to a state that is built step by step.
 use Rattle.std.proofs.Common.{◌≡◌, List, [], ◌∷◌, ◌++◌, map, ap, sym, ◌∙◌, subst}
 use Rattle.std.proofs.lemmas.List.{map-append}
-use Rattle.std.specs.Prelude.{Option}
 use Rattle.docker_model.specs.file.Change as model
 use Rattle.docker_model.specs.state.Op as ops
 use Rattle.docker_model.specs.state.State.{State, IsValid, IsOpOf}
@@ -10,12 +9,9 @@ use Rattle.docker_model.specs.state.StatePart.{IsStampHere}
 use Rattle.state_laws.proofs.texts.StateGrown.{valid_more}
 use Rattle.cif_change.specs.Meaning.{key_meant}
 use Rattle.cif_change.specs.declared.key.Key.{Key}
-use Rattle.cif_change.specs.declared.notes.Notes.{Notes}
-use Rattle.cif_change.specs.Noted.{Item, items_of}
 use Rattle.docker_join.specs.declared.entry.Entry.{Entry}
-use Rattle.docker_join.specs.Meaning.{entry_meant, op_meant, row_meant}
+use Rattle.docker_join.specs.Meaning.{entry_meant, row_meant}
 use Rattle.docker_state.specs.declared.item.LedgerItem.{LedgerItem}
-use Rattle.docker_state.specs.Indexed.{HasNotedIfAny}
 use Rattle.docker_state.specs.Meaning.{item_meant, state_meant}
 
 -- if a good entry, with a key above all other keys, is appended to a valid state, the state is still valid
@@ -28,13 +24,3 @@ valid_with_entry ledger rows state view valid key entry here of after pushed =
     (sym (ap (map row_meant) pushed ∙ map-append row_meant rows ((key, entry) ∷ [])))
     (valid_more (state_meant 0 ledger rows) (key_meant key) (entry_meant entry).stamp (entry_meant entry).op valid
     (subst (λ (s : State). IsStampHere s (key_meant key) (entry_meant entry).stamp) (sym view) here) of (none_has_to (entry_meant entry).op))
-
--- if the places of some rows and then of one more entry are noted, the notes are the notes of the rows with this entry appended
-pub noted_with_entry : (rows after : List (Key × Entry)) (key : Key) (entry : Entry) (notes : Option Notes) → after ≡ rows ++ (key, entry) ∷ []
-    → HasNotedIfAny (items_of (map row_meant rows) ++ (key_meant key, op_meant entry.op) ∷ []) notes
-    → HasNotedIfAny (items_of (map row_meant after)) notes
-noted_with_entry rows after key entry notes pushed has =
-    subst (λ (items : List Item). HasNotedIfAny items notes)
-    (sym (ap (λ (all : List (Key × Entry)). items_of (map row_meant all)) pushed
-    ∙ ap items_of (map-append row_meant rows ((key, entry) ∷ []))
-    ∙ map-append {B = Item} (λ (row : model.Key × ops.Entry). (row.0, row.1.op)) (map row_meant rows) (row_meant (key, entry) ∷ []))) has

@@ -1,22 +1,41 @@
 -- The live rows at a place, found by a walk over all rows.
 use Rattle.std.proofs.Common.{◌≡◌, ℕ, List, [], ◌∷◌, length, refl, ap, sym, ◌∙◌, subst, Some, None, Bool, true, false, cond, Contains}
 use Rattle.std.specs.Prelude.{filter, option_and_then}
-use Rattle.std.specs.List.{cons_option}
+use Rattle.std.specs.List.{AllByRecursion, cons_option}
+use Rattle.std.specs.declared.cmp.Ordering.{Ordering}
 use Rattle.std.specs.Ordering.{on}
 use Rattle.std.proofs.lemmas.Slice.Eq.{bytes_eq-Decides}
 use Rattle.docker_model.specs.file.Change.{Key, tiploc_key, association_key, schedule_key, AssociationKey, ScheduleKey}
 use Rattle.docker_model.specs.file.Change.{Body, tiploc_body, association_body, schedule_body}
 use Rattle.docker_model.specs.state.Op.{Op, deleted, lapsed, put_with, Entry, key_cmp, body_of}
+use Rattle.docker_model.specs.state.Order.{IsBelow, IsStrictlyAscending}
 use Rattle.docker_model.specs.state.State.{State, IsValid, live_table}
 use Rattle.cif_laws.proofs.lists.FilteredMembers.{filter_back, filter_forth}
 use Rattle.docker_model.specs.state.Row.{Row, AreInKeyOrder}
 use Rattle.state_laws.specs.Index.{IsCalling, IsLinked, AreCalling, AreLinked}
 use Rattle.state_laws.proofs.indexes.CallsTest.{calls_test}
 use Rattle.state_index.specs.Counts.{IsCallingCount}
-use Rattle.state_index.proofs.JoinedRows.{filter_ascends}
 use Rattle.docker_state.specs.Live.{live_rows, put_before}
 use Rattle.docker_state.specs.PlaceRows.{is_call, is_link, is_here, rows_here}
 use Rattle.docker_state.proofs.LiveTable.{ascends, live_walks}
+
+-- removing elements from an ascending list leaves an ascending list
+module _ {A : Type 0} (cmp : A → A → Ordering) (test : A → Bool) where
+  filter_above : (low : A) (xs : List A) → AllByRecursion (IsBelow cmp low) xs → AllByRecursion (IsBelow cmp low) (filter test xs)
+  filter_above low [] above = tt
+  filter_above low (x ∷ xs) above = by (test x) (filter_above low xs above.1)
+    where
+      by : (b : Bool) → AllByRecursion (IsBelow cmp low) (filter test xs) → AllByRecursion (IsBelow cmp low) (cond b (x ∷ filter test xs) (filter test xs))
+      by true rest = (above.0, rest)
+      by false rest = rest
+
+  filter_ascends : (xs : List A) → IsStrictlyAscending cmp xs → IsStrictlyAscending cmp (filter test xs)
+  filter_ascends [] up = tt
+  filter_ascends (x ∷ xs) up = by (test x) (filter_ascends xs up.1)
+    where
+      by : (b : Bool) → IsStrictlyAscending cmp (filter test xs) → IsStrictlyAscending cmp (cond b (x ∷ filter test xs) (filter test xs))
+      by true rest = (filter_above x xs up.0, rest)
+      by false rest = rest
 
 -- whether a row is at the place: an association there if `links` is true, and otherwise a schedule that calls there
 abbrev passes : Bool → List ℕ → Row → Bool

@@ -10,7 +10,7 @@ use Rattle.docker_model.specs.state.Stamp.{ledger_item_cmp, IsFloor, IsKept}
 use Rattle.docker_model.specs.state.Op as ops
 use Rattle.docker_model.specs.state.Op.{key_cmp, deleted, lapsed, put_with}
 use Rattle.docker_model.specs.state.Order.{IsStrictlyAscending}
-use Rattle.docker_model.specs.state.State.{State, IsValid, IsGoodEntry, IsOpOf, IsJoin}
+use Rattle.docker_model.specs.state.State.{IsValid, IsGoodEntry, IsOpOf, IsJoin}
 use Rattle.docker_model.specs.state.Lapse.{lapse_entry, lapse_entries}
 use Rattle.docker_join.specs.declared.entry.Entry.{Entry}
 use Rattle.docker_join.specs.Records.{HasRecords}
@@ -18,9 +18,7 @@ use Rattle.docker_join.specs.Rows.{AreAscending, IsJoinOfRows}
 use Rattle.docker_join.specs.Meaning.{row_meant}
 use Rattle.docker_state.specs.declared.item.LedgerItem.{LedgerItem}
 use Rattle.docker_state.specs.Meaning.{item_meant, state_meant}
-use Rattle.state_laws.proofs.states.OneJoin.{floor_unique}
 use Rattle.cif_change.specs.declared.key.Key.{Key}
-use Rattle.state_index.specs.Joined.{AreJoined}
 use Rattle.docker_join.proofs.MergedRows.{walk, walk_joins}
 use Rattle.docker_join.proofs.MeantOrder.{ascending_meant, meant_ascending}
 use Rattle.docker_state.proofs.LapsedTables.{joined_lapses}
@@ -118,39 +116,3 @@ module _ (g h : ℕ) (items others : List LedgerItem) (first second : List (Key 
       lapses =
           joined_lapses (max g h) first second left right up_first up_second left_is
           (right_is ∙ ap (λ n. lapse_entries n (map row_meant second)) (max_comm h g)) entry_records whole joined whole_is is
-
-  -- the rows of the join result from joining the two tables, removing the entries below the floor, and lapsing the entries whose bodies ended before the
-  -- horizon
-  pub rows_joined : (floor : Option stamps.FileStamp) → IsFloor (map item_meant items ++ map item_meant others) floor → (horizon : ℕ) → horizon ≡ max g h
-      → (joined : State) → IsJoin (state_meant g items first) (state_meant h others second) joined → AreJoined first second floor horizon joined.entries
-  rows_joined floor is_floor horizon horizon_is joined is = record {
-    whole = whole;
-    is_join = walk_joins higher first second up_first up_second;
-    ascending = is.entries_ascend;
-    members = λ key entry. (
-      λ among.
-          let told = (is.entries key entry).0 among in (
-            told.0,
-            greatest_joined first second whole up_first up_second (walk_joins higher first second up_first up_second) entry_records key told.0 told.1,
-            subst (λ (f : Option stamps.FileStamp). IsKept f told.0.stamp.file) (sym floors) told.2,
-            ap (λ n. lapse_entry n told.0) under ∙ told.3,
-          ),
-      λ told. (is.entries key entry).1 (
-        told.0,
-        joined_greatest first second whole up_first up_second (walk_joins higher first second up_first up_second) key told.0 told.1,
-        subst (λ (f : Option stamps.FileStamp). IsKept f told.0.stamp.file) floors told.2,
-        ap (λ n. lapse_entry n told.0) (sym under) ∙ told.3,
-      ),
-    );
-  }
-    where
-      whole : List (Key × Entry)
-      whole = walk higher first second
-
-      floors : floor ≡ is.floor
-      floors =
-          floor_unique (map item_meant items ++ map item_meant others) (map item_meant items ++ map item_meant others) (λ item. (λ x. x, λ x. x))
-          floor is.floor is_floor is.is_floor
-
-      under : horizon ≡ joined.horizon
-      under = horizon_is ∙ sym is.horizon

@@ -4,19 +4,15 @@ ghost use Rattle.std.specs.Option.{option_copied, option_map};
 ghost use Rattle.docker_model.specs.state.State.{IsLedger, IsOpOf, IsValid};
 ghost use Rattle.docker_model.specs.state.StatePart.{IsStampHere};
 ghost use Rattle.cif_change.specs.Meaning.{key_meant};
-ghost use Rattle.cif_change.specs.Noted.{items_of};
 ghost use Rattle.docker_join.specs.Meaning.{entry_meant, row_meant};
-ghost use Rattle.docker_state.specs.Indexed.{HasNotedIfAny};
 ghost use Rattle.docker_state.specs.Meaning.{item_meant, state_meant};
 ghost use Rattle.docker_state.specs.Parts.{last_key, under_horizon};
 
-use crate::indexing::{index_of_notes, note_if};
 use crate::item::LedgerItem;
 use crate::state::State;
 use cif_file::Key;
 use cif_line::{Day, Memory};
 use docker_join::Entry;
-use state_index::Notes;
 use std::alloc::Global;
 use std::marker::Model;
 
@@ -27,42 +23,28 @@ use std::marker::Model;
 pub struct Parts {
     ledger: Vec<LedgerItem>,
     entries: Vec<(Key, Entry)>,
-    notes: Option<Notes>,
 }
 
 impl Model for Parts {
     ghost use Rattle.docker_model.specs.state.State as states;
+    ghost use Rattle.docker_model.specs.state.State.{IsValid};
     ghost use Rattle.docker_state.specs.Meaning.{state_meant};
-    ghost use Rattle.docker_state.specs.Parts.{AreParts};
 
     ghost Value = { states.State };
 
     ghost view = { λ parts. state_meant 0 parts.ledger.items parts.entries.items };
 
-    ghost invariant = { λ parts.
-        AreParts parts.ledger.items parts.entries.items parts.notes };
+    ghost invariant = { λ parts. IsValid (state_meant 0 parts.ledger.items parts.entries.items) };
 }
 
 impl Parts {
-    /// Starts building a state with an index. No ledger item and no entry has been added yet.
+    /// Starts building a state. No ledger item and no entry has been added yet.
     pub fn new(alloc: Global) -> Parts
         ensures { result ≡ record { horizon = 0; ledger = []; entries = [] } }
     {
         Parts {
             ledger: Vec::new(alloc),
             entries: Vec::new(alloc),
-            notes: Some(Notes::new(alloc)),
-        }
-    }
-
-    /// Starts building a state without an index. No ledger item and no entry has been added yet.
-    pub fn unindexed(alloc: Global) -> Parts
-        ensures { result ≡ record { horizon = 0; ledger = []; entries = [] } }
-    {
-        Parts {
-            ledger: Vec::new(alloc),
-            entries: Vec::new(alloc),
-            notes: None,
         }
     }
 
@@ -90,9 +72,7 @@ impl Parts {
             } }
         ensures err { IsErr result → self.new ≡ self.old }
     {
-        self.entries.reserve(1)?;
-        note_if(&mut self.notes, &key, &entry.op)?;
-        self.entries.push_reserved((key, entry));
+        self.entries.push((key, entry))?;
         Ok(())
     }
 
@@ -120,47 +100,34 @@ impl Parts {
         }
     }
 
-    /// Makes the state from what was added. If memory runs out, the ledger items and entries are
-    /// dropped. For a state with an index, they are also dropped if there are more than
-    /// 4,294,967,295 entries or places, which are numbered in 32 bits.
+    /// Makes the state from what was added, with an index. If memory runs out, the ledger items and
+    /// entries are dropped. They are also dropped if there are more than 4,294,967,295 entries or
+    /// places, which are numbered in 32 bits.
     pub fn finish(self) -> Result<State, Memory>
         ensures { IfOk result (λ state. state ≡ self) }
     {
-        let Parts {
-            ledger,
-            entries,
-            notes,
-        } = self;
-        state_of(0, ledger, entries, notes)
+        let alloc = *self.entries.allocator();
+        match self.finish_unindexed().indexed(alloc) {
+            Ok(state) => Ok(state),
+            Err(_) => Err(Memory),
+        }
     }
 
-    /// Makes the state with this horizon from what was added. The caller ensures that no body ended
-    /// before the horizon, so no end date is read. The call fails for the same reasons as `finish`.
-    pub fn finish_under(self, horizon: Day) -> Result<State, Memory>
-        requires { IsValid (under_horizon horizon self) }
-        ensures { IfOk result (λ state. state ≡ under_horizon horizon self) }
+    /// Like `finish`, but the state has no index. Allocates nothing.
+    pub fn finish_unindexed(self) -> State
+        ensures { result ≡ self }
     {
-        let Parts {
-            ledger,
-            entries,
-            notes,
-        } = self;
-        state_of(horizon.number(), ledger, entries, notes)
+        let Parts { ledger, entries } = self;
+        State::of_rows(0, ledger, entries, None)
     }
-}
 
-/// Makes the state with this horizon, these ledger items and these entries. The state has an index
-/// if the places of the entries were noted.
-fn state_of(
-    horizon: u16,
-    ledger: Vec<LedgerItem>,
-    entries: Vec<(Key, Entry)>,
-    notes: Option<Notes>,
-) -> Result<State, Memory>
-    requires valid { IsValid (state_meant horizon ledger.items entries.items) }
-    requires noted { HasNotedIfAny (items_of (map row_meant entries.items)) notes }
-    ensures { IfOk result (λ state. state ≡ state_meant horizon ledger.items entries.items) }
-{
-    let index = index_of_notes(*entries.allocator(), notes, entries.as_slice())?;
-    Ok(State::of_rows(horizon, ledger, entries, index))
+    /// Makes the state with this horizon from what was added, without an index. The caller ensures
+    /// that no body ended before the horizon, so no end date is read. Allocates nothing.
+    pub fn finish_unindexed_under(self, horizon: Day) -> State
+        requires { IsValid (under_horizon horizon self) }
+        ensures { result ≡ under_horizon horizon self }
+    {
+        let Parts { ledger, entries } = self;
+        State::of_rows(horizon.number(), ledger, entries, None)
+    }
 }

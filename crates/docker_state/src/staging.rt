@@ -13,7 +13,6 @@ ghost use Rattle.docker_state.specs.Meaning.{item_meant};
 ghost use Rattle.docker_state.specs.Staging.{IsAboveStaged, IsOffered, HasNothingNew, with_staged};
 
 use crate::floor::{common_floor, floor_of};
-use crate::indexing::index_if;
 use crate::item::LedgerItem;
 use crate::ledger::{has_kept_items, is_above_all};
 use crate::state::State;
@@ -178,8 +177,7 @@ impl State {
             return Ok(());
         }
         let alloc = *staging.staged.allocator();
-        let index = index_if(alloc, staging.staged.as_slice(), self.is_indexed())?;
-        let received = State::of_rows(0, staging.items, staging.staged, index);
+        let received = State::of_rows(0, staging.items, staging.staged, None);
         let own = mem::replace(self, State::empty(alloc));
         match own.join(alloc, received) {
             Ok(joined) => {

@@ -1,10 +1,10 @@
 //! The state of a set of files.
-ghost use Rattle.std.specs.Prelude.{◌≡◌, ℕ, ◌+◌, ◌≤◌, List, [], ◌∷◌, ◌++◌, ◌↔◌, map, max, vec_len, vec_capacity, Contains, IfOk, IfErr};
+ghost use Rattle.std.specs.Prelude.{◌≡◌, ℕ, ◌+◌, ◌≤◌, List, [], ◌∷◌, ◌++◌, ◌↔◌, length, map, max, vec_len, vec_capacity, Contains, IfOk, IfErr};
 ghost use Rattle.docker_model.specs.file.Change as model;
 ghost use Rattle.docker_model.specs.state.State as states;
 ghost use Rattle.state_laws.specs.Index.{AreCalling, AreLinked, AreOfUid};
 ghost use Rattle.state_index.specs.Counts.{IsCallingCount};
-ghost use Rattle.state_index.specs.Spots.{IsIndexOf};
+ghost use Rattle.state_index.specs.Rooms.{changed_items, items_of};
 ghost use Rattle.docker_model.specs.state.State.{entry_at, live_table, raise_horizon, HaveLapsed, IsValid, IsJoin};
 ghost use Rattle.docker_model.specs.records.Date.{IsDay};
 ghost use Rattle.docker_model.specs.state.Lapse.{lapse_entries, lapse_table};
@@ -12,33 +12,33 @@ ghost use Rattle.std.specs.Option.{option_copied, option_map};
 ghost use Rattle.cif_change.specs.Meaning.{key_meant};
 ghost use Rattle.docker_model.specs.state.Stamp.{IsFloor};
 ghost use Rattle.docker_join.specs.Meaning.{entry_meant, file_stamp_meant, row_meant, floor_meant};
+ghost use Rattle.docker_join.specs.Room.{HasRoomOf};
 ghost use Rattle.docker_join.specs.Rows.{AreAscending};
 ghost use Rattle.docker_model.specs.state.Summary.{IsSummary, HaveDistinctMoments};
 ghost use Rattle.docker_model.specs.state.Table as tables;
 ghost use Rattle.docker_model.specs.state.Table.{IsPlainTable};
 ghost use Rattle.cif_file.specs.FileRead.{IsOfRecords};
-ghost use Rattle.cif_file.specs.MadeChanges.{AreNotesOf};
 ghost use Rattle.cif_change.specs.Meaning.{change_meant};
 ghost use Rattle.docker_laws.specs.Thinning.{IsStateOfChanges};
-ghost use Rattle.docker_state.specs.Indexed.{IsIndexIfAny};
+ghost use Rattle.docker_state.specs.Indexed.{HasRoomIfAny, IsIndexIfAny};
 ghost use Rattle.docker_state.specs.MadeState.{HaveRecords, IsMadeState, MakeValid};
 ghost use Rattle.docker_state.specs.Live.{live_rows, AreInKeyOrder};
 ghost use Rattle.docker_state.specs.Meaning.{item_meant, state_meant};
 
 use crate::floor::{common_floor, floor_of};
-use crate::indexing::{lapse_index, picked_index, room_for_notes};
+use crate::indexing::refill;
 use crate::item::{LedgerItem, item_of};
 use crate::ledger::{kept_items, room_for, union_of};
 use crate::live::Live;
 use crate::near::entry_near;
 use crate::place_rows::{PlaceRows, Walk};
-use crate::rows::{are_many, greatest_rows, kept_rows, last_greatest, made_rows, rows_made};
+use crate::rows::{kept_rows, last_greatest, rows_made};
 use crate::sifted::{SiftedRows, count_calls};
 use crate::uid_rows::rows_of_uid;
 use cif_file::{CifFile, FileParts, Key, ThinFile};
 use cif_line::{Day, Memory, Tiploc, Uid};
 use docker_join::{Entry, FileStamp, Merge, Table, join_rows, lapse_rows};
-use state_index::{Index, Moves};
+use state_index::Index;
 use std::alloc::Global;
 use std::marker::Model;
 
@@ -68,7 +68,8 @@ impl Model for State {
 
 impl State {
     /// Makes a state from a horizon, ledger items, rows and, if there is one, the index of these
-    /// rows. Together they must be a valid state. The horizon 0 means that no horizon was set.
+    /// rows. Together they must be a valid state. The horizon 0 means that no horizon was set. The
+    /// index must have room to be made again.
     pub(crate) fn of_rows(
         horizon: u16,
         ledger: Vec<LedgerItem>,
@@ -77,6 +78,7 @@ impl State {
     ) -> State
         requires valid { IsValid (state_meant horizon ledger.items rows.items) }
         requires index { IsIndexIfAny (map row_meant rows.items) index }
+        requires room { HasRoomIfAny (items_of (map row_meant rows.items)) index }
         ensures { result ≡ state_meant horizon ledger.items rows.items }
     {
         State {
@@ -100,29 +102,74 @@ impl State {
         }
     }
 
-    /// The state of an office that knows no files, without an index. Its join with another state
-    /// has no index either, unless the join is simply that other state.
-    pub fn unindexed(alloc: Global) -> State
-        ensures empty { result ≡ record { horizon = 0; ledger = []; entries = [] } }
-        ensures summary { IsSummary [] 0 result }
+    /// The same state, with an index. If memory runs out, the state is returned unchanged. It is
+    /// also returned unchanged if it has more than 4,294,967,295 rows or places, which are numbered
+    /// in 32 bits.
+    pub fn indexed(self, alloc: Global) -> Result<State, State>
+        ensures ok { IfOk result (λ state. state ≡ self) }
+        ensures err { IfErr result (λ back. back ≡ self) }
     {
-        State {
-            horizon: 0,
-            ledger: Vec::new(alloc),
-            entries: Table::new(alloc),
-            index: None,
+        if self.index.is_some() {
+            return Ok(self);
+        }
+        let Ok(index) = Index::of(alloc, self.entries.as_slice()) else {
+            return Err(self);
+        };
+        let State {
+            horizon,
+            ledger,
+            entries,
+            ..
+        } = self;
+        Ok(State {
+            horizon,
+            ledger,
+            entries,
+            index: Some(index),
+        })
+    }
+
+    /// The same state, with an index if the other state has one. Fails for the same reasons as
+    /// `indexed`.
+    fn indexed_like(self, alloc: Global, other: &State) -> Result<State, State>
+        ensures ok { IfOk result (λ state. state ≡ self) }
+        ensures err { IfErr result (λ back. back ≡ self) }
+    {
+        if other.index.is_some() {
+            self.indexed(alloc)
+        } else {
+            Ok(self)
         }
     }
 
-    /// Whether the rows have an index.
-    pub(crate) fn is_indexed(&self) -> bool {
-        self.index.is_some()
+    /// The state of one file, with an index. If memory runs out, the file is returned unchanged. It
+    /// is also returned if it has more than 4,294,967,295 changes or places, which are numbered in
+    /// 32 bits.
+    pub fn of_file(alloc: Global, file: CifFile) -> Result<State, CifFile>
+        ensures ok { (records : List (List ℕ)) → IsOfRecords file records
+            → IfOk result (IsSummary (records ∷ []) 0) }
+        ensures err { IfErr result (λ back. back ≡ file) }
+    {
+        let Ok(room) = Index::for_changes(alloc, file.changes()) else {
+            return Err(file);
+        };
+        State::of_read(alloc, file, Some(room))
     }
 
-    /// The state of one file. It has an index if the places of the file's changes were noted. If
-    /// memory runs out, the file is returned unchanged. For a state with an index, the file is also
-    /// returned if it has more than 4,294,967,295 changes or places, which are numbered in 32 bits.
-    pub fn of_file(alloc: Global, file: CifFile) -> Result<State, CifFile>
+    /// Like `of_file`, but the state has no index. If memory runs out, the file is returned
+    /// unchanged.
+    pub fn of_file_unindexed(alloc: Global, file: CifFile) -> Result<State, CifFile>
+        ensures ok { (records : List (List ℕ)) → IsOfRecords file records
+            → IfOk result (IsSummary (records ∷ []) 0) }
+        ensures err { IfErr result (λ back. back ≡ file) }
+    {
+        State::of_read(alloc, file, None)
+    }
+
+    /// The state of one file. Its index, if it is to have one, is made in the memory `room`. If
+    /// memory runs out, the file is returned unchanged.
+    fn of_read(alloc: Global, file: CifFile, room: Option<Index>) -> Result<State, CifFile>
+        requires { HasRoomIfAny (changed_items file.changes_made) room }
         ensures ok { (records : List (List ℕ)) → IsOfRecords file records
             → IfOk result (IsSummary (records ∷ []) 0) }
         ensures err { IfErr result (λ back. back ≡ file) }
@@ -130,7 +177,7 @@ impl State {
         let item = item_of(&file.header());
         // This call is made only for its contract, which says that the file was read.
         let _records = file.records();
-        match State::of_changes(alloc, item, file.into_parts()) {
+        match State::of_changes(alloc, item, file.into_parts(), room) {
             Ok(state) => Ok(state),
             Err(parts) => Err(parts.into_file()),
         }
@@ -144,37 +191,24 @@ impl State {
             → IfOk result (IsStateOfChanges records file.kept) }
     {
         let item = item_of(&file.header());
-        match State::of_changes(alloc, item, file.into_parts()) {
+        match State::of_changes(alloc, item, file.into_parts(), None) {
             Ok(state) => Ok(state),
             Err(_) => Err(Memory),
         }
     }
 
-    /// The state that the changes in these parts make, for the file with this ledger item. If
-    /// memory runs out, the parts are returned unchanged.
-    fn of_changes(alloc: Global, item: LedgerItem, parts: FileParts) -> Result<State, FileParts>
-        requires records { HaveRecords (map change_meant parts.changes.items) }
-        requires noted { AreNotesOf (map change_meant parts.changes.items) parts.notes }
-        requires valid { MakeValid (item_meant item) (map change_meant parts.changes.items) }
-        ensures ok { IfOk result
-            (IsMadeState (item_meant item) (map change_meant parts.changes.items)) }
-        ensures err { IfErr result (λ back. back ≡ parts) }
-    {
-        if parts.notes.is_some() {
-            State::of_noted_changes(alloc, item, parts)
-        } else {
-            State::of_plain_changes(alloc, item, parts)
-        }
-    }
-
-    /// The state, without an index, that these changes make, for the file with this ledger item.
-    fn of_plain_changes(
+    /// The state that the changes in these parts make, for the file with this ledger item. Its
+    /// index, if it is to have one, is made in the memory `room`. If memory runs out, the parts are
+    /// returned unchanged.
+    fn of_changes(
         alloc: Global,
         item: LedgerItem,
         parts: FileParts,
+        room: Option<Index>,
     ) -> Result<State, FileParts>
         requires records { HaveRecords (map change_meant parts.changes.items) }
         requires valid { MakeValid (item_meant item) (map change_meant parts.changes.items) }
+        requires room { HasRoomIfAny (changed_items (map change_meant parts.changes.items)) room }
         ensures ok { IfOk result
             (IsMadeState (item_meant item) (map change_meant parts.changes.items)) }
         ensures err { IfErr result (λ back. back ≡ parts) }
@@ -193,51 +227,8 @@ impl State {
         let FileParts { changes, .. } = parts;
         let made = rows_made(changes, &item.stamp(), made);
         let rows = last_greatest(made, rows);
-        Ok(State::of_rows(0, ledger, rows, None))
-    }
-
-    /// The state, with its index, that these changes make, for the file with this ledger item. If
-    /// memory runs out, the parts are returned unchanged. They are also returned if there are more
-    /// than 4,294,967,295 changes or places, which are numbered in 32 bits.
-    fn of_noted_changes(
-        alloc: Global,
-        item: LedgerItem,
-        parts: FileParts,
-    ) -> Result<State, FileParts>
-        requires records { HaveRecords (map change_meant parts.changes.items) }
-        requires noted { AreNotesOf (map change_meant parts.changes.items) parts.notes }
-        requires valid { MakeValid (item_meant item) (map change_meant parts.changes.items) }
-        ensures ok { IfOk result
-            (IsMadeState (item_meant item) (map change_meant parts.changes.items)) }
-        ensures err { IfErr result (λ back. back ≡ parts) }
-    {
-        let count = parts.changes.len();
-        if are_many(count) {
-            return Err(parts);
-        }
-        let Ok(mut ledger) = Vec::with_capacity(alloc, 1) else {
-            return Err(parts);
-        };
-        let Ok(made) = Vec::with_capacity(alloc, count) else {
-            return Err(parts);
-        };
-        let Ok(rows) = Vec::with_capacity(alloc, count) else {
-            return Err(parts);
-        };
-        let Ok(order) = Vec::with_capacity(alloc, count) else {
-            return Err(parts);
-        };
-        let Ok(pieces) = Vec::with_capacity(alloc, count) else {
-            return Err(parts);
-        };
-        let Ok(room) = room_for_notes(alloc, &parts.notes) else {
-            return Err(parts);
-        };
-        ledger.push_reserved(item);
-        let FileParts { changes, notes, .. } = parts;
-        let made = made_rows(changes, &item.stamp(), made);
-        let (rows, order) = greatest_rows(made, rows, order);
-        let index = picked_index(room, notes, order.as_slice(), pieces, rows.as_slice());
+        let mut index = room;
+        refill(&mut index, rows.as_slice());
         Ok(State::of_rows(0, ledger, rows, index))
     }
 
@@ -252,8 +243,8 @@ impl State {
 
     /// Sets a horizon: each live entry whose body ends before this day lapses. A lapsed entry loses
     /// its body and keeps its stamp, so that no older file can put a body under its key again. A
-    /// day that isn't after the present horizon changes nothing. The call may allocate one byte per
-    /// row while it runs. If the allocator refuses, the call only takes longer.
+    /// day that isn't after the present horizon changes nothing. Allocates nothing: an index is made
+    /// again in its own memory.
     pub fn set_horizon(&mut self, day: Day)
         ensures raised { self.new ≡ raise_horizon day self.old }
         ensures summary { (files : List (List (List ℕ))) (horizon : ℕ)
@@ -270,7 +261,7 @@ impl State {
         if self.horizon < horizon {
             self.horizon = horizon;
             if self.entries.lapse(horizon) {
-                lapse_index(&mut self.index, self.entries.as_slice());
+                refill(&mut self.index, self.entries.as_slice());
             }
         }
     }
@@ -391,38 +382,18 @@ impl State {
         Live::of(rows_of_uid(self.entries.as_slice(), uid, near))
     }
 
-    /// The index of the join with another state. Returns `None` unless both states have an index.
-    /// The new index is made before any row is moved. Returns `Memory` if the allocator refuses.
-    fn index_of_join(&self, alloc: Global, other: &State) -> Result<Option<Index>, Memory>
-        ensures { IfOk result (λ index. (joined : states.State) → IsJoin self.now other.now joined
-            → IsIndexIfAny joined.entries index) }
+    /// Reserves memory for the index of the join with another state, before any row is moved.
+    /// Returns `None` unless either state has an index. Returns `Memory` if the allocator refuses.
+    fn room_for_join(&self, alloc: Global, other: &State) -> Result<Option<Index>, Memory>
+        ensures { IfOk result (λ room. (joined : states.State) → IsJoin self.now other.now joined
+            → HasRoomIfAny (items_of joined.entries) room) }
     {
+        let (rows, others) = (self.entries.as_slice(), other.entries.as_slice());
         match (&self.index, &other.index) {
-            (Some(own), Some(theirs)) => self.joined_index(alloc, other, own, theirs),
-            _ => Ok(None),
+            (Some(index), _) => Ok(Some(index.for_join(alloc, rows, others)?)),
+            (None, Some(index)) => Ok(Some(index.for_join(alloc, others, rows)?)),
+            (None, None) => Ok(None),
         }
-    }
-
-    /// The index of the join with another state, made from the indexes of both states.
-    fn joined_index(
-        &self,
-        alloc: Global,
-        other: &State,
-        own: &Index,
-        theirs: &Index,
-    ) -> Result<Option<Index>, Memory>
-        requires own { IsIndexOf self.now.entries own.now }
-        requires theirs { IsIndexOf other.now.entries theirs.now }
-        ensures { IfOk result (λ index. (joined : states.State) → IsJoin self.now other.now joined
-            → IsIndexIfAny joined.entries index) }
-    {
-        let (first, second) = (self.entries.as_slice(), other.entries.as_slice());
-        let moves = Moves::with_room(alloc, first.len(), second.len())?;
-        let floor = self.floor_with(other);
-        let horizon = self.horizon.max(other.horizon);
-        let moves = moves.of_tables(first, second, &floor, horizon);
-        let index = Index::of_join(alloc, own, theirs, &moves)?;
-        Ok(Some(index))
     }
 
     /// Takes the state apart, makes room for `more` rows after its rows, and drops its index. If
@@ -474,12 +445,13 @@ impl State {
     }
 
     /// The join of any two states. The rows of the other state are placed among the rows of this
-    /// state, in the same memory. Only the rows after the first placed row move.
+    /// state, in the same memory. Only the rows after the first placed row move. All memory is
+    /// reserved before a row moves.
     fn join_rows(self, alloc: Global, other: State) -> Result<State, (State, State)>
         ensures ok { IfOk result (IsJoin self other) }
         ensures err { IfErr result (λ both. (both.0 ≡ self) × (both.1 ≡ other)) }
     {
-        let Ok(index) = self.index_of_join(alloc, &other) else {
+        let Ok(room) = self.room_for_join(alloc, &other) else {
             return Err((self, other));
         };
         let Some(items) = room_for(alloc, self.ledger.len(), other.ledger.len()) else {
@@ -490,6 +462,28 @@ impl State {
             Ok(opened) => opened,
             Err(back) => return Err((back, other)),
         };
+        let joined = State::join_opened(opened, other, items, &floor);
+        Ok(joined.refilled(room))
+    }
+
+    /// The join of a state that was taken apart with another state. The join has no index, and the
+    /// other state's index is dropped before any row is moved. `floor` is the floor of both ledgers
+    /// together, and `items` has room for the items of both.
+    fn join_opened(
+        opened: OpenedState,
+        other: State,
+        items: Vec<LedgerItem>,
+        floor: &Option<FileStamp>,
+    ) -> State
+        requires valid { IsValid
+            (state_meant opened.horizon opened.ledger.items opened.rows.items) }
+        requires room { vec_len opened.rows + length other.entries ≤ vec_capacity opened.rows }
+        requires items { HasRoomOf (length opened.ledger.items + length other.ledger) items }
+        requires floor { IsFloor (map item_meant opened.ledger.items ++ other.ledger)
+            (floor_meant floor.now) }
+        ensures { IsJoin (state_meant opened.horizon opened.ledger.items opened.rows.items)
+            other result }
+    {
         let OpenedState {
             horizon: own,
             ledger: first,
@@ -501,21 +495,36 @@ impl State {
             entries: right,
             index: their_index,
         } = other;
-        // Both old indexes are dropped before any row is moved.
         drop(their_index);
         let left = lapsed_under(rows, own, theirs);
         let right = lapsed_under(right.into_rows(), theirs, own);
         let joined = join_rows(left, right);
         let items = union_of(first.as_slice(), second.as_slice(), items);
-        let ledger = kept_items(items, &floor);
-        let rows = kept_rows(joined, &floor);
-        let entries = Table::from_rows(rows);
-        Ok(State {
-            horizon: own.max(theirs),
+        let ledger = kept_items(items, floor);
+        let rows = kept_rows(joined, floor);
+        State::of_rows(own.max(theirs), ledger, rows, None)
+    }
+
+    /// The same state, with the index that is made in the memory `room`, if any was reserved. The
+    /// state's present index is dropped.
+    fn refilled(self, room: Option<Index>) -> State
+        requires { HasRoomIfAny (items_of self.entries) room }
+        ensures { result ≡ self }
+    {
+        let State {
+            horizon,
+            ledger,
+            entries,
+            ..
+        } = self;
+        let mut index = room;
+        refill(&mut index, entries.as_slice());
+        State {
+            horizon,
             ledger,
             entries,
             index,
-        })
+        }
     }
 
     /// The file stamp of the newest full extract in the state's ledger. Returns `None` if the
@@ -560,7 +569,7 @@ impl Merge for State {
     /// horizons. The memory of the other state is then freed. For example, one state may be made
     /// from a full extract that is newer than all files of the other state. Then no row of the
     /// other state is read. If memory runs out, both states are returned unchanged. The join has an
-    /// index if both states have one. In this case both states are also returned if together they
+    /// index if either state has one. In this case both states are also returned if together they
     /// have more than 4,294,967,295 rows or places, which are numbered in 32 bits.
     fn join(self, alloc: Global, other: State) -> Result<State, (State, State)>
         ensures ok { IfOk result (IsJoin self other) }
@@ -572,10 +581,16 @@ impl Merge for State {
         let own = self.horizon();
         let theirs = other.horizon();
         if self.covers(&other) {
-            return Ok(self.raised(theirs));
+            return match self.indexed_like(alloc, &other) {
+                Ok(state) => Ok(state.raised(theirs)),
+                Err(back) => Err((back, other)),
+            };
         }
         if other.covers(&self) {
-            return Ok(other.raised(own));
+            return match other.indexed_like(alloc, &self) {
+                Ok(state) => Ok(state.raised(own)),
+                Err(back) => Err((self, back)),
+            };
         }
         self.join_into_longer(alloc, other)
     }

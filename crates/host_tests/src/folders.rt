@@ -59,8 +59,8 @@ pub(crate) fn holds<F: Folder>(
     same(rt, held.as_slice(), text.as_bytes());
 }
 
-/// Writes this text to a draft, and then renames the draft over its file.
-fn finish<F: Folder>(
+/// Writes this text to a draft, and then puts the draft in the place of its file.
+pub(crate) fn finish<F: Folder>(
     rt: &impl Abort,
     folder: &mut F,
     made: Drafted<'_, F::Draft>,

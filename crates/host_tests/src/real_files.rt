@@ -2,8 +2,9 @@
 //! parallel, so each test uses file names of its own.
 
 use crate::compare::same;
-use crate::folders::{has_few_failures, holds, store, stores};
+use crate::folders::{finish, has_few_failures, holds, store, stores};
 use docker_host::{Folder, OpenFault, RealFolder};
+use std::alloc::Global;
 use std::fs;
 use std::fs::{Files, Permissions};
 use std::os::unix::fs::{PermissionsExt, symlink};
@@ -154,6 +155,131 @@ fn a_link_that_leads_nowhere_is_followed(rt: HostRuntime) {
     stores(&rt, &mut folder, "leads_nowhere", "one", Ok(()));
     is_link(&rt, "leads_nowhere");
     holds(&rt, rt.alloc(), &mut folder, "nowhere", "one");
+    stands(&rt, "nowhere.new", false);
+}
+
+#[test]
+fn links_that_lead_nowhere_are_followed_from_their_folders(rt: HostRuntime) {
+    let _ = fs::create_dir(&rt, "linking");
+    clear(&rt, "linked_to");
+    link(&rt, "../leads_out", "linking/leads_out");
+    link(&rt, "linked_to", "leads_out");
+    let mut folder = RealFolder::new(&rt);
+    stores(&rt, &mut folder, "linking/leads_out", "one", Ok(()));
+    is_link(&rt, "linking/leads_out");
+    is_link(&rt, "leads_out");
+    holds(&rt, rt.alloc(), &mut folder, "linked_to", "one");
+    stands(&rt, "linked_to.new", false);
+    stores(&rt, &mut folder, "linking/leads_out", "two", Ok(()));
+    holds(&rt, rt.alloc(), &mut folder, "linked_to", "two");
+    same(&rt, folder.failures(), 0);
+}
+
+#[test]
+fn links_that_lead_to_each_other(rt: HostRuntime) {
+    link(&rt, "second_of_ring", "first_of_ring");
+    link(&rt, "first_of_ring", "second_of_ring");
+    let mut folder = RealFolder::new(&rt);
+    stores(&rt, &mut folder, "first_of_ring", "one", FAILED);
+    is_link(&rt, "first_of_ring");
+    is_link(&rt, "second_of_ring");
+    same(&rt, folder.failures(), 1);
+}
+
+/// Makes a draft of the named file. Then another program writes the file `written`, before the draft
+/// is put in place. Asserts that the draft is refused, and that the other program's text stays.
+fn is_overtaken(
+    rt: &(impl Abort + Files),
+    alloc: Global,
+    folder: &mut RealFolder,
+    name: &str,
+    written: &str,
+) {
+    let seen = folder.look(name);
+    has_few_failures(rt, folder);
+    let Ok(made) = folder.create(name, &seen) else {
+        panic!(rt; "no draft");
+    };
+    put(rt, written, "by another program");
+    same(rt, finish(rt, folder, made, "two"), FAILED);
+    holds(rt, alloc, folder, written, "by another program");
+    same(rt, folder.failures(), 1);
+}
+
+#[test]
+fn a_file_that_is_written_while_its_draft_is(rt: HostRuntime) {
+    put(&rt, "late", "one");
+    let mut folder = RealFolder::new(&rt);
+    is_overtaken(&rt, rt.alloc(), &mut folder, "late", "late");
+    stands(&rt, "late.new", false);
+}
+
+#[test]
+fn a_file_that_comes_while_its_draft_is_written(rt: HostRuntime) {
+    clear(&rt, "comes_late");
+    let mut folder = RealFolder::new(&rt);
+    is_overtaken(&rt, rt.alloc(), &mut folder, "comes_late", "comes_late");
+    stands(&rt, "comes_late.new", false);
+}
+
+#[test]
+fn the_target_of_a_link_comes_while_its_draft_is_written(rt: HostRuntime) {
+    clear(&rt, "target_late");
+    link(&rt, "target_late", "leads_late");
+    let mut folder = RealFolder::new(&rt);
+    is_overtaken(&rt, rt.alloc(), &mut folder, "leads_late", "target_late");
+    is_link(&rt, "leads_late");
+    stands(&rt, "target_late.new", false);
+}
+
+#[test]
+fn a_folder_has_the_name_of_the_draft(rt: HostRuntime) {
+    put(&rt, "blocked", "one");
+    let _ = fs::create_dir(&rt, "blocked.new");
+    let mut folder = RealFolder::new(&rt);
+    stores(&rt, &mut folder, "blocked", "two", FAILED);
+    holds(&rt, rt.alloc(), &mut folder, "blocked", "one");
+    stands(&rt, "blocked.new", true);
+    same(&rt, folder.failures(), 1);
+}
+
+#[test]
+fn a_link_to_nothing_leads_to_a_file_while_its_draft_is_written(rt: HostRuntime) {
+    clear(&rt, "not_there");
+    link(&rt, "not_there", "leads_to_it");
+    put(&rt, "elsewhere", "one");
+    let mut folder = RealFolder::new(&rt);
+    let seen = folder.look("leads_to_it");
+    let Ok(made) = folder.create("leads_to_it", &seen) else {
+        panic!(&rt; "no draft");
+    };
+    link(&rt, "elsewhere", "leads_to_it");
+    same(&rt, finish(&rt, &mut folder, made, "two"), FAILED);
+    holds(&rt, rt.alloc(), &mut folder, "elsewhere", "one");
+    stands(&rt, "not_there", false);
+    stands(&rt, "not_there.new", false);
+}
+
+#[test]
+fn another_file_takes_the_name_of_a_draft(rt: HostRuntime) {
+    put(&rt, "drafted", "one");
+    let mut folder = RealFolder::new(&rt);
+    let seen = folder.look("drafted");
+    let Ok(made) = folder.create("drafted", &seen) else {
+        panic!(&rt; "no draft");
+    };
+    put(&rt, "drafted_elsewhere", "by another program");
+    assert!(&rt; fs::rename(&rt, "drafted_elsewhere", "drafted.new").is_ok());
+    same(&rt, finish(&rt, &mut folder, made, "two"), FAILED);
+    holds(&rt, rt.alloc(), &mut folder, "drafted", "one");
+    holds(
+        &rt,
+        rt.alloc(),
+        &mut folder,
+        "drafted.new",
+        "by another program",
+    );
+    clear(&rt, "drafted.new");
 }
 
 #[test]

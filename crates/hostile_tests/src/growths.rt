@@ -42,6 +42,7 @@ fn do_office_row(desk: &Desk, call: &str, words: &[&str]) {
         | "Office::reload_under"
         | "Office::migrate" => office_growths::read(desk, call, words),
         "Office::print" => office_growths::print(desk, words),
+        "Office::read" => office_growths::read_whole(desk, words),
         "PlaceOffice::read" => office_growths::read_at_place(desk, words),
         "PlaceOffice::print" => office_growths::print_at_place(desk, words),
         "LedgerOffice::read" => office_growths::read_ledger(desk, words),

@@ -6,6 +6,7 @@ use crate::endings::ending_of;
 use crate::texts::{MOST_BYTES, compare_state, has_text, occasion_of, office_of, sink, source_of};
 use cif_line::{Day, Sink, Tiploc};
 use docker_office::{LedgerOffice, Office, OfficeFault, PlaceOffice};
+use state_text::format::Format;
 
 /// Runs a row with the arguments `STATE TEXT STATE`. An office with the first state reads the text,
 /// and must then have the last state.
@@ -85,6 +86,30 @@ fn has_printed(desk: &Desk, office: &Office, words: [&str; 3], is_first: bool) -
     }
     desk.report(done.is_ok() && desk.is_text(kept.bytes(), wanted), wanted);
     true
+}
+
+/// An office that has read the state with this text.
+fn with_state(desk: &Desk, text: &[u8]) -> Result<Office, OfficeFault> {
+    let source = &mut source_of(text);
+    Office::read(desk.alloc(), Format::Dks2, source, MOST_BYTES)
+}
+
+/// Runs a row with the argument `STATE`. An office reads the state.
+pub(crate) fn read_whole(desk: &Desk, words: &[&str]) {
+    let [name] = words else {
+        return desk.trouble("STATE");
+    };
+    let text = desk.text(name);
+    desk.begin();
+    let read = with_state(desk, text.as_slice());
+    desk.end(ending_of(&read));
+    match read {
+        Ok(office) => compare_state(desk, office.state(), name),
+        Err(_) => match with_state(desk, text.as_slice()) {
+            Ok(office) => compare_state(desk, office.state(), name),
+            Err(_) => desk.trouble("refused again"),
+        },
+    }
 }
 
 /// An office for the docker of a timing point and a day. The office has read the state with this

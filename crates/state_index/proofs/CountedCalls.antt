@@ -10,7 +10,7 @@ use Rattle.docker_model.specs.file.Change as model
 use Rattle.docker_model.specs.state.State.{State, AreAscending, live_table}
 use Rattle.docker_model.specs.state.Row.{Row}
 use Rattle.cif_laws.proofs.lists.Membership.{cons-Contains, cons-Contains-first}
-use Rattle.cif_change.specs.NamedPlaces.{call_places}
+use Rattle.state_index.specs.NamedPlaces.{call_places}
 use Rattle.state_index.specs.Counts.{IsCallingCount}
 use Rattle.state_index.specs.SpotOrder.{Spot}
 use Rattle.state_index.specs.Spots.{spot_at, posting_spot, spots_in, AreSpotsOf}

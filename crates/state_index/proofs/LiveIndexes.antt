@@ -20,7 +20,7 @@ use Rattle.cif_laws.proofs.lists.Membership.{cons-Contains, cons-Contains-first}
 use Rattle.state_laws.proofs.indexes.IndexSegment.{calling_piece, linked_piece}
 use Rattle.state_laws.proofs.indexes.OneIndex.{calling_by_index, linked_by_index}
 use Rattle.state_laws.proofs.joins.StagedEntry.{entry_at_iff}
-use Rattle.cif_change.specs.NamedPlaces.{call_places, link_places}
+use Rattle.state_index.specs.NamedPlaces.{call_places, link_places}
 use Rattle.state_index.specs.SpotOrder.{Spot, spot_cmp}
 use Rattle.state_index.specs.Spots.{spot_at, AreSpotsOf}
 use Rattle.state_index.specs.Tables.{calling_row, linked_row, calling_rows, linked_rows}

@@ -1,8 +1,7 @@
 -- Postings and their spots. A posting has its place as an index in a list of places, and its spot has the TIPLOC itself.
-use Rattle.std.proofs.Common.{◌≡◌, ℕ, List, [], ◌∷◌, ◌++◌, refl, ap, sym, ◌∙◌, subst, Some, None, Contains, Bool, true, false, cond, append-nil}
-use Rattle.std.specs.Prelude.{Option, ◌↔◌, filter, slice_get, option_map, option_and_then}
+use Rattle.std.proofs.Common.{◌≡◌, ℕ, List, [], ◌∷◌, ◌++◌, refl, ap, sym, ◌∙◌, subst, Some, None, Contains, append-nil}
+use Rattle.std.specs.Prelude.{Option, ◌↔◌, slice_get, option_map, option_and_then}
 use Rattle.std.specs.List.{cons_option}
-use Rattle.std.specs.Option.{is_some}
 use Rattle.std.specs.declared.cmp.Ordering.{Ordering}
 use Rattle.std.specs.declared.cmp.Ordering.TheVariants.{Less, Equal, Greater}
 use Rattle.std.specs.Ordering.{ordering_then, ordering_reverse, nat_cmp}
@@ -12,13 +11,15 @@ use Rattle.std.proofs.lemmas.Cmp.{ranked}
 use Rattle.std.proofs.lemmas.List.Elements.{filter_map-append}
 use Rattle.std.proofs.lemmas.Map.Lookups.{exact_unsigned}
 use Rattle.docker_model.specs.state.Order.{bytes_cmp, IsStrictlyAscending}
-use Rattle.cif_laws.proofs.lists.Membership.{nil-Contains, cons-Contains, cons-Contains-first}
+use Rattle.cif_laws.proofs.lists.Membership.{nil-Contains, cons-Contains, cons-Contains-first, Contains-map}
 use Rattle.state_index.specs.SpotOrder.{Spot, spot_cmp}
 use Rattle.state_index.specs.declared.posting.Posting.{Posting}
 use Rattle.state_index.specs.PostingOrder.{posting_cmp}
 use Rattle.state_index.specs.Spots.{Places, spot_at, spots_of, posting_spot, spots_in, ArePostingsOf}
-use Rattle.state_index.specs.PlaceRows.{live_row, rows_at_spots, rows_at_postings, is_put_at, is_put_at_posting, IsPieceAt, IsPieceOf}
-use Rattle.state_index.proofs.Positions.{Keyed, some_is, at_member, at_ascends, chosen_from, chosen_to, chosen_ascends}
+use Rattle.state_index.specs.PlaceRows.{live_row, rows_at_spots, rows_at_postings, IsPieceAt, IsPieceOf}
+use Rattle.state_index.specs.Rooms.{Item, Includes, items_of, places_in}
+use Rattle.state_index.proofs.Positions.{Keyed, some_is, at_member, member_at, at_ascends, chosen_from, chosen_to, chosen_ascends, stand_spots}
+use Rattle.state_index.proofs.RoomForRows.{named_by}
 
 none_some : {A : Type 0} (a : A) → None ≡ Some a → ⊥
 none_some a h = cc
@@ -144,31 +145,14 @@ postings_made places rows names made postings named are up same = record {
   };
 }
 
--- postings of rows that aren't live may be removed before or after the postings are turned into spots, which have the TIPLOC in place of its index. The result
--- is the same
-pub kept_spots : (names : List (List ℕ)) (rows : List Keyed) (postings : List Posting)
-    → spots_in names (filter (is_put_at_posting rows) postings) ≡ filter (is_put_at rows) (spots_in names postings)
-kept_spots names rows [] = refl
-kept_spots names rows (posting ∷ postings) = by (posting_spot names posting) refl (is_put_at_posting rows posting) refl (kept_spots names rows postings)
-  where
-    by : (o : Option Spot) → posting_spot names posting ≡ o → (b : Bool) → is_put_at_posting rows posting ≡ b
-        → spots_in names (filter (is_put_at_posting rows) postings) ≡ filter (is_put_at rows) (spots_in names postings)
-        → spots_in names (filter (is_put_at_posting rows) (posting ∷ postings)) ≡ filter (is_put_at rows) (cons_option o (spots_in names postings))
-    by None at true put rest =
-        (λ i. spots_in names (cond (put i) (posting ∷ filter (is_put_at_posting rows) postings) (filter (is_put_at_posting rows) postings)))
-        ∙ (λ i. cons_option (at i) (spots_in names (filter (is_put_at_posting rows) postings))) ∙ rest
-    by None at false put rest =
-        (λ i. spots_in names (cond (put i) (posting ∷ filter (is_put_at_posting rows) postings) (filter (is_put_at_posting rows) postings))) ∙ rest
-    by (Some spot) at true put rest =
-        let row : spot.at ≡ posting.at = (spot_named names posting spot at).1 in
-        let stays : is_put_at rows spot ≡ true = (λ i. is_some (option_and_then live_row (slice_get rows (row i)))) ∙ put in
-        (λ i. spots_in names (cond (put i) (posting ∷ filter (is_put_at_posting rows) postings) (filter (is_put_at_posting rows) postings)))
-        ∙ (λ i. cons_option (at i) (spots_in names (filter (is_put_at_posting rows) postings)))
-        ∙ (λ i. spot ∷ rest i)
-        ∙ sym (λ i. cond (stays i) (spot ∷ filter (is_put_at rows) (spots_in names postings)) (filter (is_put_at rows) (spots_in names postings)))
-    by (Some spot) at false put rest =
-        let row : spot.at ≡ posting.at = (spot_named names posting spot at).1 in
-        let goes : is_put_at rows spot ≡ false = (λ i. is_some (option_and_then live_row (slice_get rows (row i)))) ∙ put in
-        (λ i. spots_in names (cond (put i) (posting ∷ filter (is_put_at_posting rows) postings) (filter (is_put_at_posting rows) postings)))
-        ∙ rest
-        ∙ sym (λ i. cond (goes i) (spot ∷ filter (is_put_at rows) (spots_in names postings)) (filter (is_put_at rows) (spots_in names postings)))
+-- if postings name exactly the places of the rows, the list of names has each place of the rows
+pub names_listed : (places : Places) (rows : List Keyed) (names : List (List ℕ)) (postings : List Posting) → ArePostingsOf places rows names postings
+    → Includes (places_in places (items_of rows)) names
+names_listed places rows names postings is place among =
+    let item = named_by places (items_of rows) place among in
+    let row = Contains-map {B = Item} (λ (r : Keyed). (r.0, r.1.op)) rows item.0 item.1 in
+    let at = member_at rows row.0 row.1 in
+    let here : Contains (places row.0.0 row.0.1.op) place = subst (λ (i : Item). Contains (places i.0 i.1) place) (sym row.2) item.2 in
+    let found = chosen_from (posting_spot names) postings (spot_at at.0 place)
+    ((is.are.members (spot_at at.0 place)).1 (stand_spots places rows (spot_at at.0 place) (row.0, at.1, here))) in
+    at_member names found.0.place place (spot_named names found.0 (spot_at at.0 place) found.2).0

@@ -1,17 +1,19 @@
 -- The places of a row: where a schedule calls, or where an association links two trains.
-use Rattle.std.proofs.Common.{◌≡◌, ℕ, List, [], refl, ap, subst, inl, inr, ◌⊎◌, true, false, Some, None, Contains}
+use Rattle.std.proofs.Common.{◌≡◌, ◌∙◌, ℕ, List, [], ◌∷◌, map, refl, ap, subst, inl, inr, ◌⊎◌, true, false, cond, Some, None, Contains}
 use Rattle.std.specs.Prelude.{Option, filter}
 use Rattle.docker_model.specs.records.Record.{Kind, header, tiploc_insert, tiploc_amend, tiploc_delete, association}
 use Rattle.docker_model.specs.records.Record.{basic_schedule, extra_details, origin_location, intermediate_location}
 use Rattle.docker_model.specs.records.Record.{terminating_location, change_en_route, trailer, kind_of, HasKind, columns, is_location}
 use Rattle.docker_model.specs.file.Change.{Key, tiploc_key, association_key, schedule_key, AssociationKey}
-use Rattle.docker_model.specs.file.Change.{ScheduleKey, tiploc_body, association_body, schedule_body}
-use Rattle.docker_model.specs.state.Op.{Op, deleted, lapsed, put_with}
+use Rattle.docker_model.specs.file.Change.{ScheduleKey, Body, tiploc_body, association_body, schedule_body}
+use Rattle.docker_model.specs.state.Op.{Op, deleted, lapsed, put_with, body_of}
 use Rattle.docker_model.specs.file.Journey.{CallsAt}
 use Rattle.cif_laws.proofs.lists.Membership.{nil-Contains, Contains-map, map-Contains, Contains-single, single-Contains}
 use Rattle.cif_laws.proofs.lists.FilteredMembers.{filter_back, filter_forth}
-use Rattle.cif_change.specs.NamedPlaces.{call_places, link_places}
-use Rattle.state_index.specs.Turns.{is_put}
+use Rattle.state_index.specs.NamedPlaces.{call_places, link_places, location_lines}
+
+none_some : (body : Body) → Some body ≡ None → ⊥
+none_some body h = cc
 
 -- Says that a line is a location record (LO, LI or LT).
 abbrev IsLocation : List ℕ → Type 0
@@ -89,17 +91,32 @@ pub link_forth : (key : AssociationKey) (line : List ℕ) (place : List ℕ) →
     → Contains (link_places (association_key key) (put_with (association_body line))) place
 link_forth key line place here = single-Contains key.location place here
 
--- a row whose op isn't a put has no calls
-pub no_calls : (key : Key) (op : Op) → is_put op ≡ false → call_places key op ≡ []
+-- a row whose op puts no body has no calls
+pub no_calls : (key : Key) (op : Op) → body_of op ≡ None → call_places key op ≡ []
 no_calls (schedule_key key) deleted none = refl
 no_calls (schedule_key key) lapsed none = refl
-no_calls (schedule_key key) (put_with body) none = absurd (let bad : true ≡ false = none in cc)
+no_calls (schedule_key key) (put_with body) none = absurd (none_some body none)
 no_calls (tiploc_key code) op none = refl
 no_calls (association_key key) op none = refl
 
-pub no_links : (key : Key) (op : Op) → is_put op ≡ false → link_places key op ≡ []
+-- a row whose op puts no body has no association
+pub no_links : (key : Key) (op : Op) → body_of op ≡ None → link_places key op ≡ []
 no_links (association_key key) deleted none = refl
 no_links (association_key key) lapsed none = refl
-no_links (association_key key) (put_with body) none = absurd (let bad : true ≡ false = none in cc)
+no_links (association_key key) (put_with body) none = absurd (none_some body none)
 no_links (tiploc_key code) op none = refl
 no_links (schedule_key key) op none = refl
+
+-- if the first line is a location record, its TIPLOC is the first of the lines' places
+pub location_first : (rest behind : List (List ℕ)) (line : List ℕ) → rest ≡ line ∷ behind → is_location (kind_of line) ≡ true
+    → map (columns 3 9) (location_lines rest) ≡ columns 3 9 line ∷ map (columns 3 9) (location_lines behind)
+location_first rest behind line whole is =
+    ap (λ (lines : List (List ℕ)). map (columns 3 9) (location_lines lines)) whole
+    ∙ (λ i. map (columns 3 9) (cond (is i) (line ∷ location_lines behind) (location_lines behind)))
+
+-- if the first line isn't a location record, the lines' places are the places of the lines after it
+pub location_other : (rest behind : List (List ℕ)) (line : List ℕ) → rest ≡ line ∷ behind → is_location (kind_of line) ≡ false
+    → map (columns 3 9) (location_lines rest) ≡ map (columns 3 9) (location_lines behind)
+location_other rest behind line whole is =
+    ap (λ (lines : List (List ℕ)). map (columns 3 9) (location_lines lines)) whole
+    ∙ (λ i. map (columns 3 9) (cond (is i) (line ∷ location_lines behind) (location_lines behind)))

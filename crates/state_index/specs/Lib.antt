@@ -1,11 +1,9 @@
+pub mod NamedPlaces
 pub mod PostingOrder
 pub mod SpotOrder
 pub mod Spots
 pub mod Tables
-pub mod ByPlace
 pub mod Rooms
-pub mod Turns
-pub mod Joined
+pub mod Posted
 pub mod PlaceRows
-pub mod Noted
 pub mod Counts

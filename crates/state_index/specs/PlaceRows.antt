@@ -1,13 +1,11 @@
 -- The live rows to which spots and postings refer. A spot is a TIPLOC with the index of a row
 -- there.
-use Rattle.std.specs.Prelude.{◌≡◌, ℕ, Bool, false, List, ◌++◌, map, Contains, Option, Some, None, slice_get, option_and_then}
+use Rattle.std.specs.Prelude.{◌≡◌, ℕ, List, ◌++◌, Contains, Option, Some, slice_get, option_and_then}
 use Rattle.std.specs.List.{filter_map}
-use Rattle.std.specs.Option.{is_some}
 use Rattle.docker_model.specs.file.Change.{Key}
 use Rattle.docker_model.specs.state.Op.{Entry, body_of}
 use Rattle.docker_model.specs.state.Row.{Row}
 use Rattle.state_index.specs.SpotOrder.{Spot}
-use Rattle.state_index.specs.Turns.{is_put}
 use Rattle.state_index.specs.declared.posting.Posting.{Posting}
 
 -- the key and the body of a row, or `None` if its op isn't a put
@@ -47,24 +45,3 @@ pub record IsPieceAt (place : List ℕ) (spots piece : List Spot) : Type 0 where
   pub none_before : (spot : Spot) → Contains before spot → ¬ (spot.place ≡ place)
   pub here : (spot : Spot) → Contains piece spot → spot.place ≡ place
   pub none_behind : (spot : Spot) → Contains behind spot → ¬ (spot.place ≡ place)
-
--- whether the row that a spot (a TIPLOC and a row's index) names is live
-abbrev pub is_put_at : List (Key × Entry) → Spot → Bool
-is_put_at rows spot = is_some (live_at rows spot)
-
--- whether the row that a posting names is live
-abbrev pub is_put_at_posting : List (Key × Entry) → Posting → Bool
-is_put_at_posting rows posting = is_some (live_at_posting rows posting)
-
--- for each row, whether its op is a put
-abbrev pub puts_in : List (Key × Entry) → List Bool
-puts_in rows = map (λ (row : Key × Entry). is_put row.1.op) rows
-
--- the value of an optional flag; false if there is none
-abbrev pub or_not : Option Bool → Bool
-or_not None = false
-or_not (Some put) = put
-
--- whether the row that a posting names is live, according to a list with one flag for each row
-abbrev pub put_among : List Bool → Posting → Bool
-put_among puts posting = or_not (slice_get puts posting.at)

@@ -5,7 +5,7 @@ use Rattle.std.specs.List.{filter_map}
 use Rattle.docker_model.specs.file.Change.{Key}
 use Rattle.docker_model.specs.state.Op.{Op, Entry}
 use Rattle.docker_model.specs.state.Order.{bytes_cmp, IsStrictlyAscending}
-use Rattle.cif_change.specs.NamedPlaces.{call_places, link_places}
+use Rattle.state_index.specs.NamedPlaces.{call_places, link_places}
 use Rattle.state_index.specs.SpotOrder.{Spot, spot_cmp}
 use Rattle.state_index.specs.declared.posting.Posting.{Posting}
 use Rattle.state_index.specs.PostingOrder.{posting_cmp}

@@ -1,30 +1,23 @@
 //! The index of a table's rows by place: where live schedules call, and where live associations
 //! are.
-ghost use Rattle.std.specs.Prelude.{◌≡◌, ℕ, ◌+◌, List, [], map, IfOk};
-ghost use Rattle.docker_model.specs.file.Change as model;
-ghost use Rattle.docker_model.specs.state.Op as ops;
-ghost use Rattle.docker_model.specs.state.Lapse.{lapse_entries};
+ghost use Rattle.std.specs.Prelude.{◌≡◌, ◌++◌, List, [], map, IfOk};
 ghost use Rattle.docker_model.specs.state.Order.{bytes_cmp, IsStrictlyAscending};
 ghost use Rattle.docker_model.specs.state.State.{State, AreAscending, live_table};
 ghost use Rattle.state_laws.specs.Index.{AreCalling, AreLinked};
-ghost use Rattle.cif_change.specs.Noted.{AreNoted, items_of};
+ghost use Rattle.cif_change.specs.Meaning.{change_meant};
 ghost use Rattle.docker_join.specs.Meaning.{row_meant};
 ghost use Rattle.state_index.specs.Counts.{IsCallingCount};
 ghost use Rattle.state_index.specs.PostingOrder.{posting_cmp};
+ghost use Rattle.state_index.specs.Rooms.{Item, HasGrownBy, HasRoomFor, changed_items, items_of};
 ghost use Rattle.state_index.specs.Spots.{IsIndexOf};
-ghost use Rattle.docker_join.specs.Room.{HasRoomOf};
-ghost use Rattle.state_index.specs.Rooms.{HasRoomFor};
-ghost use Rattle.state_index.specs.Joined.{AreMoves};
 
-use crate::fill::ascending;
-use crate::merge::{Moved, merged, ranks_of, union_of};
-use crate::moves::Moves;
+use crate::memo::Memo;
+use crate::names::ascending_places;
 use crate::place_rows::{PlaceRows, postings_at};
 use crate::posting::Posting;
-use crate::puts::{keep_put, puts_of};
-use crate::room::Room;
-use crate::walk::PostingWalk;
-use cif_change::{Key, Memory, Notes, Tiploc};
+use crate::postings::{post_rows, settle};
+use crate::survey::Survey;
+use cif_change::{Change, Key, Memory, Tiploc};
 use docker_join::Entry;
 use std::alloc::Global;
 
@@ -41,108 +34,107 @@ pub struct Index {
     /// One posting for each live association, at its location. Postings ascend by place and then by
     /// row, and none is repeated.
     pub links: Vec<Posting>,
+    memo: Memo,
 }
 
 impl Index {
-    /// The index of an empty table.
+    /// The index of an empty table. Allocates nothing.
     pub fn new(alloc: Global) -> Index
-        ensures { IsIndexOf [] result }
+        ensures index { IsIndexOf [] result }
+        ensures room { HasRoomFor [] result }
     {
         Index {
             places: Vec::new(alloc),
             calls: Vec::new(alloc),
             links: Vec::new(alloc),
+            memo: Memo::new(alloc),
         }
     }
 
-    /// Makes the index of these rows from their notes, in memory that was reserved beforehand.
-    /// Allocates nothing.
-    pub fn of_rows(room: Room, notes: Notes, rows: &[(Key, Entry)]) -> Index
-        requires room { HasRoomFor (map row_meant rows.now) notes.names.list.items room }
-        requires noted { AreNoted notes.names.list.items notes.numbers.items
-            (items_of (map row_meant rows.now)) notes.pieces.items }
-        ensures { IsIndexOf (map row_meant rows.now) result }
+    /// Makes the index of these rows. Returns `Memory` if the allocator refuses, or if there are
+    /// more than 4,294,967,295 rows or places, which are numbered in 32 bits.
+    pub fn of(alloc: Global, rows: &[(Key, Entry)]) -> Result<Index, Memory>
+        ensures index { IfOk result (IsIndexOf (map row_meant rows.now)) }
+        ensures room { IfOk result (HasRoomFor (items_of (map row_meant rows.now))) }
     {
-        let Room {
-            places,
-            ranks,
-            calls,
-            links,
-        } = room;
-        let count = rows.len() as u32;
-        let ranks = ranks.as_slice();
-        let numbers = notes.numbers.as_slice();
-        let pieces = notes.pieces.as_slice();
-        let called = PostingWalk::of(ranks, numbers, pieces, count, false);
-        let linked = PostingWalk::of(ranks, numbers, pieces, count, true);
-        let calls = ascending(called, places.len(), calls);
-        let links = ascending(linked, places.len(), links);
-        Index {
-            places,
-            calls,
-            links,
-        }
+        let mut survey = Survey::new(alloc, &[], rows.len())?;
+        survey.survey_rows(rows)?;
+        let mut index = Index::of_survey(alloc, survey)?;
+        index.refill(rows);
+        Ok(index)
     }
 
-    /// Updates the index in place after a horizon was set and entries have lapsed. While it runs,
-    /// the call may allocate one byte per row. If the allocator refuses, the call takes longer but
-    /// doesn't fail.
-    pub fn lapse(&mut self, rows: &[(Key, Entry)])
-        ensures { (before : List (model.Key × ops.Entry)) (horizon : ℕ)
-            → map row_meant rows.now ≡ lapse_entries horizon before
-            → IsIndexOf before self.old → IsIndexOf (map row_meant rows.now) self.new }
+    /// Reserves memory for the index of the rows that these changes make, one row for each key. The
+    /// index is made by `refill`. Fails for the same reasons as `of`.
+    pub fn for_changes(alloc: Global, changes: &[Change]) -> Result<Index, Memory>
+        ensures { IfOk result (HasRoomFor (changed_items (map change_meant changes.now))) }
     {
-        let puts = puts_of(*self.calls.allocator(), rows);
-        keep_put(&mut self.calls, rows, &puts);
-        keep_put(&mut self.links, rows, &puts);
+        let mut survey = Survey::new(alloc, &[], changes.len())?;
+        survey.survey_changes(changes)?;
+        Index::of_survey(alloc, survey)
     }
 
-    /// Makes the index of the join of two tables from the tables' indexes. The time is linear in
-    /// the sizes of these two indexes. Returns `Memory` if the allocator refuses.
-    pub fn of_join(
+    /// Reserves memory for the index of the join of two tables, given the index of the first
+    /// table's rows. The index is made by `refill`. Fails for the same reasons as `of`.
+    pub fn for_join(
+        &self,
         alloc: Global,
-        first: &Index,
-        second: &Index,
-        moves: &Moves,
+        rows: &[(Key, Entry)],
+        others: &[(Key, Entry)],
     ) -> Result<Index, Memory>
-        ensures { (rows others joined : List (model.Key × ops.Entry))
-            → AreMoves rows others joined moves.now → IsIndexOf rows first.now
-            → IsIndexOf others second.now → IfOk result (IsIndexOf joined) }
+        requires { IsIndexOf (map row_meant rows.now) self.now }
+        ensures { IfOk result (HasRoomFor
+            (items_of (map row_meant rows.now) ++ items_of (map row_meant others.now))) }
     {
-        let places = union_of(alloc, first.places.as_slice(), second.places.as_slice())?;
-        let ranks = ranks_of(alloc, first.places.as_slice(), places.as_slice())?;
-        let others = ranks_of(alloc, second.places.as_slice(), places.as_slice())?;
-        let calls = room_for(alloc, first.calls.len(), second.calls.len())?;
-        let links = room_for(alloc, first.links.len(), second.links.len())?;
+        let mut survey = Survey::new(
+            alloc,
+            self.places.as_slice(),
+            rows.len().saturating_add(others.len()),
+        )?;
+        survey.count_rows(rows)?;
+        survey.survey_rows(others)?;
+        Index::of_survey(alloc, survey)
+    }
+
+    /// Reserves memory for the index of the surveyed rows. Fails for the same reasons as `of`.
+    fn of_survey(alloc: Global, survey: Survey) -> Result<Index, Memory>
+        ensures { (items : List Item) (old : Survey) → HasGrownBy items old survey
+            → IfOk result (HasRoomFor items) }
+    {
+        let Survey {
+            names,
+            calls,
+            rows,
+            ..
+        } = survey;
+        let places = ascending_places(names);
+        if u32::try_from(places.len()).is_err() || u32::try_from(rows).is_err() {
+            return Err(Memory);
+        }
+        let memo = Memo::of(alloc, places.as_slice(), rows)?;
+        let calls = Vec::with_capacity(alloc, calls)?;
+        let links = Vec::with_capacity(alloc, rows)?;
         Ok(Index {
             places,
-            calls: merged(
-                Moved::of(
-                    first.calls.as_slice(),
-                    ranks.as_slice(),
-                    moves.first.as_slice(),
-                ),
-                Moved::of(
-                    second.calls.as_slice(),
-                    others.as_slice(),
-                    moves.second.as_slice(),
-                ),
-                calls,
-            ),
-            links: merged(
-                Moved::of(
-                    first.links.as_slice(),
-                    ranks.as_slice(),
-                    moves.first.as_slice(),
-                ),
-                Moved::of(
-                    second.links.as_slice(),
-                    others.as_slice(),
-                    moves.second.as_slice(),
-                ),
-                links,
-            ),
+            calls,
+            links,
+            memo,
         })
+    }
+
+    /// Makes the index of these rows, in memory that was reserved beforehand. Allocates nothing.
+    pub fn refill(&mut self, rows: &[(Key, Entry)])
+        requires { HasRoomFor (items_of (map row_meant rows.now)) self.old }
+        ensures index { IsIndexOf (map row_meant rows.now) self.new }
+        ensures room { HasRoomFor (items_of (map row_meant rows.now)) self.new }
+    {
+        self.calls.clear();
+        self.links.clear();
+        let places = self.places.as_slice();
+        post_rows(places, &self.memo, false, rows, &mut self.calls);
+        post_rows(places, &self.memo, true, rows, &mut self.links);
+        settle(&mut self.calls);
+        settle(&mut self.links);
     }
 
     /// The live schedules that call at a TIPLOC, found by binary search. The index must be the
@@ -196,13 +188,4 @@ impl Index {
             ),
         )
     }
-}
-
-/// An empty vector with room for the postings of two indexes. Returns `Memory` if the allocator
-/// refuses.
-fn room_for(alloc: Global, first: usize, second: usize) -> Result<Vec<Posting>, Memory>
-    ensures { IfOk result (HasRoomOf (first + second)) }
-{
-    let count = first.checked_add(second).ok_or(Memory)?;
-    Ok(Vec::with_capacity(alloc, count)?)
 }

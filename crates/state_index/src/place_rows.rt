@@ -11,7 +11,7 @@ ghost use Rattle.docker_model.specs.file.Change as model;
 ghost use Rattle.docker_model.specs.state.Op as ops;
 ghost use Rattle.state_index.specs.Spots.{spots_in};
 ghost use Rattle.state_index.specs.PostingOrder.{posting_cmp};
-ghost use Rattle.state_index.specs.PlaceRows.{rows_at_spots, rows_at_postings, live_at_posting, IsPieceAt, IsPieceOf, is_put_at_posting};
+ghost use Rattle.state_index.specs.PlaceRows.{rows_at_spots, rows_at_postings, live_at_posting, IsPieceAt, IsPieceOf};
 
 use crate::names::rank_of;
 use crate::posting::Posting;
@@ -121,16 +121,6 @@ fn live_at<'a>(rows: &'a [(Key, Entry)], posting: &Posting) -> Option<(&'a Key, 
             _ => None,
         },
         None => None,
-    }
-}
-
-/// Whether the op of a posting's row is a put.
-pub(crate) fn is_put_at(rows: &[(Key, Entry)], posting: &Posting) -> bool
-    ensures { result ≡ is_put_at_posting (map row_meant rows.now) posting.now }
-{
-    match rows.get(posting.at as usize) {
-        Some((_, entry)) => matches!(&entry.op, Op::Put(_)),
-        None => false,
     }
 }
 

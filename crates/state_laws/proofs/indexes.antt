@@ -1,4 +1,3 @@
 pub mod OneIndex
 pub mod CallsTest
-pub mod IndexJoin
 pub mod IndexSegment

@@ -1,7 +1,7 @@
 -- The two indexes of a live table. The index of calls lists the schedules that call at each place,
 -- and the index of associations lists the associations at each place. The rows of a UID's schedules
 -- are defined here too.
-use Rattle.std.specs.Prelude.{◌≡◌, ℕ, ◌↔◌, List, [], ◌∷◌, map, filter, Some, None, Contains, ◌⊎◌}
+use Rattle.std.specs.Prelude.{◌≡◌, ℕ, ◌↔◌, List, [], ◌∷◌, map, filter, Some, Contains}
 use Rattle.std.specs.Str.{bytes_eq}
 use Rattle.std.specs.declared.cmp.Ordering.{Ordering}
 use Rattle.std.specs.Ordering.{ordering_then}
@@ -91,20 +91,3 @@ calling_keys index place = map (λ (r : CallingRow). schedule_key r.1) (filter (
 -- the keys that the index of associations lists for a place
 abbrev pub linked_keys : List LinkedRow → List ℕ → List Key
 linked_keys index place = map (λ (r : LinkedRow). association_key r.1) (filter (λ (r : LinkedRow). bytes_eq r.0 place) index)
-
--- at each key the table `live` has the body of `one`, the body of `two`, or no body
-abbrev pub IsFromEither : Table → Table → Table → Type 0
-IsFromEither one two live = (key : Key) → (live key ≡ one key) ⊎ (live key ≡ two key) ⊎ (live key ≡ None)
-
--- the row is in the index of one of the two tables, and at the row's key `live` has the same body
--- as that table
-abbrev pub IsCallingFromEither : Table → Table → Table → List CallingRow → List CallingRow → CallingRow → Type 0
-IsCallingFromEither one two live first second row =
-    (Contains first row × (live (schedule_key row.1) ≡ one (schedule_key row.1)))
-    ⊎ (Contains second row × (live (schedule_key row.1) ≡ two (schedule_key row.1)))
-
--- like `IsCallingFromEither`, for a row of an index of associations
-abbrev pub IsLinkedFromEither : Table → Table → Table → List LinkedRow → List LinkedRow → LinkedRow → Type 0
-IsLinkedFromEither one two live first second row =
-    (Contains first row × (live (association_key row.1) ≡ one (association_key row.1)))
-    ⊎ (Contains second row × (live (association_key row.1) ≡ two (association_key row.1)))

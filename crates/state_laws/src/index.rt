@@ -3,12 +3,10 @@
 ghost use Rattle.std.specs.Prelude.{◌≡◌, ℕ, List, ◌↔◌, Contains};
 ghost use Rattle.std.specs.List.{flat_map};
 ghost use Rattle.docker_model.specs.state.Order.{IsStrictlyAscending};
-ghost use Rattle.docker_model.specs.state.State.{State, IsJoin, live_table, AreAscending};
 ghost use Rattle.docker_model.specs.state.Table.{Table};
-ghost use Rattle.docker_model.specs.state.Lapse.{lapse_table};
 ghost use Rattle.docker_model.specs.state.Row.{Row, AreRowsOf};
 ghost use Rattle.state_laws.specs.Index.{CallingRow, LinkedRow, calling_cmp, linked_cmp, calls_of, links_of, IsCallingIndex, IsLinkedIndex};
-ghost use Rattle.state_laws.specs.Index.{IsFromEither, IsCallingFromEither, IsLinkedFromEither, AreCalling, AreLinked, AreOfUid};
+ghost use Rattle.state_laws.specs.Index.{AreCalling, AreLinked, AreOfUid};
 
 /// A live table has at most one index of calls and at most one index of associations. It has at
 /// most one list of rows for the schedules that call at a place, for the associations at a place,
@@ -34,24 +32,4 @@ pub fn one_index()
         → AreRowsOf live rows → IsStrictlyAscending linked_cmp index
         → ((row : LinkedRow) → Contains index row
         ↔ Contains (flat_map (λ (r : Row). links_of r.0 r.1) rows) row) → IsLinkedIndex live index }
-{}
-
-/// The indexes of a join can be computed from the indexes of the two states. An index row of one of
-/// the states stays in the index if the join has the same body as that state at the row's key. When
-/// a horizon is set, an index row stays in the index if the body at its key hasn't lapsed.
-pub fn index_of_join()
-    ensures either { (own other joined : State) → AreAscending own.entries
-        → AreAscending other.entries → IsJoin own other joined → IsFromEither (live_table own)
-        (live_table other) (live_table joined) }
-    ensures lapsed { (horizon : ℕ) (live : Table)
-        → IsFromEither live live (lapse_table horizon live) }
-    ensures calling { (one two live : Table) (first second index : List CallingRow)
-        → IsFromEither one two live → IsCallingIndex one first → IsCallingIndex two second
-        → IsStrictlyAscending calling_cmp index → ((row : CallingRow) → Contains index row
-        ↔ IsCallingFromEither one two live first second row) → IsCallingIndex live index }
-    ensures linked { (one two live : Table) (first second index : List LinkedRow)
-        → IsFromEither one two live → IsLinkedIndex one first → IsLinkedIndex two second
-        → IsStrictlyAscending linked_cmp index
-        → ((row : LinkedRow) → Contains index row
-        ↔ IsLinkedFromEither one two live first second row) → IsLinkedIndex live index }
 {}

@@ -18,7 +18,7 @@ use Rattle.cif_laws.proofs.lists.Later.{later_filter}
 use Rattle.cif_laws.proofs.lists.Membership.{Contains-cons, nil-Contains}
 use Rattle.cif_laws.proofs.orders.Ascending.{same_list, ascending_of, later_of}
 use Rattle.cif_laws.proofs.orders.Orders.{key_total}
-use Rattle.cif_change.specs.NamedPlaces.{call_places}
+use Rattle.state_index.specs.NamedPlaces.{call_places}
 use Rattle.state_laws.specs.Index.{AreCalling}
 use Rattle.docker_model.specs.state.Row.{Row, AreInKeyOrder, AreRowsOf}
 use Rattle.state_index.specs.Counts.{IsCallingCount}

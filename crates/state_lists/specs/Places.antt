@@ -8,7 +8,7 @@ use Rattle.docker_model.specs.file.Change.{Key, tiploc_key, Body, tiploc_body}
 use Rattle.docker_model.specs.state.Op.{put_with}
 use Rattle.docker_model.specs.state.Table.{Table}
 use Rattle.docker_model.specs.docker.DockerText.{ended}
-use Rattle.cif_change.specs.NamedPlaces.{call_places}
+use Rattle.state_index.specs.NamedPlaces.{call_places}
 use Rattle.docker_model.specs.state.Row.{Row, AreRowsOf}
 
 -- whether a live row is a schedule that has a location record at the place

@@ -6,7 +6,6 @@ ghost use Rattle.state_text.specs.PartsSoFar.{horizon_meant};
 
 use crate::given::Given;
 use crate::keeper::{Keeper, Maker};
-use crate::whole::no_parts;
 use cif_file::Key;
 use cif_line::{Day, Memory};
 use docker_join::Entry;
@@ -26,7 +25,8 @@ impl HorizonDay for Brand {
 }
 
 /// All parts that the keeper was given, but with entries that have lapsed with the horizon `day`.
-/// At the end a state is made from them. So a body that lapses takes memory only while it is read.
+/// At the end a state without an index is made from them. So a body that lapses takes memory only
+/// while it is read.
 #[derive(Drop)]
 pub struct Lapsing<D: HorizonDay> {
     parts: Parts,
@@ -48,14 +48,13 @@ impl<D: HorizonDay> Model for Lapsing<D> {
 }
 
 impl<D: HorizonDay> Lapsing<D> {
-    /// Returns a keeper that hasn't been given any part yet. If `noted` is true, the keeper notes
-    /// the places of the entries, so that the state has an index.
-    pub fn new(alloc: Global, day: Day, noted: bool) -> Lapsing<D>
+    /// Returns a keeper that hasn't been given any part yet.
+    pub fn new(alloc: Global, day: Day) -> Lapsing<D>
         requires { day ≡ D.day }
         ensures { result ≡ record { horizon = 0; ledger = []; entries = [] } }
     {
         Lapsing {
-            parts: no_parts(alloc, noted),
+            parts: Parts::new(alloc),
             day,
             given: Given::new(),
             of: PhantomData,
@@ -117,6 +116,6 @@ impl<D: HorizonDay> Maker for Lapsing<D> {
             given: _,
             of: _,
         } = self;
-        parts.finish_under(later(horizon, day))
+        Ok(parts.finish_unindexed_under(later(horizon, day)))
     }
 }

@@ -1,4 +1,4 @@
-//! A keeper that keeps all parts and makes a state from them.
+//! A keeper that keeps all parts and makes a state without an index from them.
 ghost use Rattle.std.specs.Prelude.{◌≡◌, []};
 
 use crate::keeper::{Keeper, Maker};
@@ -9,7 +9,7 @@ use docker_state::{LedgerItem, Parts, State};
 use std::alloc::Global;
 use std::marker::Model;
 
-/// All parts that the keeper was given. At the end a state is made from them.
+/// All parts that the keeper was given. At the end a state without an index is made from them.
 #[derive(Debug, Drop)]
 pub struct Whole {
     parts: Parts,
@@ -27,26 +27,13 @@ impl Model for Whole {
 }
 
 impl Whole {
-    /// Returns a keeper that hasn't been given any part yet. If `noted` is true, the keeper notes
-    /// the places of the entries, so that the state has an index.
-    pub fn new(alloc: Global, noted: bool) -> Whole
+    /// Returns a keeper that hasn't been given any part yet.
+    pub fn new(alloc: Global) -> Whole
         ensures { result ≡ record { horizon = 0; ledger = []; entries = [] } }
     {
         Whole {
-            parts: no_parts(alloc, noted),
+            parts: Parts::new(alloc),
         }
-    }
-}
-
-/// Starts building a state. No ledger item and no entry has been added yet. If `noted` is true, the
-/// places of the entries will be noted.
-pub(crate) fn no_parts(alloc: Global, noted: bool) -> Parts
-    ensures { result ≡ record { horizon = 0; ledger = []; entries = [] } }
-{
-    if noted {
-        Parts::new(alloc)
-    } else {
-        Parts::unindexed(alloc)
     }
 }
 
@@ -84,8 +71,8 @@ impl Maker for Whole {
     fn finish(self, horizon: Option<Day>) -> Result<State, Memory> {
         let Whole { parts } = self;
         match horizon {
-            Some(day) => parts.finish_under(day),
-            None => parts.finish(),
+            Some(day) => Ok(parts.finish_unindexed_under(day)),
+            None => Ok(parts.finish_unindexed()),
         }
     }
 }

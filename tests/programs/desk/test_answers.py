@@ -327,6 +327,14 @@ def test_a_docker_that_no_pipe_holds_at_once_of_a_reader_that_reads_little():
         ends_well(asked)
 
 
+def test_a_docker_of_more_than_a_million_bytes():
+    give_large(18000)
+    wanted = docker("print", "STATE", "ASHFELD", "2024-06-12")
+    assert (wanted.status, len(wanted.text)) == (0, 57 * 18002)
+    is_same = desk("STATE", given=b"print ASHFELD 2024-06-12\n").output == wanted.written()
+    assert is_same, "another answer"
+
+
 def trip_between(number, places):
     """A schedule between three of the places. The places depend on its number."""
     hour = f"{number % 24:02}"

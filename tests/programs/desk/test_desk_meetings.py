@@ -168,6 +168,22 @@ def test_a_text_meets_a_session(meeting, session):
     assert set(at_each_call(trial)) == {(part, end) for part in parts for end in (False, True)}
 
 
+def test_a_text_of_the_same_length_is_written_just_after_a_save(meeting):
+    """It comes between the rename and the answer. The next save notices it."""
+    lines = b"take tuesday\nsave\ntake night\nsave\n"
+    wanted = Ended(1, written([DONE, DONE, DONE, DEVICE]), NOT_SAVED)
+    came = give(b"?" * len(state_of("full", "tuesday")), "came")
+    give(state_of("full"))
+    calls = calls_of(meeting, COMMAND, lines)
+    placed = calls.index("rename STATE.new STATE")
+    for number in range(placed + 2, calls.index("read", placed) + 2):
+        give(state_of("full"))
+        found = met(meeting, number, "cat came >STATE", COMMAND, lines)
+        assert (found.ended, found.status) == (wanted, 0), f"before {found.after[:3]}"
+        assert held("STATE") == came
+        assert not os.path.lexists("STATE.new"), "a draft is left"
+
+
 @pytest.mark.timeout(120)
 @each("name, line", GOES | BECOMES_PIPE)
 def test_a_state_that_is_read_and(meeting, name, line):

@@ -9,8 +9,8 @@ import pytest
 import records
 from desks import DONE, Answer, Desk, desk, docker, ends_well, written
 from mirror import Mirror, given, state_of
-from programs import give
-from tables import each
+from programs import DESK, Ended, give, in_seconds, run
+from tables import by_itself, each
 
 OFFICE = pathlib.Path(__file__).parents[3] / "examples"
 NAMES = sorted(extracts.GOOD)
@@ -172,6 +172,18 @@ def test_random_extracts_with_updates():
         seen.update(line[:12] for line in wanted[1].text.splitlines())
         assert wanted[0].text.count(b"\n") > 5, f"places of {seed}"
     assert len(seen) == 6, f"each line of `known` was there: {seen}"
+
+
+@by_itself
+def test_known_again_and_again():
+    """Only the first answer takes the time that it takes to count all entries."""
+    trips = "".join(extracts.trip(f"L{n:05}", "1L00") for n in range(20000))
+    text = records.extract(records.header("240612"), trips)
+    pathlib.Path("large").write_text(text, encoding="ascii")
+    give(state_of())
+    assert docker("take", "STATE", "large") == DONE
+    ended = run([*in_seconds(2), DESK, "STATE"], b"known\n" * 2000)
+    assert ended == Ended(0, written(listed([text])[1:] * 2000), b"")
 
 
 def test_a_list_that_no_pipe_holds_at_once():

@@ -144,6 +144,25 @@ def test_take_of_a_state_that_is_read_only_in_a_folder_that_is_not(stranger, unl
     assert mode_of("open/office") == 0o444
 
 
+def test_take_beside_a_left_over_draft_that_is_read_only(stranger, unlocked):
+    """The draft is removed, although this user may not write it."""
+    give(b"DKS2 left", "open/office.new")
+    if os.getuid() == 0:
+        os.chown("open/office.new", 65534, 65534)
+    os.chmod("open/office.new", 0o1444)
+    assert run([*stranger, "take", "open/office", "revised"]) == DONE
+    holds_only("open/office", STATE_OF_BOTH)
+
+
+def test_take_beside_a_pipe_that_may_only_be_read(stranger, unlocked):
+    """The pipe has the name of a draft. The command is refused, and doesn't open the pipe."""
+    os.mkfifo("open/office.new")
+    os.chmod("open/office.new", 0o444)
+    assert run([*stranger, "take", "open/office", "revised"]) == DEVICE
+    assert stat.S_ISFIFO(os.lstat("open/office.new").st_mode)
+    assert held("open/office") == STATE_OF_ONE
+
+
 def test_take_of_a_state_that_may_not_be_read(stranger, unlocked):
     os.chmod("open/office", 0o200)
     before = pathlib.Path("open/office").stat()

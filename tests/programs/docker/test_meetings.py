@@ -7,7 +7,7 @@ import stat
 import pytest
 from given import FIRST, STATE_OF_BOTH, STATE_OF_ONE, STATE_OF_REVISED, STATES, trip
 from meetings import (
-    BECOMES_PIPE, DRAFTS, GOES, Draft, Losing, Names, at_each_call, calls_of, met,
+    BECOMES_PIPE, DRAFTS, GOES, Draft, Losing, Names, at_each_call, calls_of, met, what_is,
 )
 from outcomes import DEVICE, DONE, holds_only
 from programs import DOCKER, docker, give, held, untried
@@ -232,6 +232,11 @@ def stays(draft):
     assert held("office") == STATE_OF_ONE
 
 
+def last_of(calls, *wanted):
+    """The position, in the list, of the last call that is one of the wanted calls."""
+    return max(at for at, call in enumerate(calls) if call in wanted)
+
+
 def left_over():
     """Makes a state, and beside it a draft such as a killed command leaves."""
     give(STATE_OF_ONE, "office")
@@ -247,11 +252,6 @@ def test_a_draft_of_a_command_at_work():
         stays(draft)
 
 
-def last_of(calls, *wanted):
-    """The position, in the list, of the last call that is one of the wanted calls."""
-    return max(at for at, call in enumerate(calls) if call in wanted)
-
-
 @each("is_locked, mode", DRAFTS)
 def test_what_takes_the_place_of_a_draft_that_is_just_made(meeting, is_locked, mode):
     """Before this draft was locked, another command removed it as left over by a killed command."""
@@ -265,6 +265,32 @@ def test_what_takes_the_place_of_a_draft_that_is_just_made(meeting, is_locked, m
             assert (found.ended, found.status) == (DEVICE, 0)
             stays(draft)
         os.remove("office.new")
+
+
+@each("words, before, placed", {
+    "take": ("take office revised", STATE_OF_ONE, "rename office.new office"),
+    "new where no file is": ("new office", None, "link office.new office"),
+})
+def test_what_takes_the_name_of_a_draft_that_is_being_written(meeting, words, before, placed):
+    """The command is refused until its last look at the draft's name. The other file stays."""
+    def begin():
+        for name in ("office", "office.new"):
+            if os.path.lexists(name):
+                os.remove(name)
+        if before is not None:
+            give(before, "office")
+
+    begin()
+    calls = calls_of(meeting, command_of(words))
+    calls = calls[:calls.index(placed)]
+    assert last_of(calls, DRAFT_LOOK) > calls.index("fsync")
+    for number in range(calls.index("flock") + 2, last_of(calls, DRAFT_LOOK) + 2):
+        begin()
+        came = give(b"DKS2 by another program", "came")
+        found = met(meeting, number, "mv -f came office.new", command_of(words))
+        assert (found.ended, found.status) == (DEVICE, 0), f"before {found.after[:3]}"
+        assert held("office.new") == came
+        assert (held("office") if os.path.lexists("office") else None) == before
 
 
 def calls_with_left_over(meeting):
@@ -318,3 +344,43 @@ def test_a_draft_that_is_put_in_place_while_it_is_taken_for_a_left_over(meeting)
         assert (found.ended, found.status) == (DEVICE, 0)
         holds_only("office", STATE_OF_REVISED)
         assert stat.S_IMODE(os.stat("office").st_mode) == 0o640
+
+
+# Files that can't be drafts, each with a line of the shell that makes it.
+NO_DRAFTS = {
+    "a pipe": "mkfifo office.new",
+    "a folder": "mkdir office.new",
+    "a link to a pipe": "mkfifo queue; ln -s queue office.new",
+    "a link to nothing": "ln -s nowhere office.new",
+}
+
+
+def refuses_at(meeting, number, line, command):
+    """At this call, something that can't be a draft gets the name of the draft. The command is
+    refused without waiting for anything, and changes nothing."""
+    found = met(meeting, number, line, command)
+    assert (found.ended, found.status) == (DEVICE, 0), f"before {found.after[:3]}"
+    now = what_is("office.new")
+    assert held("office") == STATE_OF_ONE
+    os.system("rm -rf office.new queue")
+    assert os.system(line) == 0
+    assert what_is("office.new") == now
+    os.system("rm -rf office.new queue")
+
+
+@each("line", NO_DRAFTS)
+@each("words", {"take": "take office revised", "new": "new office"})
+def test_the_name_of_a_draft_is_given_to(meeting, words, line):
+    give(STATE_OF_ONE, "office")
+    calls = calls_of(meeting, command_of(words))
+    for number in range(1, calls.index("create office.new") + 2):
+        give(STATE_OF_ONE, "office")
+        refuses_at(meeting, number, line, command_of(words))
+
+
+@each("line", NO_DRAFTS)
+def test_what_can_be_no_draft_takes_the_place_of_one_that_is_left_over(meeting, line):
+    calls = calls_with_left_over(meeting)
+    for number in range(1, last_of(calls, "flock", DRAFT_LOOK) + 2):
+        left_over()
+        refuses_at(meeting, number, f"rm -f office.new; {line}", TAKE)

@@ -8,7 +8,7 @@ from given import FILES_LINE, ONE, STATE_OF_BOTH, STATE_OF_ONE, STATES
 from outcomes import (
     DEVICE, DONE, USAGE, accepted, done, file_refused, keeps, prints, state_refused, stores,
 )
-from programs import Ended, docker, give, held, on_disk, redirected
+from programs import Ended, docker, give, held, in_seconds, on_disk, redirected
 from states import under
 from tables import alone, each
 
@@ -113,6 +113,31 @@ def test_a_compressed_file():
     give(STATES["no_files"], "office")
     assert piped("gzip -c one | gzip -dc", "take", "office", "stdin") == DONE
     assert held("office") == STATE_OF_ONE
+
+
+@pytest.fixture
+def full_pipe():
+    """The end of a pipe to which a program may write. The pipe is full, and a write doesn't wait
+    for room."""
+    reading, writing = os.pipe()
+    os.set_blocking(writing, False)
+    try:
+        while os.write(writing, bytes(4096)):
+            pass
+    except BlockingIOError:
+        yield writing
+    os.close(reading)
+    os.close(writing)
+
+
+@each("stream, words, wanted", {
+    "output": ("stdout", "print state_of_one ASHFELD 2024-06-10", Ended(4, None, DEVICE.errors)),
+    "standard error": ("stderr", "check short", Ended(1, b"", None)),
+})
+def test_a_stream_that_is_full_and_does_not_block(full_pipe, stream, words, wanted):
+    """The command ends. It doesn't repeat the write."""
+    ended = docker(*words.split(), before=in_seconds(5), **{stream: full_pipe})
+    assert ended == wanted
 
 
 @alone

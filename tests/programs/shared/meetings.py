@@ -23,8 +23,10 @@ class Met(typing.NamedTuple):
         return self.before.count(f"statx {name}")
 
     def has_placed(self, draft):
-        """Whether the program had put its draft in place before the meeting."""
-        return any(call.startswith(f"rename {draft} ") for call in self.before)
+        """Whether the program had put its draft in place before the meeting: by a rename, or by a
+        hard link if no file was there."""
+        ways = (f"rename {draft} ", f"link {draft} ")
+        return any(call.startswith(ways) for call in self.before)
 
 
 def met(library, number, line, command, given=b""):

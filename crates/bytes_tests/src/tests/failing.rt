@@ -69,7 +69,7 @@ fn reads_not(rt: &impl Abort, alloc: Global, text: &[u8], call: u64, fault: Read
     let read = read_ledger(alloc, &mut source, 1000).err();
     same(rt, read, Some(fault));
     let mut source = Fuse::new(Bytes::new(text, 4096), call);
-    let read = read_raised(alloc, &mut source, day(rt), 1000, false).err();
+    let read = read_raised(alloc, &mut source, day(rt), 1000).err();
     same(rt, read, Some(fault));
 }
 

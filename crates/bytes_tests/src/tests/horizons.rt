@@ -162,20 +162,12 @@ fn a_state_with_a_horizon_goes_round(rt: HostRuntime) {
 
 /// Reads the state of a text, `step` bytes at a time, and raises its horizon to a day. Asserts that
 /// the state then has the text `wanted`.
-fn is_raised(
-    rt: &impl Abort,
-    alloc: Global,
-    text: &[u8],
-    day: &str,
-    step: usize,
-    noted: bool,
-    wanted: &[u8],
-)
+fn is_raised(rt: &impl Abort, alloc: Global, text: &[u8], day: &str, step: usize, wanted: &[u8])
     requires { 0 < step }
 {
     let day = Day::from_iso(day).expect(rt, "a day");
     let mut source = Bytes::new(text, step);
-    let state = read_raised(alloc, &mut source, day, text.len() as u64, noted);
+    let state = read_raised(alloc, &mut source, day, text.len() as u64);
     text_is(rt, alloc, &state.expect(rt, "a state"), wanted);
 }
 
@@ -191,8 +183,8 @@ fn raised(
     let text = under(rt, alloc, before.0, before.1);
     let wanted = under(rt, alloc, after.0, after.1);
     let (text, wanted) = (text.as_slice(), wanted.as_slice());
-    is_raised(rt, alloc, text, day, 1, true, wanted);
-    is_raised(rt, alloc, text, day, 4096, false, wanted);
+    is_raised(rt, alloc, text, day, 1, wanted);
+    is_raised(rt, alloc, text, day, 4096, wanted);
 }
 
 /// The entry of C10001's schedule after it has lapsed.

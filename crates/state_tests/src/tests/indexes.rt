@@ -1,11 +1,11 @@
-//! Indexes of rows: which schedules call at a place and which associations are there, which
-//! postings a lapse removes, and what the index of a join contains.
+//! Indexes of rows: which schedules call at a place and which associations are there, also after a
+//! lapse and after a join.
 
 use super::compare::same;
 use cif_file::{AssocKey, Body, Key, Lines, ScheduleKey};
 use cif_line::{Day, Line, Stp, Tiploc, Uid};
 use docker_join::{Entry, FileStamp, Merge, Op, Stamp, Table};
-use state_index::{Index, Moves, Posting, Room, notes_of_rows};
+use state_index::{Index, Posting};
 use std::alloc::Global;
 use std::process::Abort;
 use test_records::AA_NO_END;
@@ -126,23 +126,7 @@ fn update(rt: &impl Abort, alloc: Global) -> Table<Entry> {
 
 /// Makes the index of a table's rows.
 fn indexed(rt: &impl Abort, alloc: Global, table: &Table<Entry>) -> Index {
-    let rows = table.as_slice();
-    let notes = notes_of_rows(alloc, rows).expect(rt, "memory");
-    let room = Room::for_notes(alloc, &notes).expect(rt, "memory");
-    Index::of_rows(room, notes, rows)
-}
-
-/// Makes the index of the table `timetable` joined with the table `update`. Entries below the floor
-/// are left out.
-fn joined(rt: &impl Abort, alloc: Global, floor: &Option<FileStamp>) -> Index {
-    let own = timetable(rt, alloc);
-    let other = update(rt, alloc);
-    let (rows, others) = (own.as_slice(), other.as_slice());
-    let moves = Moves::with_room(alloc, rows.len(), others.len()).expect(rt, "memory");
-    let moves = moves.of_tables(rows, others, floor, 0);
-    let first = indexed(rt, alloc, &own);
-    let second = indexed(rt, alloc, &other);
-    Index::of_join(alloc, &first, &second, &moves).expect(rt, "memory")
+    Index::of(alloc, table.as_slice()).expect(rt, "memory")
 }
 
 /// Asserts that a posting has this place and this row.
@@ -187,16 +171,17 @@ fn places_of_a_timetable(rt: HostRuntime) {
 #[test]
 fn a_lapse_takes_postings_out(rt: HostRuntime) {
     let mut table = timetable(&rt, rt.alloc());
-    let mut index = indexed(&rt, rt.alloc(), &table);
     table.lapse(1);
-    index.lapse(table.as_slice());
+    let index = indexed(&rt, rt.alloc(), &table);
     let calls = [("ASHFELD", 1), ("BRAYTON", 1), ("COLWELL", 1)];
     index_is(&rt, &index, &calls);
 }
 
 #[test]
 fn a_join_has_both(rt: HostRuntime) {
-    let index = joined(&rt, rt.alloc(), &None);
+    let alloc = rt.alloc();
+    let table = timetable(&rt, alloc).join(alloc, update(&rt, alloc));
+    let index = indexed(&rt, alloc, &table.expect(&rt, "memory"));
     let calls = [
         ("ASHFELD", 1),
         ("ASHFELD", 3),
@@ -204,13 +189,4 @@ fn a_join_has_both(rt: HostRuntime) {
         ("BRAYTON", 3),
     ];
     index_is(&rt, &index, &calls);
-}
-
-#[test]
-fn a_join_keeps_what_the_floor_does(rt: HostRuntime) {
-    let floor = Some(file(&rt, 23537));
-    let index = joined(&rt, rt.alloc(), &floor);
-    let calls = [("ASHFELD", 0), ("BRAYTON", 0)];
-    postings_are(&rt, &index, index.calls.as_slice(), &calls);
-    same(&rt, index.links.len(), 0);
 }

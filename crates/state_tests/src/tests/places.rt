@@ -2,15 +2,15 @@
 
 use super::compare::same;
 use super::shown::{add, add_body, add_key, add_number};
-use super::{joined, pair, set_on, state};
-use cif_file::{Body, Key, read_file_noting};
-use cif_line::{Bytes, Tiploc, Uid};
+use super::{file, joined, pair, set_on, state};
+use cif_file::{Body, Key};
+use cif_line::{Tiploc, Uid};
 use docker_state::{PlaceRows, State};
 use std::alloc::Global;
 use std::process::Abort;
-use test_records::files::{DELETION, DIVISION_FILE, EIGHTH};
+use test_records::files::{DELETION, DIVISION_FILE, EIGHTH, FULL};
 use test_records::{
-    AA_DIVIDE, BS, BS_C30001, BS_C30002, BS_C30002_DELETED, HD_10B, LI_1010, LI_1040, LO,
+    AA_DIVIDE, BS, BS_C30001, BS_C30002, BS_C30002_DELETED, HD_8A, HD_10B, LI_1010, LI_1040, LO,
     LO_1000_PLAIN, LO_COLWELL_1045, LT, LT_1100_PLAIN, LT_DUNMERE_1100, ZZ, text,
 };
 
@@ -119,36 +119,50 @@ const AT_ASHFELD: &[&[u8]] = &[
     LT_1100_PLAIN,
 ];
 
+/// The state of the file with these records, without an index.
+fn unindexed(rt: &impl Abort, alloc: Global, records: &[&[u8]]) -> State {
+    State::of_file_unindexed(alloc, file(rt, alloc, records)).expect(rt, "memory")
+}
+
+/// Asserts what is found in the state `one` of `DIVISION_FILE`.
+fn finds(rt: &impl Abort, alloc: Global, one: &State) {
+    found_is(rt, alloc, one, "COLWELL", AT_COLWELL);
+    found_is(rt, alloc, one, "ELM", AT_ELM);
+}
+
+/// Asserts what is found in the join of a state of `LATER` with a state of `DIVISION_FILE`.
+fn finds_in_the_join(rt: &impl Abort, alloc: Global, later: State, one: State) {
+    let both = joined(rt, alloc, later, one);
+    found_is(rt, alloc, &both, "COLWELL", LEFT_AT_COLWELL);
+    found_is(rt, alloc, &both, "ASHFELD", AT_ASHFELD);
+}
+
 #[test]
 fn places(rt: HostRuntime) {
     let alloc = rt.alloc();
     let one = state(&rt, alloc, DIVISION_FILE);
-    found_is(&rt, alloc, &one, "COLWELL", AT_COLWELL);
-    found_is(&rt, alloc, &one, "ELM", AT_ELM);
-    let both = joined(&rt, alloc, state(&rt, alloc, LATER), one);
-    found_is(&rt, alloc, &both, "COLWELL", LEFT_AT_COLWELL);
-    found_is(&rt, alloc, &both, "ASHFELD", AT_ASHFELD);
+    finds(&rt, alloc, &one);
+    finds_in_the_join(&rt, alloc, state(&rt, alloc, LATER), one);
     let lapsed = set_on(&rt, alloc, DIVISION_FILE, &["2024-06-11"]);
     found_is(&rt, alloc, &lapsed, "COLWELL", &[]);
-}
-
-/// The state of a file with these records, without an index.
-fn unindexed(rt: &impl Abort, alloc: Global, records: &[&[u8]]) -> State {
-    let text = text(alloc, records, b"\n").expect(rt, "memory");
-    let mut source = Bytes::new(text.as_slice(), 4096);
-    let file = read_file_noting(alloc, &mut source, 1000, false).expect(rt, "a file");
-    State::of_file(alloc, file).expect(rt, "memory")
 }
 
 #[test]
 fn places_without_an_index(rt: HostRuntime) {
     let alloc = rt.alloc();
     let one = unindexed(&rt, alloc, DIVISION_FILE);
-    found_is(&rt, alloc, &one, "COLWELL", AT_COLWELL);
-    found_is(&rt, alloc, &one, "ELM", AT_ELM);
-    let both = joined(&rt, alloc, unindexed(&rt, alloc, LATER), one);
-    found_is(&rt, alloc, &both, "COLWELL", LEFT_AT_COLWELL);
-    found_is(&rt, alloc, &both, "ASHFELD", AT_ASHFELD);
+    finds(&rt, alloc, &one);
+    finds_in_the_join(&rt, alloc, unindexed(&rt, alloc, LATER), one);
+}
+
+/// One of the two joined states has an index, and the other has none.
+#[test]
+fn places_of_one_index(rt: HostRuntime) {
+    let alloc = rt.alloc();
+    let one = unindexed(&rt, alloc, DIVISION_FILE);
+    finds_in_the_join(&rt, alloc, state(&rt, alloc, LATER), one);
+    let one = state(&rt, alloc, DIVISION_FILE);
+    finds_in_the_join(&rt, alloc, unindexed(&rt, alloc, LATER), one);
 }
 
 #[test]
@@ -158,4 +172,29 @@ fn places_of_what_was_deleted(rt: HostRuntime) {
     found_is(&rt, alloc, &one, "ASHFELD", &[]);
     let other = pair(&rt, alloc, EIGHTH, DELETION);
     found_is(&rt, alloc, &other, "ASHFELD", &[]);
+}
+
+/// A file of 8 June with C30001, which is older than the full extract `FULL`.
+const BELOW: &[&[u8]] = &[
+    HD_8A,
+    BS_C30001,
+    LO_1000_PLAIN,
+    LI_1010,
+    LI_1040,
+    LT_1100_PLAIN,
+    ZZ,
+];
+
+/// What is found at Ashfeld in the join of `BELOW`, `LATER` and `FULL`: only the row of C10001.
+const ABOVE_AT_ASHFELD: &[&[u8]] = &[b"calls 0: C10001 23537", BS, LO, LT];
+
+/// The rows of a file below the newest full extract aren't found. One of the joined states has an
+/// update that is newer than the extract, so neither state has all rows of the join.
+#[test]
+fn places_above_the_floor(rt: HostRuntime) {
+    let alloc = rt.alloc();
+    let updates = pair(&rt, alloc, BELOW, LATER);
+    let both = joined(&rt, alloc, updates, state(&rt, alloc, FULL));
+    found_is(&rt, alloc, &both, "COLWELL", &[]);
+    found_is(&rt, alloc, &both, "ASHFELD", ABOVE_AT_ASHFELD);
 }

@@ -22,8 +22,8 @@ returns-in-New g c =
     let at : c.args.job.now.task ≡ new_task = sym c.task.ensures ∙ ap task_meant c.in-New.is in
     record {
       reads = held_for g.S.Source.left g.S.Source.failures g.T.Source.left g.T.Source.failures _ new_task first first second second
-          (Ok (Whole c.unindexed.result)) at (record {
-            outcome = record { first_few = refl; second_few = refl; ends = (c.unindexed.ensures.empty, tt) };
+          (Ok (Whole c.new.result)) at (record {
+            outcome = record { first_few = refl; second_few = refl; ends = (c.new.ensures.empty, tt) };
             none = λ none. refl;
             order = inl refl;
             counted = (refl, refl);
@@ -247,27 +247,27 @@ returns-in_err-office_raised-in-Horizon g c =
       written = tt;
     })
 
-pub returns-in_ok-office_of_older_state-in-Migrate : goal.returns-in_ok-office_of_older_state-in-Migrate
-returns-in_ok-office_of_older_state-in-Migrate g c =
+pub returns-in_ok-office-in-Migrate : goal.returns-in_ok-office-in-Migrate
+returns-in_ok-office-in-Migrate g c =
     let first = c.args.first.now in
     let second = c.args.second.now in
-    let now = c.office_of_older_state.new.source in
+    let now = c.read-in-Migrate.new.source in
     let at : c.args.job.now.task ≡ migrate_task = sym c.task.ensures ∙ ap task_meant c.in-Migrate.is in
-    let read = c.in_ok-office_of_older_state-in-Migrate in
+    let read = c.in_ok-office-in-Migrate in
     record {
       reads = state_held g.S.Source.left g.S.Source.failures g.T.Source.left g.T.Source.failures dks_1 _ migrate_task
-          first now second (Whole read.field-0) at refl read.ensures;
+          first now second (Whole read.office) at refl read.ensures;
       written = ap output_of at;
     }
 
-pub returns-in_err-office_of_older_state-in-Migrate : goal.returns-in_err-office_of_older_state-in-Migrate
-returns-in_err-office_of_older_state-in-Migrate g c =
+pub returns-in_err-office-in-Migrate : goal.returns-in_err-office-in-Migrate
+returns-in_err-office-in-Migrate g c =
     let first = c.args.first.now in
     let second = c.args.second.now in
-    let now = c.office_of_older_state.new.source in
+    let now = c.read-in-Migrate.new.source in
     let at : c.args.job.now.task ≡ migrate_task = sym c.task.ensures ∙ ap task_meant c.in-Migrate.is in
-    let read = c.in_err-office_of_older_state-in-Migrate in
-    let residual = c.from_residual-in_err-office_of_older_state-in-Migrate in
+    let read = c.in_err-office-in-Migrate in
+    let residual = c.from_residual-in_err-office-in-Migrate in
     let same = err_from_is_err_and residual.result residual.ensures.1 in
     rw (same.1, same.2) (record {
       reads = state_unheld g.S.Source.left g.S.Source.failures g.T.Source.left g.T.Source.failures dks_1 _ migrate_task

@@ -11,10 +11,10 @@ pub returns-in_err-taker : goal.returns-in_err-taker
 returns-in_err-taker g c =
     let same = err_from_is_err_and c.from_residual.result c.from_residual.ensures.1 in
     let first = g.S.Source.left c.args.first.now in
-    let left = g.S.Source.left c.office_of_state.new.source in
+    let left = g.S.Source.left c.read.new.source in
     let second = g.T.Source.left c.args.second.now in
     let failed = g.S.Source.failures c.args.first.now in
-    let failed_now = g.S.Source.failures c.office_of_state.new.source in
+    let failed_now = g.S.Source.failures c.read.new.source in
     rw (same.1, same.2) (record {
       outcome = file_unread first left second _ (state_refused_alone dks_2 first left second failed failed_now _ c.in_err-taker.ensures);
       none = λ none. let never : ⊥ = cc in absurd never;
@@ -30,7 +30,7 @@ returns-in_err-take g c =
     let took = c.in_err-take.ensures.takes in
     rw (same.1, same.2) (record {
       outcome = file_refused (λ (_ : ⊤). TakesFile most_records second c.in_ok-taker.taker c.take.new.self) (g.S.Source.left c.args.first.now)
-          (g.S.Source.left c.office_of_state.new.source) second (g.T.Source.left c.take.new.source) _ (_, first.outcome) first.few took.no_further
+          (g.S.Source.left c.read.new.source) second (g.T.Source.left c.take.new.source) _ (_, first.outcome) first.few took.no_further
           took.outcome;
       none = λ none. let never : ⊥ = cc in absurd never;
       order = inr (inl refl, (_, first.outcome), first.failures);

@@ -8,10 +8,10 @@ pub returns-in_err-receiver : goal.returns-in_err-receiver
 returns-in_err-receiver g c =
     let same = err_from_is_err_and c.from_residual.result c.from_residual.ensures.1 in
     let first = g.S.Source.left c.args.first.now in
-    let left = g.S.Source.left c.office_of_state.new.source in
+    let left = g.S.Source.left c.read.new.source in
     let second = g.T.Source.left c.args.second.now in
     let failed = g.S.Source.failures c.args.first.now in
-    let failed_now = g.S.Source.failures c.office_of_state.new.source in
+    let failed_now = g.S.Source.failures c.read.new.source in
     rw (same.1, same.2) (record {
       outcome = state_unread first left second _ (state_refused_alone dks_2 first left second failed failed_now _ c.in_err-receiver.ensures);
       none = λ none. let never : ⊥ = cc in absurd never;
@@ -27,7 +27,7 @@ returns-in_err-receive g c =
     let failed = g.T.Source.failures c.args.second.now in
     let failed_now = g.T.Source.failures c.receive.new.source in
     rw (same.1, same.2) (record {
-      outcome = state_refused (g.S.Source.left c.args.first.now) (g.S.Source.left c.office_of_state.new.source)
+      outcome = state_refused (g.S.Source.left c.args.first.now) (g.S.Source.left c.read.new.source)
           (g.T.Source.left c.args.second.now) (g.T.Source.left c.receive.new.source) failed failed_now _ (_, first.outcome) first.few received;
       none = λ none. let never : ⊥ = cc in absurd never;
       order = inr (inr refl, (_, first.outcome), first.failures);

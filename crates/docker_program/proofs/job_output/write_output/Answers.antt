@@ -1,4 +1,7 @@
 use Rattle.std.proofs.Common.{◌≡◌, ℕ, IfSome, subst}
+use Rattle.std.specs.Prelude.{option_map}
+use Rattle.docker_program.proofs.PrintingLemmas.{printing_ends}
+use Rattle.docker_program.specs.SourceNames.{stored_by}
 use Rattle.docker_program.specs.Writing.{EndsWriting, drafting, written}
 use Rattle.docker_program.proofs.job_output.write_output.Goals as goal
 
@@ -8,3 +11,10 @@ returns-in-Some-clause-ends g c = λ look is.
     subst (λ (n : ℕ). EndsWriting (drafting n g.D.Folder.names_bytes) (written (g.K.Sink.taken c.args.output.now) (g.K.Sink.taken c.args.output.now)
     (g.D.Folder.history c.args.folder.now) (g.D.Folder.history c.write_file.new.folder)) c.args.prepared.now c.write_file.result)
     same (c.write_file.ensures.ends (g.K.Sink.taken c.args.output.now))
+
+pub returns-in-None-clause-ends : goal.returns-in-None-clause-ends
+returns-in-None-clause-ends g c = λ look is.
+    printing_ends g.K.Sink.taken g.K.Sink.failures (drafting look g.D.Folder.names_bytes) (g.D.Folder.history c.args.folder.now) c.args.prepared.now
+    c.args.output.now c.emit.new.sink c.emit.result
+    (let names = c.requires.name in subst (λ looked. option_map (λ it. it.name.now) looked ≡ stored_by c.args.prepared.now.job) c.in-None.is names)
+    c.emit.ensures.ends

@@ -2,7 +2,7 @@ use Rattle.std.proofs.Common.{◌≡◌, ◌+◌, ◌≤◌, ◌++◌, length, v
 use Rattle.std.specs.Ordering.{on}
 use Rattle.docker_model.specs.state.Stamp.{ledger_item_cmp}
 use Rattle.docker_state.specs.Meaning.{item_meant}
-use Rattle.state_index.proofs.Union.{united as walk}
+use Rattle.docker_state.proofs.Union.{united as walk}
 use Rattle.docker_state.proofs.ledger.union_of.Given as goal
 
 abbrev pub invariant-loop-first : goal.invariant-loop-first

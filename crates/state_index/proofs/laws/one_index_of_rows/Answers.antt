@@ -1,4 +1,4 @@
-use Rattle.cif_change.specs.NamedPlaces.{call_places, link_places}
+use Rattle.state_index.specs.NamedPlaces.{call_places, link_places}
 use Rattle.state_index.specs.Spots.{call_spots, link_spots}
 use Rattle.state_index.proofs.SortedSpots.{one_list}
 use Rattle.state_index.proofs.laws.one_index_of_rows.Goals as goal

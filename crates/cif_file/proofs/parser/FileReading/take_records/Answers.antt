@@ -21,8 +21,8 @@ returns-in_err-take_line-clause-err g c =
     rw (same.1, same.2)
     (fault_of_rest (IsReading g.K.Keeper.keeps c.args.self.now) (IsReading g.K.Keeper.keeps c.loop-front.self) c.args.text.now c.loop-front.rest.now _
     c.loop-front.invariant.taken
-    (record_fault g.K.Keeper.keeps g.K.Keeper.wants c.loop-front.self c.loop-front.rest.now c.in-Some.front.now c.in-Ok.line c.in-Some.behind.now _
-    c.in-Some.ensures c.in-Ok.ensures.value (c.in-Ok.ensures.ok.0 refl) c.loop-front.invariant.none c.in_err-take_line.ensures.err))
+    (record_fault g.K.Keeper.keeps g.K.Keeper.wants c.loop-front.self c.loop-front.rest.now c.in-Some.front.now c.in-Some-of.line c.in-Some.behind.now _
+    c.in-Some.ensures c.in-Some-of.ensures.value (c.in-Some-of.ensures.some.0 refl) c.loop-front.invariant.none c.in_err-take_line.ensures.err))
 
 pub returns-in_err-take_line-clause-later : goal.returns-in_err-take_line-clause-later
 returns-in_err-take_line-clause-later g c =
@@ -37,7 +37,7 @@ loop-front-preserved g c = record {
   taken =
       record_read g.K.Keeper.keeps (IsReading g.K.Keeper.keeps c.args.self.now) c.loop-front.self
       (record { records = c.take_line.new.self; partial = c.loop-front.self.partial }) c.args.text.now c.loop-front.rest.now c.in-Some.front.now
-      c.in-Ok.line c.in-Some.behind.now c.loop-front.invariant.taken c.in-Some.ensures c.in-Ok.ensures.value (c.in-Ok.ensures.ok.0 refl)
+      c.in-Some-of.line c.in-Some.behind.now c.loop-front.invariant.taken c.in-Some.ensures c.in-Some-of.ensures.value (c.in-Some-of.ensures.some.0 refl)
       c.loop-front.invariant.none c.in_ok-take_line.ensures.read c.loop-front.invariant.none;
   none = c.loop-front.invariant.none;
 }

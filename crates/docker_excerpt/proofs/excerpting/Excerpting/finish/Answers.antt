@@ -20,8 +20,8 @@ under_horizon-requires-clause-valid c =
     let rows = map row_meant c.in_ok-rows.rows.items in
     let told = c.self.inside.ledger in
     let valid = subst (λ (v : Excerpting). IsValid (under (horizon_meant c.args.horizon) v.told)) (sym c.self.view_is) c.requires in
-    let same = c.in_ok-state.ensures ∙ c.in_ok-whole.ensures in
-    kept_valid c.self.inside.walk.walk.place c.self.inside.walk.day (horizon_meant c.args.horizon) told valid c.in_ok-state.state rows
+    let same = c.finish_unindexed-state.ensures ∙ c.in_ok-whole.ensures in
+    kept_valid c.self.inside.walk.walk.place c.self.inside.walk.day (horizon_meant c.args.horizon) told valid c.finish_unindexed-state.result rows
     (c.in_ok-rows.ensures told c.self.invariant)
     (ap (λ (s : State). s.ledger) same ∙ ap (λ (s : State). s.ledger) c.into_parts-parts.ensures.parts) (ap (λ (s : State). s.entries) same)
 
@@ -32,7 +32,7 @@ of-requires c =
     let part = c.under_horizon.result in
     let given = c.into_parts-parts.result.1.entries in
     let valid = subst (λ (v : Excerpting). IsValid (under (horizon_meant c.args.horizon) v.told)) (sym c.self.view_is) c.requires in
-    let same = c.in_ok-state.ensures ∙ c.in_ok-whole.ensures in
+    let same = c.finish_unindexed-state.ensures ∙ c.in_ok-whole.ensures in
     let set = c.under_horizon.ensures in
     subst (λ place. StandsAt place c.day-day.result (with_entries part given) part) (sym c.place-place.ensures)
     (subst (λ day. StandsAt c.self.inside.walk.walk.place day (with_entries part given) part) (sym c.day-day.ensures)
@@ -48,7 +48,7 @@ returns c =
     let part = c.under_horizon.result in
     let given = c.into_parts-parts.result.1.entries in
     let valid = subst (λ (v : Excerpting). IsValid (under (horizon_meant c.args.horizon) v.told)) (sym c.self.view_is) c.requires in
-    let same = c.in_ok-state.ensures ∙ c.in_ok-whole.ensures in
+    let same = c.finish_unindexed-state.ensures ∙ c.in_ok-whole.ensures in
     let set = c.under_horizon.ensures in
     c.of.ensures
     ∙ ap (λ place. record { place = place; day = c.day-day.result; state = with_entries part given }) c.place-place.ensures

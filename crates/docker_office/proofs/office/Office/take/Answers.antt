@@ -10,8 +10,8 @@ returns-in_err-file-clause-takes g c =
     let same = err_from_is_err_and c.from_residual.result c.from_residual.ensures.1 in
     let left = g.S.Source.left c.args.source.now in
     rw (same.1, same.2) (untaken c.args.limit (λ (_ : ⊤). TakesFile c.args.limit left c.args.self.now c.args.self.now) left
-    (g.S.Source.left c.read_file_noting.new.source)
-    (g.S.Source.failures c.args.source.now) (g.S.Source.failures c.read_file_noting.new.source) _ c.in_err-file.ensures)
+    (g.S.Source.left c.read_file.new.source)
+    (g.S.Source.failures c.args.source.now) (g.S.Source.failures c.read_file.new.source) _ c.in_err-file.ensures)
 
 pub returns-in_default-clause-takes : goal.returns-in_default-clause-takes
 returns-in_default-clause-takes g c = record {
@@ -23,8 +23,8 @@ returns-in_default-clause-takes g c = record {
 pub returns-clause-takes : goal.returns-clause-takes
 returns-clause-takes g c =
     let left = g.S.Source.left c.args.source.now in
-    taken_whole c.args.limit (λ _. TakesFile c.args.limit left c.args.self.now c.join.new.self) left (g.S.Source.left c.read_file_noting.new.source)
-    (g.S.Source.failures c.args.source.now) (g.S.Source.failures c.read_file_noting.new.source) c.in_ok-file.file c.join.result c.in_ok-file.ensures
+    taken_whole c.args.limit (λ _. TakesFile c.args.limit left c.args.self.now c.join.new.self) left (g.S.Source.left c.read_file.new.source)
+    (g.S.Source.failures c.args.source.now) (g.S.Source.failures c.read_file.new.source) c.in_ok-file.file c.join.result c.in_ok-file.ensures
     (λ _ is. takes_file c.args.limit left c.in_ok-file.file c.args.self.now c.in-Ok.taken c.join.new.self c.in_ok-file.ensures.outcome.0 c.in-Ok.ensures.ok
     (c.join.ensures.ok (subst IsOk (sym is) refl)))
     c.join.ensures.only

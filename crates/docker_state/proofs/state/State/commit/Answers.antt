@@ -1,11 +1,7 @@
-use Rattle.std.proofs.Common.{rules, List, map, ap, ◌∙◌, subst}
+use Rattle.std.proofs.Common.{rules, map, ap, ◌∙◌, subst}
 use Rattle.docker_model.specs.state.State.{State, IsJoin}
 use Rattle.state_laws.specs.Staging.{staged_state}
 use Rattle.state_laws.proofs.joins.StagedState.{join_with_staged}
-use Rattle.cif_change.specs.declared.key.Key.{Key}
-use Rattle.docker_join.specs.declared.entry.Entry.{Entry}
-use Rattle.docker_join.specs.Meaning.{row_meant}
-use Rattle.docker_state.specs.Indexed.{IsIndexIfAny}
 use Rattle.docker_state.specs.Meaning.{item_meant}
 use Rattle.docker_state.specs.Staging.{Staging}
 use Rattle.docker_state.proofs.StagingLemmas.{nothing_new_is_join, something_new}
@@ -38,10 +34,6 @@ pub returns-clause-nothing_new : goal.returns-clause-nothing_new
 returns-clause-nothing_new c = λ none.
     absurd (something_new c.has_nothing_new.result (map item_meant c.ledger.result.now) c.args.self.now.ledger c.ledger.ensures.items c.args.staging
     c.has_nothing_new.ensures c.if-has_nothing_new.false none)
-
-pub of_rows-received-requires-clause-index : goal.of_rows-received-requires-clause-index
-of_rows-received-requires-clause-index c =
-    subst (λ (rows : List (Key × Entry)). IsIndexIfAny (map row_meant rows) c.in_ok-index.index) c.as_slice.ensures.value c.in_ok-index.ensures
 
 -- The tactic `auto` proves these goals too. Their proofs are written out so that a wrong body is refused without a long search.
 pub returns-clause-err : goal.returns-clause-err

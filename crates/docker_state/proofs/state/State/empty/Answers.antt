@@ -5,4 +5,5 @@ use Rattle.docker_state.proofs.state.State.empty.Goals as goal
 
 pub invariant_of-result : goal.invariant_of-result
 invariant_of-result c =
-    rw (c.new.ensures.items, c.new-2.ensures) (record { valid = valid_without 0 [] (omega arith) no_items; indexed = c.new-3.ensures })
+    rw (c.new.ensures.items, c.new-2.ensures)
+    (record { valid = valid_without 0 [] (omega arith) no_items; indexed = c.new-3.ensures.index; room = c.new-3.ensures.room })

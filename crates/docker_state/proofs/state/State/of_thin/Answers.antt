@@ -9,14 +9,14 @@ use Rattle.docker_state.proofs.state.State.of_thin.Goals as goal
 
 pub of_changes-requires-clause-records : goal.of_changes-requires-clause-records
 of_changes-requires-clause-records c =
-    let parts = c.into_parts.ensures.parts.read in
+    let parts = c.into_parts.ensures.parts in
     let read = parts.read in
     thin_records c.args.file.place c.args.file.day read.records read.is_file read.few c.args.file.file.changes_made
     (map change_meant c.into_parts.result.changes.items) read.of_records.changes_are parts.thinning
 
 pub of_changes-requires-clause-valid : goal.of_changes-requires-clause-valid
 of_changes-requires-clause-valid c =
-    let parts = c.into_parts.ensures.parts.read in
+    let parts = c.into_parts.ensures.parts in
     let read = parts.read in
     valid_of_kept c.args.file.place c.args.file.day (item_meant c.item_of-item.result) c.args.file.file.changes_made
     (map change_meant c.into_parts.result.changes.items) read.records

@@ -1,15 +1,29 @@
-use Rattle.std.proofs.Common.{◌≡◌, ◌≤◌, ap, sym, ◌∙◌, subst, arith}
+use Rattle.std.proofs.Common.{◌≡◌, ◌≤◌, List, map, ap, sym, ◌∙◌, subst, arith}
+use Rattle.cif_change.specs.declared.key.Key.{Key}
+use Rattle.docker_join.specs.declared.entry.Entry.{Entry}
+use Rattle.docker_join.specs.Meaning.{row_meant}
+use Rattle.state_index.specs.Rooms.{items_of}
+use Rattle.docker_state.specs.Indexed.{HasRoomIfAny, IsIndexIfAny}
+use Rattle.docker_state.proofs.IndexRooms.{room_of_lapsed}
 use Rattle.docker_model.specs.state.State.{State, IsValid, raise_horizon}
 use Rattle.state_laws.proofs.joins.RaisedHorizon.{not_greater}
-use Rattle.docker_state.proofs.HorizonLemmas.{rows_raised, raised_valid, lapsed_index, same_index}
+use Rattle.docker_state.proofs.HorizonLemmas.{rows_raised, raised_valid, same_index, same_room}
 use Rattle.docker_state.proofs.state.State.raise.Goals as goal
+
+pub refill-requires : goal.refill-requires
+refill-requires c =
+    subst (λ (rows : List (Key × Entry)). HasRoomIfAny (items_of (map row_meant rows)) c.self.inside.index) (sym c.as_slice.ensures.rows)
+    (room_of_lapsed c.args.horizon (map row_meant c.self.inside.entries) (map row_meant c.lapse.new.self) c.lapse.ensures.lapsed
+    (raised_valid c.self.inside.horizon c.args.horizon (omega arith) c.self.inside.ledger.items c.self.inside.entries c.lapse.new.self
+    c.lapse.ensures.lapsed c.requires c.self.invariant.valid).entries.1 c.self.inside.index c.self.invariant.room)
 
 pub invariant_of-self : goal.invariant_of-self
 invariant_of-self c = record {
   valid = raised_valid c.self.inside.horizon c.args.horizon (omega arith) c.self.inside.ledger.items c.self.inside.entries c.lapse.new.self
       c.lapse.ensures.lapsed c.requires c.self.invariant.valid;
-  indexed = lapsed_index c.self.inside.entries c.lapse.new.self c.args.horizon c.lapse.ensures.lapsed c.as_slice.result.now c.as_slice.ensures.rows
-      c.self.inside.index c.lapse_index.new.index c.self.invariant.indexed c.lapse_index.ensures;
+  indexed = subst (λ (rows : List (Key × Entry)). IsIndexIfAny (map row_meant rows) c.refill.new.index) c.as_slice.ensures.rows c.refill.ensures.index;
+  room = subst (λ (rows : List (Key × Entry)). HasRoomIfAny (items_of (map row_meant rows)) c.refill.new.index) c.as_slice.ensures.rows
+      c.refill.ensures.room;
 }
 
 pub invariant_of-self-else-lapse : goal.invariant_of-self-else-lapse
@@ -17,6 +31,7 @@ invariant_of-self-else-lapse c = record {
   valid = raised_valid c.self.inside.horizon c.args.horizon (omega arith) c.self.inside.ledger.items c.self.inside.entries c.lapse.new.self
       c.lapse.ensures.lapsed c.requires c.self.invariant.valid;
   indexed = same_index c.self.inside.entries c.lapse.new.self (c.lapse.ensures.same c.if-lapse.false) c.self.inside.index c.self.invariant.indexed;
+  room = same_room c.self.inside.entries c.lapse.new.self (c.lapse.ensures.same c.if-lapse.false) c.self.inside.index c.self.invariant.room;
 }
 
 pub returns-then-lapse : goal.returns-then-lapse

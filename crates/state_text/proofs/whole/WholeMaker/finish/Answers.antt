@@ -1,20 +1,19 @@
 use Rattle.std.proofs.Common.{sym, ap, ◌∙◌, subst}
-use Rattle.std.proofs.lemmas.Result.{IfOk-weaker}
 use Rattle.docker_model.specs.state.State.{IsValid}
 use Rattle.state_text.specs.PartsSoFar.{horizon_meant, under}
 use Rattle.state_text.proofs.PartsSoFarLemmas.{under_none}
 use Rattle.state_text.proofs.whole.WholeMaker.finish.Goals as goal
 
-pub finish_under-requires : goal.finish_under-requires
-finish_under-requires c =
+pub finish_unindexed_under-requires : goal.finish_unindexed_under-requires
+finish_unindexed_under-requires c =
     subst IsValid (ap (λ h. under (horizon_meant h) c.args.self) c.in-Some.is ∙ ap (under c.in-Some.day) (sym c.self.view_is)) c.requires
 
 pub returns-in-Some : goal.returns-in-Some
 returns-in-Some c =
-    IfOk-weaker c.finish_under.result _ _ (λ state is. is ∙ ap (under c.in-Some.day) c.self.view_is
-    ∙ ap (λ h. under (horizon_meant h) c.args.self) (sym c.in-Some.is)) c.finish_under.ensures
+    c.finish_unindexed_under.ensures ∙ ap (under c.in-Some.day) c.self.view_is
+    ∙ ap (λ h. under (horizon_meant h) c.args.self) (sym c.in-Some.is)
 
 pub returns-in-None : goal.returns-in-None
 returns-in-None c =
-    IfOk-weaker c.finish.result _ _ (λ state is. is ∙ under_none c.self.inside.parts c.self.invariant ∙ ap (under 0) c.self.view_is
-    ∙ ap (λ h. under (horizon_meant h) c.args.self) (sym c.in-None.is)) c.finish.ensures
+    c.finish_unindexed.ensures ∙ under_none c.self.inside.parts c.self.invariant ∙ ap (under 0) c.self.view_is
+    ∙ ap (λ h. under (horizon_meant h) c.args.self) (sym c.in-None.is)

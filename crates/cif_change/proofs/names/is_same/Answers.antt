@@ -1,8 +1,0 @@
-use Rattle.std.proofs.Common.{sym, ◌∙◌}
-use Rattle.std.proofs.lemmas.Bool.{eqb-true}
-use Rattle.cif_change.proofs.PackedPlaces.{one_place}
-use Rattle.cif_change.proofs.names.is_same.Goals as goal
-
-pub returns : goal.returns
-returns c = λ told. one_place c.args.one.now c.args.other.now c.told-one c.told-other c.fits-one c.fits-other
-    (sym c.packed.ensures ∙ eqb-true c.packed.result c.packed-2.result told ∙ c.packed-2.ensures)

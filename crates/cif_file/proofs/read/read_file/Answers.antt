@@ -1,0 +1,26 @@
+-- The result is the file that was read, with all its changes.
+use Rattle.std.proofs.Common.{sym, subst}
+use Rattle.std.specs.Prelude.{⊤}
+use Rattle.cif_file.specs.SourceRead.{ReadsText}
+use Rattle.cif_file.proofs.EndedLemmas.{reads_text, reads_parts}
+use Rattle.cif_file.proofs.ReadLemmas.{wants_any}
+use Rattle.cif_file.proofs.read.read_file.Goals as goal
+
+pub into_file-requires : goal.into_file-requires
+into_file-requires g c = reads_parts c.args.limit (g.S.Source.left c.args.source.now) c.in-Ok.ended c.requires.limit c.in-Ok.ensures.outcome.0
+
+pub returns-in-Ok : goal.returns-in-Ok
+returns-in-Ok g c = record {
+  no_further = c.in-Ok.ensures.no_further;
+  outcome = (
+    subst (ReadsText c.args.limit (g.S.Source.left c.args.source.now)) (sym c.into_file.ensures)
+        (reads_text c.args.limit (g.S.Source.left c.args.source.now) c.in-Ok.ended c.in-Ok.ensures.outcome.0),
+    c.in-Ok.ensures.outcome.1,
+  );
+  failures = c.in-Ok.ensures.failures;
+}
+
+pub returns-in-Err : goal.returns-in-Err
+returns-in-Err g c =
+    wants_any ⊤ c.args.limit (g.S.Source.left c.args.source.now) (g.S.Source.left c.read_source.new.source)
+    (g.S.Source.failures c.args.source.now) (g.S.Source.failures c.read_source.new.source) c.in-Err.fault c.in-Err.ensures

@@ -1,0 +1,43 @@
+"""Writes the section *Neighbours* in the README of each crate, from crates.txt. Also writes the table of crates in ARCHITECTURE.md, from the first sentence
+of each README."""
+from making.sources import DOCS, ROOT, by_hand, crates, read
+
+PAGE = DOCS / "ARCHITECTURE.md"
+HEADING = "## Neighbours"
+MARK = "<!-- docs/pages makes this table. -->\n"
+
+
+def listed(names):
+    return ", ".join(f"`{name}`" for name in names)
+
+
+def neighbours(crate, cited, contracts):
+    """The section: the crates that this crate cites, the crates that cite it, and where its contracts are."""
+    own, kit = ([it for it in cited[crate] if (it in cited) == ours] for ours in (True, False))
+    above = [other for other, names in cited.items() if crate in names]
+    lines = [f"- It cites {listed(own)}." if own else "- It cites no crate of this repository."]
+    lines += [f"- From the kit it uses {listed(kit)}."] if kit else []
+    lines += [f"- It is cited by {listed(above)}." if above else "- No crate cites it."]
+    lines += [f"- [CONTRACTS](../../docs/CONTRACTS.md#{crate}) has the contract of each of its calls."] if f"## `{crate}`" in contracts else []
+    return "\n".join([HEADING, "", *lines, ""])
+
+
+def first_sentence(text):
+    """The first sentence of a README, after its title, as a cell of a table."""
+    return text.split("\n\n")[1].split(". ")[0].rstrip(".\n")
+
+
+def with_table(readmes):
+    """ARCHITECTURE.md with a table of crates made from the READMEs."""
+    after = read(PAGE).partition(MARK)[2].lstrip().split("\n\n", 1)[1]
+    rows = "".join(f"| [`{crate}`](../crates/{crate}/README.md) | {first_sentence(text)} |\n" for crate, text in readmes.items())
+    return f"{by_hand(PAGE, MARK)}{MARK}\n| Crate | What it is |\n|---|---|\n{rows}\n{after}"
+
+
+def made():
+    readmes, contracts = {}, read(DOCS / "CONTRACTS.md").splitlines()
+    for crate in crates():
+        page = ROOT / "crates" / crate / "README.md"
+        text = read(page) if page.is_file() else f"# `{crate}`\n"
+        readmes[crate] = f"{text.split(HEADING)[0].rstrip()}\n\n{neighbours(crate, crates(), contracts)}"
+    return {ROOT / "crates" / crate / "README.md": text for crate, text in readmes.items()} | {PAGE: with_table(readmes)}

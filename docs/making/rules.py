@@ -1,0 +1,234 @@
+"""Links the names in the tables of RULES.md: from a rule to its definitions, calls, code, tests and wrong bodies. Lists at the end of the page where each link
+leads. A link leads to a file.
+
+Names are written between backquotes; the clauses of a call follow it and a colon. A name that several crates have is written `crate::name`. In the column *Code*,
+the functions that keep the rule follow their file and a colon. For each of them, one of the row's wrong bodies has to change it, or something that it calls.
+Each wrong body of the row has to be such a body. Laws have no code to change. Cases follow `tests/programs/run` and a colon, in italics: a
+test, the row of a table, or both with a colon between them."""
+import functools
+import re
+
+from making import calls, sources
+from making.sources import DOCS, ROOT, Fault, at, read
+
+PAGE = DOCS / "RULES.md"
+HEAD = ("Rule", "Definition", "Promised by", "Code", "Test", "Wrong body")
+TYPE = re.compile(r"^ *pub(?:\(\w+\))? (?:struct|enum|trait) (\w+)", re.M)
+IMPL = re.compile(r"^impl(?:<[^{]*?>)? (\w+)(?:<[^{]*?>)? for (?:\w+::)*(\w+)", re.M)
+
+
+def names(cell):
+    return re.findall(r"`([^`]+)`", cell)
+
+
+# ---- The index of names
+
+
+@functools.cache
+def known():
+    """The places of each kind of name, both with its crate and without."""
+    found = {kind: {} for kind in ("definition", "call", "test", "wrong body")}
+
+    def add(kind, crate, name, place):
+        for it in (name, f"{crate}::{name}"):
+            found[kind].setdefault(it, []).append(place)
+
+    for it in sources.definitions():
+        add("definition", it.crate, it.name, it.place)
+    for it in sources.functions():
+        if it.is_test:
+            add("test", it.crate, it.name, it)
+            found["test"].setdefault(f"{it.crate}::{it.module}::{it.name}", []).append(it)
+        elif not sources.is_for_tests(it.crate):
+            add("call", it.crate, it.path(), it)
+    for crate in sources.crates():
+        for path in sorted((ROOT / "crates" / crate / "src").rglob("*.rt")) if not sources.is_for_tests(crate) else ():
+            for pattern, name in ((TYPE, "{0}"), (IMPL, "{0} for {1}")):
+                for it in pattern.finditer(read(path)):
+                    place = at(path, read(path).count("\n", 0, it.start()) + 1)
+                    add("call", crate, name.format(*it.groups()), place)
+                    if pattern is TYPE:
+                        add("definition", crate, it.group(1), place)
+        for edit in sorted((ROOT / "crates" / crate / "must-fail").glob("*.edit")):
+            add_bodies(crate, edit, lambda name, place: add("wrong body", crate, name, place))
+    return found
+
+
+def add_bodies(crate, edit, add):
+    """The wrong bodies in a file, each with the line at which it begins."""
+    lines = read(edit).splitlines()
+    begins = [number for number, line in enumerate(lines, 1) if line.startswith("# ")]
+    for number in begins:
+        add(lines[number - 1][2:], at(edit, number))
+    if not begins:
+        add(edit.stem, at(edit, 1))
+
+
+def one(kind, name, row, links):
+    """The place to which a name leads. A definition is preferred to a type with its name, and a public call to a private one."""
+    found = known()[kind].get(name, [])
+    if kind == "definition":
+        found = [it for it in found if it.file.endswith(".antt")] or found
+    if kind == "call":
+        found = [it for it in found if getattr(it, "is_public", True)] or found
+    if len(found) != 1:
+        why = f"{len(found)} of the name" if found else "none of the name"
+        links.faults.append(f"{row}: {kind} `{name}`: there are {why}" if found else f"{row}: no {kind} `{name}`")
+        return None
+    return found[0]
+
+
+def file_of(found):
+    """The file of a function or a place."""
+    return getattr(found, "place", found).file
+
+
+# ---- The links of a row
+
+
+class Links:
+    """The labels of a page, each with the file to which it leads. And what is wrong on the page."""
+
+    def __init__(self):
+        self.by_label, self.faults = {}, []
+
+    def named(self, name, file):
+        """A name with its link. Markdown ignores the case of labels, so two that differ only in case must lead to the same file."""
+        held = self.by_label.setdefault(name.lower(), (name, file))
+        if held[1] != file:
+            self.faults.append(f"`{name}` leads to {file} and, as `{held[0]}`, to {held[1]}")
+        return f"[`{name}`]"
+
+    def lines(self):
+        """The list of labels at the end of the page."""
+        return [f"[`{name}`]: ../{file}" for name, file in sorted(self.by_label.values())]
+
+    def stop_at_faults(self, page):
+        if self.faults:
+            raise Fault("\n".join(f"docs/{page.name}: {it}" for it in dict.fromkeys(self.faults)))
+
+
+def plain(cell):
+    """A cell without its links."""
+    return re.sub(r"\[([^\]]+)\](?:\[[^\]]+\]|\([^)]+\))?", r"\1", cell)
+
+
+def linked(cell, kind, row, links):
+    """A cell with a link for each name."""
+    def link(found):
+        it = one(kind, found.group(1), row, links)
+        return links.named(found.group(1), file_of(it)) if it else found.group()
+    return re.sub(r"`([^`]+)`", link, cell)
+
+
+def tests(cell, row, links):
+    """The tests of a rule. Cases of a script follow the script and a colon, in italics."""
+    def link(found):
+        name, cases = found.groups()
+        if not (ROOT / name).is_file():
+            return linked(found.group(), "test", row, links)
+        each = (case_of(name, it, row, links) for it in re.findall(r"\*([^*]+)\*", cases or ""))
+        return links.named(name, name) + (f": {', '.join(each)}" if cases else "")
+    return re.sub(r"`([^`]+)`(?:: (\*[^*]+\*(?:, \*[^*]+\*)*))?", link, cell)
+
+
+def words_of(name):
+    return re.findall("[a-z0-9]+", name.lower().replace("'", ""))
+
+
+def functions_of(path):
+    """The tests in a file, each by the words of its name."""
+    for it in re.finditer(r"^def test_(\w+)\(", read(path), re.M):
+        yield words_of(it.group(1).replace("_", " ")), it.start()
+
+
+def cases_named(path, name):
+    """The place of the test or the table row with this name in a file. A row may follow its test and a colon."""
+    test, _, row = name.partition(": ")
+    tests = [begin for words, begin in functions_of(path) if words == words_of(name)]
+    if tests or row and words_of(test) not in [words for words, _ in functions_of(path)]:
+        return tests
+    return [it.start() for it in re.finditer(re.escape(f'"{row or name}"'), read(path))]
+
+
+def case_of(script, name, row, links):
+    """The link to a case of a script, which is in a test beside the script."""
+    paths = sorted((ROOT / script).parent.rglob("test_*.py"))
+    found = [(path, begin) for path in paths for begin in cases_named(path, name)]
+    if len(found) != 1:
+        links.faults.append(f"{row}: {len(found)} cases *{name}* of `{script}`")
+        return f"*{name}*"
+    return f"[*{name}*](../{found[0][0].relative_to(ROOT)})"
+
+
+def promises(cell, row, links):
+    """The calls of a rule, with their clauses."""
+    def part(text):
+        found = re.fullmatch(r"(.*`): ([a-z_]+(?:, [a-z_]+)*)", text)
+        if not found:
+            return linked(text, "call", row, links)
+        of = [one("call", name, row, links) for name in names(text)]
+        if len(of) != 1:
+            links.faults.append(f"{row}: {text}: clauses of more than one call")
+        for word in found.group(2).split(", "):
+            has_clause(names(text)[0], of[0], word, row, links)
+        return f"{linked(found.group(1), 'call', row, links)}: {found.group(2)}"
+    return "; ".join(map(part, cell.split("; ")))
+
+
+def has_clause(name, call, word, row, links):
+    """Notes a fault if a call has no clause with this name."""
+    if call and word not in (call.clauses() if isinstance(call, sources.Function) else ()):
+        links.faults.append(f"{row}: `{name}` has no clause {word}")
+
+
+def code(cell, bodies, row, links):
+    """The files of a rule, each with its functions."""
+    parts, items = [], []
+    for part in cell.split("; "):
+        found = re.fullmatch(r"`([^`]+)`: (`[\w:]+`(?:, `[\w:]+`)*)", part)
+        if not found:
+            links.faults.append(f"{row}: no file and functions: {part}")
+            continue
+        file, listed = found.groups()
+        for name in names(listed):
+            of = calls.named(file, name)
+            items += of
+            if not of:
+                links.faults.append(f"{row}: no function {name} in {file}")
+            elif bodies and not any(map(calls.is_law, of)) and not any(calls.reached(it) & calls.changed(body) for it in of for body in bodies):
+                links.faults.append(f"{row}: no wrong body of the row changes {name} in {file}, or what it calls")
+        parts.append(f"{links.named(file, f'crates/{file}')}: {listed}")
+    lost = (it.name for it in bodies if not any(calls.reached(item) & calls.changed(it) for item in items))
+    links.faults += [f"{row}: `{name}` changes none of the row's functions, and nothing that they call" for name in lost]
+    return "; ".join(parts)
+
+
+def linked_row(cells, links):
+    """A row with its links."""
+    row = cells[0]
+    if len(cells) != len(HEAD):
+        links.faults.append(f"{row}: {len(cells)} columns")
+        return cells
+    _, definition, promised, files, test, wrong = (plain(it) for it in cells)
+    where = [one("wrong body", name, row, links) for name in names(wrong)]
+    bodies = [body_at(it) for it in where if it]
+    return [row, linked(definition, "definition", row, links), promises(promised, row, links), code(files, bodies, row, links),
+            tests(test, row, links), linked(wrong, "wrong body", row, links)]
+
+
+def body_at(place):
+    """The wrong body that begins at a place."""
+    crate, file = place.file.split("/")[1], (ROOT / place.file).stem
+    line = read(ROOT / place.file).splitlines()[place.line - 1]
+    return sources.wrong_bodies(crate)[file, line[2:] if line.startswith("# ") else file]
+
+
+def made():
+    links, lines = Links(), []
+    for line in sources.by_hand(PAGE).split("\n"):
+        cells = [it.strip() for it in line.strip("|").split(" | ")]
+        is_row = line.startswith("| ") and cells[0] != HEAD[0]
+        lines.append(f"| {' | '.join(linked_row(cells, links))} |" if is_row else line)
+    links.stop_at_faults(PAGE)
+    return sources.after_mark(PAGE, "\n".join(lines), links.lines())

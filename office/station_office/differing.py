@@ -1,0 +1,64 @@
+"""How the dockers of the office's places differ from the permanent timetable."""
+import changes
+import dockers
+import lines
+
+from . import covering
+from .faults import Fault
+from .reporting import dockers_of, writing
+
+
+LACKING = "what differs from the permanent timetable can't be said: this needs a program desk that knows what is permanent, and there is none, or one of an older version"
+
+
+def permanent_of(reader, place, date):
+    """The permanent docker of a place on a day."""
+    answer = reader.permanent(place, date)
+    if answer.status in dockers.LACKING:
+        raise Fault(4, "desk", LACKING)
+    if answer.status != 0:
+        raise Fault(answer.status, place, answer.text.decode().strip())
+    return answer.text
+
+
+def prints_differences(office, reader, known, date):
+    """For each place with changes, writes the heading of its docker, and each line that only one of its two dockers has."""
+    is_same, is_covered = True, covering.warns(office, known, date)
+    for place, text in dockers_of(office, reader, date):
+        permanent = permanent_of(reader, place, date)
+        if found := differences(text, permanent):
+            is_same = False
+            with writing():
+                print(covering.head(office, known, date).decode("ascii"), end="")
+                print(text.decode("ascii").split("\n")[0], *found, sep="\n", flush=True)
+    if is_same and is_covered and office.status == 0:
+        office.say(date, "nothing differs from the permanent timetable")
+
+
+def differences(text, permanent):
+    """The lines that only one of two dockers has, in their order. A line of the permanent docker has `-` before it, and a line of the day's docker has
+    `+`."""
+    found = [(mark, row.decode("ascii")) for mark, docker, other in (("-", permanent, text), ("+", text, permanent)) for row in changes.lone(docker, other)]
+    found.sort(key=lambda one: changes.place_in_day(lines.line_of(one[1])))
+    return [f"{mark} {row}" for mark, row in found]
+
+
+def says_differences(office, reader, date, places, is_covered):
+    """Prints how many trains differ on a day at some places. It isn't said of an uncovered day that nothing differs."""
+    if not places:
+        return
+    if reader.permanent(places[0], date).status in dockers.LACKING:
+        office.say(date, LACKING)
+        return
+    found, number, departures = {}, 0, changes.Departures(reader)
+    for place in places:
+        permanent_of(reader, place, date)
+        told = changes.changes_of(changes.Timetable(reader, place, departures=departures), date).trains
+        number += bool(told)
+        for kind, those in told.items():
+            found.setdefault(kind, set()).update(those)
+    if found:
+        at = f"at {number} of {len(places)} {'place' if len(places) == 1 else 'places'}"
+        office.say(date, f"{changes.counted(found)} {at}; `station-office changes {office.state} {date}` prints them")
+    elif is_covered:
+        office.say(date, "nothing differs from the permanent timetable")

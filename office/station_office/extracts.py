@@ -1,0 +1,147 @@
+"""Reads extracts by their headers, and states by their heads and entries, as in docs/FORMATS.md."""
+import collections
+import datetime
+import itertools
+import mmap
+import re
+from typing import NamedTuple
+
+import dockers
+
+DAY = datetime.timedelta(days=1)
+# Day number 0 of a state.
+FIRST_DAY = datetime.date(1960, 1, 1)
+MARK = b"DKS2"
+# The lengths in bytes in a state's text: of what precedes the ledger items, of each item, and of
+# the number of entries.
+HEAD, ITEM, COUNT = 14, 19, 8
+STAMP = 15
+FILE_OF_STAMP = 11
+DELETED, PUT, LAPSED = range(3)
+PLACE = 1
+CANCELLATION = b"C"
+# The lengths in bytes of an entry's key for each tag, and of the bodies of timing points and
+# associations. The body of a schedule is the number of its lines, followed by these lines. Each
+# line has 80 bytes.
+KEYS = {1: 7, 2: 23, 3: 9}
+BODIES = {1: 63, 2: 80}
+
+
+def moment_of(extract):
+    """The time at which an extract was made."""
+    return datetime.datetime.strptime(extract.date + extract.time, "%Y-%m-%d%H%M")
+
+
+def stamp_of(extract):
+    """The key by which extracts are ordered: their moment, then their reference."""
+    return extract.date, extract.time, extract.reference
+
+
+def header_of(record):
+    """The extract with this first record; None if that isn't a header."""
+    text = record.decode("ascii", "replace")
+    found = re.match(r"HD.{20}(\d\d)(\d\d)(\d\d)([0-2]\d[0-5]\d)(.{7})(.{7})([FU])", text)
+    if found is None:
+        return None
+    day, month, year, time, reference, last, indicator = found.groups()
+    return dockers.Extract(f"{'19' if int(year) >= 60 else '20'}{year}-{month}-{day}", time, reference.strip(), indicator, last.strip())
+
+
+def bytes_of(extract):
+    """The stamp of an extract in the bytes that the entries of a state have."""
+    day = (datetime.date.fromisoformat(extract.date) - FIRST_DAY).days
+    minute = int(extract.time[:2]) * 60 + int(extract.time[2:])
+    return day.to_bytes(2, "big") + minute.to_bytes(2, "big") + extract.reference.ljust(7).encode("ascii")
+
+
+def day_of(number):
+    """The date with this day number."""
+    return (FIRST_DAY + datetime.timedelta(number)).isoformat()
+
+
+def horizon_of(path):
+    """The horizon of a state as a day number; 0 if it has none, or if the file isn't a state."""
+    known = dockers.knowledge(path)
+    return known.horizon if known else 0
+
+
+def knowledge_in(stream):
+    """What a state knows, from the beginning of its text; None if it isn't a state's."""
+    head = stream.read(HEAD)
+    if head[:4] != MARK:
+        return None
+    items = (stream.read(ITEM) for _ in range(int.from_bytes(head[6:], "big")))
+    return dockers.Knowledge(int.from_bytes(head[4:6], "big"), tuple(itertools.takewhile(len, items)))
+
+
+def extracts_in(knowledge):
+    """The extracts of ledger items."""
+    return [extract_of(item) for item in knowledge.items]
+
+
+def extract_of(item):
+    """The extract of a ledger item."""
+    minute, text = int.from_bytes(item[2:4], "big"), item.decode("latin-1")
+    return dockers.Extract(day_of(int.from_bytes(item[:2], "big")), f"{minute // 60:02}{minute % 60:02}", text[4:11].strip(), text[11], text[12:].strip())
+
+
+class Entry(NamedTuple):
+    """An entry of a state: its key with its tag, the file of its stamp and all of the stamp, whether it is put, deleted or lapsed, and its body."""
+    key: bytes
+    file: bytes
+    stamp: bytes
+    op: int
+    body: bytes
+
+
+def entries_of(path):
+    """The entries of a state, in the order of their keys."""
+    with open(path, "rb") as file, mmap.mmap(file.fileno(), 0, access=mmap.ACCESS_READ) as text:
+        at = HEAD + ITEM * int.from_bytes(text[6:HEAD], "big")
+        count, at = int.from_bytes(text[at:at + COUNT], "big"), at + COUNT
+        for _ in range(count):
+            tag = text[at]
+            stamp = at + 1 + KEYS[tag]
+            op = stamp + STAMP
+            end = op + 1
+            if text[op] == PUT:
+                end += BODIES.get(tag) or 4 + 80 * int.from_bytes(text[end:end + 4], "big")
+            yield Entry(text[at:stamp], text[stamp:stamp + FILE_OF_STAMP], text[stamp:op], text[op], text[op + 1:end])
+            at = end
+
+
+def deletions(path, extracts):
+    """How many entries of a state each of these extracts deletes or cancels."""
+    files = {bytes_of(extract): extract for extract in extracts}
+    found = dict.fromkeys(extracts, 0)
+    for entry in entries_of(path):
+        if entry.file in files and (entry.op == DELETED or entry.key[-1:] == CANCELLATION and entry.key[0] != PLACE):
+            found[files[entry.file]] += 1
+    return found
+
+
+def paired(ours, theirs):
+    """The entries of two states with the same key, key by key. If only one state has a key, the other entry is None."""
+    one, other = next(ours, None), next(theirs, None)
+    while one or other:
+        first = one if not other or one and one.key <= other.key else None
+        second = other if not one or other and other.key <= one.key else None
+        yield first, second
+        one = next(ours, None) if first else one
+        other = next(theirs, None) if second else other
+
+
+def contradicted(ours, theirs):
+    """The files that two states know with different content, each with the number of entries in which it differs. Of two entries with one key the newer one counts,
+    so a state that knows its file has to have it. Whether an entry has lapsed depends on the horizon, not on the file."""
+    known = [{item[:FILE_OF_STAMP] for item in dockers.knowledge(path).items} for path in (ours, theirs)]
+    floor = max(min(files, default=b"") for files in known)
+    both, found = {file for file in known[0] & known[1] if file >= floor}, collections.Counter()
+    for one, other in paired(entries_of(ours), entries_of(theirs)):
+        if one == other:
+            continue
+        newer = max(filter(None, (one, other)), key=lambda entry: entry.stamp)
+        has_lapsed = one and other and one.stamp == other.stamp and LAPSED in (one.op, other.op)
+        if newer.file in both and not has_lapsed:
+            found[newer.file] += 1
+    return found

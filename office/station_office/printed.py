@@ -1,0 +1,106 @@
+"""The dockers that this office has printed, and those that it knew at the end of each morning. Each is kept in a zip file, from which a single docker can be read.
+
+`printed/DATE.zip` has the dockers of a day as they were last printed. `mornings/DATE.zip` has what the morning of that day knew of three days: that day and the two
+days after it. So the next morning, and the screen, can compare today and tomorrow with it."""
+import datetime
+import os
+import pathlib
+import urllib.parse
+import zipfile
+from typing import NamedTuple
+
+from .archive import copy_of
+
+PRINTED, MORNINGS = "printed", "mornings"
+# The number of days of which a morning keeps dockers, and the number of files that each folder keeps.
+AHEAD, MOST = 3, 10
+
+
+class Kept(NamedTuple):
+    """A file of dockers, with the moment at which they were printed, and the name that a copy of the STATE of that moment has."""
+    path: pathlib.Path
+    moment: datetime.datetime
+    copy: str
+
+    def docker(self, place, date):
+        """The docker of a place on a day; None if the file doesn't have it."""
+        try:
+            with zipfile.ZipFile(self.path) as file:
+                return file.read(entry(place, date))
+        except (KeyError, OSError, zipfile.BadZipFile):
+            return None
+
+
+def entry(place, date):
+    """The name of a docker in a file. A code may have characters that no file name has."""
+    return f"{date}/{urllib.parse.quote(place, safe='')}"
+
+
+def kept_in(path):
+    """The file of dockers at a path; None if there is none."""
+    try:
+        with zipfile.ZipFile(path) as file:
+            moment, _, copy = file.comment.decode("utf-8", "replace").partition(" ")
+            return Kept(path, datetime.datetime.fromisoformat(moment), copy)
+    except (OSError, ValueError, zipfile.BadZipFile):
+        return None
+
+
+def keeps(office, path, dockers):
+    """Writes a file of dockers, by date and place, and removes the oldest files if there are too many."""
+    path.parent.mkdir(exist_ok=True)
+    draft = path.with_name(f".{path.name}.{os.getpid()}")
+    try:
+        with zipfile.ZipFile(draft, "w", zipfile.ZIP_DEFLATED, compresslevel=1) as file:
+            file.comment = f"{office.settings.now.isoformat(timespec='seconds')} {copy_of(office).name}".encode("utf-8")
+            for (date, place), text in sorted(dockers.items()):
+                file.writestr(entry(place, date), text)
+        os.replace(draft, path)
+    finally:
+        draft.unlink(missing_ok=True)
+    for old in names_in(path.parent)[:-MOST]:
+        old.unlink()
+
+
+def names_in(folder):
+    """The files of dockers in a folder, the earliest day first."""
+    return sorted(folder.glob("[0-9]*.zip"))
+
+
+def keeps_printed(office, date, dockers):
+    """Keeps the dockers of a day that were just printed. Dockers of other places stay as they were last printed."""
+    path = office.folder / PRINTED / f"{date}.zip"
+    both = dict(all_in(path))
+    both.update({(date, place): text for place, text in dockers.items()})
+    keeps(office, path, both)
+
+
+def all_in(path):
+    """The dockers in a file, each with its date and place."""
+    try:
+        with zipfile.ZipFile(path) as file:
+            for name in file.namelist():
+                date, place = name.split("/")
+                yield (date, urllib.parse.unquote(place)), file.read(name)
+    except (OSError, ValueError, zipfile.BadZipFile):
+        return
+
+
+def last_printed(folder, date):
+    """The dockers of a day as they were last printed; None if they weren't."""
+    return kept_in(folder / PRINTED / f"{date}.zip")
+
+
+def keeps_morning(office, dockers):
+    """Keeps what a morning knew, by date and place."""
+    keeps(office, office.folder / MORNINGS / f"{office.settings.now:%Y-%m-%d}.zip", dockers)
+
+
+def mornings(folder):
+    """What the mornings knew, the newest first."""
+    return [kept for path in reversed(names_in(folder / MORNINGS)) if (kept := kept_in(path))]
+
+
+def before(kept, place, date):
+    """The newest of these files that has the docker of a place on a day, and that docker; None if no file has it."""
+    return next(((it, text) for it in kept if (text := it.docker(place, date)) is not None), None)

@@ -1,0 +1,176 @@
+"""Helpers for the tests of the screen: an office with a server of its pages, and a browser. DOCKER names the program, DESK the program `desk`."""
+import http.client
+import os
+import pathlib
+import shutil
+import socket
+import subprocess
+import tempfile
+import time
+import unittest
+
+import browser
+
+HERE = pathlib.Path(__file__).resolve().parent
+OFFICE = HERE.parent
+DOCKER = os.environ["DOCKER"]
+REAL = shutil.which(os.environ.get("DESK") or f"{DOCKER}-desk")
+STAND_IN = str(HERE / "desk-of-docker")
+DAY = "2024-06-12"
+# The names of the busy day's places, as pages show them.
+NAMES = {"ASHFELD": "Ashfeld Junction", "BRAYTON": "Brayton", "CORHAM": "Corham Exchange", "DUNMERE": "Dunmere Town", "ELSTOW": "Elstow South"}
+
+# The words that a page shows for each kind of event, and for the link of an association.
+WORDS = {"A": "arrives", "P": "passes", "D": "departs", "J": "is joined", "V": "divides", "N": "goes on"}
+LEADS = {"J": "by", "V": "into", "N": "as"}
+# The cells of each row, without the column of changes.
+CELLS = "row => [...row.cells].slice(0, row.cells.length - document.querySelectorAll('#docker thead .change').length).map(cell => cell.textContent)"
+ROWS = f"return [...document.querySelectorAll('#day tr')].map({CELLS})"
+# The times of all events in a list of calls.
+CLOCKS = "return [...document.querySelectorAll('#day :is(.arr, .dep)')].map(cell => cell.textContent).filter(text => text.includes(':')).sort()"
+SHOWN = "return [...document.querySelectorAll('#day tr')].map(row => row.getBoundingClientRect()).map(box => box.height ? [box.top, box.bottom] : null)"
+
+
+def run(*words):
+    return subprocess.run([DOCKER, *words], stdin=subprocess.DEVNULL, capture_output=True, check=True).stdout
+
+
+def knows(request):
+    """Whether the program `desk` knows a request. One of an older version may not."""
+    if REAL is None:
+        return False
+    with tempfile.TemporaryDirectory() as folder:
+        run("new", f"{folder}/STATE")
+        return subprocess.run([REAL, f"{folder}/STATE"], input=f"{request}\n".encode(), capture_output=True, check=False).stdout.startswith(b"0 ")
+
+
+def knows_places():
+    return knows("places")
+
+
+def rows_of(text, names=None):
+    """The cells that a page must show for each line of a docker's text, by its columns. A place without a name shows its code."""
+    rows, names = [], names or {}
+    for line in text.decode("ascii").split("\n")[1:-2]:
+        at, kind, train, uid, stp = line[0:5], line[6], line[8:12].strip(), line[13:19].strip(), line[20]
+        suffix, platform, track, path, public = line[22].strip(), line[24:27].strip(), line[28:31].strip(), line[32:35].strip(), line[36:40].strip()
+        clock = at[:2] + ":" + at[2:4] + at[4].replace("H", "½").strip()
+        if kind in LEADS:
+            other, identity = line[41:47], line[49:53]
+            ends = [f"{LEADS[kind]} {other}, which doesn't run" if identity == "????" else f"{LEADS[kind]} {identity} {other}"]
+        else:
+            ends = [names.get(code, code) for code in (line[41:48].strip(), line[49:56].strip())]
+        rows.append([clock, WORDS[kind], train, platform, path, track, public and public[:2] + ":" + public[2:], *ends, uid, suffix, stp])
+    return rows
+
+
+def lined(path):
+    """The address that shows the docker's own lines, and not calls, if a path is a docker's."""
+    address, mark, part = path.partition("#")
+    is_docker = address not in ("", "/") and not address.startswith(("/?", "/train/"))
+    return f"{address}{'&' if '?' in address else '?'}rows=lines{mark}{part}" if is_docker else path
+
+
+class Office(unittest.TestCase):
+    """A folder with the state of the busy day, and a server on it whose clock shows 08:55 of that day."""
+
+    desk = "/nonexistent"
+    # Whether the desk knows single trains, and so their start days; the names of places; and what else the server's environment has.
+    has_trains = False
+    names = {}
+    environment = {}
+    now = f"{DAY}T08:55"
+    server = None
+
+    @classmethod
+    def setUpClass(cls):
+        cls.work = tempfile.TemporaryDirectory()
+        cls.addClassCleanup(cls.work.cleanup)
+        cls.folder = pathlib.Path(cls.work.name)
+        cls.state = str(cls.folder / "office.state")
+        (cls.folder / "places").write_text("ASHFELD\nBRAYTON\nNOWHERE\n# a remark\nCORHAM")
+        for name, words in (("busy.cif", []), ("update.cif", ["update"])):
+            (cls.folder / name).write_bytes(subprocess.run([HERE / "busy-day", *words], capture_output=True, check=True).stdout)
+        run("new", cls.state)
+        run("take", cls.state, str(cls.folder / "busy.cif"))
+        cls.addClassCleanup(cls.stopped)
+        cls.calls = cls.folder / "calls"
+        cls.program = cls.folder / "counted"
+        cls.program.write_text(f'#!/bin/sh\necho "$*" >>"{cls.calls}"\n[ ! -e "{cls.folder}/poor" ] || {{ echo "docker: want of memory" >&2; exit 3; }}\nexec "{DOCKER}" "$@"\n')
+        cls.program.chmod(0o755)
+        cls.port = cls.started()
+
+    @classmethod
+    def started(cls):
+        with socket.socket() as free:
+            free.bind(("127.0.0.1", 0))
+            port = free.getsockname()[1]
+        environment = {**os.environ, "DOCKER": str(cls.program), "DESK": cls.desk, "ASKED": str(cls.folder / "asked"), **cls.environment}
+        cls.server = subprocess.Popen([OFFICE / "screen" / "serve", "--listen", f"127.0.0.1:{port}", "--now", cls.now, cls.state], env=environment)
+        for _ in range(200):
+            try:
+                socket.create_connection(("127.0.0.1", port), 1).close()
+                return port
+            except OSError:
+                time.sleep(0.1)
+        raise AssertionError("the server doesn't listen")
+
+    @classmethod
+    def stopped(cls):
+        if cls.server is not None:
+            cls.server.terminate()
+            cls.server.wait()
+
+    def ask(self, path, method="GET", headers=None, port=None):
+        connection = http.client.HTTPConnection("127.0.0.1", port or self.port, timeout=60)
+        try:
+            connection.request(method, lined(path), headers=headers or {})
+            answer = connection.getresponse()
+            return answer.status, answer.headers, answer.read()
+        finally:
+            connection.close()
+
+    def spent(self):
+        """The seconds of processor time that the server has used."""
+        fields = pathlib.Path(f"/proc/{self.server.pid}/stat").read_text().rsplit(")", 1)[1].split()
+        return (int(fields[11]) + int(fields[12])) / os.sysconf("SC_CLK_TCK")
+
+    def answers_within(self, path, seconds):
+        """Asks for a page several times, and returns the last answer. The best time counts. If other programs take all processors, the server's processor time
+        counts."""
+        times, before = [], self.spent()
+        for _ in range(12):
+            began = time.monotonic()
+            status, _, body = self.ask(path, headers={"Accept-Encoding": "gzip"})
+            times.append(time.monotonic() - began)
+            self.assertEqual(status, 200)
+        if os.getloadavg()[0] > os.cpu_count():
+            times.append((self.spent() - before) / len(times))
+        self.assertLess(min(times), seconds, path)
+        return body
+
+    def docker(self, place="ASHFELD", day=DAY):
+        return run("print", self.state, place, day)
+
+    def rows(self, place="ASHFELD", day=DAY):
+        """The cells that a page must show for a docker."""
+        return rows_of(self.docker(place, day), self.names)
+
+
+class Seen(Office):
+    """An office with a browser."""
+
+    @classmethod
+    def setUpClass(cls):
+        cls.made = browser.Browser()
+        cls.addClassCleanup(cls.made.close)
+        super().setUpClass()
+
+    def browser(self, width, height, is_phone=False):
+        self.made.open("about:blank")
+        self.made.media("")
+        self.made.sized(width, height, is_phone)
+        return self.made
+
+    def address(self, path):
+        return f"http://127.0.0.1:{self.port}{lined(path)}"

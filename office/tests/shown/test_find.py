@@ -1,0 +1,166 @@
+"""Finding a place, a train, a day and a page: the head of each page, the search, and codes in addresses."""
+import re
+
+import pytest
+
+import browser
+from extracts import DAY, NEXT, PLACES, WEDNESDAY, basic, call, end, extract, origin, place, record, train
+from pages_read import element, links_of, text_of
+
+MORE = place("ASHVALE", "ASHVALE", "AHV") + place("BUSY", "CORHAM ROAD", "TWO") + place("CALM", "CORHAM YARD", "TWO") + place("BLANK", "")
+FOUND = extract(
+    PLACES, MORE,
+    train("A10001", origin("CORHAM", "0730"), call("ASHFELD", "0800", "0802"), end("BRAYTON", "0830"), identity="1A10"),
+    train("A10002", origin("BRAYTON", "0930"), call("ASHFELD", "1000", "1002"), end("CORHAM", "1030"), identity="1A10"),
+    # This train is at the junction only after midnight.
+    train("A10003", origin("CORHAM", "2330"), call("ASHFELD", "0010", "0012"), end("BRAYTON", "0030"), identity="5N03"),
+    train("A10004", origin("CORHAM", "1130"), end("BRAYTON", "1200"), identity="2C04"),
+    train("A10005", origin("CORHAM", "1130"), call("ASHFELD", "1200", "1202"), end("BRAYTON", "1230"), identity="2C05"), basic("A10005", "C", WEDNESDAY, "    "),
+    *(train(f"B2000{number}", origin(code, f"1{number}00"), end("BRAYTON", f"1{number}30"), identity="2D00") for number, code in enumerate(("BUSY", "BUSY", "CALM"))),
+    # Its place has no record of its own.
+    train("B20004", origin("NEWHALT", "1200"), end("BRAYTON", "1230"), identity="2D00"),
+)
+PATHS = ("/", "/?q=ash", "/ASHFELD", f"/ASHFELD/{NEXT}", f"/ASHFELD/{DAY}/changes", f"/ASHFELD/{DAY}?rows=lines", f"/train/A10001/{DAY}", "/ASHFIELD", "/NOWHERE")
+
+
+@pytest.fixture(scope="module")
+def served(serves):
+    return serves(FOUND, places="ASHFELD\nCORHAM\n")
+
+
+@pytest.mark.parametrize("path", PATHS)
+def test_head(served, path):
+    """Each page has in its head a link that skips the head, a way home, and the search. A page of another day looks for trains of its day."""
+    page = served.get(path).text
+    body = page[page.index("<body>"):]
+    assert re.match(r'<body>\n<a class="skip" href="#content">Skip to the \w+</a>\n<nav id="tools"', body)
+    tools = body[:body.index("</nav>")]
+    assert '<a id="home" href="/">' in tools and 'id="text" name="q" type="search"' in tools
+    assert ('name="on" value="2024-06-13"' in tools) == (NEXT in path)
+    assert '<main id="content">' in body
+
+
+def test_the_head_has_what_a_reader_needs(served):
+    """The forms, the choice of names, the legend and the picture come before the first row, and nothing comes after the last one."""
+    page = served.page("/ASHFELD")
+    head, rest = page[:page.index('<table id="docker"')], page[page.index("</table>"):]
+    for part in ('.csv">', '.txt">', '.json">', '.svg">', 'id="naming-choice"', 'id="legend"', 'id="platforms"', 'type="date"', 'type="time"', 'id="naming"'):
+        assert part in head, part
+    assert not re.search(r"<(a|input|button|details|footer)\b", rest)
+
+
+def test_keyboard(served, chrome):
+    """The first key leads to the link that skips the head, and from there to the first train. Everything in the head can be reached."""
+    chrome.open(served.address(f"/ASHFELD/{DAY}"))
+    focused = "const it = document.activeElement; return it.id || it.className || it.textContent"
+    chrome.keys(browser.TAB)
+    assert chrome.run(focused) == "skip"
+    assert chrome.run("const box = document.activeElement.getBoundingClientRect(); return box.width > 50 && box.height > 15")
+    reached = []
+    for _ in range(40):
+        chrome.keys(browser.TAB)
+        reached.append(chrome.run(focused))
+    for wanted in ("home", "text", "Find", "rows", "naming-choice", ".csv", "Platforms: all", "Show"):
+        assert wanted in reached, (wanted, reached)
+    chrome.open(served.address(f"/ASHFELD/{DAY}"))
+    chrome.keys(browser.TAB + browser.ENTER + browser.TAB)
+    assert chrome.run("return document.getElementById('content').contains(document.activeElement)")
+
+
+SEARCHES = [
+    # By UID: the train that starts on the day of the page.
+    ("?q=A10001", ["/train/A10001/2024-06-12"]), ("?q=a10001&on=2024-06-13", ["/train/A10001/2024-06-13"]), ("?q=A99999", []),
+    # By identity: the trains on the dockers of the office's places and of the page's place, on the day of the page.
+    ("?q=1A10", ["/train/A10001/2024-06-12?at=ASHFELD.0800", "/train/A10002/2024-06-12?at=ASHFELD.1000"]), ("?q=1a10&on=2024-06-13", ["/train/A10001/2024-06-13?at=ASHFELD.0800", "/train/A10002/2024-06-13?at=ASHFELD.1000"]),
+    ("?q=5N03&on=2024-06-13", ["/train/A10003/2024-06-13?at=ASHFELD.0010"]), ("?q=2C04", ["/train/A10004/2024-06-12?at=CORHAM.1130"]), ("?q=9Z99", []),
+    # By name, CRS and TIPLOC.
+    ("?q=dunmere", ["/DUNMERE"]), ("?q=bry", ["/BRAYTON"]), ("?q=ASHVALE", ["/ASHVALE"]),
+]
+
+
+@pytest.mark.parametrize("words, expected", SEARCHES)
+def test_search(served, words, expected):
+    assert links_of(served.page(f"/{words}"), "found") == expected
+
+
+def test_search_from_a_page(served):
+    """A train is also looked for at the place of the page from which the text comes."""
+    assert links_of(served.page("/?q=1A10&at=BRAYTON&on=2024-06-12"), "found") == ["/train/A10001/2024-06-12?at=BRAYTON.0830", "/train/A10002/2024-06-12?at=BRAYTON.0930"]
+    assert '<input type="hidden" name="at" value="ASHFELD">' in served.page("/ASHFELD")
+
+
+def test_search_says_what_it_found(served):
+    for words, said in (("A10005", "cancelled on this day"), ("5N03&on=2024-06-13", "00:10 at Ashfeld Junction"), ("1A10", "1A10 Corham Exchange to Brayton")):
+        assert said in text_of(served.page(f"/?q={words}")), words
+    assert element(served.page("/?q=A99999"), "number") == "No train with this UID starts on Wednesday 12 June 2024"
+    assert element(served.page("/?q=9Z99"), "number") == "No train with this identity is at this office’s places on Wednesday 12 June 2024"
+    assert element(served.page("/?q=1A10"), "number") == "2 trains"
+
+
+def test_a_found_train_leads_to_its_page(served):
+    """A train that is looked for on the day after its start is found on the day on which it started."""
+    answer = served.get("/train/A10003/2024-06-13?at=ASHFELD.0010")
+    assert (answer.status, answer.headers["Location"]) == (303, f"/train/A10003/{DAY}#ASHFELD")
+
+
+@pytest.mark.parametrize("path, leads", [
+    ("/ASF", "/ASHFELD"), ("/asf", "/ASHFELD"), ("/ashfeld", "/ASHFELD"), (f"/ASF/{DAY}", f"/ASHFELD/{DAY}"), (f"/asf/{DAY}.csv", f"/ASHFELD/{DAY}.csv"),
+    (f"/ASF/{DAY}/changes?stops=1", f"/ASHFELD/{DAY}/changes?stops=1"), ("/TWO", "/BUSY"),
+])
+def test_a_code_leads_to_its_place(served, path, leads):
+    answer = served.get(path)
+    assert (answer.status, answer.headers["Location"]) == (303, leads)
+
+
+@pytest.mark.parametrize("path, offers", [
+    ("/ASHFIL", ["/ASHFELD"]), ("/corham", None), ("/corhm", ["/CORHAM", "/BUSY", "/CALM"]), ("/Exchang", ["/CORHAM"]), ("/QQQQQQQ", []), (f"/DUNMER/{DAY}", ["/DUNMERE"]),
+])
+def test_an_unknown_code(served, path, offers):
+    """An unknown code is a 404 that offers the places with similar names or codes. It doesn't look like a place without trains."""
+    answer = served.get(path)
+    if offers is None:
+        assert answer.status == 303
+        return
+    assert answer.status == 404
+    assert links_of(answer.text, "offers") == offers
+    for words in ("permanent timetable", "No train calls here", "<table"):
+        assert words not in answer.text
+
+
+def test_codes_that_are_known(served):
+    """A place without a record of its own is shown if trains call there, and a place without trains if it has a record."""
+    assert served.get("/NEWHALT").status == 200
+    assert element(served.page("/NEWHALT"), "unknown") == "No extract that was taken has the code NEWHALT. But trains call here."
+    assert served.get("/DUNMERE").status == 200
+    for form in ("txt", "csv", "json", "svg"):
+        assert served.get(f"/NOWHERE/{DAY}.{form}").status == 200
+
+
+def test_nothing_is_known_yet(serves):
+    """A screen on a wall waits for the first extract: it isn't sent away."""
+    empty = serves()
+    page = empty.page("/ASHFELD")
+    assert "Nothing is known: no extract was taken" in page
+
+
+def test_headers(served):
+    """No other site may show a page in a frame."""
+    for path in ("/", "/ASHFELD", f"/train/A10001/{DAY}", "/NOWHERE"):
+        assert "frame-ancestors 'none'" in served.get(path).headers["Content-Security-Policy"]
+
+
+def test_formulas(serves):
+    """No cell of .csv is a formula for a spreadsheet."""
+    served = serves(extract(PLACES, record("TI=1+2    00000000 =CMD                      "), train("A10001", origin("=1+2", "0700"), call("ASHFELD", "0800", "0802", "-1", "@SU", "+FL"), end("BRAYTON", "0830"))))
+    text = served.get(f"/ASHFELD/{DAY}.csv").text
+    cells = [cell for row in text.splitlines()[1:] for cell in row.split(",")]
+    assert not [cell for cell in cells if cell.startswith(("=", "+", "-", "@"))]
+    assert {"'=1+2", "'=CMD", "'-1", "'@SU", "'+FL"} <= set(cells)
+
+
+def test_small_screens(served, chrome):
+    """On a phone, the links to the day before and after are large enough for a finger."""
+    chrome.sized(390, 844, True)
+    chrome.open(served.address("/ASHFELD"))
+    sizes = chrome.run("return [...document.querySelectorAll('.day a')].map(link => link.getBoundingClientRect()).map(box => [box.width, box.height])")
+    assert len(sizes) == 2 and all(side >= 44 for size in sizes for side in size)

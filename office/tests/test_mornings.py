@@ -1,0 +1,242 @@
+"""Random mornings of three offices. Each gets good and bad files: late, twice, cut, doubled, with wrong dates, with another file's stamp, and updates that delete or cancel
+too much. Clocks are wrong, and runs are killed. After each run the office prints what a plain reader makes of the files that the office knows, and it has lost no more
+than half of anything.
+
+`--mornings` is the number of mornings, and `--seed` chooses others."""
+import datetime
+import os
+import random
+import re
+import signal
+import subprocess
+import time
+
+import plain
+import pytest
+import timetable
+from offices import STATION, docker
+
+CODES = [f"PLACE{letter}" for letter in "ABCDEF"]
+# The first day, the clock of its morning, and the number of mornings of one case.
+BEGIN = datetime.datetime(2024, 6, 12, 6, 0)
+MORNINGS = 10
+YEAR = datetime.timedelta(365)
+
+
+class Feed:
+    """A timetable that changes from day to day, and the extracts that are made of it."""
+
+    def __init__(self, chance):
+        self.chance = chance
+        self.number = 0
+        self.last = ""
+        self.schedules, self.links = {}, {}
+        for number in range(60):
+            self.adds(f"A{number:05}")
+        for number in range(0, 40, 2):
+            base, other = f"A{number:05}", f"A{number + 1:05}"
+            at = chance.choice(self.schedules[base, "P", timetable.FIRST].splitlines()[1:])[2:9]
+            self.links[base, other, at] = timetable.association(base, other, chance.choice(("NP", "JJ", "VV")), at, indicator=chance.choice("SNP "))
+
+    def journey(self):
+        minute, calls = self.chance.randrange(0, 1440), []
+        for code in self.chance.sample(CODES, self.chance.randint(2, 4)):
+            arrives, minute = minute % 1440, minute + self.chance.randint(0, 5)
+            clock = [f"{at // 60:02}{at % 60:02}" for at in (arrives, minute % 1440)]
+            calls.append(timetable.Call(code, *clock, str(self.chance.randint(1, 9)), self.chance.random() < 0.2))
+            minute += self.chance.randint(3, 60)
+        return calls
+
+    def adds(self, uid, stp="P", first=timetable.FIRST, last=timetable.LAST):
+        days = "".join(self.chance.choice("1110") for _ in range(7))
+        self.schedules[uid, stp, first] = timetable.schedule(uid, self.journey(), stp, first, last, days, f"{self.chance.randint(1, 9)}A{self.chance.randint(0, 99):02}")
+        return self.schedules[uid, stp, first]
+
+    def reference(self):
+        self.number += 1
+        return f"DFROC{self.number:02}"
+
+    def full(self, now, share=1.0):
+        """A full extract of the timetable, or of a share of it."""
+        moment, reference = now - datetime.timedelta(hours=9), self.reference()
+        parts = [text for text in (*self.links.values(), *self.schedules.values()) if self.chance.random() < share]
+        if share == 1.0:
+            self.last = reference
+        return timetable.extract(timetable.header(reference, moment.isoformat(timespec="minutes"), "", "F"), *map(timetable.place, CODES), *sorted(parts))
+
+    def update(self, now, *parts):
+        """An update with these records, or with a few random changes of the timetable."""
+        moment, reference, last = now - datetime.timedelta(hours=9), self.reference(), self.last
+        self.last = reference
+        return timetable.extract(timetable.header(reference, moment.isoformat(timespec="minutes"), last), *(parts or sorted(self.changes(now.date()))))
+
+    def changes(self, today):
+        """Random changes. Associations come before schedules, since a file is sorted."""
+        for _ in range(self.chance.randint(1, 6)):
+            uid = f"A{self.chance.randrange(70):05}"
+            day = f"{today + datetime.timedelta(self.chance.randint(-1, 4)):%y%m%d}"
+            match self.chance.randrange(6):
+                case 0 | 1:
+                    yield self.adds(uid)
+                case 2:
+                    yield self.adds(uid, "O", day, day)
+                case 3:
+                    self.schedules[uid, "C", day] = timetable.schedule(uid, (), "C", day, day)
+                    yield self.schedules[uid, "C", day]
+                case 4 if self.schedules:
+                    key = self.chance.choice(sorted(self.schedules))
+                    del self.schedules[key]
+                    yield timetable.deletion(*key)
+                case 5 if self.links:
+                    base, other, at = self.chance.choice(sorted(self.links))
+                    del self.links[base, other, at]
+                    yield timetable.association(base, other, at=at, transaction="D")
+
+    def deleting(self, now):
+        """An update that deletes most schedules."""
+        gone = [key for key in sorted(self.schedules) if self.chance.random() < self.chance.choice((0.6, 0.9, 1.1))]
+        return self.update(now, *(timetable.deletion(*key) for key in gone))
+
+    def cancelling(self, now):
+        """An update that cancels most trains of a day."""
+        day = f"{now.date() + datetime.timedelta(self.chance.randint(0, 3)):%y%m%d}"
+        return self.update(now, *(timetable.schedule(uid, (), "C", day, day) for uid in sorted({uid for uid, *_ in self.schedules}) if self.chance.random() < 0.9))
+
+
+class World:
+    """Three offices that share a folder, the files that were made, and what each office knows."""
+
+    def __init__(self, offices, seed):
+        self.chance = random.Random(seed)
+        self.feed = Feed(self.chance)
+        self.offices = [offices.office(name) for name in ("a", "b", "c")]
+        self.made = []
+        # What each office may know, and may have known when it put its state into swap/: files by their stamps. Also the files with each stamp that it ever knew.
+        self.known = {office: [{}] for office in self.offices}
+        self.sent = {office: (b"", []) for office in self.offices}
+        self.ever = {office: {} for office in self.offices}
+        for office in self.offices:
+            (office.folder / "places").write_text("".join(f"{code}\n" for code in self.chance.sample(CODES, 4)))
+
+    def delivers(self, now):
+        """Puts files into the folders of the offices."""
+        new = [self.feed.full(now)] if not self.made or self.chance.random() < 0.15 else [self.feed.update(now)]
+        self.made += new
+        for office in self.offices:
+            files = [content for content in new if self.chance.random() < 0.8]
+            files += [self.chance.choice(self.made) for _ in range(self.chance.choice((0, 0, 1, 2)))]
+            if self.chance.random() < 0.35:
+                files.append(self.spoiled(now))
+            self.chance.shuffle(files)
+            for number, content in enumerate(files):
+                office.put(f"{now:%d}-{number}.cif", content)
+
+    def spoiled(self, now):
+        """A bad file."""
+        good = self.chance.choice(self.made)
+        match self.chance.randrange(8):
+            case 0:
+                return self.feed.deleting(now)
+            case 1:
+                return self.feed.cancelling(now)
+            case 2:
+                return self.feed.full(now, self.chance.choice((0.1, 0.3, 0.45)))
+            case 3:
+                return good[:self.chance.randrange(len(good))]
+            case 4:
+                return good + good
+            case 5:
+                later = now + self.chance.choice((-1, 1, 10)) * YEAR
+                return good[:22] + f"{later:%d%m%y}".encode() + good[28:]
+            case 6:
+                return self.same_stamp(good)
+            case _:
+                return bytes(self.chance.randrange(256) for _ in range(300))
+
+    def same_stamp(self, good):
+        """A file with the stamp of another one, in which some trains have another platform."""
+        lines = good.decode("ascii").splitlines(keepends=True)
+        return "".join(line[:19] + "X" + line[20:] if line.startswith("LO") and self.chance.random() < 0.5 else line for line in lines).encode()
+
+    def runs(self, office, now):
+        """A morning of an office, by a clock that may be wrong and perhaps ended by a signal. Returns its output, or None if it was ended."""
+        clock = now + self.chance.choice((0,) * 8 + (-1, 1)) * YEAR
+        words = [STATION, "--now", clock.isoformat(timespec="minutes"), "morning", str(office.state), f"{now:%F}"]
+        process = subprocess.Popen(words, stdin=subprocess.DEVNULL, stdout=subprocess.PIPE, stderr=subprocess.PIPE, start_new_session=True, env={**os.environ, "MAX_AGE": "999"})
+        if self.chance.random() < 0.15:
+            time.sleep(self.chance.random() * 0.6)
+            os.killpg(process.pid, signal.SIGKILL)
+        out, said = process.communicate()
+        assert b"Traceback" not in said, said.decode()
+        assert process.returncode in (0, 1, 4, 5, -signal.SIGKILL), said.decode()
+        return None if process.returncode == -signal.SIGKILL else out, said.decode()
+
+    def withdraws(self, office, now):
+        """Withdraws a file that the office knows. The command may be held back."""
+        stamp = self.chance.choice(sorted(self.known[office][0]))
+        words = [STATION, "--now", now.isoformat(timespec="minutes"), "withdraw", str(office.state), stamp.reference, f"{stamp.date}T{stamp.time[:2]}:{stamp.time[2:]}"]
+        ended = subprocess.run(words, stdin=subprocess.DEVNULL, capture_output=True, text=True, check=False)
+        assert "Traceback" not in ended.stderr, ended.stderr
+        return None, ended.stderr
+
+    def learns(self, office, came):
+        """What an office may know after a run: the files that it lists. Those that it never knew before are among the files that came, or another office knew them when
+        it sent its state. If files with one stamp differ, each of them is possible until a docker shows which it is."""
+        possible = [{}]
+        for line in docker("files", office.state).decode("ascii").splitlines():
+            stamp = plain.Stamp(datetime.date.fromisoformat(line[:10]), line[11:15], line[16:23].strip())
+            contents = self.ever[office].get(stamp) or self.sources(office, stamp, came)
+            assert contents, f"nobody made {line}"
+            possible = [{**one, stamp: content} for one in possible for content in contents]
+        return possible
+
+    def sources(self, office, stamp, came):
+        """The contents of the files with a stamp that an office may have got."""
+        found = {content for content in came if content[:2] == b"HD" and plain.lines_of(content)[-1][:2] == "ZZ" and plain.stamp_of(content) == stamp}
+        return found.union(*(self.of_stamp(known, stamp) for other, (_, known) in self.sent.items() if other != office))
+
+    @staticmethod
+    def of_stamp(possible, stamp):
+        return {known[stamp] for known in possible if stamp in known}
+
+    def checks(self, office, now, out, said, came):
+        """Checks what an office prints after a run, and what it has lost."""
+        printed = out or subprocess.run([STATION, "print", str(office.state), f"{now:%F}"], stdin=subprocess.DEVNULL, capture_output=True, check=False).stdout
+        # The lines above each docker say when it was made.
+        printed = re.sub(rb"^#.*\n", b"", printed, flags=re.M)
+        places = (office.folder / "places").read_text().split()
+        possible = [known for known in self.learns(office, came) if self.dockers(known, places, now.date()) == printed]
+        assert possible, said
+        assert any(self.losses(before, after, places) == [] for before in self.known[office] for after in possible), (said, self.losses(self.known[office][0], possible[0], places))
+        self.known[office] = possible
+        self.ever[office].update({stamp: self.of_stamp(possible, stamp) for stamp in possible[0]})
+        target = office.sent()
+        if target.exists() and target.read_bytes() != self.sent[office][0]:
+            self.sent[office] = target.read_bytes(), possible
+
+    @staticmethod
+    def dockers(known, places, day):
+        made = plain.Day(plain.table_of(known.values()))
+        return "".join(made.docker(place, day) for place in places).encode("ascii")
+
+    @staticmethod
+    def losses(before, after, places):
+        """Of what more than half is gone."""
+        one, other = (plain.table_of(known.values()) for known in (before, after))
+        found = [name for name in one._fields if 2 * len(getattr(other, name)) < len(getattr(one, name))]
+        called = {place: [plain.calling(table, place) for table in (one, other)] for place in places}
+        return found + [place for place, numbers in called.items() if numbers[0] >= 20 and 2 * numbers[1] < numbers[0]]
+
+
+@pytest.mark.timeout(900)
+def test_mornings(offices, seed):
+    world = World(offices, seed)
+    now = BEGIN
+    for _ in range(MORNINGS):
+        world.delivers(now)
+        for office in world.chance.sample(world.offices, 3):
+            came = [path.read_bytes() for path in (office.folder / "in").iterdir()]
+            world.checks(office, now, *world.runs(office, now), came)
+            if world.known[office][0] and world.chance.random() < 0.1:
+                world.checks(office, now, *world.withdraws(office, now), [])
+        now += datetime.timedelta(1)

@@ -1,0 +1,257 @@
+"""Tests how the launchers prove the crates (lib/launch.sh), on a tree of empty crates and with an `rt` that only waits. Each crate has to start after the crates
+that it cites, two at once if memory allows and copies of the checkout share what they prove. A failure and an interrupt have to end cleanly."""
+import collections
+import os
+import pathlib
+import re
+import shutil
+import signal
+import subprocess
+import time
+
+import pytest
+
+ROOT = pathlib.Path(__file__).resolve().parent.parent.parent
+CITED = {line.split(":")[0].split()[0]: line.partition(":")[2].split() for line in (ROOT / "crates.txt").read_text(encoding="utf-8").splitlines()}
+# In the test, the machine has four processors, and as much free memory in kilobytes as a file says.
+MACHINE = 'nproc() { echo 4; }\nfree_memory() { cat "$root/memory"; }\n'
+MUCH, LITTLE = 99999999, 9000000
+RT = r"""#!/usr/bin/env bash
+crate=${PWD##*/}
+[ "$1" != version ] || { echo "$KIT" && exit; }
+[ "$1" != doc ] || { echo "$WORK/kit/START-HERE.md" && exit; }
+# Like the real rt, it waits for any other that works on the same files.
+exec 9<../../crates.txt && flock 9
+if [ "$1" = run ]; then
+  { printf '<%s>' "$@" && cat; } >"$WORK/first"
+  printf '#!/bin/sh\necho "$@"\n' >"out/$crate" && chmod +x "out/$crate" && exit
+fi
+echo "begin $crate" >>"$WORK/events"
+echo "$*" >"$WORK/words-$crate"
+cmp -s src/lib.rt "$WORK/crates/$crate/src/lib.rt" || echo "old $crate" >>"$WORK/events"
+echo $$ >>"$WORK/processes"
+[ "$crate" != "${FAILING:-}" ] || exit 1
+[ "$crate" != "${CHANGING:-}" ] || echo '// changed' >>src/lib.rt
+sleep "${TAKES:-0.1}"
+mkdir -p out/incremental && echo "$crate" >out/incremental/kept
+echo "end $crate" >>"$WORK/events"
+"""
+
+
+def below(crate):
+    """A crate and all crates of the repository below it."""
+    found = {crate}
+    for it in CITED[crate]:
+        found |= below(it) if it in CITED else set()
+    return found
+
+
+class Tree:
+    """A checkout with the launchers and with crates that have hardly any source."""
+
+    def __init__(self, folder):
+        self.folder = folder
+        for name in ("docker", "desk", "crates.txt"):
+            shutil.copy(ROOT / name, folder)
+        shutil.copytree(ROOT / "lib", folder / "lib")
+        with open(folder / "lib" / "launch.sh", "a", encoding="utf-8") as script:
+            script.write(MACHINE)
+        for crate in CITED:
+            self.source(crate).parent.mkdir(parents=True)
+            self.source(crate).write_text(f"// {crate}\n", encoding="utf-8")
+        # One of the crates has many functions.
+        self.changes("docker_desk", "".join(f"fn f{number}() {{}}\n" for number in range(100)))
+        # The words and the input for the first run of desk.
+        desk = folder / "crates" / "desk"
+        (desk / "data").mkdir()
+        (desk / "data" / "a state").touch()
+        (desk / "args").write_text("--write\na state\nno file\n", encoding="utf-8")
+        (desk / "stdin").write_text("files\n", encoding="utf-8")
+        (folder / "bin").mkdir()
+        (folder / "bin" / "rt").write_text(RT, encoding="utf-8")
+        (folder / "bin" / "rt").chmod(0o755)
+        self.has_memory(MUCH)
+
+    def source(self, crate):
+        return self.folder / "crates" / crate / "src" / "lib.rt"
+
+    def changes(self, crate, text="// changed\n"):
+        with open(self.source(crate), "a", encoding="utf-8") as source:
+            source.write(text)
+
+    def has_memory(self, kilobytes):
+        (self.folder / "memory").write_text(f"{kilobytes}\n", encoding="utf-8")
+
+    def environment(self, **more):
+        return {**os.environ, "WORK": str(self.folder), "KIT": "a kit", "PATH": f"{self.folder}/bin:{os.environ['PATH']}", **more}
+
+    def program(self, crate):
+        return self.folder / "crates" / crate / "out" / crate
+
+    def launch(self, program="docker", status=0, **environment):
+        """Runs a launcher with the words `day x`. Returns what it says on standard error."""
+        for name in ("events", "processes"):
+            (self.folder / name).unlink(missing_ok=True)
+        ended = subprocess.run([self.folder / program, "day", "x"], env=self.environment(**environment), stdin=subprocess.DEVNULL, capture_output=True, text=True, check=False)
+        assert (ended.returncode, ended.stdout) == (status, "" if status else "day x\n"), ended.stderr
+        return ended.stderr
+
+    def events(self):
+        """The pairs of a word, `begin`, `end` or `old`, and a crate."""
+        path = self.folder / "events"
+        return [tuple(line.split()) for line in path.read_text(encoding="utf-8").splitlines()] if path.exists() else []
+
+    def crates(self, word):
+        return {crate for it, crate in self.events() if it == word}
+
+    def most_at_once(self):
+        """The most crates that were under way at once. Each has to begin after those that it cites, and to be checked as it is."""
+        ended, now, most = set(), 0, 0
+        for word, crate in self.events():
+            assert word != "old", f"{crate} isn't checked as it is"
+            if word == "begin":
+                assert not (early := {it for it in CITED[crate] if it in CITED} - ended), f"{crate} begins before {early}"
+                now += 1
+                most = max(most, now)
+            else:
+                now -= 1
+                ended.add(crate)
+        return most
+
+    def words(self, crate):
+        return (self.folder / f"words-{crate}").read_text(encoding="utf-8").strip()
+
+    def kept(self):
+        """The crates whose results are kept in the checkout."""
+        return {path.read_text(encoding="utf-8").strip() for path in self.folder.glob("crates/*/out/incremental/kept")}
+
+    def copies(self):
+        return list(self.folder.glob("crates/*/out/proving/lane-*"))
+
+
+@pytest.fixture
+def tree(tmp_path):
+    return Tree(tmp_path)
+
+
+def progress(program):
+    count = len(below(program))
+    return re.compile(rf"^{program}: {program} is proved \({count} of {count}, \d+ s; \d+ (?:s|min) so far\)$", re.M)
+
+
+def test_two_crates_at_once_each_after_those_that_it_cites(tree):
+    told = tree.launch()
+    assert (tree.crates("end"), tree.most_at_once()) == (below("docker"), 2)
+    assert progress("docker").search(told)
+
+
+def test_desk_and_the_words_and_input_of_its_first_run(tree):
+    told = tree.launch("desk")
+    assert (tree.crates("end"), tree.most_at_once()) == (below("desk"), 2)
+    assert "docker_desk" in tree.crates("begin") and "docker" not in tree.crates("begin")
+    assert progress("desk").search(told)
+    assert (tree.folder / "first").read_text(encoding="utf-8") == "<run><--><--write><data/a state><no file>files\n"
+
+
+def test_what_is_proved_already_is_not_asked_again(tree):
+    tree.launch("docker")
+    tree.launch("desk")
+    assert tree.crates("begin") == below("desk") - below("docker")
+    tree.launch("desk")
+    assert tree.events() == []
+    assert [tree.words(it) for it in ("desk", "docker_desk", "docker_train")] == ["check", "check --jobs 4", "check"]
+
+
+def test_only_what_changed_is_asked(tree):
+    tree.launch("desk")
+    above = {it for it in below("desk") if "docker_train" in below(it)}
+    tree.changes("docker_train")
+    tree.program("desk").unlink()
+    tree.has_memory(LITTLE)
+    tree.launch("desk")
+    assert tree.crates("begin") == above
+    assert tree.words("docker_desk") == "check --jobs 2"
+
+
+def test_after_a_failure_what_failed_is_asked_again(tree):
+    tree.launch("desk")
+    above = {it for it in below("desk") if "docker_train" in below(it)}
+    tree.changes("docker_train")
+    tree.launch("desk", status=70, FAILING="docker_train")
+    tree.launch("desk")
+    assert tree.crates("begin") == above
+
+
+def test_a_source_that_changes_during_the_build(tree):
+    tree.launch("desk")
+    tree.program("desk").unlink()
+    tree.changes("desk")
+    tree.launch("desk", CHANGING="desk")
+    tree.launch("desk")
+    assert tree.crates("begin") == {"desk"}
+    tree.launch("desk")
+    assert tree.events() == []
+
+
+def test_with_another_kit_all_is_asked(tree):
+    tree.launch("desk")
+    tree.program("desk").unlink()
+    tree.launch("desk", KIT="another kit")
+    assert tree.crates("begin") == below("desk")
+
+
+def test_what_is_proved_in_a_copy_is_kept(tree):
+    """After a failure too. An old copy is removed."""
+    old = tree.folder / "crates" / "docker" / "out" / "proving" / "lane-1"
+    old.mkdir(parents=True)
+    (old / "old.rt").touch()
+    tree.launch(status=70, FAILING="docker_excerpt")
+    ended = tree.crates("end")
+    assert (tree.kept(), tree.copies()) == (ended, [])
+    tree.launch()
+    assert "docker_excerpt" in tree.crates("begin")
+    assert (tree.crates("begin"), tree.copies()) == (below("docker") - ended, [])
+
+
+def test_one_at_a_time_without_shared_work(tree):
+    (tree.folder / "rattle-kept").touch()
+    tree.launch()
+    assert (tree.crates("end"), tree.most_at_once()) == (below("docker"), 1)
+
+
+def test_one_at_a_time_in_little_memory(tree):
+    tree.has_memory(LITTLE)
+    tree.launch()
+    assert (tree.crates("end"), tree.most_at_once()) == (below("docker"), 1)
+
+
+def test_a_crate_that_fails(tree):
+    """No crate begins after the failure, and what is under way ends."""
+    told = tree.launch(status=70, FAILING="cif_change")
+    assert re.search(r"^docker: cif_change isn't proved: see .*/cif_change\.log$", told, re.M)
+    assert not {"docker_join", "cif_file"} & tree.crates("begin")
+    counts = collections.Counter(word for word, _ in tree.events())
+    assert counts["begin"] == counts["end"] + 1
+
+
+@pytest.mark.parametrize("name", ["SIGINT", "SIGTERM", "SIGHUP"])
+def test_an_interrupt_ends_all(tree, name):
+    processes = tree.folder / "processes"
+    # A background job of a shell ignores interrupts, and so would the launcher that it starts.
+    heed = lambda: [signal.signal(it, signal.SIG_DFL) for it in (signal.SIGINT, signal.SIGHUP)]  # noqa: E731
+    words = {"env": tree.environment(TAKES="600"), "stderr": subprocess.DEVNULL, "start_new_session": True, "preexec_fn": heed}
+    with subprocess.Popen([tree.folder / "docker"], **words) as started:
+        until = time.monotonic() + 60
+        while not processes.exists() and time.monotonic() < until:
+            time.sleep(0.1)
+        time.sleep(0.5)
+        os.killpg(started.pid, signal.Signals[name])
+        try:
+            assert started.wait(timeout=60) == 128 + signal.Signals[name]
+        finally:
+            begun = processes.read_text(encoding="utf-8").split()
+            left = [int(it) for it in begun if os.path.exists(f"/proc/{it}")]
+            for it in left:
+                os.killpg(it, signal.SIGKILL)
+    assert begun and not left
+    assert tree.copies() == []

@@ -1,0 +1,110 @@
+"""`docker new` into a pipe that another file replaces, and `docker new` without hard links.
+
+test_whatever_comes.py tries what comes in the place of a file, or under a free name."""
+import os
+import stat
+import time
+
+import pytest
+from comings import taken_from
+from given import STATES
+from meetings import at_each_call, calls_of, met
+from outcomes import DEVICE, DONE, holds_only
+from programs import DOCKER, give, held, preloading, run
+from tables import each
+
+NO_FILES = STATES["no_files"]
+COME = b"DKS2 by another program"
+
+
+class Pipes:
+    """Two named pipes, `pipe` and `other`. The test holds both ends of each, so that no program
+    waits for them."""
+
+    def __enter__(self):
+        for name in ("pipe", "other"):
+            os.mkfifo(name)
+        self.pipe, self.other = (
+            os.open(name, os.O_RDWR | os.O_NONBLOCK) for name in ("pipe", "other")
+        )
+        return self
+
+    def __exit__(self, *_):
+        os.close(self.pipe)
+        os.close(self.other)
+
+
+def clear():
+    for name in ("pipe", "other", "came", "got"):
+        if os.path.lexists(name):
+            os.remove(name)
+
+
+# What takes the place of a pipe.
+INSTEAD = {"another pipe": "mv -f other pipe", "a text": "mv -f came pipe"}
+
+
+def instead_at(meeting, number, line):
+    """Something takes the place of a pipe at this call. Returns what happened."""
+    clear()
+    give(COME, "came")
+    with Pipes() as pipes:
+        found = met(meeting, number, line, [DOCKER, "new", "pipe"])
+        if found is None:
+            return None
+        assert found.status == 0
+        is_other = stat.S_ISFIFO(os.lstat("pipe").st_mode)
+        there = taken_from(pipes.other) if is_other else held("pipe")
+        assert not os.path.lexists("pipe.new"), "a draft is left"
+        if not found.looks("pipe"):
+            assert (found.ended, taken_from(pipes.pipe), there) == (DONE, b"", NO_FILES)
+            return "came first"
+        assert there == (b"" if is_other else COME), "what came is changed"
+        is_open = "open pipe" in found.before
+        assert found.ended == (DONE if is_open else DEVICE)
+        assert taken_from(pipes.pipe) == (NO_FILES if is_open else b"")
+        return "came last" if is_open else "refused"
+
+
+@pytest.mark.timeout(120)
+@each("line", INSTEAD)
+def test_what_takes_the_place_of_a_pipe(meeting, line):
+    """A command writes only to the pipe that it saw."""
+    found = at_each_call(lambda number: instead_at(meeting, number, line))
+    assert set(found) == {"came first", "refused", "came last"}
+
+
+# Makes a pipe in the place of the pipe, with the number of the old one if the file system gives it
+# to one of fifty pipes. Reads from the new pipe.
+ANEW = (
+    "old=$(stat -c %i pipe); rm pipe; n=0;"
+    ' until mkfifo "anew$n"; [ "$(stat -c %i "anew$n")" = "$old" ] || [ "$n" = 50 ];'
+    ' do n=$((n + 1)); done; mv "anew$n" pipe; rm -f anew*; timeout 5 cat pipe >got 2>&1 &'
+)
+
+
+def test_a_new_pipe_with_the_number_of_the_old_one(meeting):
+    """It is made just before the command opens the pipe that it saw. The command doesn't write to
+    it."""
+    command = [DOCKER, "new", "pipe"]
+    with Pipes():
+        number = calls_of(meeting, command).index("open pipe") + 1
+    clear()
+    os.mkfifo("pipe")
+    # The times when the two pipes are made have to differ.
+    time.sleep(0.05)
+    found = met(meeting, number, ANEW, command)
+    assert (found.ended, found.status) == (DEVICE, 0)
+    assert held("got") == b"", "the new pipe got something"
+
+
+# Some file systems have no hard links. There a draft is renamed, if nothing has come until then.
+
+
+@each("name", {"a name": "office", "a link to nothing": "leading"})
+def test_new_without_hard_links(device, name):
+    os.symlink("office", "leading")
+    before = preloading(device, CALL="link", FAIL_AT=1, TOLD="met")
+    assert run([*before, DOCKER, "new", name]) == DONE
+    assert held("met") == b"link"
+    holds_only("office", NO_FILES)
