@@ -3,7 +3,6 @@
 //   END_AT=N     kills the program at call N; if the call is a write, after half of it
 //   FAIL_AT=N    makes call N fail, with EIO or the error that ERROR names
 //   INTERRUPT=1  interrupts each read and each write once before it moves a byte
-//   UNLOCKED=1   makes each lock succeed without locking anything
 // If the library does one of these things to a call, it writes the call's name to the file that
 // TOLD names. If a call makes one of the following mistakes, the library writes the call's name to
 // the file that WRONG names:
@@ -148,13 +147,7 @@ char *realpath(const char *restrict path, char *restrict into) { return fails("r
 
 int fchmod(int fd, mode_t mode) { return fails("fchmod") ? -1 : NEXT(fchmod)(fd, mode); }
 
-int flock(int fd, int how) {
-  if (getenv("UNLOCKED")) {
-    make("TOLD", "flock");
-    return 0;
-  }
-  return fails("flock") ? -1 : NEXT(flock)(fd, how);
-}
+int flock(int fd, int how) { return fails("flock") ? -1 : NEXT(flock)(fd, how); }
 
 int fsync(int fd) {
   if (fails("fsync")) return -1;

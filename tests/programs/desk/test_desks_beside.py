@@ -161,12 +161,12 @@ def save_all(desks):
             assert asked.ask("renew") == DONE
 
 
-def four_at_once(**options):
+def four_at_once():
     """Four desks each take a file, and save at the same time."""
     names = ("monday", "tuesday", "night", "last")
     give(state_of("full"))
     with contextlib.ExitStack() as stack:
-        desks = [stack.enter_context(Desk("--write", "STATE", **options)) for _ in names]
+        desks = [stack.enter_context(Desk("--write", "STATE")) for _ in names]
         for asked, name in zip(desks, names):
             assert asked.ask(f"take {name}") == DONE
         save_all(desks)
@@ -181,18 +181,6 @@ def test_four_desks_that_save_at_once_lose_nothing():
         four_at_once()
 
 
-def are_unlike(environment):
-    """Whether four desks that save at the same time lose a change."""
-    try:
-        four_at_once(env=environment)
-    except AssertionError:
-        return True
-    finally:
-        pathlib.Path("STATE.new").unlink(missing_ok=True)
-    return False
-
-
-@alone
-def test_four_desks_that_save_at_once_lose_something_if_no_lock_holds(device):
-    environment = os.environ | {"LD_PRELOAD": device, "UNLOCKED": "1"}
-    assert any(are_unlike(environment) for _ in range(100)), "nothing was seen"
+# If no lock holds, a desk may take the draft of another that saves for left over, and remove it. The
+# other notices this and refuses to save. So the case above passes even then, and doesn't show that
+# the locks hold. The cases in test_whatever_comes_to_a_desk.py show it, where another locks the draft.
