@@ -7,7 +7,7 @@ import zoneinfo
 
 import dockers
 
-from . import archive, covering, packing, printed
+from . import copying, covering, packing, printed
 from .differing import differences
 from .faults import Fault
 from .reporting import dockers_of, writing
@@ -110,7 +110,7 @@ def written_at(copy):
 def copy_at(office, time):
     """The file that has STATE as it was at a British time: STATE itself, if it wasn't written since, or the newest copy of a STATE that was written before."""
     at = time.replace(tzinfo=ZONE).timestamp()
-    written = [(office.state.stat().st_mtime, office.state), *((written_at(copy), copy) for copy in archive.copies(office))]
+    written = [(office.state.stat().st_mtime, office.state), *((written_at(copy), copy) for copy in copying.copies(office))]
     for moment, path in written:
         if moment <= at:
             return path
