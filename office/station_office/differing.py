@@ -38,7 +38,7 @@ def prints_differences(office, reader, known, date):
         if found := differences(text, permanent):
             is_same = False
             with writing():
-                print(covering.head(office, known, date).decode("ascii"), end="")
+                print(covering.head(office, known, date, place).decode("ascii"), end="")
                 print(text.decode("ascii").split("\n")[0], *found, sep="\n", flush=True)
     if is_same and is_covered and office.status == 0:
         office.say(date, "nothing differs from the permanent timetable")

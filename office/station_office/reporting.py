@@ -61,7 +61,7 @@ def old(office, extracts):
 def thin(office):
     """A line for each docker that a file left with few lines, up to a number of dockers."""
     found = thinned(office)
-    lines = [f"thinned: the docker of {it.place} on {it.day} has {it.after} of {it.before} lines since the {it.cause}" for it in found[:NAMED]]
+    lines = [f"thinned: {it.told(f'the docker of {it.place} on {it.day}')}" for it in found[:NAMED]]
     return lines + ([f"thinned: {len(found) - NAMED} more dockers; {office.folder / 'thinned'} lists them"] if len(found) > NAMED else [])
 
 
@@ -98,7 +98,7 @@ def prints_places(office, reader, known, date):
     written = {}
     for place, text in dockers_of(office, reader, date):
         with writing():
-            sys.stdout.buffer.write(covering.head(office, known, date) + text)
+            sys.stdout.buffer.write(covering.head(office, known, date, place) + text)
             sys.stdout.flush()
         says_unknown(office, place, text)
         written[place] = text

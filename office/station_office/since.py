@@ -137,7 +137,7 @@ def prints_day(office, reader, known, earlier, date):
                 gone, new = (sum(line.startswith(mark) for line in found) for mark in "-+")
                 counted = f"{covering.REMARK}{gone} {'line' if gone == 1 else 'lines'} gone and {new} new since {since}"
                 with writing():
-                    print(covering.head(office, known, date).decode("ascii"), end="")
+                    print(covering.head(office, known, date, place).decode("ascii"), end="")
                     print(counted, text.decode("ascii").split("\n")[0], *found, sep="\n", flush=True)
     if not number and is_covered and office.status == 0:
         office.say(date, f"nothing changed since {since}")
