@@ -1,18 +1,6 @@
-"""The transcript in examples/office is right: each of its lines is made here without the programs that print it.
-
-| Lines | Where they come from |
-|---|---|
-| remarks and commands | the script `run` |
-| the lists of files, and what a merge brought | the headers of the extracts, read by their columns in docs/FORMATS.md |
-| dockers | `plain.py`, a reader of extracts that shares no code with `docker` or the office |
-| what was accepted | the records of each extract, counted |
-| why the half extract is refused | it is the beginning of an extract, so its fault is NoEnd at the number of its records plus one. What that means is in docs/FORMATS.md |
-| `# Made`, `# This day` | the clock that `run` sets, the newest header, and the days from the full extract's to the last one of a schedule |
-| what was cancelled, altered or added | the trains on the dockers of all schedules and of the permanent ones, by `plain.py` |
-| what is asked for, and what changed since | it is the office's first morning, and no full extract is in its folder in/ |
-| files in folders | office/README.md says where a file goes. A file that isn't packed is packed by zstd |
-
-The words of messages are written here as docs/MANUAL.md and office/README.md describe them. `tests/examples` compares what `run` prints with the transcript."""
+"""The transcript in examples/office is right: each of its lines is made here without the programs that print it. Remarks and commands come from the script `run`, and each
+function below says where its lines come from. The words of messages are written here as docs/MANUAL.md and office/README.md describe them. `tests/examples` compares what `run`
+prints with the transcript."""
 import datetime
 import re
 import shlex
@@ -33,7 +21,7 @@ def said(subject, words):
 
 
 def head(content):
-    """The fields of an extract's header that `docker files` lists."""
+    """A line of `docker files`: the fields of an extract's header, by their columns in docs/FORMATS.md."""
     line, at = plain.lines_of(content)[0], plain.stamp_of(content)
     return f"{at.date} {at.time} {line[32:39]} {line[46]} {line[39:46]}".rstrip()
 
@@ -45,13 +33,14 @@ def name(content):
 
 
 def accepted(path, content):
+    """What is accepted: the records and the changes of an extract, counted."""
     lines = plain.lines_of(content)
     changes = sum(line[:2] in ("TI", "TD", "AA", "BS") for line in lines)
     return said(path, f"accepted: {len(lines)} records, {changes} changes")
 
 
 def refused(path, number):
-    """A file that ends after a number of records."""
+    """A file that ends after a number of records, and so before its trailer. docs/FORMATS.md says at which record its fault is, and what the fault means."""
     [row] = re.findall(r"^\| `NoEnd` \| (.*) \|$", (ROOT / "docs" / "FORMATS.md").read_text(encoding="utf-8"), re.M)
     advice = "It is empty, was cut, or was still on its way. Fetch it again, byte for byte, and move it here when it is whole."
     yield said(path, f"docker: file refused: record {number + 1}: NoEnd")
@@ -60,11 +49,12 @@ def refused(path, number):
 
 
 def docker(place):
+    """A docker by `plain.py`, a reader of extracts that shares no code with `docker` or the office."""
     return plain.Day(plain.table_of(ALL)).docker(place, DAY).splitlines()
 
 
 def remarks():
-    """What stands above each docker."""
+    """The lines above each docker: the clock that `run` sets, the newest header, and whether the day is between the full extract and the last day of a schedule."""
     ends = [plain.day_of(line[15:21]) for content in ALL for line in plain.lines_of(content) if line[:2] == "BS"]
     assert plain.is_full(FULL) and plain.stamp_of(FULL).date <= DAY <= max(ends)
     return [f"# Made {NOW:%Y-%m-%d %H:%M}. Known up to {name(max(ALL, key=plain.stamp_of))}.", "# This day is covered."]
@@ -85,7 +75,7 @@ def permanent(table):
 
 
 def differences():
-    """How many trains differ from the permanent timetable, and at how many places."""
+    """How many trains differ from the permanent timetable, and at how many places: the dockers of all schedules and of the permanent ones, by `plain.py`."""
     table, places, changed = plain.table_of(ALL), 0, {"cancelled": set(), "altered": set(), "added": set()}
     cancelled = {(uid, (DAY - first).days) for uid, first, stp in table.schedules if stp == "C"}
     for place in PLACES:
@@ -100,7 +90,8 @@ def differences():
 
 
 def morning():
-    """South's morning. It takes its files in the order of their names, and gets the full extract from North. Nothing is old or missing, and one file was refused."""
+    """South's first morning. It takes its files in the order of their names, and gets the full extract from North, so it asks for this extract. Nothing is old or missing, and
+    one file was refused."""
     references = [plain.stamp_of(content).reference for content in ALL]
     assert [plain.lines_of(content)[0][39:46] for content in ALL[1:]] == references[:-1]
     yield from refused("south/in/half.cif", 3)
@@ -118,6 +109,7 @@ def morning():
     yield "status 1"
 
 
+# office/README.md says into which folder a file goes. A file that isn't packed is packed by zstd.
 FOLDERS = {
     "south/in": [], "south/refused": ["half.cif.why", "half.cif.zst"], "south/taken": ["list", "monday.cif.zst", "tuesday.cif.gz"],
     "swap": ["HOST-north-LETTERS.state.zst", "HOST-south-LETTERS.state.zst", "wanted"],
