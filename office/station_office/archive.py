@@ -1,5 +1,6 @@
 """The folders that extracts go through, and the list of extracts that were taken."""
 import filecmp
+import itertools
 import os
 import re
 import shutil
@@ -92,7 +93,7 @@ def archived(office):
 def free_name(folder, name):
     """This name, or, if a file in the folder has the name, packed or not, a similar name that no file has."""
     name = re.sub(r"[\x00-\x1f\x7f]", "_", name)
-    numbers = ("", *(f".{number}" for number in range(2, 10000)))
+    numbers = itertools.chain([""], (f".{number}" for number in itertools.count(2)))
     return next(name + number for number in numbers if not any((folder / f"{name}{number}{end}").exists() for end in ("", ".zst", ".why")))
 
 

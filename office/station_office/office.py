@@ -75,10 +75,10 @@ class Office:
             self.say(fault.subject, line)
         self.counts(fault.status, fault.kind)
 
-    def counts(self, status, kind):
-        """Counts a trouble of a kind."""
+    def counts(self, status, kind, number=None):
+        """Counts a trouble of a kind. If a number is given, there are as many troubles of this kind in all."""
         self.status = max(self.status, status)
-        self.troubles[status, kind] += 1
+        self.troubles[status, kind] = self.troubles[status, kind] + 1 if number is None else number
 
     def sums_up(self):
         """Prints how many troubles of each kind there were, if there were any. The greatest status doesn't hide the others here."""

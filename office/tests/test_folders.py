@@ -1,7 +1,6 @@
 """Files that are still being written, folders that are gone, and what is written where."""
 import importlib
 import os
-import pathlib
 import shutil
 import subprocess
 import time
@@ -28,8 +27,8 @@ def test_a_program_that_ends_while_it_is_looked_at(monkeypatch, tmp_path):
     waiting = importlib.import_module("station_office.waiting")
     with subprocess.Popen(["true"]) as ended:
         pass
-    programs = [pathlib.Path("/proc", str(number)) for number in (ended.pid, os.getpid())]
-    monkeypatch.setattr(pathlib.Path, "glob", lambda *_: programs)
+    programs = [f"/proc/{number}" for number in (ended.pid, os.getpid())]
+    monkeypatch.setattr(waiting.glob, "glob", lambda *_: programs)
     with open(tmp_path / "file", "wb"):
         assert waiting.being_written([tmp_path / "file"]) == {tmp_path / "file"}
 
