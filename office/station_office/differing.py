@@ -1,4 +1,5 @@
 """How the dockers of the office's places differ from the permanent timetable."""
+import collections
 from typing import NamedTuple
 
 import changes
@@ -10,6 +11,8 @@ from .faults import Fault
 from .reporting import dockers_of, writing
 
 
+# The columns of the UID in a line.
+UID = slice(lines.COLUMNS["UID"][0] - 1, lines.COLUMNS["UID"][1])
 LACKING = "what differs from the permanent timetable can't be said: this needs a program desk that knows what is permanent, and there is none, or one of an older version"
 
 
@@ -18,6 +21,13 @@ class Pair(NamedTuple):
     date: str
     text: bytes
     permanent: bytes
+
+    def reduced(self):
+        """Both dockers with only the lines of the UIDs whose lines differ, STP indicators included. The other trains needn't be compared."""
+        rows = [text.split(b"\n") for text in (self.text, self.permanent)]
+        one, other = (collections.Counter(found) for found in rows)
+        uids = {line[UID] for line in (*(one - other), *(other - one))}
+        return Pair(self.date, *(b"\n".join([found[0], *(line for line in found[1:-2] if line[UID] in uids), *found[-2:]]) for found in rows))
 
 
 def permanent_of(reader, place, date):
@@ -63,7 +73,7 @@ def says_differences(office, reader, date, printed, is_covered):
         return
     found, number, departures, answers = {}, 0, changes.Departures(reader), {}
     for place, text in printed.items():
-        timetable = changes.Timetable(reader, place, Pair(date, text, permanent_of(reader, place, date)), departures)
+        timetable = changes.Timetable(reader, place, Pair(date, text, permanent_of(reader, place, date)).reduced(), departures)
         # A train that differs at several places is requested once.
         timetable.answers = answers
         told = changes.changes_of(timetable, date).trains

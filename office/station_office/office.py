@@ -1,6 +1,7 @@
 """An office: STATE, its folder, and docker commands on both."""
 import collections
 import contextlib
+import functools
 import hashlib
 import math
 import os
@@ -29,6 +30,12 @@ def size_text(size):
 
 def digest_of(path):
     """A text that changes whenever a file's content does."""
+    return digest_once(path, dockers.identity(path))
+
+
+@functools.cache
+def digest_once(path, _):
+    """The digest of a file's content. A file that is asked for several times is read once, unless another one takes its place."""
     with open(path, "rb") as file:
         return hashlib.file_digest(file, "blake2b").hexdigest()[:32]
 
