@@ -18,22 +18,31 @@ class Runs:
     """Runs of a script by a server. Every process of a run is in a group of its own, so that a run can be ended at any moment."""
 
     def __init__(self, script):
-        self.folder = tempfile.TemporaryDirectory()
+        self.script, self.folder = script, tempfile.TemporaryDirectory()
         self.printed = [pathlib.Path(self.folder.name, name) for name in ("out", "err")]
-        self.server = subprocess.Popen([sys.executable, "-B", __file__, script], stdin=subprocess.PIPE, stdout=subprocess.PIPE, text=True)
+        self.starts()
+
+    def starts(self):
+        self.server = subprocess.Popen([sys.executable, "-B", __file__, self.script], stdin=subprocess.PIPE, stdout=subprocess.PIPE, text=True)
 
     def run(self, *words, seconds=None, **environment):
         """Runs the script with these words, in this process's environment and with these variables. Returns its status, its output, and its messages. A run that would take
         longer than some seconds is killed then."""
         request = list(map(str, words)), {**os.environ, **environment}, *map(str, self.printed), seconds
-        print(json.dumps(request), file=self.server.stdin, flush=True)
-        status = int(self.server.stdout.readline())
+        try:
+            print(json.dumps(request), file=self.server.stdin, flush=True)
+            status = int(self.server.stdout.readline())
+        except BaseException:
+            # A case that took too long ends here. The next one mustn't get the answer of this one.
+            self.server.kill()
+            self.ends()
+            self.starts()
+            raise
         out, said = (path.read_bytes() for path in self.printed)
         return status, out, said.decode("utf-8")
 
     def ends(self):
         self.server.communicate()
-        self.folder.cleanup()
 
 
 def loaded(path):

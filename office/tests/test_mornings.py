@@ -11,6 +11,7 @@ import signal
 import time
 
 import plain
+import pytest
 import timetable
 from offices import docker, station
 
@@ -134,6 +135,8 @@ class World:
         self.known = {office: [{}] for office in self.offices}
         self.sent = {office: (b"", []) for office in self.offices}
         self.ever = {office: {} for office in self.offices}
+        # The files that came to each office. One of them may count only after a newer full extract was withdrawn.
+        self.came = {office: set() for office in self.offices}
         # How many seconds a run takes.
         self.takes = 0.2
         for office in self.offices:
@@ -215,33 +218,33 @@ class World:
                 found.update((line, event) for words, event in EVENTS.items() if words in line)
         self.seen.update(event for _, event in found)
 
-    def learns(self, office, came):
+    def learns(self, office):
         """What an office may know after a run: the files that it lists. Those that it never knew before are among the files that came, or another office knew them when
         it sent its state. If files with one stamp differ, each of them is possible until a docker shows which it is."""
         possible = [{}]
         for line in docker("files", office.state).decode("ascii").splitlines():
             stamp = plain.Stamp(datetime.date.fromisoformat(line[:10]), line[11:15], line[16:23].strip())
-            contents = self.ever[office].get(stamp) or self.sources(office, stamp, came)
+            contents = self.ever[office].get(stamp) or self.sources(office, stamp)
             assert contents, f"nobody made {line}"
             possible = [{**one, stamp: content} for one in possible for content in contents]
         return possible
 
-    def sources(self, office, stamp, came):
+    def sources(self, office, stamp):
         """The contents of the files with a stamp that an office may have got."""
-        found = {content for content in came if content[:2] == b"HD" and plain.lines_of(content)[-1][:2] == "ZZ" and plain.stamp_of(content) == stamp}
+        found = {content for content in self.came[office] if content[:2] == b"HD" and plain.lines_of(content)[-1][:2] == "ZZ" and plain.stamp_of(content) == stamp}
         return found.union(*(self.of_stamp(known, stamp) for other, (_, known) in self.sent.items() if other != office))
 
     @staticmethod
     def of_stamp(possible, stamp):
         return {known[stamp] for known in possible if stamp in known}
 
-    def checks(self, office, now, out, said, came):
+    def checks(self, office, now, out, said):
         """Checks what an office prints after a run, and what it has lost."""
         printed = out or station().run("print", office.state, f"{now:%F}")[1]
         # The lines above each docker say when it was made.
         printed = re.sub(rb"^#.*\n", b"", printed, flags=re.M)
         places = (office.folder / "places").read_text().split()
-        possible = [known for known in self.learns(office, came) if self.dockers(known, places, now.date()) == printed]
+        possible = [known for known in self.learns(office) if self.dockers(known, places, now.date()) == printed]
         assert possible, said
         assert any(self.losses(before, after, places) == [] for before in self.known[office] for after in possible), (said, self.losses(self.known[office][0], possible[0], places))
         self.known[office] = possible
@@ -264,14 +267,15 @@ class World:
         return found + [place for place, numbers in called.items() if numbers[0] >= 20 and 2 * numbers[1] < numbers[0]]
 
 
+@pytest.mark.timeout(900)
 def test_mornings(offices, seen, seed):
     seen.update(dict.fromkeys(WANTED, 0))
     world, now = World(offices, seen, seed), BEGIN
     for _ in range(MORNINGS):
         world.delivers(now)
         for office in world.chance.sample(world.offices, 3):
-            came = [path.read_bytes() for path in (office.folder / "in").iterdir()]
-            world.checks(office, now, *world.runs(office, now), came)
+            world.came[office].update(path.read_bytes() for path in (office.folder / "in").iterdir())
+            world.checks(office, now, *world.runs(office, now))
             if world.known[office][0] and world.chance.random() < 0.1:
-                world.checks(office, now, *world.withdraws(office, now), [])
+                world.checks(office, now, *world.withdraws(office, now))
         now += datetime.timedelta(1)
