@@ -107,25 +107,26 @@ def date_of(digits):
 
 def calls_of(records, only):
     """The calls of a schedule; if a place is given, only the calls there."""
-    calls, identity, is_changed, before, day = [], part(records[0], BASIC["train identity"]), False, 0, 0
+    calls, identity, is_changed, before, day = [], part(records[0], BASIC["train identity"]), False, "", 0
     for record in records:
         kind = record[:2]
         if kind == "CR":
             identity, is_changed = part(record, (13, 16)), True
         if kind not in TIMES:
             continue
-        times = {what: time for what, columns in TIMES[kind] if (time := part(record, columns))}
-        days = {}
-        for what, time in times.items():
-            # A time that is earlier than the one before it is on the next day.
-            day, before = day + (half_minutes(time) < before), half_minutes(time)
-            days[what] = day
-        if only not in (None, record[2:9].rstrip()):
-            is_changed = False
-            continue
-        public = {what: part(record, columns) for what, columns in PUBLIC[kind].items()}
-        platform, line, path = (part(record, columns) for columns in TRACKS[kind])
-        calls.append(Call(part(record, (3, 9)), part(record, (10, 10)), times, days, public, platform, line, path, identity, is_changed))
+        times, days, is_here = {}, {}, only in (None, record[2:9].rstrip())
+        for what, (first, last) in TIMES[kind]:
+            time = record[first - 1:last]
+            if time.isspace():
+                continue
+            # A time that is earlier than the one before it is on the next day. An H, which is half a minute, is above a space.
+            day, before = day + (time < before), time
+            if is_here:
+                times[what], days[what] = time.rstrip(), day
+        if is_here:
+            public = {what: part(record, columns) for what, columns in PUBLIC[kind].items()}
+            platform, line, path = (part(record, columns) for columns in TRACKS[kind])
+            calls.append(Call(part(record, (3, 9)), part(record, (10, 10)), times, days, public, platform, line, path, identity, is_changed))
         is_changed = False
     return calls
 

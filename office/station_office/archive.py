@@ -1,11 +1,11 @@
-"""The files beside STATE: the folders that extracts go through, the list of extracts that were taken, and the copies of STATE."""
+"""The folders that extracts go through, and the list of extracts that were taken."""
 import filecmp
+import itertools
 import os
 import re
 import shutil
 import tempfile
 import time
-from datetime import datetime
 from typing import NamedTuple
 
 import dockers
@@ -14,7 +14,6 @@ from . import packing
 from .extracts import header_of, stamp_of
 from .faults import Fault
 
-COPIES = 7
 # The folders whose files are kept for KEEP_DAYS.
 KEPT = ("taken", "refused", "held")
 # The list of extracts that were taken. It is in the folder with these extracts.
@@ -94,7 +93,7 @@ def archived(office):
 def free_name(folder, name):
     """This name, or, if a file in the folder has the name, packed or not, a similar name that no file has."""
     name = re.sub(r"[\x00-\x1f\x7f]", "_", name)
-    numbers = ("", *(f".{number}" for number in range(2, 10000)))
+    numbers = itertools.chain([""], (f".{number}" for number in itertools.count(2)))
     return next(name + number for number in numbers if not any((folder / f"{name}{number}{end}").exists() for end in ("", ".zst", ".why")))
 
 
@@ -149,34 +148,3 @@ def forgets(office):
 def is_same(one, other):
     """Whether two files have the same bytes."""
     return filecmp.cmp(one, other, shallow=False)
-
-
-def copies(office):
-    """The copies of STATE, newest first."""
-    files, _ = contents_of(office.folder / "copies")
-    return [path for path in reversed(files) if path.name.startswith(f"{office.state.name}.") and path.suffix == ".zst"]
-
-
-def copy_of(office):
-    """The file in copies/ for a copy of the present STATE. Its name has the time at which STATE was written."""
-    found = os.stat(office.state)
-    made = datetime.fromtimestamp(found.st_mtime).strftime("%Y%m%d-%H%M%S")
-    return office.folder / "copies" / f"{office.state.name}.{made}.{found.st_mtime_ns % 10**9:09}.zst"
-
-
-def keeps_copy(office):
-    """Keeps a copy of STATE as it was before this run, unless the newest copy is the same. If there are more than seven, the oldest are removed."""
-    if office.is_copied:
-        return
-    kept, copy = copies(office), copy_of(office)
-    try:
-        copy.parent.mkdir(exist_ok=True)
-        if not copy.exists():
-            packing.pack(office.state, office.work / "copy")
-            if not kept or not is_same(kept[0], office.work / "copy"):
-                os.replace(office.work / "copy", copy)
-    except OSError:
-        raise Fault(4, office.state, "no copy can be made, so it stays as it is", *office.shortage(office.needed())) from None
-    for old in copies(office)[COPIES:]:
-        old.unlink()
-    office.is_copied = True

@@ -1,11 +1,12 @@
-"""When dockers were made, up to when extracts are known, and whether a day is covered. Each docker that is printed says so above its heading, and a day that isn't
-covered is reported."""
+"""When dockers were made, up to when extracts are known, whether a day is covered, and whether a docker is thinned. Each docker that is printed says so above its
+heading, and a day that isn't covered is reported."""
 import datetime
 
 import days
 import dockers
 
 from .faults import REPORTED, Fault
+from .thinned import thinned
 
 # The sign at the beginning of a line that isn't part of a docker.
 REMARK = "# "
@@ -19,11 +20,12 @@ def days_known(reader):
     return days.Days(dockers.extracts_of(files.text), dockers.coverage_of(coverage.text) if coverage.status == 0 else None)
 
 
-def head(office, known, date):
-    """The lines above each docker of a day, as bytes."""
+def head(office, known, date, place):
+    """The lines above the docker of a place on a day, as bytes."""
     newest = f"Known up to {known.newest.name}." if known.newest else "Nothing is known."
-    found = [f"Made {office.settings.now:%Y-%m-%d %H:%M}. {newest}", f"{known.cover(date)}.", *known.gaps(date), *known.missing()]
-    return "".join(f"{REMARK}{line}\n" for line in found).replace("’", "'").encode("ascii")
+    lost = [it.told("This docker") + "." for it in thinned(office) if (it.place, it.day) == (place, date)]
+    found = [f"Made {office.settings.now:%Y-%m-%d %H:%M}. {newest}", f"{known.cover(date)}.", *known.gaps(date), *known.missing(), *lost]
+    return "".join(f"{REMARK}{line}\n" for line in found).replace("’", "'").encode("ascii", "backslashreplace")
 
 
 def is_refused(known, date):

@@ -1,4 +1,7 @@
 """How the dockers of the office's places differ from the permanent timetable."""
+import collections
+from typing import NamedTuple
+
 import changes
 import dockers
 import lines
@@ -8,7 +11,23 @@ from .faults import Fault
 from .reporting import dockers_of, writing
 
 
+# The columns of the UID in a line.
+UID = slice(lines.COLUMNS["UID"][0] - 1, lines.COLUMNS["UID"][1])
 LACKING = "what differs from the permanent timetable can't be said: this needs a program desk that knows what is permanent, and there is none, or one of an older version"
+
+
+class Pair(NamedTuple):
+    """The docker of a place on a day, and its permanent docker."""
+    date: str
+    text: bytes
+    permanent: bytes
+
+    def reduced(self):
+        """Both dockers with only the lines of the UIDs whose lines differ, STP indicators included. The other trains needn't be compared."""
+        rows = [text.split(b"\n") for text in (self.text, self.permanent)]
+        one, other = (collections.Counter(found) for found in rows)
+        uids = {line[UID] for line in (*(one - other), *(other - one))}
+        return Pair(self.date, *(b"\n".join([found[0], *(line for line in found[1:-2] if line[UID] in uids), *found[-2:]]) for found in rows))
 
 
 def permanent_of(reader, place, date):
@@ -29,7 +48,7 @@ def prints_differences(office, reader, known, date):
         if found := differences(text, permanent):
             is_same = False
             with writing():
-                print(covering.head(office, known, date).decode("ascii"), end="")
+                print(covering.head(office, known, date, place).decode("ascii"), end="")
                 print(text.decode("ascii").split("\n")[0], *found, sep="\n", flush=True)
     if is_same and is_covered and office.status == 0:
         office.say(date, "nothing differs from the permanent timetable")
@@ -38,27 +57,31 @@ def prints_differences(office, reader, known, date):
 def differences(text, permanent):
     """The lines that only one of two dockers has, in their order. A line of the permanent docker has `-` before it, and a line of the day's docker has
     `+`."""
+    if text == permanent:
+        return []
     found = [(mark, row.decode("ascii")) for mark, docker, other in (("-", permanent, text), ("+", text, permanent)) for row in changes.lone(docker, other)]
     found.sort(key=lambda one: changes.place_in_day(lines.line_of(one[1])))
     return [f"{mark} {row}" for mark, row in found]
 
 
-def says_differences(office, reader, date, places, is_covered):
-    """Prints how many trains differ on a day at some places. It isn't said of an uncovered day that nothing differs."""
-    if not places:
+def says_differences(office, reader, date, printed, is_covered):
+    """Prints how many trains differ on a day at the places whose dockers were printed. It isn't said of an uncovered day that nothing differs."""
+    if not printed:
         return
-    if reader.permanent(places[0], date).status in dockers.LACKING:
+    if reader.permanent(next(iter(printed)), date).status in dockers.LACKING:
         office.say(date, LACKING)
         return
-    found, number, departures = {}, 0, changes.Departures(reader)
-    for place in places:
-        permanent_of(reader, place, date)
-        told = changes.changes_of(changes.Timetable(reader, place, departures=departures), date).trains
+    found, number, departures, answers = {}, 0, changes.Departures(reader), {}
+    for place, text in printed.items():
+        timetable = changes.Timetable(reader, place, Pair(date, text, permanent_of(reader, place, date)).reduced(), departures)
+        # A train that differs at several places is requested once.
+        timetable.answers = answers
+        told = changes.changes_of(timetable, date).trains
         number += bool(told)
         for kind, those in told.items():
             found.setdefault(kind, set()).update(those)
     if found:
-        at = f"at {number} of {len(places)} {'place' if len(places) == 1 else 'places'}"
+        at = f"at {number} of {len(printed)} {'place' if len(printed) == 1 else 'places'}"
         office.say(date, f"{changes.counted(found)} {at}; `station-office changes {office.state} {date}` prints them")
     elif is_covered:
         office.say(date, "nothing differs from the permanent timetable")

@@ -1,5 +1,6 @@
 """Reads extracts by their headers, and states by their heads and entries, as in docs/FORMATS.md."""
 import collections
+import contextlib
 import datetime
 import itertools
 import mmap
@@ -94,20 +95,36 @@ class Entry(NamedTuple):
     body: bytes
 
 
-def entries_of(path):
-    """The entries of a state, in the order of their keys."""
+@contextlib.contextmanager
+def mapped(path):
+    """The text of a state, and where its first entry begins and how many entries it has."""
     with open(path, "rb") as file, mmap.mmap(file.fileno(), 0, access=mmap.ACCESS_READ) as text:
         at = HEAD + ITEM * int.from_bytes(text[6:HEAD], "big")
-        count, at = int.from_bytes(text[at:at + COUNT], "big"), at + COUNT
+        yield text, at + COUNT, int.from_bytes(text[at:at + COUNT], "big")
+
+
+def end_of(text, at):
+    """Where the entry ends that begins here in a state's text."""
+    tag = text[at]
+    end = at + KEYS[tag] + STAMP + 2
+    if text[end - 1] != PUT:
+        return end
+    return end + (BODIES.get(tag) or 4 + 80 * int.from_bytes(text[end:end + 4], "big"))
+
+
+def entry_at(text, at):
+    """The entry that begins here in a state's text."""
+    stamp = at + 1 + KEYS[text[at]]
+    op = stamp + STAMP
+    return Entry(text[at:stamp], text[stamp:stamp + FILE_OF_STAMP], text[stamp:op], text[op], text[op + 1:end_of(text, at)])
+
+
+def entries_of(path):
+    """The entries of a state, in the order of their keys."""
+    with mapped(path) as (text, at, count):
         for _ in range(count):
-            tag = text[at]
-            stamp = at + 1 + KEYS[tag]
-            op = stamp + STAMP
-            end = op + 1
-            if text[op] == PUT:
-                end += BODIES.get(tag) or 4 + 80 * int.from_bytes(text[end:end + 4], "big")
-            yield Entry(text[at:stamp], text[stamp:stamp + FILE_OF_STAMP], text[stamp:op], text[op], text[op + 1:end])
-            at = end
+            yield entry_at(text, at)
+            at = end_of(text, at)
 
 
 def deletions(path, extracts):
@@ -120,15 +137,23 @@ def deletions(path, extracts):
     return found
 
 
-def paired(ours, theirs):
-    """The entries of two states with the same key, key by key. If only one state has a key, the other entry is None."""
-    one, other = next(ours, None), next(theirs, None)
-    while one or other:
-        first = one if not other or one and one.key <= other.key else None
-        second = other if not one or other and other.key <= one.key else None
-        yield first, second
-        one = next(ours, None) if first else one
-        other = next(theirs, None) if second else other
+def differing(ours, theirs):
+    """The entries in which two states differ, key by key. If only one state has a key, the other entry is None. Most entries of two states are the same, and they are
+    compared as bytes."""
+    with mapped(ours) as (one, at, left), mapped(theirs) as (other, its, rest):
+        while left or rest:
+            end = end_of(one, at) if left else at
+            if left and rest and one[at:end] == other[its:its + end - at]:
+                at, its, left, rest = end, its + end - at, left - 1, rest - 1
+                continue
+            first, second = entry_at(one, at) if left else None, entry_at(other, its) if rest else None
+            if first and second:
+                first, second = first if first.key <= second.key else None, second if second.key <= first.key else None
+            yield first, second
+            if first:
+                at, left = end, left - 1
+            if second:
+                its, rest = end_of(other, its), rest - 1
 
 
 def contradicted(ours, theirs):
@@ -137,9 +162,7 @@ def contradicted(ours, theirs):
     known = [{item[:FILE_OF_STAMP] for item in dockers.knowledge(path).items} for path in (ours, theirs)]
     floor = max(min(files, default=b"") for files in known)
     both, found = {file for file in known[0] & known[1] if file >= floor}, collections.Counter()
-    for one, other in paired(entries_of(ours), entries_of(theirs)):
-        if one == other:
-            continue
+    for one, other in differing(ours, theirs):
         newer = max(filter(None, (one, other)), key=lambda entry: entry.stamp)
         has_lapsed = one and other and one.stamp == other.stamp and LAPSED in (one.op, other.op)
         if newer.file in both and not has_lapsed:

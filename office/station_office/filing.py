@@ -33,11 +33,11 @@ def writes(office, reader, date, places):
         if places:
             day = folder_of(office) / date
             day.mkdir(exist_ok=True)
-            head = covering.head(office, covering.days_known(reader), date)
+            known = covering.days_known(reader)
             for place in places:
                 answer = reader.print_docker(place, date)
                 if answer.status == 0:
-                    replaces(day / f"{urllib.parse.quote(place, safe='')}.txt", head + answer.text)
+                    replaces(day / f"{urllib.parse.quote(place, safe='')}.txt", covering.head(office, known, date, place) + answer.text)
             writes_pages(office, day, date)
 
 

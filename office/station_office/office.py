@@ -1,6 +1,7 @@
 """An office: STATE, its folder, and docker commands on both."""
 import collections
 import contextlib
+import functools
 import hashlib
 import math
 import os
@@ -29,6 +30,12 @@ def size_text(size):
 
 def digest_of(path):
     """A text that changes whenever a file's content does."""
+    return digest_once(path, dockers.identity(path))
+
+
+@functools.cache
+def digest_once(path, _):
+    """The digest of a file's content. A file that is asked for several times is read once, unless another one takes its place."""
     with open(path, "rb") as file:
         return hashlib.file_digest(file, "blake2b").hexdigest()[:32]
 
@@ -75,10 +82,10 @@ class Office:
             self.say(fault.subject, line)
         self.counts(fault.status, fault.kind)
 
-    def counts(self, status, kind):
-        """Counts a trouble of a kind."""
+    def counts(self, status, kind, number=None):
+        """Counts a trouble of a kind. If a number is given, there are as many troubles of this kind in all."""
         self.status = max(self.status, status)
-        self.troubles[status, kind] += 1
+        self.troubles[status, kind] = self.troubles[status, kind] + 1 if number is None else number
 
     def sums_up(self):
         """Prints how many troubles of each kind there were, if there were any. The greatest status doesn't hide the others here."""

@@ -3,13 +3,14 @@
 `printed/DATE.zip` has the dockers of a day as they were last printed. `mornings/DATE.zip` has what the morning of that day knew of three days: that day and the two
 days after it. So the next morning, and the screen, can compare today and tomorrow with it."""
 import datetime
+import functools
 import os
 import pathlib
 import urllib.parse
 import zipfile
 from typing import NamedTuple
 
-from .archive import copy_of
+from .copying import copy_of
 
 PRINTED, MORNINGS = "printed", "mornings"
 # The number of days of which a morning keeps dockers, and the number of files that each folder keeps.
@@ -25,10 +26,16 @@ class Kept(NamedTuple):
     def docker(self, place, date):
         """The docker of a place on a day; None if the file doesn't have it."""
         try:
-            with zipfile.ZipFile(self.path) as file:
-                return file.read(entry(place, date))
+            found = os.stat(self.path)
+            return opened(self.path, found.st_ino, found.st_mtime_ns).read(entry(place, date))
         except (KeyError, OSError, zipfile.BadZipFile):
             return None
+
+
+@functools.lru_cache(maxsize=4)
+def opened(path, *_):
+    """A zip file, opened once as long as no other file takes its place."""
+    return zipfile.ZipFile(path)
 
 
 def entry(place, date):

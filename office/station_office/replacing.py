@@ -5,7 +5,7 @@ import sys
 
 import dockers
 
-from . import archive, judging, thinned
+from . import copying, judging, thinned
 from .clock import clock_text
 from .extracts import stamp_of
 from .faults import Fault
@@ -36,7 +36,7 @@ def draft_of(office, plain):
 
 def puts_in_place(office, state, before):
     """Puts a state in STATE's place, unless another command has written STATE since BEFORE."""
-    archive.keeps_copy(office)
+    copying.keeps_copy(office)
     if dockers.identity(office.state) != before:
         raise Fault(4, office.state, "another command wrote STATE meanwhile, so this one changed nothing: do it again")
     os.chmod(state, os.stat(office.state).st_mode & 0o777)

@@ -28,10 +28,14 @@ def says_known(office, says):
     """Says how recent the newest file is, and what is missing, old, thinned or withdrawn."""
     extracts = office.files()
     says(f"known up to {extracts[-1].name}" if extracts else "nothing is known: no extract was taken")
-    for line in (*gaps(office, extracts), *old(office, extracts), *thin(office)):
+    for line in (*gaps(office, extracts), *old(office, extracts)):
         says(line)
         if (kind := line.partition(":")[0]) != "withdrawn":
             office.counts(REPORTED, kind)
+    if found := thinned(office):
+        for line in thin(office, found):
+            says(line)
+        office.counts(REPORTED, "thinned", len(found))
     if not extracts:
         office.counts(REPORTED, "nothing known")
     for extract in known_of(office, extracts):
@@ -58,10 +62,9 @@ def old(office, extracts):
     return [f"old: the {newest.name} is {age_text(age)} old by the clock, which says {clock_text(office)}; more than {age_text(most)} is too old"] if age > most else []
 
 
-def thin(office):
+def thin(office, found):
     """A line for each docker that a file left with few lines, up to a number of dockers."""
-    found = thinned(office)
-    lines = [f"thinned: the docker of {it.place} on {it.day} has {it.after} of {it.before} lines since the {it.cause}" for it in found[:NAMED]]
+    lines = [f"thinned: {it.told(f'the docker of {it.place} on {it.day}')}" for it in found[:NAMED]]
     return lines + ([f"thinned: {len(found) - NAMED} more dockers; {office.folder / 'thinned'} lists them"] if len(found) > NAMED else [])
 
 
@@ -98,7 +101,7 @@ def prints_places(office, reader, known, date):
     written = {}
     for place, text in dockers_of(office, reader, date):
         with writing():
-            sys.stdout.buffer.write(covering.head(office, known, date) + text)
+            sys.stdout.buffer.write(covering.head(office, known, date, place) + text)
             sys.stdout.flush()
         says_unknown(office, place, text)
         written[place] = text

@@ -7,7 +7,7 @@ import zoneinfo
 
 import dockers
 
-from . import archive, covering, packing, printed
+from . import copying, covering, packing, printed
 from .differing import differences
 from .faults import Fault
 from .reporting import dockers_of, writing
@@ -110,7 +110,7 @@ def written_at(copy):
 def copy_at(office, time):
     """The file that has STATE as it was at a British time: STATE itself, if it wasn't written since, or the newest copy of a STATE that was written before."""
     at = time.replace(tzinfo=ZONE).timestamp()
-    written = [(office.state.stat().st_mtime, office.state), *((written_at(copy), copy) for copy in archive.copies(office))]
+    written = [(office.state.stat().st_mtime, office.state), *((written_at(copy), copy) for copy in copying.copies(office))]
     for moment, path in written:
         if moment <= at:
             return path
@@ -137,7 +137,7 @@ def prints_day(office, reader, known, earlier, date):
                 gone, new = (sum(line.startswith(mark) for line in found) for mark in "-+")
                 counted = f"{covering.REMARK}{gone} {'line' if gone == 1 else 'lines'} gone and {new} new since {since}"
                 with writing():
-                    print(covering.head(office, known, date).decode("ascii"), end="")
+                    print(covering.head(office, known, date, place).decode("ascii"), end="")
                     print(counted, text.decode("ascii").split("\n")[0], *found, sep="\n", flush=True)
     if not number and is_covered and office.status == 0:
         office.say(date, f"nothing changed since {since}")

@@ -3,6 +3,7 @@ import contextlib
 import os
 import re
 import secrets
+import shutil
 import socket
 
 import dockers
@@ -84,6 +85,16 @@ def sent_state(office):
     return ""
 
 
+def packs(office, target):
+    """Packs STATE into a file. If this office has put the same STATE into swap/, that file is packed already."""
+    if sent_state(office) == identity_text(office):
+        with contextlib.suppress(OSError):
+            shutil.copyfile(own(office), target)
+            if digest_of(target) in sent(office)[:1]:
+                return
+    packing.pack(office.state, target)
+
+
 def looks_at_name(office, target):
     """Makes sure that no other office has this office's name. The one that finds that out leaves a note for the other one in the folder `names` in swap/."""
     note, remedy = target.parent / "names" / name_of(office), f"Remove {name_file(office)}, and this office gets a name of its own"
@@ -137,12 +148,12 @@ def sends(office):
     looks_at_name(office, target)
     if target.exists() and sent_state(office) == identity_text(office):
         return
-    part = target.with_name(f".{target.name}.part")
+    part, state = target.with_name(f".{target.name}.part"), identity_text(office)
     try:
         packing.pack(office.state, part)
         office.beside("sent").write_text("\n".join([digest_of(part), *sent(office)[:1]]) + "\n", encoding="utf-8")
         os.replace(part, target)
-        office.beside("sent-state").write_text(identity_text(office), encoding="utf-8")
+        office.beside("sent-state").write_text(state, encoding="utf-8")
     except OSError as error:
         part.unlink(missing_ok=True)
         needs = size_of(target) or size_of(office.state) // 4

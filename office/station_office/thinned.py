@@ -1,5 +1,5 @@
 """The dockers that a change left with few lines. A strike, a closed line and Christmas Day look like that, and so does a mistake. They are reported until their day is
-over, and the screen reads them too."""
+over, and the lines above such a docker say so too."""
 import os
 import re
 from typing import NamedTuple
@@ -17,6 +17,10 @@ class Thinned(NamedTuple):
 
     def line(self):
         return f"{self.day} {self.place} {self.before} {self.after} {self.cause}\n"
+
+    def told(self, docker):
+        """What is said of the docker."""
+        return f"{docker} has {self.after} of {self.before} lines since the {self.cause}"
 
 
 def path_of(office):

@@ -1,5 +1,6 @@
 """Files in in/ that are still being written. They wait for the next run."""
 import contextlib
+import glob
 import os
 import pathlib
 import re
@@ -24,7 +25,7 @@ def being_written(paths):
     """The files among these that a program has open for writing, as far as the system shows the programs."""
     wanted = {identity(os.stat(path)): path for path in paths}
     found = set()
-    for process in pathlib.Path("/proc").glob("[0-9]*") if wanted else ():
+    for process in glob.glob("/proc/[0-9]*") if wanted else ():
         # A process may end meanwhile, and it may be another user's.
         with contextlib.suppress(OSError):
             found.update(written_by(process, wanted))
@@ -33,10 +34,10 @@ def being_written(paths):
 
 def written_by(process, wanted):
     """The wanted files that a process has open for writing."""
-    for name in os.listdir(process / "fd"):
+    for name in os.listdir(f"{process}/fd"):
         with contextlib.suppress(OSError):
-            path = wanted.get(identity(os.stat(process / "fd" / name)))
-            if path and is_for_writing(process / "fdinfo" / name):
+            path = wanted.get(identity(os.stat(f"{process}/fd/{name}")))
+            if path and is_for_writing(pathlib.Path(f"{process}/fdinfo/{name}")):
                 yield path
 
 

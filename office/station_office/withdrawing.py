@@ -4,7 +4,7 @@ import re
 
 import dockers
 
-from . import archive, judging, replacing, writing
+from . import archive, copying, judging, replacing, writing
 from .extracts import day_of, horizon_of, stamp_of
 from .faults import Fault
 from .replacing import draft_of
@@ -73,7 +73,7 @@ def made_anew(office, forbidden):
 
 def newest_sound_copy(office, state, forbidden):
     """Unpacks the newest copy of STATE that knows nothing forbidden. Returns None if there is no such copy."""
-    for copy in archive.copies(office):
+    for copy in copying.copies(office):
         try:
             plain = office.unpacked(copy)
             if not forbidden.intersection(map(stamp_of, office.files_of(copy, plain))):

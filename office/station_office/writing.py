@@ -6,7 +6,7 @@ import subprocess
 
 import dockers
 
-from . import archive, judging
+from . import copying, judging
 
 # A link with this name leads the desk to a file. A request has at most 255 bytes of ASCII, and a path may have more.
 GIVEN = "given"
@@ -31,10 +31,17 @@ class Writer(dockers.Desk):
             return super().renewed()
         return None if self.process else dockers.Answer(4, b"desk: ended before its changes were saved\n")
 
+    def ask_all(self, requests):
+        """The answers to many requests. They are kept until something changes, since a morning prints the dockers whose lines it has counted."""
+        answers = super().ask_all(requests)
+        self.lists.update((request, answer) for request, answer in zip(requests, answers) if answer.status == 0)
+        return answers
+
     def carries_out(self, *request):
         """Carries out a request that changes what is in memory, or saves it. Such a request isn't sent twice."""
         with self.turn:
-            self.lists.clear()
+            if request != ("save",):
+                self.lists.clear()
             try:
                 answer = self.renewed() or self.exchange([request])[0]
             except dockers.Ended:
@@ -73,7 +80,7 @@ def changing(office, subject, verb, word):
         carries_out(office, subject, desk, verb, word, before)
         after = judging.counts(office, desk)
         yield office.counted, after
-        archive.keeps_copy(office)
+        copying.keeps_copy(office)
         saves(office, subject, desk, before)
     except BaseException:
         desk.drops()

@@ -1,11 +1,15 @@
 """Helpers for the tests of station-office: extracts of any size, and offices in folders of their own. DOCKER names the program, DESK the program `desk`."""
+import atexit
 import datetime
+import functools
 import hashlib
 import os
 import pathlib
 import subprocess
 import tempfile
 import unittest
+
+import forking
 
 ROOT = pathlib.Path(__file__).resolve().parent.parent.parent
 OFFICE = ROOT / "office"
@@ -43,6 +47,14 @@ def digest(path):
     return hashlib.sha256(pathlib.Path(path).read_bytes()).hexdigest()
 
 
+@functools.cache
+def station():
+    """Runs station-office."""
+    found = forking.Runs(STATION)
+    atexit.register(found.ends)
+    return found
+
+
 class Place:
     """An office: its folder, its STATE, and how its station-office is run."""
 
@@ -56,12 +68,10 @@ class Place:
     def run(self, command, *words, status=0, force=False, now=NOW, **environment):
         """Runs a command, and checks its status. Returns its output and its messages."""
         options = ["--force"] * force + ["--now", now.isoformat(timespec="minutes")]
-        ended = subprocess.run(
-            [STATION, *options, command, str(self.state), *map(str, words)], stdin=subprocess.DEVNULL, capture_output=True, text=True, env={**os.environ, "MAX_AGE": "999", **environment}, check=False,
-        )
-        self.test.assertEqual(ended.returncode, status, (command, *words, ended.stderr))
-        self.test.assertNotIn("Traceback", ended.stderr)
-        return ended.stdout, ended.stderr
+        ended, out, said = station().run(*options, command, self.state, *words, **{"MAX_AGE": "999", **environment})
+        self.test.assertEqual(ended, status, (command, *words, said))
+        self.test.assertNotIn("Traceback", said)
+        return out.decode("utf-8"), said
 
     def put(self, name, content):
         """Puts a file into in/."""

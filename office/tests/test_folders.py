@@ -1,7 +1,6 @@
 """Files that are still being written, folders that are gone, and what is written where."""
 import importlib
 import os
-import pathlib
 import shutil
 import subprocess
 import time
@@ -28,8 +27,8 @@ def test_a_program_that_ends_while_it_is_looked_at(monkeypatch, tmp_path):
     waiting = importlib.import_module("station_office.waiting")
     with subprocess.Popen(["true"]) as ended:
         pass
-    programs = [pathlib.Path("/proc", str(number)) for number in (ended.pid, os.getpid())]
-    monkeypatch.setattr(pathlib.Path, "glob", lambda *_: programs)
+    programs = [f"/proc/{number}" for number in (ended.pid, os.getpid())]
+    monkeypatch.setattr(waiting.glob, "glob", lambda *_: programs)
     with open(tmp_path / "file", "wb"):
         assert waiting.being_written([tmp_path / "file"]) == {tmp_path / "file"}
 
@@ -136,20 +135,41 @@ def test_a_file_that_is_no_state(offices, command):
     offices.says(ended.stderr, f"station-office: {path}: docker: state refused: offset 0: Mark")
 
 
+def asking(offices, office, command):
+    """The messages of a command, and what zstd was asked. This zstd writes down its words, unless it is ended before."""
+    asked, program = offices.root / "asked", offices.root / "bin" / "zstd"
+    program.parent.mkdir(exist_ok=True)
+    program.write_text(f'#!/bin/bash\n{shutil.which("zstd")} "$@"; status=$?; echo "$@" >>{asked}; exit $status\n')
+    program.chmod(0o755)
+    asked.write_text("")
+    said = office.run(command, PATH=f"{program.parent}:{os.environ['PATH']}")[1]
+    return said, asked.read_text()
+
+
+@pytest.mark.parametrize("is_changed", [False, True])
+def test_a_state_that_was_sent_is_not_packed_again(offices, north, is_changed):
+    """The copy of STATE is the file in swap/, unless somebody has changed that file."""
+    north.take("full.cif", FULL)
+    north.run("send")
+    before = north.state.read_bytes()
+    if is_changed:
+        north.sent().write_bytes(north.sent().read_bytes()[:-1])
+    north.put("monday.cif", MONDAY)
+    asked = asking(offices, north, "take")[1]
+    assert (str(north.state) in asked) == is_changed
+    assert str(north.folder / "in" / "monday.cif") in asked
+    copy = sorted((north.folder / "copies").iterdir())[-1]
+    assert subprocess.run(["zstd", "-dcq", copy], capture_output=True, check=True).stdout == before
+
+
 def test_a_merged_state_is_not_merged_again(offices, north):
     """Its checksum is known, so only its beginning is unpacked. It is merged again if STATE lost what it brought."""
     south = offices.office("south")
     south.take("full.cif", extract("DFROC1F", "2024-06-10T21:00", "DFROC1E", schedules=4000))
     south.run("send")
-    # This zstd writes down what it was asked, unless it is ended before.
-    asked, program = offices.root / "asked", offices.root / "bin" / "zstd"
-    program.parent.mkdir()
-    program.write_text(f'#!/bin/bash\n{shutil.which("zstd")} "$@"; status=$?; echo "$1" >>{asked}; exit $status\n')
-    program.chmod(0o755)
     for is_unpacked in (True, False):
-        asked.write_text("")
-        said = north.run("merge", PATH=f"{program.parent}:{os.environ['PATH']}")[1]
-        assert ("-dcq" in asked.read_text()) == is_unpacked
+        said, asked = asking(offices, north, "merge")
+        assert ("-dcq" in asked) == is_unpacked
     offices.says(said, south.name(), "it brought nothing new")
     copy = sorted((north.folder / "copies").iterdir())[0]
     north.run("restore", copy, force=True)

@@ -142,6 +142,10 @@ def test_cancellations_are_reported(offices, north):
     for command in ("known", "morning"):
         out, said = north.run(command, status=5)
         offices.says(out + said, "thinned: the docker of ASHFELD on 2024-06-12 has 0 of 40 lines since the update DFROC1G of 2024-06-11 21:00")
+    assert out.count("# This docker has 0 of 40 lines since the update DFROC1G of 2024-06-11 21:00.\nDOCKER ASHFELD 2024-06-12") == 1
+    assert out.count("# This docker has 0 of 44 lines since the update DFROC1G of 2024-06-11 21:00.\nDOCKER BRAYTON 2024-06-12") == 1
+    assert "# This docker has" not in north.run("print", "2024-06-13")[0]
+    offices.says(said, "status 5: 2 thinned (status 5)")
     again = update(*(deletion(uid, "C", f"{TODAY:%y%m%d}") for uid in UIDS[:30]), reference="DFROC1H", last="DFROC1G", moment="2024-06-11T22:00")
     north.take("again.cif", again)
     assert not (north.folder / "thinned").exists()

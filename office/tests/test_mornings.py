@@ -2,25 +2,43 @@
 too much. Clocks are wrong, and runs are killed. After each run the office prints what a plain reader makes of the files that the office knows, and it has lost no more
 than half of anything.
 
-`--mornings` is the number of mornings, and `--seed` chooses others."""
+`--mornings` is the number of mornings, and `--seed` chooses others. What happened to files of each kind is counted. If everything in WANTED didn't happen in 500 mornings or
+more, the test fails."""
 import datetime
-import os
 import random
 import re
 import signal
-import subprocess
 import time
 
 import plain
 import pytest
 import timetable
-from offices import STATION, docker
+from offices import docker, station
 
 CODES = [f"PLACE{letter}" for letter in "ABCDEF"]
 # The first day, the clock of its morning, and the number of mornings of one case.
 BEGIN = datetime.datetime(2024, 6, 12, 6, 0)
 MORNINGS = 10
 YEAR = datetime.timedelta(365)
+# The kinds of bad files. Each kind comes once before any comes again.
+BAD = ("deleting", "cancelling", "small", "cut", "doubled", "dated", "altered", "noise")
+# What a message says of a file in in/, and what happened to the file then.
+OUTCOMES = {
+    "accepted: ": "taken", "is known already": "known already", "it is older than": "older", "/refused/": "refused", "/held/": "held back", "of the docker of": "reported",
+    "lies more than a day ahead": "ahead", "another file with its stamp": "unlike", "it would leave": "less than half", "is withdrawn here": "withdrawn",
+}
+# What a message says of another office's state, or of the office's own, and what happened then.
+EVENTS = {
+    "it brought the": "a state brought a file", "it brought nothing new": "a state brought nothing", "it isn't merged": "a state wasn't merged", "has other content than": "a state was unlike",
+    "which lies more than a day ahead": "a state was ahead", "which is withdrawn here": "a state had a withdrawn file", ": ahead: ": "a clock was slow", ": old: ": "a clock was fast",
+    "it is made anew": "a file was withdrawn", "so it stays as it is": "a withdrawal was held back",
+}
+# What has to happen to each kind of file.
+WANTED = (
+    "full: taken", "update: taken", "again: taken", "again: known already", "again: older", "deleting: less than half", "deleting: held back", "cancelling: reported",
+    "small: less than half", "small: held back", "cut: refused", "doubled: refused", "dated: ahead", "dated: held back", "altered: unlike", "altered: held back", "noise: refused",
+    *EVENTS.values(), "a run was killed before it changed STATE", "a run was killed after it changed STATE",
+)
 
 
 class Feed:
@@ -106,52 +124,60 @@ class Feed:
 class World:
     """Three offices that share a folder, the files that were made, and what each office knows."""
 
-    def __init__(self, offices, seed):
+    def __init__(self, offices, seen, seed):
+        self.seen = seen
         self.chance = random.Random(seed)
         self.feed = Feed(self.chance)
+        self.kinds = []
         self.offices = [offices.office(name) for name in ("a", "b", "c")]
         self.made = []
         # What each office may know, and may have known when it put its state into swap/: files by their stamps. Also the files with each stamp that it ever knew.
         self.known = {office: [{}] for office in self.offices}
         self.sent = {office: (b"", []) for office in self.offices}
         self.ever = {office: {} for office in self.offices}
+        # The files that came to each office. One of them may count only after a newer full extract was withdrawn.
+        self.came = {office: set() for office in self.offices}
+        # How many seconds a run takes.
+        self.takes = 0.2
         for office in self.offices:
             (office.folder / "places").write_text("".join(f"{code}\n" for code in self.chance.sample(CODES, 4)))
 
     def delivers(self, now):
         """Puts files into the folders of the offices."""
-        new = [self.feed.full(now)] if not self.made or self.chance.random() < 0.15 else [self.feed.update(now)]
-        self.made += new
+        kind, content = ("full", self.feed.full(now)) if not self.made or self.chance.random() < 0.15 else ("update", self.feed.update(now))
+        self.made.append(content)
         for office in self.offices:
-            files = [content for content in new if self.chance.random() < 0.8]
-            files += [self.chance.choice(self.made) for _ in range(self.chance.choice((0, 0, 1, 2)))]
+            files = [(kind, content)] * (self.chance.random() < 0.8)
+            files += [("again", self.chance.choice(self.made)) for _ in range(self.chance.choice((0, 0, 1, 2)))]
             if self.chance.random() < 0.35:
                 files.append(self.spoiled(now))
             self.chance.shuffle(files)
-            for number, content in enumerate(files):
-                office.put(f"{now:%d}-{number}.cif", content)
+            for number, (its, text) in enumerate(files):
+                office.put(f"{now:%d}-{number}-{its}.cif", text)
 
     def spoiled(self, now):
-        """A bad file."""
-        good = self.chance.choice(self.made)
-        match self.chance.randrange(8):
-            case 0:
-                return self.feed.deleting(now)
-            case 1:
-                return self.feed.cancelling(now)
-            case 2:
-                return self.feed.full(now, self.chance.choice((0.1, 0.3, 0.45)))
-            case 3:
-                return good[:self.chance.randrange(len(good))]
-            case 4:
-                return good + good
-            case 5:
+        """A bad file, with its kind."""
+        self.kinds = self.kinds or self.chance.sample(BAD, len(BAD))
+        kind, good = self.kinds.pop(), self.chance.choice(self.made)
+        match kind:
+            case "deleting":
+                content = self.feed.deleting(now)
+            case "cancelling":
+                content = self.feed.cancelling(now)
+            case "small":
+                content = self.feed.full(now, self.chance.choice((0.1, 0.3, 0.45)))
+            case "cut":
+                content = good[:self.chance.randrange(len(good))]
+            case "doubled":
+                content = good + good
+            case "dated":
                 later = now + self.chance.choice((-1, 1, 10)) * YEAR
-                return good[:22] + f"{later:%d%m%y}".encode() + good[28:]
-            case 6:
-                return self.same_stamp(good)
-            case _:
-                return bytes(self.chance.randrange(256) for _ in range(300))
+                content = good[:22] + f"{later:%d%m%y}".encode() + good[28:]
+            case "altered":
+                content = self.same_stamp(good)
+            case "noise":
+                content = bytes(self.chance.randrange(256) for _ in range(300))
+        return kind, content
 
     def same_stamp(self, good):
         """A file with the stamp of another one, in which some trains have another platform."""
@@ -159,53 +185,66 @@ class World:
         return "".join(line[:19] + "X" + line[20:] if line.startswith("LO") and self.chance.random() < 0.5 else line for line in lines).encode()
 
     def runs(self, office, now):
-        """A morning of an office, by a clock that may be wrong and perhaps ended by a signal. Returns its output, or None if it was ended."""
+        """A morning of an office, by a clock that may be wrong and perhaps ended by a signal. Returns its output, or nothing if it was ended, and its messages."""
         clock = now + self.chance.choice((0,) * 8 + (-1, 1)) * YEAR
-        words = [STATION, "--now", clock.isoformat(timespec="minutes"), "morning", str(office.state), f"{now:%F}"]
-        process = subprocess.Popen(words, stdin=subprocess.DEVNULL, stdout=subprocess.PIPE, stderr=subprocess.PIPE, start_new_session=True, env={**os.environ, "MAX_AGE": "999"})
-        if self.chance.random() < 0.15:
-            time.sleep(self.chance.random() * 0.6)
-            os.killpg(process.pid, signal.SIGKILL)
-        out, said = process.communicate()
-        assert b"Traceback" not in said, said.decode()
-        assert process.returncode in (0, 1, 4, 5, -signal.SIGKILL), said.decode()
-        return None if process.returncode == -signal.SIGKILL else out, said.decode()
+        seconds = self.takes * self.chance.random() if self.chance.random() < 0.15 else None
+        before, begin = office.state.read_bytes(), time.monotonic()
+        status, out, said = station().run("--now", f"{clock:%FT%H:%M}", "morning", office.state, f"{now:%F}", seconds=seconds)
+        assert "Traceback" not in said, said
+        if status == -signal.SIGKILL:
+            self.seen[f"a run was killed {'before' if office.state.read_bytes() == before else 'after'} it changed STATE"] += 1
+            return b"", said
+        assert status in (0, 1, 5), said
+        self.takes += (time.monotonic() - begin - self.takes) / 10
+        self.notes(said)
+        return out, said
 
     def withdraws(self, office, now):
         """Withdraws a file that the office knows. The command may be held back."""
         stamp = self.chance.choice(sorted(self.known[office][0]))
-        words = [STATION, "--now", now.isoformat(timespec="minutes"), "withdraw", str(office.state), stamp.reference, f"{stamp.date}T{stamp.time[:2]}:{stamp.time[2:]}"]
-        ended = subprocess.run(words, stdin=subprocess.DEVNULL, capture_output=True, text=True, check=False)
-        assert "Traceback" not in ended.stderr, ended.stderr
-        return None, ended.stderr
+        moment = f"{stamp.date}T{stamp.time[:2]}:{stamp.time[2:]}"
+        status, _, said = station().run("--now", f"{now:%FT%H:%M}", "withdraw", office.state, stamp.reference, moment)
+        assert "Traceback" not in said and status in (0, 1, 5), said
+        self.notes(said)
+        return b"", said
 
-    def learns(self, office, came):
+    def notes(self, said):
+        """Counts what happened, by the messages of a run."""
+        found = set()
+        for line in said.splitlines():
+            if file := re.search(r"/in/[0-9]+-[0-9]+-([a-z]+)\.cif: (.*)", line):
+                found.update((file[0], f"{file[1]}: {outcome}") for words, outcome in OUTCOMES.items() if words in file[2])
+            else:
+                found.update((line, event) for words, event in EVENTS.items() if words in line)
+        self.seen.update(event for _, event in found)
+
+    def learns(self, office):
         """What an office may know after a run: the files that it lists. Those that it never knew before are among the files that came, or another office knew them when
         it sent its state. If files with one stamp differ, each of them is possible until a docker shows which it is."""
         possible = [{}]
         for line in docker("files", office.state).decode("ascii").splitlines():
             stamp = plain.Stamp(datetime.date.fromisoformat(line[:10]), line[11:15], line[16:23].strip())
-            contents = self.ever[office].get(stamp) or self.sources(office, stamp, came)
+            contents = self.ever[office].get(stamp) or self.sources(office, stamp)
             assert contents, f"nobody made {line}"
             possible = [{**one, stamp: content} for one in possible for content in contents]
         return possible
 
-    def sources(self, office, stamp, came):
+    def sources(self, office, stamp):
         """The contents of the files with a stamp that an office may have got."""
-        found = {content for content in came if content[:2] == b"HD" and plain.lines_of(content)[-1][:2] == "ZZ" and plain.stamp_of(content) == stamp}
+        found = {content for content in self.came[office] if content[:2] == b"HD" and plain.lines_of(content)[-1][:2] == "ZZ" and plain.stamp_of(content) == stamp}
         return found.union(*(self.of_stamp(known, stamp) for other, (_, known) in self.sent.items() if other != office))
 
     @staticmethod
     def of_stamp(possible, stamp):
         return {known[stamp] for known in possible if stamp in known}
 
-    def checks(self, office, now, out, said, came):
+    def checks(self, office, now, out, said):
         """Checks what an office prints after a run, and what it has lost."""
-        printed = out or subprocess.run([STATION, "print", str(office.state), f"{now:%F}"], stdin=subprocess.DEVNULL, capture_output=True, check=False).stdout
+        printed = out or station().run("print", office.state, f"{now:%F}")[1]
         # The lines above each docker say when it was made.
         printed = re.sub(rb"^#.*\n", b"", printed, flags=re.M)
         places = (office.folder / "places").read_text().split()
-        possible = [known for known in self.learns(office, came) if self.dockers(known, places, now.date()) == printed]
+        possible = [known for known in self.learns(office) if self.dockers(known, places, now.date()) == printed]
         assert possible, said
         assert any(self.losses(before, after, places) == [] for before in self.known[office] for after in possible), (said, self.losses(self.known[office][0], possible[0], places))
         self.known[office] = possible
@@ -229,14 +268,14 @@ class World:
 
 
 @pytest.mark.timeout(900)
-def test_mornings(offices, seed):
-    world = World(offices, seed)
-    now = BEGIN
+def test_mornings(offices, seen, seed):
+    seen.update(dict.fromkeys(WANTED, 0))
+    world, now = World(offices, seen, seed), BEGIN
     for _ in range(MORNINGS):
         world.delivers(now)
         for office in world.chance.sample(world.offices, 3):
-            came = [path.read_bytes() for path in (office.folder / "in").iterdir()]
-            world.checks(office, now, *world.runs(office, now), came)
+            world.came[office].update(path.read_bytes() for path in (office.folder / "in").iterdir())
+            world.checks(office, now, *world.runs(office, now))
             if world.known[office][0] and world.chance.random() < 0.1:
-                world.checks(office, now, *world.withdraws(office, now), [])
+                world.checks(office, now, *world.withdraws(office, now))
         now += datetime.timedelta(1)
