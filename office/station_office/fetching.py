@@ -207,12 +207,12 @@ def first_line(text):
 
 
 def shown(text):
-    """A text of a server, in as far as it can be shown."""
+    """The beginning of a server's text, with a question mark for each character that can't be printed."""
     return "".join(letter if letter.isprintable() else "?" for letter in text.strip())[:SHOWN]
 
 
 def target_of(office, source, part):
-    """The name under which a file that came is seen. An extract has the moment in its name. A state replaces the state that came before it."""
+    """The name that a fetched file gets once it is complete. The name of an extract has the time of the fetch. A state replaces the state that came before it."""
     ending = ENDINGS[packing.packing_of(part)]
     if source.folder == "swap":
         return part.with_name(f"{source.name}.state{ending}")
