@@ -26,7 +26,7 @@ ENDINGS = {"gzip": ".gz", "zstd": ".zst", "zip": ".zip", None: ""}
 
 
 class Passing(Exception):
-    """Why a try failed that another try may heal. The server may say after how many seconds."""
+    """A failure that may pass, so that it is worth trying again. `wait` is the number of seconds after which the server wants to be asked again; 0 if it didn't say."""
 
     def __init__(self, reason, wait=0):
         super().__init__(reason)
