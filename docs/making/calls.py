@@ -45,7 +45,7 @@ def by_name():
 
 
 def is_meant(item, of, dot, own):
-    """Whether a word means this item, with what stands before the word."""
+    """Whether a word names this item, given what stands before the word: a dot, or the name of a type."""
     _, owner, _ = item
     if dot:
         return bool(owner[0])

@@ -1,9 +1,8 @@
 """Writes the manual pages docs/docker.1, docs/docker-desk.1, docs/station-office.1 and docs/station-office-screen.1.
 
-The pages of docker and desk are made from MANUAL.md and FORMATS.md. The page of docker also has the first docker of README.md and the measured table of
-PERFORMANCE.md. From the example office it has the transcript, and the table of what to do about each fault. The page of desk has a session at the example
-office. The pages of station-office and its screen are made from the first texts of these programs, the README beside them, and MANUAL.md. A passage that a page takes from the middle of a
-section stands between two marks: `<!-- NAME -->` and `<!-- end -->`."""
+The pages of docker and desk are made from MANUAL.md and FORMATS.md. The page of docker also has the first docker of README.md, the transcript of the example
+office, and the table of what to do about each fault. The page of desk has a session at the example office. The pages of station-office and its screen are made
+from the first texts of these programs, the README beside them, and MANUAL.md. A passage that a page takes from the middle of a section stands between two marks: `<!-- NAME -->` and `<!-- end -->`."""
 import ast
 import itertools
 import re

@@ -71,7 +71,7 @@ def parted(word):
 
 
 def moved(address, words=""):
-    """Leads to another address. A browser that is sent on keeps the rest of the words."""
+    """Redirects to another address, with these words at its end, such as a query."""
     return flask.redirect(f"{address}{words}", 303)
 
 
@@ -157,7 +157,7 @@ def address_of(tiploc, date, form, only):
 
 
 def query():
-    """The words of the request after `?`, with the sign."""
+    """The query of the request, with its `?`; empty if there is none."""
     words = flask.request.query_string.decode("ascii", "replace")
     return f"?{words}" if words else ""
 

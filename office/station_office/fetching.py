@@ -26,7 +26,7 @@ ENDINGS = {"gzip": ".gz", "zstd": ".zst", "zip": ".zip", None: ""}
 
 
 class Passing(Exception):
-    """Why a try failed that another try may heal. The server may say after how many seconds."""
+    """A failure that may pass, so that it is worth trying again. `wait` is the number of seconds after which the server wants to be asked again; 0 if it didn't say."""
 
     def __init__(self, reason, wait=0):
         super().__init__(reason)
@@ -207,12 +207,12 @@ def first_line(text):
 
 
 def shown(text):
-    """A text of a server, in as far as it can be shown."""
+    """The beginning of a server's text, with a question mark for each character that can't be printed."""
     return "".join(letter if letter.isprintable() else "?" for letter in text.strip())[:SHOWN]
 
 
 def target_of(office, source, part):
-    """The name under which a file that came is seen. An extract has the moment in its name. A state replaces the state that came before it."""
+    """The name that a fetched file gets once it is complete. The name of an extract has the time of the fetch. A state replaces the state that came before it."""
     ending = ENDINGS[packing.packing_of(part)]
     if source.folder == "swap":
         return part.with_name(f"{source.name}.state{ending}")

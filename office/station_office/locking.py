@@ -25,7 +25,7 @@ def locks(office, file):
 
 @contextlib.contextmanager
 def locked(office, ending="lock"):
-    """Takes a lock of STATE. Each ending of its file is another lock."""
+    """Takes a lock of STATE. Locks whose files have different endings can be held at the same time."""
     with open(office.beside(ending), "ab") as file:
         locks(office, file)
         yield

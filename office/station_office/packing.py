@@ -89,7 +89,7 @@ def head_of(path, size=512):
 
 
 def pack(path, target):
-    """Packs a file with zstd into another file, by all processors."""
+    """Packs a file with zstd into another file, on all processors."""
     try:
         subprocess.run(["zstd", "-qfT0", "-o", target, "--", path], stdin=subprocess.DEVNULL, stderr=subprocess.PIPE, check=True)
     except FileNotFoundError:

@@ -15,7 +15,7 @@ OTHERS = 0o077
 
 
 class Source(NamedTuple):
-    """A source: its name, its address, who asks, and the folder for what comes. `authority` is a file with the certificates to trust, or empty. `pause` is the
+    """A source: its name, its address, the user and the password to send, and the folder for what comes. `authority` is a file with the certificates to trust, or empty. `pause` is the
     time before the second try. `patience` is the time for which the server may send nothing, and `limit` the time that a try may take. Times are in seconds."""
     name: str
     address: str

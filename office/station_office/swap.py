@@ -74,12 +74,12 @@ def others(office):
 
 
 def identity_text(office):
-    """Says which file STATE is. A file that takes its place has another text."""
+    """A text that identifies the file STATE. Another file in its place has another text."""
     return " ".join(map(str, dockers.identity(office.state)))
 
 
 def sent_state(office):
-    """Says which file STATE was when this office put it into swap/; empty if it did not yet."""
+    """The text that identified STATE when this office last put it into swap/; empty if it never has."""
     with contextlib.suppress(FileNotFoundError):
         return office.beside("sent-state").read_text(encoding="utf-8")
     return ""
@@ -96,7 +96,7 @@ def packs(office, target):
 
 
 def looks_at_name(office, target):
-    """Makes sure that no other office has this office's name. The one that finds that out leaves a note for the other one in the folder `names` in swap/."""
+    """Makes sure that no other office has this office's name. An office that finds its name taken leaves a note for the other office in the folder `names` in swap/."""
     note, remedy = target.parent / "names" / name_of(office), f"Remove {name_file(office)}, and this office gets a name of its own"
     if target.exists() and not is_ours(office, target):
         note.parent.mkdir(exist_ok=True)
@@ -122,7 +122,7 @@ def notes_merged(office, digest):
 
 
 def is_covered(office, path):
-    """Whether STATE knows all that a packed state knows. It may have been made anew since that state was merged."""
+    """Whether STATE knows all that a packed state knows. STATE may lack a state that was merged, because it may have been made anew since."""
     with packing.stream_of(path) as stream:
         its = knowledge_in(stream)
     return its is not None and dockers.grew(its, dockers.knowledge(office.state))

@@ -121,7 +121,7 @@ def keeps(office, path, found):
 
 
 def puts_aside(office, path, fault):
-    """Moves a file that isn't taken to refused/ or held/, and adds to the fault where the file is and what can be done."""
+    """Puts aside a file that isn't taken: a file in in/ is moved to refused/ or held/. Adds to the fault where the file is now, and what can be done."""
     place = path
     if path.parent.resolve() == (office.folder / "in").resolve():
         place = archive.puts_aside(office, path, fault.folder, "".join(f"{path}: {line}\n" for line in fault.lines))

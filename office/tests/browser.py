@@ -49,7 +49,7 @@ class Browser:
         return self.ask("/execute/sync", {"script": script, "args": list(words)})
 
     def keys(self, text):
-        """Presses keys one after another. Keys that make no letter have names above."""
+        """Presses keys one after another: a letter of the text for each. `ENTER` and the other names above stand for keys that type no letter."""
         pressed = [{"type": kind, "value": key} for key in text for kind in ("keyDown", "keyUp")]
         self.ask("/actions", {"actions": [{"type": "key", "id": "keyboard", "actions": pressed}]})
 

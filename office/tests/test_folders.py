@@ -22,7 +22,7 @@ def aged(path, seconds):
 
 
 def test_a_program_that_ends_while_it_is_looked_at(monkeypatch, tmp_path):
-    """The other programs are looked at all the same."""
+    """A program that has ended doesn't keep the other programs from being looked at."""
     monkeypatch.syspath_prepend(OFFICE)
     waiting = importlib.import_module("station_office.waiting")
     with subprocess.Popen(["true"]) as ended:
@@ -35,7 +35,7 @@ def test_a_program_that_ends_while_it_is_looked_at(monkeypatch, tmp_path):
 
 @pytest.mark.parametrize(("age", "waits"), [(3, True), (500, True), (700, False), (-3, True), (-700, False), (86400, False)])
 def test_a_file_waits_until_it_is_still(offices, north, age, waits):
-    """Here for ten minutes. A file from the future would wait for long, so it doesn't."""
+    """In this test a file has to be still for ten minutes. A file whose time is far in the future is taken at once, since it would wait too long."""
     aged(north.put("full.cif", FULL), age)
     said = north.run("take", STILL="600")[1]
     assert (north.list("in"), north.known()) == ((["full.cif"], []) if waits else ([], ["DFROC1F"]))
@@ -102,7 +102,7 @@ def test_a_folder_that_is_gone(offices, north, name, commands, spoils, reason):
 
 @pytest.mark.parametrize(("name", "commands"), [("in", ["take", "morning"]), ("swap", ["send", "morning"])])
 def test_a_folder_that_cannot_be_written(offices, north, name, commands):
-    """As another user, who may write only the rest of the office."""
+    """The office runs as another user, who may write everything but this folder."""
     north.take("full.cif", FULL)
     if os.getuid() != 0:
         pytest.skip("only root can become another user")
@@ -163,7 +163,7 @@ def test_a_state_that_was_sent_is_not_packed_again(offices, north, is_changed):
 
 
 def test_a_merged_state_is_not_merged_again(offices, north):
-    """Its checksum is known, so only its beginning is unpacked. It is merged again if STATE lost what it brought."""
+    """The checksum of a merged state is known, so only its beginning is unpacked. It is merged again if STATE lost what it brought."""
     south = offices.office("south")
     south.take("full.cif", extract("DFROC1F", "2024-06-10T21:00", "DFROC1E", schedules=4000))
     south.run("send")

@@ -56,7 +56,7 @@ def test_a_deleting_update_is_held(offices, north):
 
 
 def test_half_of_the_schedules_may_go(offices, north):
-    """The other half stays, so this isn't held. One schedule more is too many."""
+    """An update that deletes half of the schedules isn't held. One that deletes one more is."""
     north.take("half.cif", deleting(20), HELD_BELOW="50", REPORTED_BELOW="0")
     assert north.known() == ["DFROC1F", "DFROC1G"]
     south = offices.office("south")
@@ -124,7 +124,7 @@ def test_shares_are_settings(offices, north):
 
 
 def test_a_full_extract_without_a_place_is_held(offices, north):
-    """It has as many schedules as the last one, but the trains call somewhere else."""
+    """The new extract has as many schedules as the last one, but the trains call somewhere else."""
     elsewhere = [Call("DUNMERE", "", "0900"), CALLS[1]]
     content = extract(
         header("DFROC1T", "2024-06-11T21:00", "", "F"), *map(place, ("ASHFELD", "BRAYTON", "CORHAM", "DUNMERE")),
@@ -161,7 +161,7 @@ def test_half_of_the_lines_may_go(north):
 
 @pytest.mark.parametrize(("days", "is_reported"), [(0, True), (1, True), (2, True), (3, False), (-1, False)])
 def test_days_that_are_reported(north, days, is_reported):
-    """Only today and the next two days."""
+    """A loss is reported only if it is of today or of the next two days."""
     day = TODAY + datetime.timedelta(days)
     north.take("strike.cif", update(*(cancellation(uid, day) for uid in UIDS)), status=5 if is_reported else 0)
     assert (north.folder / "thinned").exists() == is_reported

@@ -48,7 +48,7 @@ def test_it_asks_at_a_terminal(offices):
 
 
 def test_the_full_extract_is_asked_for(offices):
-    """It came with another office's state. Two mornings later it is in taken/, and STATE can be made anew of it."""
+    """The full extract came with another office's state. Two mornings later it is in taken/, and STATE can be made anew of it."""
     north, south, east = (offices.office(name) for name in ("north", "south", "east"))
     south.put("full.cif", FULL)
     south.morning()
@@ -101,7 +101,7 @@ def test_another_extract_is_not_kept(offices):
 
 
 def test_a_withdrawn_file_is_not_missing(offices):
-    """But a file that is missing before it is."""
+    """A withdrawn file isn't reported as missing. A later file with the same reference is, if an update names it and it hasn't come."""
     north = offices.office("north")
     for name, content in (("full.cif", FULL), ("monday.cif", MONDAY), ("tuesday.cif", TUESDAY)):
         north.take(name, content)

@@ -34,7 +34,7 @@ impl Spans {
         self.answer = Some(answer);
     }
 
-    /// Prints the span, if there is one.
+    /// Prints the current span: its numbers and its answer. Prints nothing if no number was added.
     pub(crate) fn report(&self, desk: &Desk) {
         if let Some(answer) = self.answer {
             desk.print_span(self.from, self.to);

@@ -123,7 +123,7 @@ def chromium():
 
 @pytest.fixture
 def chrome(chromium):
-    """The browser, with an empty page of a laptop."""
+    """The browser, with an empty page as wide and as high as the screen of a laptop."""
     chromium.open("about:blank")
     chromium.media("")
     chromium.sized(1366, 768)

@@ -98,7 +98,7 @@ def test_each_docker_says_what_is_known(office):
     ("2024-12-14", "This day lies after 2024-12-13, the last day of the schedules that were taken. Most of its trains aren't known yet."),
 ])
 def test_a_day_that_is_not_covered(office, day, why):
-    """It is reported with status 5, on paper too, and nothing says that nothing differs."""
+    """A day that isn't covered is reported with status 5, also above its dockers, and nothing says that nothing differs."""
     office.morning(FULL)
     for words in (("print", day), ("changes", day), ("morning", day)):
         printed, said = office.run(*words, status=5)

@@ -169,7 +169,7 @@ def test_a_text_meets_a_session(meeting, session):
 
 
 def test_a_text_of_the_same_length_is_written_just_after_a_save(meeting):
-    """It comes between the rename and the answer. The next save notices it."""
+    """The text comes between the rename and the answer. The next save notices it."""
     lines = b"take tuesday\nsave\ntake night\nsave\n"
     wanted = Ended(1, written([DONE, DONE, DONE, DEVICE]), NOT_SAVED)
     came = give(b"?" * len(state_of("full", "tuesday")), "came")

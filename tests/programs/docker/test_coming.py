@@ -84,8 +84,8 @@ ANEW = (
 
 
 def test_a_new_pipe_with_the_number_of_the_old_one(meeting):
-    """It is made just before the command opens the pipe that it saw. The command doesn't write to
-    it."""
+    """The new pipe is made just before the command opens the pipe that it saw. The command doesn't
+    write to it."""
     command = [DOCKER, "new", "pipe"]
     with Pipes():
         number = calls_of(meeting, command).index("open pipe") + 1

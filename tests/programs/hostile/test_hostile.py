@@ -103,7 +103,7 @@ def dockers(*lines):
 
 
 def answers(wanted, *words):
-    """Checks that a command ends so, within a second of processor time."""
+    """Checks that a command has this end and this output, and takes less than a second of processor time."""
     ended = docker(*words, before=in_seconds(1))
     killed = -signal.SIGKILL, -signal.SIGXCPU
     assert ended.status not in killed, "it needs more than a second of processor time"

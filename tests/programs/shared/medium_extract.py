@@ -7,8 +7,8 @@ PLACES = (
     "ASHFELD", "BRAYTON", "COLWELL", "DUNMERE", "ELM", "FARLEY", "GORSTON", "HEXLEY", "IPSDEN",
     "JESMOND", "KELLING", "LISTON",
 )
-# How far each leg of a train advances in `PLACES`: by one of these numbers of places. The remainder
-# of the train's number divided by four selects the number.
+# From one call to the next, a train moves on by one of these numbers of places in `PLACES`, which
+# begins again after its end. The train's number modulo four selects the number.
 STEPS = (1, 5, 7, 11)
 TRAINS = range(1, 151)
 
