@@ -283,6 +283,33 @@ fn another_file_takes_the_name_of_a_draft(rt: HostRuntime) {
 }
 
 #[test]
+fn a_draft_that_another_folder_is_writing(rt: HostRuntime) {
+    put(&rt, "at_work", "one");
+    let mut folder = RealFolder::new(&rt);
+    let seen = folder.look("at_work");
+    let Ok(made) = folder.create("at_work", &seen) else {
+        panic!(&rt; "no draft");
+    };
+    let mut other = RealFolder::new(&rt);
+    stores(&rt, &mut other, "at_work", "by another program", FAILED);
+    same(&rt, other.failures(), 1);
+    same(&rt, finish(&rt, &mut folder, made, "two"), Ok(()));
+    holds(&rt, rt.alloc(), &mut folder, "at_work", "two");
+    stands(&rt, "at_work.new", false);
+}
+
+#[test]
+fn a_draft_that_was_left_over(rt: HostRuntime) {
+    put(&rt, "resumed", "one");
+    put(&rt, "resumed.new", "half of a text");
+    assert!(&rt; fs::set_permissions(&rt, "resumed.new", Permissions::from_mode(0o1644)).is_ok());
+    let mut folder = RealFolder::new(&rt);
+    stores(&rt, &mut folder, "resumed", "two", Ok(()));
+    holds(&rt, rt.alloc(), &mut folder, "resumed", "two");
+    stands(&rt, "resumed.new", false);
+}
+
+#[test]
 fn permissions_are_kept(rt: HostRuntime) {
     put(&rt, "private", "one");
     assert!(&rt; fs::set_permissions(&rt, "private", Permissions::from_mode(0o640)).is_ok());

@@ -182,8 +182,8 @@ def test_known_again_and_again():
     pathlib.Path("large").write_text(text, encoding="ascii")
     give(state_of())
     assert docker("take", "STATE", "large") == DONE
-    ended = run([*in_seconds(2), DESK, "STATE"], b"known\n" * 2000)
-    assert ended == Ended(0, written(listed([text])[1:] * 2000), b"")
+    ended = run([*in_seconds(2), DESK, "STATE"], b"known\n" * 10000)
+    assert ended == Ended(0, written(listed([text])[1:] * 10000), b"")
 
 
 def test_a_list_that_no_pipe_holds_at_once():

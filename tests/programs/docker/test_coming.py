@@ -98,6 +98,24 @@ def test_a_new_pipe_with_the_number_of_the_old_one(meeting):
     assert held("got") == b"", "the new pipe got something"
 
 
+def test_another_pipe_that_has_no_name(meeting):
+    """Pipes without names are all on one device, and no time says when one was made. The command
+    writes only to the pipe that it saw."""
+    (seen, to_seen), (other, to_other) = os.pipe(), os.pipe()
+    for pipe in (seen, other):
+        os.set_blocking(pipe, False)
+    under = f"/proc/{os.getpid()}/fd"
+    os.symlink(f"{under}/{to_seen}", "pipe")
+    command = [DOCKER, "new", "pipe"]
+    number = calls_of(meeting, command).index("open pipe") + 1
+    assert taken_from(seen) == NO_FILES
+    found = met(meeting, number, f"ln -fns {under}/{to_other} pipe", command)
+    assert (found.ended, found.status) == (DEVICE, 0)
+    assert (taken_from(seen), taken_from(other)) == (b"", b"")
+    for pipe in (seen, to_seen, other, to_other):
+        os.close(pipe)
+
+
 # Some file systems have no hard links. There a draft is renamed, if nothing has come until then.
 
 
