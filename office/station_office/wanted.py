@@ -39,15 +39,15 @@ def files(office):
 
 
 def exchanges(office):
-    """Answers the other offices' requests, takes what was asked for, and asks for what is lacking now."""
+    """Takes what was asked for, answers the other offices' requests, and asks for what is lacking now."""
     requests, answers = files(office)
     own = [path for path in requests if path.name.endswith(f".{swap.name_of(office)}{REQUEST}")]
-    gives(office, {stamp_in(path) for path in requests if path not in own}, answers)
     full = lacking(office)
     for path in answers if full else ():
         if stamp_in(path) == stamp_text(full):
             with office.reporting():
                 keeps(office, path, full)
+    gives(office, {stamp_in(path) for path in requests if path not in own}, answers)
     asks(office, lacking(office), own)
 
 
@@ -74,8 +74,14 @@ def lacking(office):
 
 
 def keeps(office, path, full):
-    """Puts an extract that was asked for into taken/, if it is the one that STATE knows."""
-    found = taking.looks_at(office, path)
+    """Puts an extract that was asked for into taken/, if it is the one that STATE knows. Does nothing if another office has removed it, because nobody wanted it any
+    more."""
+    try:
+        found = taking.looks_at(office, path)
+    except Fault:
+        if path.exists():
+            raise
+        return
     if stamp_of(found.extract) != stamp_of(full) or not taking.has_known_content(office, path, found):
         raise Fault(1, path, f"it isn't the {full.name} that is known here, so it isn't kept")
     taking.keeps(office, path, found)

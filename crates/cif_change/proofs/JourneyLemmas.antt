@@ -502,8 +502,7 @@ pub of_ok : {A E P : Type 0} (answer : Result A E) → OnOk answer P → IsOk an
 of_ok (Ok value) holds is = holds
 of_ok (Err cause) holds is = absurd (false≢true is)
 
--- the reader may have taken any of several lists of lines. If the cause is right for each of them,
--- it satisfies `FaultsLine`
+-- a cause that is right whichever lines the reader may have taken satisfies `FaultsLine`
 pub faults_line : {A : Type 0} (answer : Result A FileCause) (journey : JourneyState) (line : List ℕ)
     → ((lines : Lines) → HasLines journey lines → IfErr answer (λ cause. IsScheduleCause lines line (cause_meant cause)))
     → IfErr answer (FaultsLine journey line)
