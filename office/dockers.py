@@ -11,10 +11,12 @@ import datetime
 import os
 import pathlib
 import re
+import select
 import shutil
 import subprocess
 import sys
 import threading
+import time
 from typing import NamedTuple, Optional
 
 HERE = pathlib.Path(__file__).resolve().parent
@@ -25,7 +27,7 @@ TIPLOC = re.compile(r"[!-,.-~][!-~]{0,6}")
 # A UID as `desk` reads it: six bytes from 0x21 to 0x7E.
 UID = re.compile(r"[!-~]{6}")
 # The first and the last column of each field in a line of `files`, and in the heading of a docker.
-# The fields have the names that docs/FORMATS.md gives them. docs/columns compares the columns with
+# The fields have the names that docs/FORMATS.md gives them. docs/check compares the columns with
 # that page.
 FILE = {
     "date of extract": (1, 10), "time of extract": (12, 15), "current file reference": (17, 23), "update indicator": (25, 25), "last file reference": (27, 33),
@@ -50,6 +52,8 @@ LACKING = (UNKNOWN, NO_REQUEST)
 LISTS = (("files",), ("known",), ("places",))
 # The most bytes of requests that are sent together. Every pipe has room for this many.
 TOGETHER = 4096
+# The most bytes that are read at once from a process.
+AT_ONCE = 1 << 20
 
 
 class Answer(NamedTuple):
@@ -175,6 +179,10 @@ class Reader:
             return Answer(UNKNOWN, b"what is permanent needs the program desk\n")
         return wrong_place(tiploc) or wrong_day(date) or self.ask(("permanent", tiploc, date))
 
+    def dockers(self, wanted, command="print"):
+        """The dockers of many places, each on its day, in this order; or what `permanent` gives. They are asked for one by one, as far as they are read."""
+        return (self.print_docker(*one) if command == "print" else self.permanent(*one) for one in wanted)
+
     def files(self):
         """The list of the files that STATE is made of."""
         return self.ask(("files",))
@@ -281,6 +289,8 @@ class Desk(Reader):
         self.seen = None
         self.knowledge = None
         self.lists = {}
+        # What the process has written and nobody has read yet.
+        self.came = bytearray()
 
     def ask(self, request):
         return self.tried(lambda: [self.kept(request) or self.answered(request)], 1)[0]
@@ -288,6 +298,19 @@ class Desk(Reader):
     def ask_all(self, requests):
         """The answers to many requests. All are sent before the first answer is read."""
         return self.tried(lambda: [answer for part in together(requests) for answer in self.exchange(part)], len(requests))
+
+    def dockers(self, wanted, command="print"):
+        """The dockers of many places, as above. Those that aren't at hand are asked for together, so that the process makes the next ones while these are read."""
+        refused = [wrong_place(tiploc) or wrong_day(date) for tiploc, date in wanted]
+        requests = [(command, *one) for one, fault in zip(wanted, refused) if fault is None]
+        answers = iter(self.tried(lambda: self.several(requests), len(requests)) if requests else ())
+        return [fault or next(answers) for fault in refused]
+
+    def several(self, requests):
+        """The answers to requests, from what is at hand and from the process."""
+        lacking = [request for request in requests if not self.kept(request)]
+        new = iter([answer for part in together(lacking) for answer in self.exchange(part)])
+        return [self.kept(request) or next(new) for request in requests]
 
     def tried(self, asks, number):
         """Reads this number of answers. If the process ends, all requests are sent again. If that fails too, each answer is the fault."""
@@ -341,32 +364,46 @@ class Desk(Reader):
         self.process = subprocess.Popen([self.program, self.state], stdin=subprocess.PIPE, stdout=subprocess.PIPE, stderr=subprocess.PIPE)
 
     def exchange(self, requests):
-        """Sends requests, one per line, and reads their answers."""
-        watch = threading.Timer(PATIENCE, self.process.kill)
-        watch.start()
+        """Sends requests, one per line, and reads their answers. A process that takes too long is ended."""
+        end = time.monotonic() + PATIENCE
         try:
             self.process.stdin.write(b"".join(map(line_of, requests)))
             self.process.stdin.flush()
-            return [self.read() for _ in requests]
+            return [self.read(end) for _ in requests]
         except OSError as error:
             raise Ended from error
-        finally:
-            watch.cancel()
 
-    def read(self):
-        """Reads an answer: a header `STATUS LINES BYTES`, and then this number of bytes."""
-        found = re.fullmatch(rb"([0-4]) (\d+) (\d+)\n", self.process.stdout.readline(64))
+    def read(self, end):
+        """Reads an answer: a header `STATUS LINES BYTES`, and then this number of bytes. Waits for it up to this time."""
+        while b"\n" not in self.came and len(self.came) < 64:
+            self.receives(end)
+        found = re.match(rb"([0-4]) (\d+) (\d+)\n", self.came)
         if found is None:
             raise Ended
-        status, lines, length = (int(number) for number in found.groups())
-        text = self.process.stdout.read(length)
-        if len(text) != length or text.count(b"\n") != lines:
+        first, (status, lines, length) = found.end(), (int(number) for number in found.groups())
+        while len(self.came) < first + length:
+            self.receives(end)
+        text = bytes(self.came[first:first + length])
+        del self.came[:first + length]
+        if text.count(b"\n") != lines:
             raise Ended
         return Answer(status, text)
+
+    def receives(self, end):
+        """Reads what the process has written."""
+        output = self.process.stdout.fileno()
+        if not select.select([output], [], [], max(end - time.monotonic(), 0))[0]:
+            self.process.kill()
+            raise Ended
+        piece = os.read(output, AT_ONCE)
+        if not piece:
+            raise Ended
+        self.came += piece
 
     def end(self):
         """Ends the process. If it had ended by itself with a line on standard error, for example because STATE is refused, that line is the fault."""
         process, self.process = self.process, None
+        self.came.clear()
         if process is None:
             return None
         try:

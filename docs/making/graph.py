@@ -14,7 +14,7 @@ from making.sources import DOCS, ROOT, crates, is_for_tests, read
 PAGE = DOCS / "crates.svg"
 KINDS = {"definitions and laws": "#fbe3b3", "code": "#d6e6fb", "tests": "#d8f0d8", "programs": "#ead9f7"}
 HEAD = """digraph {
-node [shape=box, style="filled,rounded", fontname=monospace, fontsize=13, height=0.35, margin="0.1,0.04"]
+node [shape=box, style=filled, fontname=monospace, fontsize=13, height=0.35, margin="0.1,0.04"]
 edge [color="#6b7280", arrowhead=none]
 ranksep=0.35
 nodesep=0.15

@@ -18,7 +18,7 @@ def neighbours(crate, cited, contracts):
     lines = [f"- It cites {listed(own)}." if own else "- It cites no crate of this repository."]
     lines += [f"- From the kit it uses {listed(kit)}."] if kit else []
     lines += [f"- It is cited by {listed(above)}." if above else "- No crate cites it."]
-    lines += [f"- [CONTRACTS](../../docs/CONTRACTS.md#{crate}) has the contract of each of its calls."] if f"## `{crate}`" in contracts else []
+    lines += [f"- [CONTRACTS](../../docs/CONTRACTS.md#{crate}) lists its calls, with the file in which each contract stands."] if f"## `{crate}`" in contracts else []
     return "\n".join([HEADING, "", *lines, ""])
 
 

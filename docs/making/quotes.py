@@ -26,9 +26,17 @@ def whole(found):
     return textwrap.dedent(text[begin:end])
 
 
+def clauses(found):
+    """The head of a function with its clauses."""
+    lines = textwrap.dedent(found.contract).rstrip().split("\n")
+    if lines[-1] == "{}":
+        lines.pop()
+    return "\n".join(lines).rstrip(";").removesuffix("{}").removesuffix(" {").rstrip()
+
+
 def quotation(it):
     found = function(it[3], it[4])
-    text = whole(found) if it[2] == "whole" else contracts.clauses(found)
+    text = whole(found) if it[2] == "whole" else clauses(found)
     if (size := text.count("\n") + 1) > MOST:
         raise Fault(f"docs/CALLING.md: {it[3]}::{it[4]} has {size} lines, and a quotation at most {MOST}")
     return f"{it[1]}```\n{text}\n```\n"

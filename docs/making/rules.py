@@ -3,7 +3,7 @@ leads. A link leads to a file.
 
 Names are written between backquotes; the clauses of a call follow it and a colon. A name that several crates have is written `crate::name`. In the column *Code*,
 the functions that keep the rule follow their file and a colon. For each of them, one of the row's wrong bodies has to change it, or something that it calls.
-Each wrong body of the row has to be such a body. Laws have no code to change. Cases follow `tests/programs/run` and a colon, in italics: a
+Each wrong body of the row has to be such a body. Laws have no code to change. Cases follow `tests/programs` and a colon, in italics: a
 test, the row of a table, or both with a colon between them."""
 import functools
 import re
@@ -122,10 +122,10 @@ def linked(cell, kind, row, links):
 
 
 def tests(cell, row, links):
-    """The tests of a rule. Cases of a script follow the script and a colon, in italics."""
+    """The tests of a rule. Cases of pytest follow their folder and a colon, in italics."""
     def link(found):
         name, cases = found.groups()
-        if not (ROOT / name).is_file():
+        if not (ROOT / name).exists():
             return linked(found.group(), "test", row, links)
         each = (case_of(name, it, row, links) for it in re.findall(r"\*([^*]+)\*", cases or ""))
         return links.named(name, name) + (f": {', '.join(each)}" if cases else "")
@@ -151,12 +151,12 @@ def cases_named(path, name):
     return [it.start() for it in re.finditer(re.escape(f'"{row or name}"'), read(path))]
 
 
-def case_of(script, name, row, links):
-    """The link to a case of a script, which is in a test beside the script."""
-    paths = sorted((ROOT / script).parent.rglob("test_*.py"))
+def case_of(folder, name, row, links):
+    """The link to a case in a folder."""
+    paths = sorted((ROOT / folder).rglob("test_*.py"))
     found = [(path, begin) for path in paths for begin in cases_named(path, name)]
     if len(found) != 1:
-        links.faults.append(f"{row}: {len(found)} cases *{name}* of `{script}`")
+        links.faults.append(f"{row}: {len(found)} cases *{name}* in `{folder}`")
         return f"*{name}*"
     return f"[*{name}*](../{found[0][0].relative_to(ROOT)})"
 

@@ -125,6 +125,11 @@ def sentence(text):
     return text if text.endswith(".") else text + "."
 
 
+def first_sentence(text):
+    """The first sentence of a comment. What follows it stands in the source."""
+    return sentence(re.split(r"(?<=\.) (?=[A-Z`])", " ".join(text.split()))[0]) if text else ""
+
+
 def with_comments(path, pattern, mark):
     """Each name of a file that the pattern finds, with its line and the comment lines above it."""
     above = []

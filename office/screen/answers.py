@@ -13,6 +13,8 @@ import trains
 import views
 
 FORMS = {"txt": "text/plain", "csv": "text/csv", "json": "application/json", "svg": "image/svg+xml"}
+# The forms of a train.
+OF_TRAIN = ("txt", "csv", "json")
 # The HTTP status for each status of docker.
 STATUSES = {1: 409, 2: 400, 3: 503, 4: 503, dockers.UNKNOWN: 501}
 # What pages may show for a place, and the number of seconds for which a browser keeps the reader's choice.
@@ -38,7 +40,7 @@ def is_known(tag):
 
 
 def answered(body, kind, tag=None, status=200, paper=""):
-    """A response that a browser asks for again each time, by its tag. It is compressed if the browser accepts that."""
+    """A response with a tag. Before each use of a kept copy, the browser asks whether the tag is still the same. The response is compressed if the browser accepts that."""
     response = flask.Response(status=status, content_type=f"{kind}; charset=utf-8")
     # A page shows the time, so the browser must not keep the page. The page's script asks for a newer page by the tag.
     kept = "no-store" if kind == "text/html" else "no-cache"
@@ -138,17 +140,20 @@ class Addresses:
     def of_list(self, tiploc, date, only):
         return self.docker(tiploc, date, None, only)
 
-    def train(self, uid, date):
+    def train(self, uid, word):
+        date, form = parted(word)
+        if form not in (None, *OF_TRAIN):
+            return nothing(f"A train has no form {form}.", 404, form)
         # A row of a docker says when its train is here, but not on which day the train started.
         tiploc, _, time = flask.request.args.get("at", "").rpartition(".")
         try:
             if tiploc and dockers.is_date(date) and self.screen.reader.has_trains:
                 start = journeys.start_of(self.screen.reader, uid, date, tiploc, time)
-                return moved(f"/train/{rows.part(uid)}/{start}#{rows.part(tiploc)}")
-            shown = self.screen.train(uid, date, shows_codes())
+                return moved(f"/train/{rows.part(uid)}/{start}{f'.{form}' if form else f'#{rows.part(tiploc)}'}")
+            shown = self.screen.train(uid, date, shows_codes()) if form is None else self.screen.train_form(form, uid, date)
         except pages.Refused as refused:
-            return refusal(refused.answer, None)
-        return answered(shown.make, "text/html", shown.tag, paper=shown.paper)
+            return refusal(refused.answer, form)
+        return answered(shown.make, FORMS.get(form, "text/html"), shown.tag, paper=shown.paper)
 
 
 def address_of(tiploc, date, form, only):
@@ -171,5 +176,5 @@ def application(screen):
     app.get("/<word>")(of.of_today)
     app.get("/<tiploc>/<word>")(of.of_day)
     app.get(f"/<tiploc>/<date>/<any({', '.join(views.LISTS)}):only>")(of.of_list)
-    app.get("/train/<uid>/<date>")(of.train)
+    app.get("/train/<uid>/<word>")(of.train)
     return app

@@ -351,8 +351,8 @@ class Comparison:
         return self.beside[apart]
 
     def alters(self, train, call, other):
-        """A call and the permanent call that it replaces: events of the same kind are compared. If the train stops where it passes permanently, or the other
-        way round, each event is compared with the whole call."""
+        """Compares a call with the permanent call that it replaces. An event is compared with the event of the same kind. If the calls have no kind in common,
+        as when a train stops where it would pass, each event is compared with the whole other call."""
         now, before = {line.kind: (number, line) for number, line in call}, {line.kind: line for _, line in other}
         is_same = bool(now.keys() & before.keys())
         for kind, (number, line) in now.items():

@@ -7,6 +7,7 @@ import io
 import json
 
 import changes
+import details
 import dockers
 import lines
 import names
@@ -53,17 +54,19 @@ def changed_fields(row):
     return [row.change.kind, *(getattr(was, name) if was else "" for name in WAS)]
 
 
-def json_of(docker, starts, known, named, differing, news, now):
-    """The lines of a docker, with everything that its page says. If it is known what is new since the last morning, each line says whether it is."""
+def json_of(docker, starts, known, named, differing, news, few, schedules, now):
+    """The lines of a docker, with everything that its page says. If it is known what is new since the last morning, each line says whether it is. `few` has the
+    docker, if a change left it with few lines. `schedules` say what kind of train it is."""
     place = named.places.get(docker.tiploc)
     heading = {
         "made": now.isoformat(timespec="minutes"), "is_covered": not known.gaps(docker.date) if known.coverage else None,
         "tiploc": docker.tiploc, "date": docker.date, "description": docker.description, "is_known": bool(docker.description), "name": names.readable(docker.description),
         "crs": place.crs if place else "", "stanox": place.stanox if place else "", "known_up_to": known.newest._asdict() if known.newest else None,
-        "covers": known.coverage._asdict() if known.coverage else None, "warnings": known.warnings(docker.date),
+        "covers": known.coverage._asdict() if known.coverage else None, "warnings": [*known.warnings(docker.date), *(it.told("This docker") + "." for it in few)],
+        "thinned": [{"file": it.cause, "place": it.place, "date": it.day, "before": it.before, "after": it.after} for it in few],
         "missing": [{"reference": reference, "before": extract._asdict()} for reference, extract in dockers.missing(known.extracts)],
     }
-    told = [described(line, start, named) for line, start in zip(docker.lines, starts)]
+    told = [described(line, start, named) | {"of_train": of_train(schedules.of(line, start, docker))} for line, start in zip(docker.lines, starts)]
     if differing:
         heading["changes"] = {kind: len(differing.trains.get(kind, ())) for kind in changes.WORDS}
         heading["not_here"] = [described(line, change.start, named) | {"change": change.kind, "words": change.words} for line, change in differing.gone]
@@ -77,6 +80,14 @@ def json_of(docker, starts, known, named, differing, news, now):
 def described(line, start, named):
     """A line with its names."""
     return line._asdict() | {"start": start, "origin_name": named.known(line.origin), "destination_name": named.known(line.destination)}
+
+
+def of_train(found):
+    """What a line lacks, from its call and from what kind of train it is; None if that isn't known."""
+    if found is None:
+        return None
+    call, now = found
+    return {"vehicle": now.vehicle, "kind": now.kind(), "operator": {"code": now.of["operator"], "words": now.words("operator")}, **details.here(call)}
 
 
 def change_of(change):

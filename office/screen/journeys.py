@@ -4,6 +4,7 @@ import difflib
 import re
 from typing import NamedTuple, Optional
 
+import details
 import lines
 import trains
 
@@ -13,6 +14,9 @@ SEEN_FROM_OTHER = {"J": "joins", "V": "divides from", "N": "comes from"}
 # Another schedule of the same UID is looked for at these numbers of days before and after a day.
 # They are each day of five weeks, and then the same weekday for a year.
 NEAR = (*range(1, 36), *range(42, 372, 7))
+# What the sentence adds to a place for an activity there, and the vehicles that it doesn't call a train.
+ALOUD = {"U": "to pick up only", "D": "to set down only", "R": "on request"}
+VEHICLES = ("bus", "ship")
 
 
 def start_of(reader, uid, date, tiploc, time):
@@ -101,6 +105,10 @@ class Stop(NamedTuple):
     def shown(self):
         return self.call or self.was
 
+    def words(self):
+        """What the train does there, and its allowances, with what was planned; each in words."""
+        return tuple(", ".join(details.words_of(call)) if call else "" for call in (self.shown, self.was or self.call))
+
     @property
     def kind(self):
         """How it differs from the plan, as a class of its row."""
@@ -121,20 +129,61 @@ def stops_of(train, planned):
     return found
 
 
+class Journey(NamedTuple):
+    """A train on the day of its start: the answer to `train`, and what was read from it. `planned` is the train that it replaces, or would have been."""
+    text: bytes
+    train: trains.Train
+    planned: Optional[trains.Train]
+    operators: dict
+
+    @property
+    def is_cancelled(self):
+        return self.train.state == "CANCELLED"
+
+    @property
+    def shown(self):
+        """The train whose journey a page shows: if this one is cancelled, the planned one."""
+        return self.planned if self.is_cancelled and self.planned else self.train
+
+    @property
+    def vehicle(self):
+        return details.details_of(self.shown, self.operators).vehicle
+
+    def facts(self):
+        """What kind of train it is: each field's name on the page, its words, and the words that were planned."""
+        now = details.details_of(self.shown, self.operators)
+        was = details.details_of(self.planned, self.operators) if self.planned else now
+        both = [(label, now.words(name), was.words(name)) for name, label in details.SHOWN.items()]
+        return [fact for fact in both if any(fact[1:])] if self.shown.basic else []
+
+    def changes(self):
+        """What changes at each call of the shown train with a record CR, in words, by the number of the call."""
+        kinds = [details.details_of(self.shown, self.operators), *details.along(self.shown, self.operators)]
+        return {number: found for number, call in enumerate(self.shown.calls) if call.changed and (found := details.changes_at(*kinds[number:number + 2]))}
+
+
 def is_public(call):
-    return any(time not in ("", "0000") for time in call.public.values())
+    """Whether passengers may use a call: it has a public time, and isn't one that isn't advertised."""
+    return any(time not in ("", "0000") for time in call.public.values()) and "N" not in details.activities_of(call)
 
 
-def sentence(train, labels, is_cancelled=False):
+def named(call, labels):
+    """The name of a call's place, with what a passenger has to know of the call."""
+    more = [words for code, words in ALOUD.items() if code in details.activities_of(call)]
+    return f"{labels.of(call.tiploc)}{f' ({more[0]})' if more else ''}"
+
+
+def sentence(train, labels, vehicle="", is_cancelled=False):
     """Where a train calls, in one sentence that can be read aloud. If it has public times, only the places with public times count."""
     if len(train.calls) < 2:
         return ""
     first, *others = train.calls
     public = [call for call in others if is_public(call)]
     stops = public or [call for call in others if {"A", "D"} & call.times.keys()]
-    at = [labels.of(call.tiploc) for call in stops]
+    at = [named(call, labels) for call in stops]
     where = f"{', '.join(at[:-1])} and {at[-1]}" if len(at) > 1 else f"{at[0]} only" if at else "no place"
     leaves = trains.public_clock(first.public.get("D", "")) or trains.clock(first.first).rstrip("½")
+    kind = f" {vehicle}" if vehicle in VEHICLES else ""
     verb = "would have called" if is_cancelled else "calls"
     rest = "" if public else ", without public times"
-    return f"The {leaves} from {labels.of(first.tiploc)} to {labels.of(train.calls[-1].tiploc)} {verb} at {where}{rest}."
+    return f"The {leaves}{kind} from {labels.of(first.tiploc)} to {labels.of(train.calls[-1].tiploc)} {verb} at {where}{rest}."

@@ -5,7 +5,7 @@ from typing import NamedTuple
 KINDS = {"A": "arrives", "P": "passes", "D": "departs", "J": "is joined", "V": "divides", "N": "goes on"}
 # The word between an association's kind and its partner: is joined by, divides into, goes on as.
 LINKS = {"J": "by", "V": "into", "N": "as"}
-# The columns of fields, by their names in docs/FORMATS.md: in a heading, in any line, in an event, and in an association. docs/columns compares
+# The columns of fields, by their names in docs/FORMATS.md: in a heading, in any line, in an event, and in an association. docs/check compares
 # them with that page.
 HEADING = {"TIPLOC": (8, 14), "date": (16, 25), "description of the TIPLOC": (27, 52)}
 COLUMNS = {

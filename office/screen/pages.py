@@ -6,9 +6,11 @@ import threading
 import zoneinfo
 from typing import Callable, NamedTuple, Optional
 
+import bank_holidays
 import calls
 import changes
 import days
+import details
 import dockers
 import finding
 import flask
@@ -19,13 +21,14 @@ import lines
 import names
 import news
 import rows
+import train_forms
 import trains
 import views
-from station_office import printed
+from station_office import printed, thinned
 
 HERE = pathlib.Path(__file__).resolve().parent
 ZONE = zoneinfo.ZoneInfo("Europe/London")
-# The next trains include tomorrow's trains before this hour, and at least this number of them.
+# The list of the next trains has tomorrow's trains up to this time in half minutes, and at least this number of tomorrow's trains.
 EARLY, LEAST = 6 * 120, 40
 STYLE, SCRIPT, SEARCH = ((HERE / name).read_text(encoding="utf-8") for name in ("screen.css", "screen.js", "search.js"))
 # The number of dockers whose changes are kept.
@@ -156,6 +159,10 @@ class Screen:
         earlier = (kept[0].moment, kept[1]) if kept else None
         return Pair(tiploc, date, text, None if permanent.status in dockers.LACKING else self.asked(permanent), earlier)
 
+    def thinned(self, place, *dates):
+        """The dockers of a place on these days that a change left with few lines. Their day isn't over."""
+        return [it for it in thinned.thinned_in(self.folder, self.now().date()) if it.place == place and it.day in dates]
+
     def following(self, tiploc, day):
         """The dockers of the next day; None if they are refused."""
         try:
@@ -219,11 +226,16 @@ class Screen:
         named.learns(tiploc, dockers.description_of(pair.text))
         labels = names.Labels(named, view.is_codes)
         heading = f"{dict(zip(views.LISTS, ('Changes at ', 'New at '))).get(view.only, '')}{labels.of(tiploc)}, {long_day(day)}"
-        foot = f"Made {now:%Y-%m-%d %H:%M}. {known.short()} {known.cover(pair.date)}."
+        few = self.thinned(tiploc, pair.date, *([after.date] if after else []))
+        lost = "".join(it.told(" It") + "." for it in few if it.day == pair.date)
+        foot = f"Made {now:%Y-%m-%d %H:%M}. {known.short()} {known.cover(pair.date)}.{lost}"
         texts = [text for one in (pair, after) if one for text in one.texts()]
-        tag = tag_of(*texts, told, named.tag, VERSION.encode(), now.date().isoformat().encode(), repr(view).encode())
+        tag = tag_of(*texts, told, named.tag, VERSION.encode(), now.date().isoformat().encode(), repr(view).encode(), repr(few).encode())
         paper = paper_style(heading, foot)
-        context = {"day": day, "now": now, "known": known, "labels": labels, "view": view, "heading": heading, "paper": paper, "tag": tag, "is_alone": is_alone}
+        context = {
+            "day": day, "now": now, "known": known, "labels": labels, "view": view, "heading": heading, "paper": paper, "tag": tag, "is_alone": is_alone,
+            "few": [(it, datetime.date.fromisoformat(it.day)) for it in few], "is_sure": known.is_sure(pair.date, now) and not lost, "holiday": bank_holidays.note(day, long_day(day)) if day else "",
+        }
         return Shown(tag, lambda: self.rendered(pair, after, told, context), paper)
 
     def rendered(self, pair, after, told, context):
@@ -254,47 +266,72 @@ class Screen:
         if form == "svg":
             return Shown(tag_of(pair.text, VERSION.encode()), lambda: graph.graph(docker, named.of(tiploc)))
         known, told = self.known()
-        tag = tag_of(*pair.texts(), told, named.tag, VERSION.encode())
+        few, operators = self.thinned(tiploc, date), details.operators_in(self.folder)
+        tag = tag_of(*pair.texts(), told, named.tag, VERSION.encode(), repr((few, operators)).encode())
 
         def make():
-            starts = changes.Timetable(self.reader, tiploc).starts_of(docker) if self.reader.has_trains else [""] * len(docker.lines)
+            timetable = changes.Timetable(self.reader, tiploc)
+            starts = timetable.starts_of(docker) if self.reader.has_trains else [""] * len(docker.lines)
             differing = self.differing(pair, told)
             if form == "csv":
                 return forms.csv_of(docker, starts, named, differing)
             fresh = news.news_of(*pair.earlier, pair.text, differing) if pair.earlier else None
-            return forms.json_of(docker, starts, known, named, differing, fresh, self.now())
+            schedules = details.Schedules(timetable.answers, operators, [tiploc])
+            return forms.json_of(docker, starts, known, named, differing, fresh, few, schedules, self.now())
 
         return Shown(tag, make)
 
+    def journey(self, uid, date):
+        """A train that starts on a day, with what was planned for it."""
+        text = self.asked(self.reader.train(uid, date))
+        train = trains.train_of(text)
+        planned = journeys.planned_of(self.reader, train) if train.state == "CANCELLED" or train.stp == "O" else None
+        return journeys.Journey(text, train, planned, details.operators_in(self.folder))
+
     def train(self, uid, date, is_codes=False):
         """The page of a train that starts on a day."""
-        text = self.asked(self.reader.train(uid, date))
-        (known, told), named, now = self.known(), self.named(), self.now()
-        train = trains.train_of(text)
-        is_cancelled = train.state == "CANCELLED"
-        planned = journeys.planned_of(self.reader, train) if is_cancelled or train.stp == "O" else None
-        shown = planned if is_cancelled and planned else train
+        journey = self.journey(uid, date)
+        (known, told), named, now, train, shown = self.known(), self.named(), self.now(), journey.train, journey.shown
         along = journeys.dockers_along(self.reader, train)
-        stops = [(stop, list(journeys.links_of(train, stop.call, along)) if stop.call and not is_cancelled else []) for stop in journeys.stops_of(train, planned)]
+        stops = [(stop, list(journeys.links_of(train, stop.call, along)) if stop.call and not journey.is_cancelled else []) for stop in journeys.stops_of(train, journey.planned)]
         labels, day = names.Labels(named, is_codes), train.start
         heading = f"{shown.identity} {uid}, {long_day(day)}".strip()
         paper = paper_style(heading, f"Made {now:%Y-%m-%d %H:%M}. {known.short()} {known.cover(train.date)}.")
-        tag = tag_of(text, told, named.tag, repr(stops).encode(), VERSION.encode(), now.date().isoformat().encode(), str(is_codes).encode())
+        tag = tag_of(journey.text, told, named.tag, repr((stops, journey.planned, journey.operators)).encode(), VERSION.encode(), now.date().isoformat().encode(), str(is_codes).encode())
 
         def make():
             return flask.render_template(
-                "train.html", train=train, shown=shown, planned=planned, stops=stops, labels=labels, known=known, day=day, before=day - datetime.timedelta(1),
+                "train.html", train=train, shown=shown, planned=journey.planned, stops=stops, labels=labels, known=known, day=day, before=day - datetime.timedelta(1),
                 after=day + datetime.timedelta(1), now=now, is_other=day != now.date(), indicators=trains.INDICATORS, weekdays=trains.weekdays(train.days), style=STYLE, paper=paper,
-                heading=heading, sentence=journeys.sentence(shown, labels, is_cancelled), text="", query="", on=train.date if day != now.date() else "",
+                heading=heading, sentence=journeys.sentence(shown, labels, journey.vehicle, journey.is_cancelled), text="", query="", on=train.date if day != now.date() else "",
+                facts=journey.facts(), changed=journey.changes(), holiday=bank_holidays.note(day, long_day(day)),
             )
 
         return Shown(tag, make, paper)
+
+    def train_form(self, form, uid, date):
+        """A train in another form than a page."""
+        journey = self.journey(uid, date)
+        if form == "txt":
+            return Shown(tag_of(journey.text), lambda: journey.text)
+        (known, told), named = self.known(), self.named()
+        tag = tag_of(journey.text, told, named.tag, repr((journey.planned, journey.operators)).encode(), VERSION.encode())
+        if form == "csv":
+            return Shown(tag, lambda: train_forms.csv_of(journey, named))
+        return Shown(tag, lambda: train_forms.json_of(journey, known, named, self.now()))
 
     def list_of_places(self):
         """The codes in the office's list, each with the name of its place. If there are no names, the description of the place is used, if it is known without
         reading STATE."""
         codes = self.codes()
         return None if codes is None else [(code, self.name_of(code)) for code in codes]
+
+    def thinned_places(self):
+        """The thinned dockers of the office's places, by place."""
+        found = {}
+        for it in thinned.thinned_in(self.folder, self.now().date()):
+            found.setdefault(it.place, []).append(it)
+        return found
 
     def codes(self):
         """The codes in the office's list of places; None if there is no list."""
@@ -322,7 +359,7 @@ class Screen:
         trains_found = finding.trains_of(self.reader, sought, day, around)
         code = sought.upper() if dockers.is_tiploc(sought.upper()) and sought.upper() not in named.places else None
         return flask.render_template(
-            "places.html", places=self.list_of_places(), labels=names.Labels(named, is_codes), text=text, sought=sought, found=found[:finding.SHOWN], number=len(found), code=code,
+            "places.html", places=self.list_of_places(), few=self.thinned_places(), labels=names.Labels(named, is_codes), text=text, sought=sought, found=found[:finding.SHOWN], number=len(found), code=code,
             trains=trains_found, is_train=finding.is_train(sought), is_uid=bool(finding.UID.fullmatch(sought.upper())), day=datetime.date.fromisoformat(day), today=self.now(),
             on=date if date and day == date else "", style=STYLE, script=SEARCH, is_finder=True, query=f"?q={rows.part(text)}" if text else "",
         )

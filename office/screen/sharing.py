@@ -1,17 +1,8 @@
 """Sends the office's newest packed state to other offices, which fetch it. The server does this only if an address for it is set."""
-import argparse
 import os
 import pathlib
-import re
 
 import flask
-
-
-def address(word):
-    """The address in a word: a path, or empty."""
-    if not re.fullmatch(r"(/[A-Za-z0-9._-]+)*", word):
-        raise argparse.ArgumentTypeError(f"{word!r} is no address: write a path, as /north.state.zst")
-    return word
 
 
 def shares(app, state, path):

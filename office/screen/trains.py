@@ -37,7 +37,8 @@ def public_clock(time):
 
 
 class Call(NamedTuple):
-    """A location record of a schedule. `times` has the time of each kind of event, and `days` how many days after the start it happens."""
+    """A location record of a schedule. `times` has the time of each kind of event, and `days` how many days after the start it happens. `changed` is the record CR
+    that comes right before it; empty if there is none."""
     tiploc: str
     suffix: str
     times: dict
@@ -47,7 +48,12 @@ class Call(NamedTuple):
     line: str
     path: str
     identity: str
-    is_changed: bool
+    record: str
+    changed: str
+
+    @property
+    def is_changed(self):
+        return bool(self.changed)
 
     @property
     def day(self):
@@ -60,7 +66,7 @@ class Call(NamedTuple):
 
 
 class Train(NamedTuple):
-    """The schedule of a UID on the day of its start, from the answer to `train`."""
+    """The schedule of a UID on the day of its start, from the answer to `train`. `basic` and `extra` are its records BS and BX; empty if there is none."""
     uid: str
     date: str
     stp: str
@@ -74,6 +80,8 @@ class Train(NamedTuple):
     runs_to: str
     days: str
     calls: list
+    basic: str = ""
+    extra: str = ""
 
     @property
     def start(self):
@@ -107,11 +115,11 @@ def date_of(digits):
 
 def calls_of(records, only):
     """The calls of a schedule; if a place is given, only the calls there."""
-    calls, identity, is_changed, before, day = [], part(records[0], BASIC["train identity"]), False, "", 0
+    calls, identity, changed, before, day = [], part(records[0], BASIC["train identity"]), "", "", 0
     for record in records:
         kind = record[:2]
         if kind == "CR":
-            identity, is_changed = part(record, (13, 16)), True
+            identity, changed = part(record, (13, 16)), record
         if kind not in TIMES:
             continue
         times, days, is_here = {}, {}, only in (None, record[2:9].rstrip())
@@ -126,8 +134,8 @@ def calls_of(records, only):
         if is_here:
             public = {what: part(record, columns) for what, columns in PUBLIC[kind].items()}
             platform, line, path = (part(record, columns) for columns in TRACKS[kind])
-            calls.append(Call(part(record, (3, 9)), part(record, (10, 10)), times, days, public, platform, line, path, identity, is_changed))
-        is_changed = False
+            calls.append(Call(part(record, (3, 9)), part(record, (10, 10)), times, days, public, platform, line, path, identity, record, changed))
+        changed = ""
     return calls
 
 
@@ -142,7 +150,7 @@ def train_of(text, only=None):
         return Train(*fields, "", "", "", "", [])
     basic = records[0]
     runs_from, runs_to = (date_of(part(basic, BASIC[name])) for name in ("runs from", "runs to"))
-    return Train(*fields, part(basic, BASIC["train identity"]), runs_from, runs_to, part(basic, BASIC["days"]), calls_of(records, only))
+    return Train(*fields, part(basic, BASIC["train identity"]), runs_from, runs_to, part(basic, BASIC["days"]), calls_of(records, only), basic, next((record for record in records[1:2] if record.startswith("BX")), ""))
 
 
 def indicator_of(text):

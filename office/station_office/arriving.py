@@ -21,9 +21,13 @@ def arrived(office):
 
 
 def present(office):
-    """The files in in/, and the states of other offices in swap/. A file that changed is another one."""
+    """The files in in/, and the states of other offices in swap/. A file that changed is another one. A folder that can't be read is reported, once."""
+    paths = []
     with locking.at_work(office):
-        paths = [*archive.contents_of(office.folder / "in")[0], *swap.others(office)]
+        with office.reporting():
+            paths += archive.contents_of(archive.readable(office, "in"))[0]
+        with office.reporting():
+            paths += swap.others(office)
     return {identity(path) for path in paths} - {None}
 
 

@@ -6,7 +6,7 @@ import changes
 import dockers
 import lines
 
-from . import covering
+from . import covering, thinned
 from .faults import Fault
 from .reporting import dockers_of, writing
 
@@ -30,9 +30,8 @@ class Pair(NamedTuple):
         return Pair(self.date, *(b"\n".join([found[0], *(line for line in found[1:-2] if line[UID] in uids), *found[-2:]]) for found in rows))
 
 
-def permanent_of(reader, place, date):
-    """The permanent docker of a place on a day."""
-    answer = reader.permanent(place, date)
+def permanent_of(place, answer):
+    """The permanent docker of a place, from the answer to a request for it."""
     if answer.status in dockers.LACKING:
         raise Fault(4, "desk", LACKING)
     if answer.status != 0:
@@ -44,13 +43,13 @@ def prints_differences(office, reader, known, date):
     """For each place with changes, writes the heading of its docker, and each line that only one of its two dockers has."""
     is_same, is_covered = True, covering.warns(office, known, date)
     for place, text in dockers_of(office, reader, date):
-        permanent = permanent_of(reader, place, date)
+        permanent = permanent_of(place, reader.permanent(place, date))
         if found := differences(text, permanent):
             is_same = False
             with writing():
                 print(covering.head(office, known, date, place).decode("ascii"), end="")
                 print(text.decode("ascii").split("\n")[0], *found, sep="\n", flush=True)
-    if is_same and is_covered and office.status == 0:
+    if is_same and is_covered and office.status == 0 and thinned.is_sure(office, date):
         office.say(date, "nothing differs from the permanent timetable")
 
 
@@ -65,15 +64,16 @@ def differences(text, permanent):
 
 
 def says_differences(office, reader, date, printed, is_covered):
-    """Prints how many trains differ on a day at the places whose dockers were printed. It isn't said of an uncovered day that nothing differs."""
+    """Prints how many trains differ on a day at the places whose dockers were printed. If the day isn't covered, or a docker of it is thinned, it isn't said that nothing
+    differs."""
     if not printed:
         return
     if reader.permanent(next(iter(printed)), date).status in dockers.LACKING:
         office.say(date, LACKING)
         return
     found, number, departures, answers = {}, 0, changes.Departures(reader), {}
-    for place, text in printed.items():
-        timetable = changes.Timetable(reader, place, Pair(date, text, permanent_of(reader, place, date)).reduced(), departures)
+    for (place, text), answer in zip(printed.items(), reader.dockers([(place, date) for place in printed], "permanent")):
+        timetable = changes.Timetable(reader, place, Pair(date, text, permanent_of(place, answer)).reduced(), departures)
         # A train that differs at several places is requested once.
         timetable.answers = answers
         told = changes.changes_of(timetable, date).trains
@@ -83,5 +83,5 @@ def says_differences(office, reader, date, printed, is_covered):
     if found:
         at = f"at {number} of {len(printed)} {'place' if len(printed) == 1 else 'places'}"
         office.say(date, f"{changes.counted(found)} {at}; `station-office changes {office.state} {date}` prints them")
-    elif is_covered:
+    elif is_covered and thinned.is_sure(office, date):
         office.say(date, "nothing differs from the permanent timetable")

@@ -49,7 +49,7 @@ def header_of(record):
 
 
 def bytes_of(extract):
-    """The stamp of an extract in the bytes that the entries of a state have."""
+    """The stamp of an extract, encoded as in the entries of a state."""
     day = (datetime.date.fromisoformat(extract.date) - FIRST_DAY).days
     minute = int(extract.time[:2]) * 60 + int(extract.time[2:])
     return day.to_bytes(2, "big") + minute.to_bytes(2, "big") + extract.reference.ljust(7).encode("ascii")

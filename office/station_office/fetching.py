@@ -59,6 +59,7 @@ def now_of(office):
 
 def fetches(office, source, last):
     """Fetches a newer file from a source. Returns what to remember. After a failure that may pass it tries again, each time after a longer pause."""
+    archive.writable(office, source.folder)
     if office.settings.is_forced or last.address != fetched.digest(source.address):
         last = fetched.Last()
     for number in range(1, source.tries + 1):

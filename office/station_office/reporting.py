@@ -7,7 +7,7 @@ import sys
 import dockers
 
 from . import covering, printed
-from .clock import ahead_text, clock_text, is_ahead
+from .clock import ahead_text, far_text, is_ahead
 from .extracts import moment_of, stamp_of
 from .faults import REPORTED, Fault
 from .places import lines_of_list
@@ -21,7 +21,7 @@ NAMED = 5
 def age_text(age):
     """A duration as people say it."""
     hours = age // datetime.timedelta(hours=1)
-    return f"{hours} hours" if hours < 72 else f"{hours // 24} days"
+    return "1 hour" if hours == 1 else f"{hours} hours" if hours < 72 else f"{hours // 24} days"
 
 
 def says_known(office, says):
@@ -59,7 +59,7 @@ def old(office, extracts):
     age = office.settings.now - moment_of(newest)
     if is_ahead(office, newest):
         return [f"ahead: the {newest.name} {ahead_text(office)}. If it is the extract, `station-office withdraw {office.state} {newest.reference}`"]
-    return [f"old: the {newest.name} is {age_text(age)} old by the clock, which says {clock_text(office)}; more than {age_text(most)} is too old"] if age > most else []
+    return [f"old: the {newest.name} is {age_text(age)} old by the clock, which says {far_text(office, newest)}; more than {age_text(most)} is too old"] if age > most else []
 
 
 def thin(office, found):
@@ -86,8 +86,8 @@ def dockers_of(office, reader, date):
     if not dockers.is_date(date):
         says_refusal(office, "print", reader.print_docker("A", date))
         return
-    for place in places_of(office):
-        answer = reader.print_docker(place, date)
+    places = places_of(office)
+    for place, answer in zip(places, reader.dockers([(place, date) for place in places])):
         if answer.status == 0:
             yield place, answer.text
             continue

@@ -2,14 +2,15 @@
 import contextlib
 import datetime
 import pathlib
-import tempfile
+import shutil
 import zoneinfo
 
 import dockers
 
-from . import copying, covering, packing, printed
+from . import copying, covering, locking, packing, printed
 from .differing import differences
 from .faults import Fault
+from .office import UNPACKED, size_of
 from .reporting import dockers_of, writing
 
 # The command, and the earlier time that means what this office last printed for a day.
@@ -81,9 +82,9 @@ def earlier_of(office, when):
         return
     time = time_of(when)
     copy = copy_at(office, time) if time else pathlib.Path(when)
-    with tempfile.TemporaryDirectory() as folder:
-        state = pathlib.Path(folder) / "STATE"
-        unpacks(copy, state)
+    with emptied(office) as folder:
+        state = folder / "STATE"
+        unpacks(office, copy, state)
         reader = dockers.reader_of(str(state))
         try:
             yield Copy(reader, f"{when}, by {copy}" if time else str(copy))
@@ -91,7 +92,20 @@ def earlier_of(office, when):
             reader.close()
 
 
-def unpacks(copy, target):
+@contextlib.contextmanager
+def emptied(office):
+    """An empty folder beside STATE. Only one command has it at a time. What an earlier one left there is removed."""
+    folder = office.beside("since")
+    with locking.locked(office, "since-lock"):
+        shutil.rmtree(folder, ignore_errors=True)
+        folder.mkdir()
+        try:
+            yield folder
+        finally:
+            shutil.rmtree(folder, ignore_errors=True)
+
+
+def unpacks(office, copy, target):
     """Writes the unpacked content of a copy to a file."""
     try:
         with packing.stream_of(copy) as stream, open(target, "wb") as file:
@@ -99,6 +113,8 @@ def unpacks(copy, target):
                 file.write(part)
     except FileNotFoundError:
         raise Fault(4, copy, "there is no such file; a time is written YYYY-MM-DDTHH:MM") from None
+    except OSError as error:
+        raise Fault(4, copy, error.strerror or str(error), *office.shortage(UNPACKED * size_of(copy))) from None
 
 
 def written_at(copy):
@@ -157,14 +173,10 @@ def says_news(office, reader, known, date, today):
 
 def following(reader, date, places):
     """The dockers of the days after a day that a morning keeps, by day and place. Without a desk there are none, because each docker would take a second."""
-    found, first = {}, datetime.date.fromisoformat(date)
-    for after in range(1, printed.AHEAD if reader.has_trains else 1):
-        day = (first + datetime.timedelta(after)).isoformat()
-        for place in places:
-            answer = reader.print_docker(place, day)
-            if answer.status == 0:
-                found[day, place] = answer.text
-    return found
+    first = datetime.date.fromisoformat(date)
+    days = [(first + datetime.timedelta(after)).isoformat() for after in range(1, printed.AHEAD if reader.has_trains else 1)]
+    wanted = [(place, day) for day in days for place in places]
+    return {(day, place): answer.text for (place, day), answer in zip(wanted, reader.dockers(wanted)) if answer.status == 0}
 
 
 def says_day(office, known, kept, day, dockers_by_place):

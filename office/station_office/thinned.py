@@ -23,19 +23,28 @@ class Thinned(NamedTuple):
         return f"{docker} has {self.after} of {self.before} lines since the {self.cause}"
 
 
-def path_of(office):
-    return office.folder / "thinned"
+def path_in(folder):
+    return folder / "thinned"
 
 
-def thinned(office):
-    """The dockers in the file `thinned` whose day isn't over, in their order there."""
+def thinned_in(folder, today):
+    """The dockers in the file `thinned` of an office's folder whose day isn't over, in their order there."""
     try:
-        lines = path_of(office).read_text(encoding="utf-8", errors="surrogateescape").splitlines()
+        lines = path_in(folder).read_text(encoding="utf-8", errors="surrogateescape").splitlines()
     except FileNotFoundError:
         return []
     found = (re.fullmatch(r"(\d{4}-\d\d-\d\d) (\S+) (\d+) (\d+) (.+)", line) for line in lines)
-    today = office.settings.now.date().isoformat()
-    return [Thinned(it[1], it[2], int(it[3]), int(it[4]), it[5]) for it in found if it and it[1] >= today]
+    return [Thinned(it[1], it[2], int(it[3]), int(it[4]), it[5]) for it in found if it and it[1] >= today.isoformat()]
+
+
+def thinned(office):
+    """The thinned dockers of an office whose day isn't over."""
+    return thinned_in(office.folder, office.settings.now.date())
+
+
+def is_sure(office, date):
+    """Whether it may be said that nothing differs on a day: none of its dockers is thinned."""
+    return all(it.day != date for it in thinned(office))
 
 
 def after_change(office, before, after, cause):
@@ -63,7 +72,7 @@ def reports(office, subject, before, after, cause):
 
 def writes(office, found):
     """Writes the file `thinned` anew, or removes it if nothing is thinned."""
-    path = path_of(office)
+    path = path_in(office.folder)
     if not found:
         path.unlink(missing_ok=True)
         return

@@ -41,9 +41,14 @@ def run(*words, **how):
     return subprocess.run(words, stdin=subprocess.DEVNULL, stdout=subprocess.PIPE, stderr=subprocess.STDOUT, text=True, check=False, **how)
 
 
+def is_built_here():
+    """Whether the tested program is the one that `./docker` runs and ./install installs."""
+    return pathlib.Path(os.environ["DOCKER"]).resolve() == ROOT / "crates" / "docker" / "out" / "docker"
+
+
 def lacks():
     """Why this machine can't boot another system with the package; None if it can."""
-    if pathlib.Path(os.environ["DOCKER"]).resolve() != ROOT / "crates" / "docker" / "out" / "docker":
+    if not is_built_here():
         return "the package has another program than the tested one"
     if os.geteuid() != 0:
         return "only root can boot another system"

@@ -1,19 +1,17 @@
 """Helpers for the tests of the screen: an office with a server of its pages, and a browser. DOCKER names the program, DESK the program `desk`."""
-import http.client
 import os
 import pathlib
 import shutil
-import socket
 import subprocess
 import tempfile
 import time
 import unittest
 
 import browser
+import serving
+from offices import DOCKER, docker as run, record
 
 HERE = pathlib.Path(__file__).resolve().parent
-OFFICE = HERE.parent
-DOCKER = os.environ["DOCKER"]
 REAL = shutil.which(os.environ.get("DESK") or f"{DOCKER}-desk")
 STAND_IN = str(HERE / "desk-of-docker")
 DAY = "2024-06-12"
@@ -30,9 +28,56 @@ ROWS = f"return [...document.querySelectorAll('#day tr')].map({CELLS})"
 CLOCKS = "return [...document.querySelectorAll('#day :is(.arr, .dep)')].map(cell => cell.textContent).filter(text => text.includes(':')).sort()"
 SHOWN = "return [...document.querySelectorAll('#day tr')].map(row => row.getBoundingClientRect()).map(box => box.height ? [box.top, box.bottom] : null)"
 
+WIDTHS = (320, 360, 390, 480, 600, 701, 760, 761, 768, 800, 912, 1000, 1001, 1024, 1280, 1366, 1600, 1920, 2560, 3840)
+# The texts whose contrast is below 4.5 to 1. Past rows are unfolded first.
+FAINT = """
+const light = colour => { const [r, g, b] = colour.match(/[\\d.]+/g).map(Number).map(part => part / 255).map(part => part <= .03928 ? part / 12.92 : ((part + .055) / 1.055) ** 2.4);
+    return .2126 * r + .7152 * g + .0722 * b };
+const found = new Set();
+const walker = document.createTreeWalker(document.body, NodeFilter.SHOW_TEXT);
+while (walker.nextNode()) {
+    const element = walker.currentNode.parentElement, style = getComputedStyle(element);
+    if (!walker.currentNode.textContent.trim() || !element.checkVisibility() || ['SCRIPT', 'STYLE', 'TITLE', 'NOSCRIPT'].includes(element.tagName.toUpperCase())) continue;
+    let back = element, opacity = 1;
+    for (let up = element; up; up = up.parentElement) opacity *= Number(getComputedStyle(up).opacity);
+    while (back && getComputedStyle(back).backgroundColor === 'rgba(0, 0, 0, 0)') back = back.parentElement;
+    const ground = light(back ? getComputedStyle(back).backgroundColor : 'rgb(255, 255, 255)'), ink = light(element.ownerSVGElement ? style.fill : style.color);
+    const ratio = (Math.max(ground, ink) + .05) / (Math.min(ground, ink) + .05);
+    if (ratio < 4.5 || opacity < 1) found.add(`${element.tagName}.${element.getAttribute('class')}: ${ratio.toFixed(2)}, ${opacity}`);
+}
+return [...found];
+"""
+# The elements that are wider than the page, or whose text is cut off.
+CUT = """return [...document.querySelectorAll('body *')].filter(it => !it.closest('.across, svg, caption, legend, thead, #status, noscript, .skip, label[for=text]') && it.checkVisibility()).filter(it => {
+    const box = it.getBoundingClientRect();
+    return box.width && (box.right > innerWidth + .5 || box.left < -.5 || it.scrollWidth > it.clientWidth + 1 && getComputedStyle(it).display !== 'inline') })
+    .map(it => `${it.tagName}.${it.className}: ${it.textContent.slice(0, 30)}`)"""
+# Parts of names of places.
+HEADS = ("ASH", "BAR", "BRAD", "CHAT", "COL", "DON", "EAST", "FARN", "GRAN", "HAR", "KINGS", "LANG", "MAL", "NEW", "NOR", "OAK", "PEN", "RAD", "SAND", "STAN", "THORN", "WAL", "WEST", "YAR")
+TAILS = ("BOROUGH", "BRIDGE", "BURY", "BY", "CASTER", "COMBE", "FIELD", "FORD", "GATE", "HAM", "HURST", "LEY", "MERE", "MINSTER", "MOUTH", "PORT", "STEAD", "STOKE", "THORPE", "TON", "WELL", "WORTH")
+ENDS = ("", "", " JN", " NORTH JN", " SOUTH JN", " CENTRAL", " PARK", " ROAD", " SIDINGS", " DN LOOP", " UP LOOP", " FRT TERMINAL", " TOWN", " SIGNAL 47", " T&RSMD")
 
-def run(*words):
-    return subprocess.run([DOCKER, *words], stdin=subprocess.DEVNULL, capture_output=True, check=True).stdout
+
+def waited(seconds, ask):
+    """Calls `ask` until it returns a value, for at most this many seconds. Returns that value."""
+    end = time.monotonic() + seconds
+    while not (answer := ask()) and time.monotonic() < end:
+        time.sleep(0.2)
+    return answer
+
+
+def place(code, description, crs="", stanox=""):
+    return record(f"TI{code:<7}00000000 {description:<26}{stanox:<5}{'':<4}{crs:<3}")
+
+
+def schedule(uid, origin, end, at="0900", days="2406032412131111111", indicator="P"):
+    hour, minute = int(at[:2]), at[2:]
+    return (record(f"BSN{uid}{days} POO1{uid[0]}{uid[4:]}", indicator) + record(f"LO{origin:<8}{at} {at}2  FL")
+            + record(f"LT{end:<8}{(hour + 1) % 24:02}{minute} {(hour + 1) % 24:02}{minute}1  FL"))
+
+
+def extract(*records, date="070624", reference="DFROC1F", indicator="F", last="DFROC1E"):
+    return "".join([record(f"HDTPS.UDFROC1.PD240607{date}2100{reference}{last}{indicator}A"), *records, record("ZZ")])
 
 
 def knows(request):
@@ -84,6 +129,8 @@ class Office(unittest.TestCase):
 
     @classmethod
     def setUpClass(cls):
+        if not serving.HAS_FLASK:
+            raise unittest.SkipTest("there is no flask or no waitress")
         cls.work = tempfile.TemporaryDirectory()
         cls.addClassCleanup(cls.work.cleanup)
         cls.folder = pathlib.Path(cls.work.name)
@@ -98,41 +145,23 @@ class Office(unittest.TestCase):
         cls.program = cls.folder / "counted"
         cls.program.write_text(f'#!/bin/sh\necho "$*" >>"{cls.calls}"\n[ ! -e "{cls.folder}/poor" ] || {{ echo "docker: want of memory" >&2; exit 3; }}\nexec "{DOCKER}" "$@"\n')
         cls.program.chmod(0o755)
-        cls.port = cls.started()
+        cls.started()
 
     @classmethod
     def started(cls):
-        with socket.socket() as free:
-            free.bind(("127.0.0.1", 0))
-            port = free.getsockname()[1]
-        environment = {**os.environ, "DOCKER": str(cls.program), "DESK": cls.desk, "ASKED": str(cls.folder / "asked"), **cls.environment}
-        cls.server = subprocess.Popen([OFFICE / "screen" / "serve", "--listen", f"127.0.0.1:{port}", "--now", cls.now, cls.state], env=environment)
-        for _ in range(200):
-            try:
-                socket.create_connection(("127.0.0.1", port), 1).close()
-                return port
-            except OSError:
-                time.sleep(0.1)
-        raise AssertionError("the server doesn't listen")
+        cls.server = serving.Server(cls.folder, cls.now, DOCKER=str(cls.program), DESK=cls.desk, ASKED=str(cls.folder / "asked"), **cls.environment)
 
     @classmethod
     def stopped(cls):
         if cls.server is not None:
-            cls.server.terminate()
-            cls.server.wait()
+            cls.server.ends()
 
-    def ask(self, path, method="GET", headers=None, port=None):
-        connection = http.client.HTTPConnection("127.0.0.1", port or self.port, timeout=60)
-        try:
-            connection.request(method, lined(path), headers=headers or {})
-            answer = connection.getresponse()
-            return answer.status, answer.headers, answer.read()
-        finally:
-            connection.close()
+    def ask(self, path, method="GET", headers=None):
+        return self.server.ask(lined(path), method, headers)
 
     def spent(self):
         """The seconds of processor time that the server has used."""
-        fields = pathlib.Path(f"/proc/{self.server.pid}/stat").read_text().rsplit(")", 1)[1].split()
+        fields = pathlib.Path(f"/proc/{self.server.process.pid}/stat").read_text().rsplit(")", 1)[1].split()
         return (int(fields[11]) + int(fields[12])) / os.sysconf("SC_CLK_TCK")
 
     def answers_within(self, path, seconds):
@@ -162,6 +191,8 @@ class Seen(Office):
 
     @classmethod
     def setUpClass(cls):
+        if shutil.which("chromedriver") is None:
+            raise unittest.SkipTest("there is no chromedriver")
         cls.made = browser.Browser()
         cls.addClassCleanup(cls.made.close)
         super().setUpClass()
@@ -173,4 +204,24 @@ class Seen(Office):
         return self.made
 
     def address(self, path):
-        return f"http://127.0.0.1:{self.port}{lined(path)}"
+        return f"http://127.0.0.1:{self.server.port}{lined(path)}"
+
+
+class Stated(Seen):
+    """An office whose state knows one extract."""
+
+    desk = STAND_IN
+    extract = ""
+
+    @classmethod
+    def setUpClass(cls):
+        super().setUpClass()
+        cls.takes(cls.extract)
+
+    @classmethod
+    def takes(cls, text):
+        """Makes a STATE that knows only this extract."""
+        (cls.folder / "own.cif").write_text(text)
+        os.remove(cls.state)
+        run("new", cls.state)
+        run("take", cls.state, str(cls.folder / "own.cif"))

@@ -3,7 +3,6 @@ a week, and start several services at once."""
 import os
 import pathlib
 import shutil
-import subprocess
 import time
 
 import https
@@ -13,6 +12,8 @@ import pytest
 HERE = pathlib.Path(__file__).resolve().parent
 # The pages in dockers/ and the screen need Flask.
 pytest.importorskip("flask", reason="there is no python3-flask")
+# Booted systems share the control groups of this machine, so only one runs at a time.
+pytestmark = pytest.mark.xdist_group("booted")
 DAY = "2024-06-12"
 # Makes an office that finds its extracts recent enough, with three places.
 OFFICE = """
@@ -23,17 +24,10 @@ cp $examples/places $folder/places
 """
 
 
-@pytest.fixture(scope="session")
-def package(tmp_path_factory):
-    if reason := machine.lacks():
-        pytest.skip(reason)
-    made = subprocess.run([machine.ROOT / "packaging" / "deb", tmp_path_factory.mktemp("package")], stdin=subprocess.DEVNULL, capture_output=True, text=True, check=False)
-    assert made.returncode == 0, made.stderr
-    return made.stdout.strip()
-
-
 @pytest.fixture
 def booted(package, tmp_path):
+    if reason := machine.lacks():
+        pytest.skip(reason)
     found = machine.Machine(tmp_path / "machine", package)
     yield found
     found.ends()

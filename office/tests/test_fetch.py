@@ -106,6 +106,18 @@ def test_extracts_that_are_not_packed(north, server):
     assert list(north.came().values()) == [UPDATE] * 3
 
 
+@pytest.mark.parametrize("folder", ["in", "swap"])
+def test_a_folder_that_is_gone(north, server, folder):
+    """The server isn't asked for a file that could go nowhere. The other source is asked."""
+    for name in ("update", "other"):
+        server.answers_with(f"/{name}", sends(PACKED))
+    north.gets_from(update={"address": server.address("/update"), "into": folder}, other={"address": server.address("/other"), "into": "in"})
+    (north.folder / folder).unlink() if folder == "swap" else (north.folder / folder).rmdir()
+    said = north.fetch(4)
+    assert f"{north.folder / folder}: it can't be read: No such file or directory" in said
+    assert server.headers_of("/update") == [] and len(server.headers_of("/other")) == (folder == "swap")
+
+
 def test_two_that_come_at_once(north, server):
     """A second file of a minute gets another name, and the first one stays."""
     server.answers_with("/update", sends(UPDATE))

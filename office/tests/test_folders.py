@@ -90,13 +90,14 @@ def a_file(path):
 
 
 @pytest.mark.parametrize(("spoils", "reason"), [(unreadable, "No such file or directory"), (dangling, "No such file or directory"), (a_file, "Not a directory")])
-@pytest.mark.parametrize(("name", "commands"), [("in", ["take", "morning"]), ("swap", ["merge", "send", "morning"])])
+@pytest.mark.parametrize(("name", "commands"), [("in", ["take", "morning", "arrivals"]), ("swap", ["merge", "send", "morning", "arrivals"])])
 def test_a_folder_that_is_gone(offices, north, name, commands, spoils, reason):
     north.take("full.cif", FULL)
     spoils(north.folder / name)
     for command in commands:
         out, said = north.run(command, status=4)
         offices.says(said, f"station-office: {north.folder / name}: it can't be read: {reason}")
+        assert said.count("it can't be read") == 1
         assert (out.count("DOCKER") == 2) == (command == "morning")
 
 
@@ -224,7 +225,19 @@ def test_both_times_are_named(offices, north):
     out = north.run("known", status=5, now=NOW.replace(year=2023))[0]
     offices.says(out, "ahead: the full extract DFROC1F of 2024-06-10 21:00", "which says 2023-06-12 06:00 and may be wrong")
     out = north.run("known", status=5, now=NOW.replace(year=2025), MAX_AGE="")[0]
-    offices.says(out, "old: the full extract DFROC1F of 2024-06-10 21:00", "by the clock, which says 2025-06-12 06:00")
+    offices.says(out, "old: the full extract DFROC1F of 2024-06-10 21:00", "by the clock, which says 2025-06-12 06:00 and may be wrong;")
+    out = north.run("known", status=5, now=NOW.replace(day=14), MAX_AGE="")[0]
+    offices.says(out, "old: the full extract DFROC1F of 2024-06-10 21:00 is 3 days old by the clock, which says 2024-06-14 06:00; more than 36 hours is too old")
+
+
+def test_arrivals_merge_although_in_is_gone(offices, north):
+    """What can be done is done."""
+    south = offices.office("south")
+    south.take("full.cif", FULL)
+    south.run("send")
+    unreadable(north.folder / "in")
+    offices.says(north.run("arrivals", status=4)[1], south.sent().name, "it brought the full extract DFROC1F")
+    assert north.known() == ["DFROC1F"]
 
 
 def test_numbers_in_faults(offices, north):

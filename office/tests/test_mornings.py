@@ -1,9 +1,9 @@
 """Random mornings of three offices. Each gets good and bad files: late, twice, cut, doubled, with wrong dates, with another file's stamp, and updates that delete or cancel
-too much. Clocks are wrong, and runs are killed. After each run the office prints what a plain reader makes of the files that the office knows, and it has lost no more
-than half of anything.
+too much. Clocks are wrong, and runs are killed. After each run the office must print what a plain reader makes of the files
+that the office knows, and the office mustn't have lost more than half of anything.
 
-`--mornings` is the number of mornings, and `--seed` chooses others. What happened to files of each kind is counted. If everything in WANTED didn't happen in 500 mornings or
-more, the test fails."""
+`--mornings` is the number of mornings, and another `--seed` chooses other files and times. What happened to files of each kind is counted. If 500 mornings or more are run,
+the test fails if anything in WANTED never happened."""
 import datetime
 import random
 import re

@@ -1,5 +1,5 @@
 """The transcript in examples/office is right: each of its lines is made here without the programs that print it. Remarks and commands come from the script `run`, and each
-function below says where its lines come from. The words of messages are written here as docs/MANUAL.md and office/README.md describe them. `tests/examples` compares what `run`
+function below says where its lines come from. The words of messages are written here as docs/MANUAL.md and office/README.md describe them. `tests/examples/test_examples.py` compares what `run`
 prints with the transcript."""
 import datetime
 import re

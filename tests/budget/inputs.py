@@ -14,6 +14,8 @@ LEDGER = 200
 DAY = "2024-06-12"
 HORIZON = "2024-05-01"
 HUB = "ASHFELD"
+# The identity of each train that an overlay alters.
+OVERLAID = "1X99"
 # How the text of a state begins: with the mark and the horizon in the new format, and with the mark
 # in the older one.
 MARK, OLD_MARK = b"DKS2\0\0", b"DKS1"
@@ -34,6 +36,10 @@ def place_of(number):
 
 def uid_of(number):
     return f"{'CGLPWY'[number % 6]}{number:05}"
+
+
+def identity_of(number):
+    return f"{1 + mixed(number, 11, 9)}{'ABCM'[number % 4]}{number % 100:02}"
 
 
 def clock(half_minutes):
@@ -71,7 +77,7 @@ def base(number, salt=8, transaction="N"):
     """A permanent schedule. One in three ended before the horizon."""
     last = "240420" if mixed(number, 9, 3) == 0 else "241214"
     days = ("1111100", "1111111", "0000011", "1111110")[mixed(number, 10, 4)]
-    train = f"{1 + mixed(number, 11, 9)}{'ABCM'[number % 4]}{number % 100:02}"
+    train = identity_of(number)
     extra = records.record("BX         NTY") if number % 2 else ""
     return (records.basic(transaction, uid_of(number), "231210", last, days, train)
             + extra + journey(number, salt))
@@ -80,7 +86,7 @@ def base(number, salt=8, transaction="N"):
 def overlay(number, transaction="N"):
     first, last = f"2406{1 + mixed(number, 12, 15):02}", f"2406{16 + mixed(number, 12, 15):02}"
     schedule = records.basic(
-        transaction, uid_of(number), first, last, "1111111", "1X99", stp="O")
+        transaction, uid_of(number), first, last, "1111111", OVERLAID, stp="O")
     return schedule + journey(number, 13)
 
 

@@ -3,6 +3,7 @@
 //   END_AT=N     kills the program at call N; if the call is a write, after half of it
 //   FAIL_AT=N    makes call N fail, with EIO or the error that ERROR names
 //   INTERRUPT=1  interrupts each read and each write once before it moves a byte
+//   PARTLY=1     makes each write of more than one byte write only half of them
 // If the library does one of these things to a call, it writes the call's name to the file that
 // TOLD names. If a call makes one of the following mistakes, the library writes the call's name to
 // the file that WRONG names:
@@ -90,6 +91,13 @@ static int is_interrupted(const char *call) {
   return before;
 }
 
+// How many of its bytes a write writes.
+static size_t written_of(size_t size) {
+  if (size < 2 || !getenv("PARTLY")) return size;
+  make("TOLD", "write");
+  return size / 2;
+}
+
 // Records whether a file has bytes that were written and aren't flushed yet.
 static void mark_unflushed(int fd, int unflushed) {
   if (fd > STDERR_FILENO && fd < FOLLOWED) is_unflushed[fd] = unflushed;
@@ -115,7 +123,7 @@ ssize_t write(int fd, const void *from, size_t size) {
   mark_unflushed(fd, 1);
   enum fate fate = fate_of("write");
   if (fate == ENDS) NEXT(write)(fd, from, size / 2);
-  return meets(fate) ? -1 : NEXT(write)(fd, from, size);
+  return meets(fate) ? -1 : NEXT(write)(fd, from, written_of(size));
 }
 
 // `__write` is another name for `write`.

@@ -1,4 +1,4 @@
-"""Tests `./test` in a tree in which each step only notes that it ran, and ends as the case says."""
+"""Tests `./test` in a tree in which each step only notes that it ran, and ends as the case says. Only `tests/proofs` is the real one, with another `rt`."""
 import os
 import pathlib
 import re
@@ -8,14 +8,21 @@ import subprocess
 import pytest
 
 ROOT = pathlib.Path(__file__).resolve().parent.parent.parent
-PROOFS = ["tests/layout", "tests/launch", "rt ci", "tests/edits"]
-PROGRAMS = ["tests/programs/run", "tests/budget/run", "tests/examples", "tests/try"]
-ALL = [*PROOFS, "docs/check", *PROGRAMS]
+PROOFS = ["tests/run launchers", "rt ci"]
+PROGRAMS = ["tests/run programs"]
+# `tests/proofs` runs `rt ci`.
+RUN = [*PROOFS, "docs/check", *PROGRAMS]
+ALL = [it.replace("rt ci", "tests/proofs") for it in RUN]
+EDITS = """rt: must-fail a: refused, as it must be
+rt: must-fail b: refused, as it must be
+rt: ok
+38 passed, 0 failed
+"""
 # A step notes its name and its words, prints what the case wants, and ends with the status that the case wants.
 STEP = """#!/bin/sh
-name=${0#"$TREE/"}
-case $name in bin/rt) name="rt $1" ;; tests/edits) cmp "$1" "$TREE/printed/rt ci" || exit 9 ;; esac
-echo "$name ${RT_JOBS:-}" >>"$TREE/ran"
+name="${0#"$TREE/"}${1:+ $1}"
+name=${name#bin/}
+echo "$name: ${RT_JOBS:-}" >>"$TREE/ran"
 cat "$TREE/printed/$name" 2>/dev/null
 [ ! -e "$TREE/status/$name" ] || exit "$(cat "$TREE/status/$name")"
 """
@@ -27,14 +34,12 @@ class Tree:
     def __init__(self, folder):
         self.folder = folder
         shutil.copy(ROOT / "test", folder)
-        for name in [*ALL, "bin/rt"]:
-            if name != "rt ci":
-                (folder / name).parent.mkdir(parents=True, exist_ok=True)
-                (folder / name).write_text(STEP, encoding="utf-8")
-                (folder / name).chmod(0o755)
-        (folder / "tests" / "packages").write_text("#!/bin/sh\nexit 0\n", encoding="utf-8")
-        (folder / "tests" / "packages").chmod(0o755)
-        self.puts("printed", "rt ci", "rt: ok\n38 passed, 0 failed\n")
+        shutil.copytree(ROOT / "lib", folder / "lib")
+        for name in ("tests/run", "docs/check", "bin/rt", "tests/packages"):
+            self.puts(".", name, STEP if name != "tests/packages" else "#!/bin/sh\nexit 0\n")
+            (folder / name).chmod(0o755)
+        shutil.copy(ROOT / "tests" / "proofs", folder / "tests")
+        self.puts("printed", "rt ci", EDITS)
 
     def puts(self, kind, name, text):
         path = self.folder / kind / name
@@ -47,7 +52,7 @@ class Tree:
         (self.folder / "ran").unlink(missing_ok=True)
         ended = subprocess.run([self.folder / "test", *words], cwd="/", env=env, check=False, capture_output=True, text=True)
         ran = (self.folder / "ran").read_text(encoding="utf-8").splitlines() if (self.folder / "ran").exists() else []
-        return ended, [line.split(" ")[0] if not line.startswith("rt") else "rt ci" for line in ran], ran
+        return ended, [line.split(":")[0] for line in ran], ran
 
 
 @pytest.fixture
@@ -60,32 +65,49 @@ def last(ended):
 
 
 def test_all_steps_run_in_order_and_their_tests_are_counted(tree):
-    tree.puts("printed", "tests/programs/run", "...s [100%]\n3 passed, 1 skipped in 1.02s\n.\n2 passed in 61.00s (0:01:01)\n")
-    tree.puts("printed", "tests/examples", "passed  a morning at two offices\npassed  the reader of dockers\neach part was run\n")
+    tree.puts("printed", "tests/run programs", "...s [100%]\n3 passed, 1 skipped in 1.02s\n.\n2 passed in 61.00s (0:01:01)\n")
     ended, ran, _ = tree.run()
-    assert (ended.returncode, ran) == (0, ALL)
-    # 38 by rt, 5 by pytest, 2 parts of the examples, and the 6 steps that count nothing.
-    assert last(ended) == "51 passed, 0 failed"
-    assert re.findall(r"^\./test: (\d of 9): ([^:]+)", ended.stdout, re.M) == [(f"{number} of 9", name) for number, name in enumerate(ALL, 1)]
+    assert (ended.returncode, ran) == (0, RUN)
+    # 38 by rt, 5 by pytest, and the 2 steps that count nothing.
+    assert last(ended) == "45 passed, 0 failed"
+    assert re.findall(r"^\./test: (\d of 4): ([^:]+)", ended.stdout, re.M) == [(f"{number} of 4", name) for number, name in enumerate(ALL, 1)]
 
 
-@pytest.mark.parametrize("name", ALL)
+@pytest.mark.parametrize("name", RUN)
 def test_a_step_that_fails(tree, name):
     """The status is 1, and only the steps that need this one aren't run. They count as failed."""
     tree.puts("status", name, "3")
     ended, ran, _ = tree.run()
-    without = {"tests/layout": ["rt ci", "tests/edits", *PROGRAMS], "tests/launch": ["rt ci", "tests/edits", *PROGRAMS], "rt ci": ["tests/edits", *PROGRAMS]}.get(name, [])
+    without = {"tests/run launchers": ["tests/proofs", *PROGRAMS], "rt ci": PROGRAMS}.get(name, [])
+    step = name.replace("rt ci", "tests/proofs")
     assert ended.returncode == 1
-    assert ran == [it for it in ALL if it not in without]
+    assert [it.replace("rt ci", "tests/proofs") for it in ran] == [it for it in ALL if it not in without]
     assert last(ended).endswith(f", {1 + len(without)} failed")
-    assert f"failed or not run: {', '.join(it for it in ALL if it == name or it in without)}\n" in ended.stdout
+    assert f"failed or not run: {', '.join(it for it in ALL if it == step or it in without)}\n" in ended.stdout
+
+
+@pytest.mark.parametrize("said, why", [
+    ("refused, as it must be (a name is gone)", "refused only for a name that a proof file cites; change a value and keep the names"),
+    ("BAD EDIT: no such line", "not applied or not compiled, so the prover was never asked"),
+])
+def test_an_edit_that_shows_nothing(tree, said, why):
+    tree.puts("printed", "rt ci", EDITS.replace("b: refused, as it must be", f"b: {said}"))
+    ended, ran, _ = tree.run("proofs")
+    assert (ended.returncode, ran) == (1, PROOFS)
+    assert f"tests/proofs: b: {why}\n" in ended.stdout
+
+
+def test_no_edit_is_tried(tree):
+    tree.puts("printed", "rt ci", "rt: ok\n38 passed, 0 failed\n")
+    ended, _, _ = tree.run("proofs")
+    assert (ended.returncode, "tests/proofs: no line of a must-fail edit was read\n" in ended.stdout) == (1, True)
 
 
 def test_the_failures_of_pytest_are_counted(tree):
-    tree.puts("printed", "tests/programs/run", "F.F [100%]\n2 failed, 1 passed in 1.02s\n")
-    tree.puts("status", "tests/programs/run", "1")
+    tree.puts("printed", "tests/run programs", "F.F [100%]\n2 failed, 1 passed in 1.02s\n")
+    tree.puts("status", "tests/run programs", "1")
     ended, _, _ = tree.run("programs")
-    assert (ended.returncode, last(ended)) == (1, "4 passed, 2 failed")
+    assert (ended.returncode, last(ended)) == (1, "1 passed, 2 failed")
 
 
 @pytest.mark.parametrize("part, steps", [("proofs", PROOFS), ("pages", ["docs/check"]), ("programs", PROGRAMS)])
@@ -102,8 +124,8 @@ def test_no_part_has_the_name(tree):
 
 def test_how_many_crates_are_checked_at_once(tree):
     processors = len(os.sched_getaffinity(0))
-    assert f"rt ci {processors}" in tree.run("proofs")[2]
-    assert "rt ci 7" in tree.run("proofs", RT_JOBS="7")[2]
+    assert f"rt ci: {processors}" in tree.run("proofs")[2]
+    assert "rt ci: 7" in tree.run("proofs", RT_JOBS="7")[2]
 
 
 def test_packages_that_are_missing_are_named(tree):
@@ -117,6 +139,6 @@ def test_the_gate_runs_everything(tree):
     shutil.copytree(ROOT / ".ci", tree.folder / ".ci")
     env = {**os.environ, "TREE": str(tree.folder), "PATH": f"{tree.folder}/bin:{os.environ['PATH']}"}
     ended = subprocess.run([tree.folder / ".ci" / "run"], cwd="/", env=env, check=False, capture_output=True, text=True)
-    assert (ended.returncode, last(ended)) == (0, "46 passed, 0 failed")
-    tree.puts("status", "tests/try", "1")
+    assert (ended.returncode, last(ended)) == (0, "41 passed, 0 failed")
+    tree.puts("status", "tests/run programs", "1")
     assert subprocess.run([tree.folder / ".ci" / "run"], cwd="/", env=env, check=False, capture_output=True).returncode == 1

@@ -1,4 +1,4 @@
-"""Tests how the launchers prove the crates (lib/launch.sh), on a tree of empty crates and with an `rt` that only waits. Each crate has to start after the crates
+"""Tests how the launchers prove the crates (lib/launch.py), on a tree of empty crates and with an `rt` that only waits. Each crate has to start after the crates
 that it cites, two at once if memory allows and copies of the checkout share what they prove. A failure and an interrupt have to end cleanly."""
 import collections
 import os
@@ -14,7 +14,7 @@ import pytest
 ROOT = pathlib.Path(__file__).resolve().parent.parent.parent
 CITED = {line.split(":")[0].split()[0]: line.partition(":")[2].split() for line in (ROOT / "crates.txt").read_text(encoding="utf-8").splitlines()}
 # In the test, the machine has four processors, and as much free memory in kilobytes as a file says.
-MACHINE = 'nproc() { echo 4; }\nfree_memory() { cat "$root/memory"; }\n'
+MACHINE = 'def processors():\n    return 4\n\n\ndef free_memory():\n    return int((ROOT / "memory").read_text())\n'
 MUCH, LITTLE = 99999999, 9000000
 RT = r"""#!/usr/bin/env bash
 crate=${PWD##*/}
@@ -54,8 +54,9 @@ class Tree:
         for name in ("docker", "desk", "crates.txt"):
             shutil.copy(ROOT / name, folder)
         shutil.copytree(ROOT / "lib", folder / "lib")
-        with open(folder / "lib" / "launch.sh", "a", encoding="utf-8") as script:
-            script.write(MACHINE)
+        script = folder / "lib" / "launch.py"
+        text, end = script.read_text(encoding="utf-8"), "\n\nmain()\n"
+        script.write_text(text.removesuffix(end) + f"\n\n{MACHINE}{end}", encoding="utf-8")
         for crate in CITED:
             self.source(crate).parent.mkdir(parents=True)
             self.source(crate).write_text(f"// {crate}\n", encoding="utf-8")

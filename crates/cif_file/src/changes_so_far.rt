@@ -21,7 +21,7 @@ impl Model for ChangesSoFar {
     ghost also_owns = { λ _. ftrue };
 }
 
-/// The lines of the schedule that is being read, with the transaction of the first set to `N`.
+/// The lines of the schedule that is being read. The transaction of its first line is set to `N`.
 #[derive(Debug, Drop)]
 pub(crate) struct OpenLines {
     pub lines: Vec<Line>,

@@ -34,6 +34,11 @@ fn add_dated(rt: &impl Abort, text: &mut Vec<u8>, request: &Request<'_>) {
             add(rt, text, uid.bytes());
             add(rt, text, &day.iso());
         }
+        Request::Trains { identity, day } => {
+            text.extend_from_slice(b"trains").expect(rt, "room");
+            add(rt, text, identity);
+            add(rt, text, &day.iso());
+        }
         Request::Horizon { day } => {
             text.extend_from_slice(b"horizon").expect(rt, "room");
             add(rt, text, &day.iso());
@@ -105,6 +110,8 @@ const READING: &[Row] = &[
     (" permanent ELM 1960-01-01", "permanent ELM     1960-01-01"),
     ("train C10001 2024-02-29", "train C10001 2024-02-29"),
     ("train -10001 2024-06-10", "train -10001 2024-06-10"),
+    ("trains 1A10 2024-02-29", "trains 1A10 2024-02-29"),
+    ("  trains   -*/~   2024-06-10 ", "trains -*/~ 2024-06-10"),
     ("files", "files"),
     (" files  ", "files"),
     ("places", "places"),
@@ -171,6 +178,12 @@ const NOTHING: &[&str] = &[
     "train C100011 2024-06-10",
     "train C10001 2024-13-01",
     "train C10001 2024-06-10 twice",
+    "trains 1A10",
+    "trains 1A1 2024-06-10",
+    "trains 1A100 2024-06-10",
+    "trains 1A10 2024-13-01",
+    "trains 1A10 2024-06-10 twice",
+    "trains 1 10 2024-06-10",
     "take",
     "take  ",
     "take stdin",

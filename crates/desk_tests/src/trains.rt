@@ -1,4 +1,5 @@
-//! Tests of the request `train`: the schedule of a UID on a day.
+//! Tests of the requests `train` and `trains`: the schedule of a UID on a day, and the trains with a
+//! train identity.
 
 use crate::answers::answers;
 use crate::desks::{day_of, desk_of};
@@ -68,4 +69,24 @@ fn a_train_before_the_horizon(rt: HostRuntime) {
     let desk = desk_of(&rt, alloc, LAPSED_STATE);
     answers_train(&rt, alloc, &desk, b"C10001", "2024-06-14", DAY_REFUSED);
     answers_train(&rt, alloc, &desk, b"C10001", "2024-06-15", NONE_RUNS);
+}
+
+/// The answer to `trains` with the morning train on 10 June.
+const ONE_TRAIN: Lines = &[b"0 1 20", b"C10001 2024-06-10 P"];
+
+#[test]
+fn lists_of_trains(rt: HostRuntime) {
+    let alloc = rt.alloc();
+    let desk = desk_of(&rt, alloc, MORNING_STATE);
+    let (monday, saturday) = (day_of(&rt, "2024-06-10"), day_of(&rt, "2024-06-15"));
+    answers(&rt, alloc, &desk.trains(b"1A10", monday), ONE_TRAIN);
+    answers(&rt, alloc, &desk.trains(b"1A11", monday), &[b"0 0 0"]);
+    answers(&rt, alloc, &desk.trains(b"1A10", saturday), &[b"0 0 0"]);
+    let desk = desk_of(&rt, alloc, LAPSED_STATE);
+    answers(
+        &rt,
+        alloc,
+        &desk.trains(b"1A10", day_of(&rt, "2024-06-14")),
+        DAY_REFUSED,
+    );
 }

@@ -66,7 +66,7 @@ pub(crate) fn is_under_way(train: &ScheduleView<'_>, place: &Tiploc, day: Day) -
     passes_midnight(train, place)
 }
 
-/// Appends the docker lines of a train's events at a place on a day to `lines`. `start` is the day
+/// Appends to `lines` the docker lines of a train's events at a place on a day. `start` is the day
 /// on which the train starts.
 fn add_events<'a>(
     lines: &mut Vec<DockerLine<'a>>,

@@ -1,5 +1,5 @@
-//! The visits for a place and a day: one visit for each day on which a train at the place may have
-//! started.
+//! The visits for a place and a day: one visit for each start day of the trains that may be at the
+//! place on that day.
 ghost use Rattle.std.specs.Prelude.{◌≡◌, IfOk};
 ghost use Rattle.train_choice.specs.Known.{PlaceDay};
 ghost use Rattle.docker_day.specs.Visits.{visit_back};

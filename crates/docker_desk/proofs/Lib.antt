@@ -13,6 +13,7 @@ mod ReadingLemmas
 mod StepLemmas
 mod ServeLemmas
 mod LookLemmas
+mod ReplacingLemmas
 mod HeardLemmas
 mod GainLemmas
 mod WitnessLemmas

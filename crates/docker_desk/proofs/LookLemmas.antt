@@ -2,7 +2,10 @@
 -- before an opening of the state's file, or directly after a draft replaced that file.
 use Rattle.std.proofs.Common.{◌≡◌, ℕ, ◌+◌, List, [], ◌∷◌, ◌++◌, length, sym, ◌∙◌, ap, subst, arith, append_assoc, length-append, Some, None, Ok, Err, inl, inr}
 use Rattle.std.specs.Prelude.{Option, Result, ⊤, Bool}
+use Rattle.docker_model.specs.state.State.{State}
 use Rattle.docker_model.specs.state.StateText.{dks_2, state_text}
+use Rattle.docker_bytes.specs.SourceRead.{ReadsState}
+use Rattle.docker_cmd.specs.Prepared.{most_bytes}
 use Rattle.docker_host.specs.History.{Bytes, Event, Text, closed, drafted, dropped, looked, named_if, opened, placed, undrafted, unplaced}
 use Rattle.docker_host.specs.Asked.{FailsToStore}
 use Rattle.docker_office.specs.declared.fault.OfficeFault.{OfficeFault}
@@ -10,7 +13,7 @@ use Rattle.docker_office.specs.declared.fault.OfficeFault.TheVariants as office
 use Rattle.docker_desk.specs.Desk.{DeskView, EndsRenewing, EndsSaving, look_by}
 use Rattle.docker_desk.specs.Reading.{Reading, opening_of}
 use Rattle.docker_desk.specs.declared.compared.Compared.{Compared}
-use Rattle.docker_desk.specs.Requests.{RequestView, print_request, permanent_request, train_request, files_request, places_request}
+use Rattle.docker_desk.specs.Requests.{RequestView, print_request, permanent_request, train_request, trains_request, files_request, places_request}
 use Rattle.docker_desk.specs.Requests.{known_request, renew_request, take_request, merge_request, horizon_request, save_request}
 use Rattle.docker_desk.specs.Replies.{AnswerView}
 use Rattle.docker_desk.specs.SessionViews.{SessionView, Setting, Step}
@@ -29,6 +32,8 @@ module _ (name : Text) where
     whole = grown ∙ ap (λ (events : List Event). events ++ more) before.whole
         ∙ append_assoc before.earlier (looked name ∷ opened name before.held ∷ closed before.left ∷ before.later) more;
     number = before.number;
+    state = before.state;
+    reads = before.reads;
   })
   good_more old new more look grown (inr placing) = inr (record {
     earlier = placing.earlier;
@@ -39,11 +44,13 @@ module _ (name : Text) where
     number = placing.number;
   })
 
-  -- a look that is directly followed by an opening of the file is good
-  good_opened : (old new : List Event) (held left : Bytes) (look : ℕ) → new ≡ old ++ looked name ∷ opened name held ∷ closed left ∷ []
-      → look ≡ length old → IsGoodLook name new look
-  good_opened old new held left look grown number =
-      inl (record { earlier = old; held = held; left = left; later = []; whole = grown; number = number })
+  -- a look that is directly followed by an opening of the file is good, if the file held the text of
+  -- a state
+  good_opened : (old new : List Event) (held left : Bytes) (look : ℕ) (state : State)
+      → new ≡ old ++ looked name ∷ opened name held ∷ closed left ∷ [] → look ≡ length old → ReadsState dks_2 most_bytes held state
+      → IsGoodLook name new look
+  good_opened old new held left look state grown number reads =
+      inl (record { earlier = old; held = held; left = left; later = []; whole = grown; number = number; state = state; reads = reads })
 
   -- a look right after a draft replaced the file is good
   good_placed : (old new : List Event) (bytes : Bytes) (from look : ℕ) → new ≡ old ++ drafted name from ∷ placed name bytes ∷ looked name ∷ []
@@ -67,7 +74,7 @@ module _ (name : Text) where
       → new ≡ old ++ looked name ∷ opening_of name read → EndsRenewing own after result read → look_now ≡ look_by result (length old) look
       → IsGoodLook name old look → IsGoodLook name new look_now
   good_renewed old new (Some read) (Ok found) own after look look_now grown ends same good =
-      good_opened old new read.held read.left look_now grown same
+      good_opened old new read.held read.left look_now ends.0.0.received grown same ends.0.0.read
   good_renewed old new None (Ok found) own after look look_now grown ends same good = absurd ends.0.0
   good_renewed old new read (Err fault) own after look look_now grown ends same good =
       good_same old new (looked name ∷ opening_of name read) look look_now grown same good
@@ -110,6 +117,7 @@ module _ (setting : Setting) where
   good_request (print_request place day) before after answer does good = good_kept before after does.1 good
   good_request (permanent_request place day) before after answer does good = good_kept before after does.1 good
   good_request (train_request uid day) before after answer does good = good_kept before after does.1 good
+  good_request (trains_request identity day) before after answer does good = good_kept before after does.1 good
   good_request files_request before after answer does good = good_kept before after does.1 good
   good_request places_request before after answer does good = good_kept before after does.1 good
   good_request known_request before after answer does good = good_kept before after does.1 good
@@ -143,4 +151,5 @@ module _ (setting : Setting) where
 
   -- at the beginning of a session, the look is good
   pub good_first : (old : List Event) (first : SessionView) → BeginsAt setting.name old first → LooksWell first
-  good_first old first begins = good_opened setting.name old first.history begins.held begins.left first.look begins.asked begins.look
+  good_first old first begins =
+      good_opened setting.name old first.history begins.held begins.left first.look first.desk.state begins.asked begins.look begins.state

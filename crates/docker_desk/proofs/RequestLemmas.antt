@@ -6,8 +6,9 @@ use Rattle.std.proofs.lemmas.Slice.Eq.{bytes_eq-Decides}
 use Rattle.docker_cmd.specs.Words.{NamesDay, OfTwo, Text}
 use Rattle.docker_cmd.specs.JobLine.{words_in}
 use Rattle.docker_desk.specs.Requests.{ArePlaceAndDay, AsksFor, HasRest, IsRequestOf, RequestView, after_word, first_word, is_writing, name_of}
-use Rattle.docker_desk.specs.Requests.{verb_named, verb_of, verbs, FitsRest, NamesTrain, print_request, permanent_request, train_request, files_request}
-use Rattle.docker_desk.specs.Requests.{places_request, known_request, renew_request, take_request, merge_request, horizon_request, save_request}
+use Rattle.docker_desk.specs.Requests.{verb_named, verb_of, verbs, FitsRest, NamesIdentity, NamesTrain, print_request, permanent_request, train_request}
+use Rattle.docker_desk.specs.Requests.{trains_request, files_request, places_request, known_request}
+use Rattle.docker_desk.specs.Requests.{renew_request, take_request, merge_request, horizon_request, save_request}
 use Rattle.docker_desk.specs.declared.requests.Verb.{Verb}
 use Rattle.docker_desk.specs.declared.requests.Verb.TheVariants as verb
 
@@ -18,6 +19,7 @@ no_train rest word date two none (train_request uid day) same has =
     let both = subst (OfTwo (λ word date. NamesTrain word uid × NamesDay date day)) two has in none uid day both.0 both.1
 no_train rest word date two none (print_request place day) same has = cc
 no_train rest word date two none (permanent_request place day) same has = cc
+no_train rest word date two none (trains_request identity day) same has = cc
 no_train rest word date two none files_request same has = cc
 no_train rest word date two none places_request same has = cc
 no_train rest word date two none known_request same has = cc
@@ -27,11 +29,29 @@ no_train rest word date two none (merge_request other) same has = cc
 no_train rest word date two none (horizon_request day) same has = cc
 no_train rest word date two none save_request same has = cc
 
+-- if two words aren't a train identity and a day, they don't fit `trains`
+pub no_trains : (rest : List ℕ) (word date : Text) → words_in rest ≡ word ∷ date ∷ []
+    → ((identity : List ℕ) (day : ℕ) → NamesIdentity word identity → NamesDay date day → ⊥) → FitsRest verb.Trains rest None
+no_trains rest word date two none (trains_request identity day) same has =
+    let both = subst (OfTwo (λ word date. NamesIdentity word identity × NamesDay date day)) two has in none identity day both.0 both.1
+no_trains rest word date two none (print_request place day) same has = cc
+no_trains rest word date two none (permanent_request place day) same has = cc
+no_trains rest word date two none (train_request uid day) same has = cc
+no_trains rest word date two none files_request same has = cc
+no_trains rest word date two none places_request same has = cc
+no_trains rest word date two none known_request same has = cc
+no_trains rest word date two none renew_request same has = cc
+no_trains rest word date two none (take_request file) same has = cc
+no_trains rest word date two none (merge_request other) same has = cc
+no_trains rest word date two none (horizon_request day) same has = cc
+no_trains rest word date two none save_request same has = cc
+
 -- if the rest of a line isn't a timing point and a day, it doesn't fit `print`
 pub no_docker : (rest : List ℕ) → ((place : List ℕ) (day : ℕ) → ¬ OfTwo (ArePlaceAndDay place day) (words_in rest)) → FitsRest verb.Print rest None
 no_docker rest none (print_request place day) same has = none place day has
 no_docker rest none (permanent_request place day) same has = cc
 no_docker rest none (train_request uid day) same has = cc
+no_docker rest none (trains_request identity day) same has = cc
 no_docker rest none files_request same has = cc
 no_docker rest none places_request same has = cc
 no_docker rest none known_request same has = cc
@@ -46,6 +66,7 @@ pub no_permanent : (rest : List ℕ) → ((place : List ℕ) (day : ℕ) → ¬ 
 no_permanent rest none (print_request place day) same has = cc
 no_permanent rest none (permanent_request place day) same has = none place day has
 no_permanent rest none (train_request uid day) same has = cc
+no_permanent rest none (trains_request identity day) same has = cc
 no_permanent rest none files_request same has = cc
 no_permanent rest none places_request same has = cc
 no_permanent rest none known_request same has = cc
@@ -63,6 +84,7 @@ unfolding verb_named
 named_back verb.Print = refl
 named_back verb.Permanent = refl
 named_back verb.Train = refl
+named_back verb.Trains = refl
 named_back verb.Files = refl
 named_back verb.Places = refl
 named_back verb.Known = refl

@@ -1,15 +1,18 @@
--- The known files determine the schedules that `train` shows.
-use Rattle.std.proofs.Common.{◌≤◌, ℕ, List, Some, subst}
+-- The known files determine the schedules that `train` shows, and the trains that `trains` lists.
+use Rattle.std.proofs.Common.{◌≡◌, ◌≤◌, ℕ, List, Some, subst}
 use Rattle.std.specs.Prelude.{Option, option_map}
 use Rattle.docker_model.specs.records.Date.{IsDay}
 use Rattle.docker_model.specs.docker.Choice.{IsChosenOn}
+use Rattle.docker_model.specs.run.Knowledge.{HaveSameFiles}
 use Rattle.docker_model.specs.run.Run.{Files, Known}
-use Rattle.docker_model.specs.state.State.{State}
-use Rattle.docker_model.specs.state.Summary.{IsSummary}
+use Rattle.docker_model.specs.state.State.{State, live_table}
+use Rattle.docker_model.specs.state.Summary.{HaveDistinctMoments, IsSummary}
 use Rattle.docker_model.specs.state.Table.{IsPlainTable, Table}
+use Rattle.state_laws.proofs.states.OnePlainTable.{some_plain_table}
 use Rattle.docker_train.specs.Origin.{CameFrom}
+use Rattle.docker_train.specs.TrainList.{IsTrainsText}
 use Rattle.docker_train.specs.TrainText.{IsFoundFor, IsTrainText, Stamped}
-use Rattle.docker_desk.specs.Learning.{IsKnown, IsTrainOf}
+use Rattle.docker_desk.specs.Learning.{IsKnown, IsTrainOf, ListsTrainsAs}
 
 -- each schedule that is found in a summary came from one of the summary's files
 abbrev pub FoundCameFrom : Type 0
@@ -37,3 +40,39 @@ train_known came_from is_plain known state uid day text is train from = record {
   plain = λ table plain.
       is_plain known.files known.horizon state table uid day train.0 is.is plain is.good.1 (subst (λ h. h ≤ day) is.is.horizon_is from) train.1;
 }
+
+-- two summaries of the same files have the same list of trains for each day that isn't before
+-- either horizon
+abbrev pub FilesFixLists : Type 0
+FilesFixLists =
+    (files others : Files) (horizon theirs : ℕ) (one two : State) → HaveSameFiles files others → IsDay horizon → IsDay theirs
+    → IsSummary files horizon one → IsSummary others theirs two → (identity : List ℕ) (day : ℕ) → horizon ≤ day → theirs ≤ day → (text other : List ℕ)
+    → IsTrainsText (live_table one) identity day text → IsTrainsText (live_table two) identity day other → text ≡ other
+
+-- suppose that there is a plain table of the files, and that the day isn't before the horizon. The
+-- list of trains of the files' summary is the list of the plain table
+abbrev pub ListIsPlain : Type 0
+ListIsPlain =
+    (files : Files) (horizon : ℕ) (state : State) (table : Table) (identity : List ℕ) (day : ℕ) (text : List ℕ) → IsSummary files horizon state
+    → IsPlainTable files table → IsDay horizon → horizon ≤ day → IsTrainsText (live_table state) identity day text → IsTrainsText table identity day text
+
+-- two states that know the same files have the same list of trains for each day that isn't before
+-- either state's horizon
+pub one_list_known : FilesFixLists → (first second : Known) (one two : State) → IsKnown first one → IsKnown second two
+    → HaveSameFiles first.files second.files → (identity : List ℕ) (day : ℕ) → one.horizon ≤ day → two.horizon ≤ day → (text other : List ℕ)
+    → IsTrainsText (live_table one) identity day text → IsTrainsText (live_table two) identity day other → text ≡ other
+one_list_known fixes first second one two left right same identity day from from_too =
+    fixes first.files second.files first.horizon second.horizon one two same left.good.1 right.good.1 left.is right.is identity day
+    (subst (λ h. h ≤ day) left.is.horizon_is from) (subst (λ h. h ≤ day) right.is.horizon_is from_too)
+
+-- if no two known files have the same moment, the state's list of trains is the list of the plain
+-- table
+pub plain_list_known : ListIsPlain → (known : Known) (state : State) → IsKnown known state → HaveDistinctMoments known.files
+    → (plain : Table) × IsPlainTable known.files plain × ListsTrainsAs state plain
+plain_list_known is_plain known state is distinct =
+    let plain = some_plain_table known.files distinct in (
+      plain.0,
+      plain.1,
+      λ identity day text from.
+          is_plain known.files known.horizon state plain.0 identity day text is.is plain.1 is.good.1 (subst (λ h. h ≤ day) is.is.horizon_is from),
+    )

@@ -9,6 +9,7 @@ use Rattle.docker_model.specs.state.Table.{Table}
 use Rattle.docker_model.specs.docker.DockerText.{IsDockerText, files_text}
 use Rattle.cif_file.specs.SourceRead.{RefusesText}
 use Rattle.docker_train.specs.TrainText.{IsTrainText}
+use Rattle.docker_train.specs.TrainList.{IsTrainsText}
 use Rattle.state_lists.specs.Known.{IsKnownText}
 use Rattle.state_lists.specs.Places.{IsPlacesText}
 use Rattle.docker_cmd.specs.Prepared.{WantsForState, most_bytes}
@@ -61,7 +62,7 @@ IsPermanentAnswer state place day (done_with text) =
 IsPermanentAnswer state place day (refused_for fault) = IsDockerRefused state day fault
 IsPermanentAnswer state place day no_request = ⊥
 
--- this fault is why `train` is refused: `Lapsed` if the day is before the horizon,
+-- this fault is why `train` or `trains` is refused: `Lapsed` if the day is before the horizon,
 -- otherwise `Memory`
 abbrev pub IsTrainRefused : State → ℕ → OfficeFault → Type 0
 IsTrainRefused state day office.Lapsed = day < state.horizon
@@ -77,6 +78,13 @@ IsTrainAnswer state uid day (done_with text) =
     IsTrainText state uid day text × (¬ (day < state.horizon))
 IsTrainAnswer state uid day (refused_for fault) = IsTrainRefused state day fault
 IsTrainAnswer state uid day no_request = ⊥
+
+-- this is an answer to `trains` for a train identity and a day
+abbrev pub IsTrainsAnswer : State → List ℕ → ℕ → AnswerView → Type 0
+IsTrainsAnswer state identity day (done_with text) =
+    IsTrainsText (live_table state) identity day text × (¬ (day < state.horizon))
+IsTrainsAnswer state identity day (refused_for fault) = IsTrainRefused state day fault
+IsTrainsAnswer state identity day no_request = ⊥
 
 -- this is an answer to `files`
 abbrev pub IsFilesAnswer : State → AnswerView → Type 0

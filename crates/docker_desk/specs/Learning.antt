@@ -1,6 +1,6 @@
 -- What a desk knows in a session. At each point the desk's state is the summary of the files and
 -- the horizon that the desk knows.
-use Rattle.std.specs.Prelude.{◌≡◌, ◌↔◌, ◌⊎◌, ℕ, List, [], ◌∷◌, ◌++◌, Option, Some, None, option_map, ⊤}
+use Rattle.std.specs.Prelude.{◌≡◌, ◌≤◌, ◌↔◌, ◌⊎◌, ℕ, List, [], ◌∷◌, ◌++◌, Option, Some, None, option_map, ⊤}
 use Rattle.docker_model.specs.file.File.{most_records}
 use Rattle.docker_model.specs.state.State.{State, live_table}
 use Rattle.docker_model.specs.state.Lapse.{IsDayRefused}
@@ -12,6 +12,7 @@ use Rattle.docker_model.specs.docker.Permanent.{permanent_table}
 use Rattle.docker_model.specs.run.Run.{IsMessageOf, IsStateOf, Known, nothing, united}
 use Rattle.docker_model.specs.run.Knowledge.{IsGoodKnown}
 use Rattle.docker_train.specs.TrainText.{Stamped, train_text}
+use Rattle.docker_train.specs.TrainList.{IsTrainsText}
 use Rattle.docker_train.specs.Origin.{CameFrom}
 use Rattle.docker_cmd.specs.Saved.{Gain, HoldsFile, HoldsVersion, IsSaved, file_gained, horizon_gained, version_gained}
 use Rattle.docker_cmd.specs.Prepared.{most_bytes}
@@ -21,7 +22,7 @@ use Rattle.docker_bytes.specs.SourceRead.{JoinsState}
 use Rattle.docker_office.specs.Office.{HoldsState, TakesFile}
 use Rattle.docker_office.specs.declared.fault.OfficeFault.{OfficeFault}
 use Rattle.docker_office.specs.declared.fault.OfficeFault.TheVariants.{Sink}
-use Rattle.docker_desk.specs.Requests.{RequestView, print_request, permanent_request, train_request, files_request, places_request}
+use Rattle.docker_desk.specs.Requests.{RequestView, print_request, permanent_request, train_request, trains_request, files_request, places_request}
 use Rattle.docker_desk.specs.Requests.{known_request, renew_request, take_request, merge_request, horizon_request, save_request}
 use Rattle.docker_desk.specs.Replies.{AnswerView, done_with, no_request, refused_for}
 use Rattle.docker_desk.specs.SessionViews.{SessionView, Setting, Step}
@@ -38,6 +39,12 @@ pub record IsKnown (known : Known) (state : State) : Type 0 where
 abbrev pub KeepsAs : State → Table → Type 0
 KeepsAs state table = (place : List ℕ) (day : ℕ) (text : List ℕ) → ¬ IsDayRefused state.horizon day
     → IsDockerText (permanent_table (live_table state)) place day text ↔ IsDockerText (permanent_table table) place day text
+
+-- for each day that isn't before the state's horizon, the list of the trains that have an identity,
+-- made from the state, is the list made from this table
+abbrev pub ListsTrainsAs : State → Table → Type 0
+ListsTrainsAs state table = (identity : List ℕ) (day : ℕ) (text : List ℕ) → state.horizon ≤ day
+    → IsTrainsText (live_table state) identity day text → IsTrainsText table identity day text
 
 -- `take` opened the named file, which held an extract, and took the extract. So the desk came to
 -- know this extract, and no horizon
@@ -67,6 +74,7 @@ abbrev pub Hears : Setting → RequestView → SessionView → SessionView → K
 Hears setting (print_request place day) before after heard = heard ≡ nothing
 Hears setting (permanent_request place day) before after heard = heard ≡ nothing
 Hears setting (train_request uid day) before after heard = heard ≡ nothing
+Hears setting (trains_request identity day) before after heard = heard ≡ nothing
 Hears setting files_request before after heard = heard ≡ nothing
 Hears setting places_request before after heard = heard ≡ nothing
 Hears setting known_request before after heard = heard ≡ nothing
@@ -111,6 +119,7 @@ abbrev pub ReceivesKnown : Setting → RequestView → SessionView → SessionVi
 ReceivesKnown setting (print_request place day) before after = ⊤
 ReceivesKnown setting (permanent_request place day) before after = ⊤
 ReceivesKnown setting (train_request uid day) before after = ⊤
+ReceivesKnown setting (trains_request identity day) before after = ⊤
 ReceivesKnown setting files_request before after = ⊤
 ReceivesKnown setting places_request before after = ⊤
 ReceivesKnown setting known_request before after = ⊤
@@ -186,6 +195,7 @@ abbrev pub GainsDone : Setting → List Text → RequestView → SessionView →
 GainsDone setting earlier (print_request place day) before after gains = gains ≡ []
 GainsDone setting earlier (permanent_request place day) before after gains = gains ≡ []
 GainsDone setting earlier (train_request uid day) before after gains = gains ≡ []
+GainsDone setting earlier (trains_request identity day) before after gains = gains ≡ []
 GainsDone setting earlier files_request before after gains = gains ≡ []
 GainsDone setting earlier places_request before after gains = gains ≡ []
 GainsDone setting earlier known_request before after gains = gains ≡ []

@@ -1,5 +1,5 @@
 -- The request in a line. The line's first word is a verb, and its other words must fit the verb.
-use Rattle.std.specs.Prelude.{◌≡◌, ℕ, Bool, true, false, not, if◌then◌else◌, List, [], ◌∷◌, ◌++◌, Option, Some, None, IsTrue, codes, filter, find, map}
+use Rattle.std.specs.Prelude.{◌≡◌, ℕ, Bool, true, false, not, if◌then◌else◌, List, [], ◌∷◌, ◌++◌, Option, Some, None, IsTrue, codes, filter, find, length, map}
 use Rattle.std.specs.Str.{bytes_eq}
 use Rattle.std.specs.List.{before_first, after_first}
 use Rattle.docker_model.specs.records.Record.{IsTextOfLength}
@@ -11,11 +11,13 @@ use Rattle.docker_desk.specs.declared.requests.Verb.TheVariants as verb
 use Rattle.docker_desk.specs.declared.requests.Request.{Request}
 use Rattle.docker_desk.specs.declared.requests.Request.TheVariants as code
 
--- a request, with the timing point, the train, the day or the file that the request names
+-- a request, with the timing point, the train, the train identity, the day or the file that the
+-- request names
 pub data RequestView : Type 0 where
   print_request : (place : List ℕ) (day : ℕ) → RequestView
   permanent_request : (place : List ℕ) (day : ℕ) → RequestView
   train_request : (uid : List ℕ) (day : ℕ) → RequestView
+  trains_request : (identity : List ℕ) (day : ℕ) → RequestView
   files_request : RequestView
   places_request : RequestView
   known_request : RequestView
@@ -30,6 +32,7 @@ abbrev pub request_meant : Request → RequestView
 request_meant (code.Print place day) = print_request place day
 request_meant (code.Permanent place day) = permanent_request place day
 request_meant (code.Train uid day) = train_request uid day
+request_meant (code.Trains identity day) = trains_request identity day
 request_meant code.Files = files_request
 request_meant code.Places = places_request
 request_meant code.Known = known_request
@@ -44,6 +47,7 @@ abbrev pub verb_of : RequestView → Verb
 verb_of (print_request place day) = verb.Print
 verb_of (permanent_request place day) = verb.Permanent
 verb_of (train_request uid day) = verb.Train
+verb_of (trains_request identity day) = verb.Trains
 verb_of files_request = verb.Files
 verb_of places_request = verb.Places
 verb_of known_request = verb.Known
@@ -73,6 +77,7 @@ abbrev pub row_of : Verb → RequestRow
 row_of verb.Print = row (codes "print") (codes "TIPLOC" ∷ codes "DATE" ∷ []) false
 row_of verb.Permanent = row (codes "permanent") (codes "TIPLOC" ∷ codes "DATE" ∷ []) false
 row_of verb.Train = row (codes "train") (codes "UID" ∷ codes "DATE" ∷ []) false
+row_of verb.Trains = row (codes "trains") (codes "IDENTITY" ∷ codes "DATE" ∷ []) false
 row_of verb.Files = row (codes "files") [] false
 row_of verb.Places = row (codes "places") [] false
 row_of verb.Known = row (codes "known") [] false
@@ -85,8 +90,8 @@ row_of verb.Save = row (codes "save") [] true
 -- all verbs, in the order of the usage line
 abbrev pub verbs : List Verb
 verbs =
-    verb.Print ∷ verb.Permanent ∷ verb.Train ∷ verb.Files ∷ verb.Places ∷ verb.Known ∷ verb.Renew ∷ verb.Take ∷ verb.Merge ∷ verb.Horizon
-    ∷ verb.Save ∷ []
+    verb.Print ∷ verb.Permanent ∷ verb.Train ∷ verb.Trains ∷ verb.Files ∷ verb.Places ∷ verb.Known ∷ verb.Renew ∷ verb.Take ∷ verb.Merge
+    ∷ verb.Horizon ∷ verb.Save ∷ []
 
 -- the name of a verb, as bytes
 abbrev pub name_of : Verb → Text
@@ -128,6 +133,11 @@ pub record NamesTrain (word : Text) (uid : List ℕ) : Type 0 where
   pub six : IsTextOfLength 6 word
   pub same : uid ≡ word
 
+-- the word names this train identity, which has four bytes
+pub record NamesIdentity (word : Text) (identity : List ℕ) : Type 0 where
+  pub four : length word ≡ 4
+  pub same : identity ≡ word
+
 -- the text names this file: it is the file's name, isn't empty, doesn't begin with a hyphen, and
 -- isn't `stdin`
 pub record NamesFile (text : List ℕ) (file : Text) : Type 0 where
@@ -148,6 +158,8 @@ HasRest (print_request place day) rest = OfTwo (ArePlaceAndDay place day) (words
 HasRest (permanent_request place day) rest = OfTwo (ArePlaceAndDay place day) (words_in rest)
 HasRest (train_request uid day) rest =
     OfTwo (λ word date. NamesTrain word uid × NamesDay date day) (words_in rest)
+HasRest (trains_request identity day) rest =
+    OfTwo (λ word date. NamesIdentity word identity × NamesDay date day) (words_in rest)
 HasRest files_request rest = words_in rest ≡ []
 HasRest places_request rest = words_in rest ≡ []
 HasRest known_request rest = words_in rest ≡ []

@@ -53,6 +53,7 @@ fn answer_request<D: Folder>(
         Request::Print { place, day } => session.desk.print(&place, day),
         Request::Permanent { place, day } => session.desk.permanent(&place, day),
         Request::Train { uid, day } => session.desk.train(&uid, day),
+        Request::Trains { identity, day } => session.desk.trains(&identity, day),
         Request::Files => session.desk.files(),
         Request::Places => session.desk.places(),
         Request::Known => session.desk.known(),

@@ -3,7 +3,7 @@ ghost use Rattle.std.specs.Prelude.{◌≡◌, ℕ, List, ◌+◌, ◌-◌, ◌^
 ghost use Rattle.docker_model.specs.state.State.{raise_horizon};
 ghost use Rattle.docker_model.specs.state.StateText.{dks_2, state_text};
 ghost use Rattle.docker_cmd.specs.FaultLine.{IsCounted, result_status};
-ghost use Rattle.docker_desk.specs.Desk.{EndsReceiving, EndsRenewing, EndsSaving, EndsTaking, IsDockerAnswer, IsFilesAnswer, IsKnownAnswer, IsPermanentAnswer, IsPlacesAnswer, IsTrainAnswer, TellsDocker, look_by, unsaved_by};
+ghost use Rattle.docker_desk.specs.Desk.{EndsReceiving, EndsRenewing, EndsSaving, EndsTaking, IsDockerAnswer, IsFilesAnswer, IsKnownAnswer, IsPermanentAnswer, IsPlacesAnswer, IsTrainAnswer, IsTrainsAnswer, TellsDocker, look_by, unsaved_by};
 ghost use Rattle.docker_desk.specs.Reading.{LooksAndOpens, OpensOnce, StopsInFile, StopsInState};
 ghost use Rattle.docker_desk.specs.Doing.{desk_by};
 ghost use Rattle.docker_desk.specs.Replies.{answer_meant, done_with, refused_for};
@@ -20,7 +20,9 @@ use crate::saving::store_office;
 use cif_line::{Day, Failed, Tiploc, Uid, write_all};
 use docker_cmd::{Office, OfficeFault};
 use docker_host::Folder;
-use docker_train::{Docker, DockerFault, TrainFault, permanent_docker, print_train, write_docker};
+use docker_train::{
+    Docker, DockerFault, TrainFault, permanent_docker, print_train, print_trains, write_docker,
+};
 use state_lists::{KnownText, known_text, print_places};
 use std::alloc::Global;
 use std::marker::Model;
@@ -106,6 +108,19 @@ impl Desk {
             Ok(()) => Answer::Text(page),
             Err(TrainFault::Lapsed) => Answer::Refused(OfficeFault::Lapsed),
             Err(TrainFault::Sink) => Answer::Refused(OfficeFault::Memory),
+        }
+    }
+
+    /// Returns a line for each train that has this train identity and starts on this day, in
+    /// ascending order of the UIDs. The answer is a refusal for the same reasons as in `train`.
+    pub fn trains(&self, identity: &[u8; 4], day: Day) -> Answer
+        ensures { IsTrainsAnswer self.now.state identity.now day (answer_meant result) }
+    {
+        let mut page = Page::new(self.alloc);
+        match print_trains(self.office.state(), identity, day, &mut page) {
+            Ok(()) => Answer::Text(page),
+            Err(TrainFault::Sink) => Answer::Refused(OfficeFault::Memory),
+            Err(_) => Answer::Refused(OfficeFault::Lapsed),
         }
     }
 

@@ -12,8 +12,11 @@ ghost use Rattle.docker_model.specs.run.Run.{Known};
 ghost use Rattle.docker_model.specs.run.Knowledge.{AreOneKnowledge, HaveSameFiles};
 ghost use Rattle.docker_cmd.specs.Prepared.{DeviceBytes, most_bytes};
 ghost use Rattle.docker_cmd.specs.Saved.{Gain, HoldsVersion};
+ghost use Rattle.docker_host.specs.Asked.{IsUnplaced};
 ghost use Rattle.docker_host.specs.History.{Event};
+ghost use Rattle.docker_host.specs.Standing.{IsStandingOf, Standing};
 ghost use Rattle.docker_desk.specs.Lines.{AreLines, LineView};
+ghost use Rattle.docker_train.specs.TrainList.{IsTrainsText};
 ghost use Rattle.docker_train.specs.TrainText.{IsTrainText};
 ghost use Rattle.state_lists.specs.Known.{IsKnownText};
 ghost use Rattle.state_lists.specs.Places.{IsPlacesText};
@@ -22,17 +25,19 @@ ghost use Rattle.docker_office.specs.declared.fault.OfficeFault.{OfficeFault};
 ghost use Rattle.docker_office.specs.RunEnds.{EndsWith, PrintsAs};
 ghost use Rattle.docker_desk.specs.Answering.{EndsSession, answers_of, lines_of};
 ghost use Rattle.docker_desk.specs.Doing.{AreSteps, DoesRequest};
-ghost use Rattle.docker_desk.specs.Learning.{AllHearKnown, AreLearned, GainedBy, HearsState, HoldsKnown, IsKnown, IsPlaced, IsTrainOf, IsUnsaved, KeepsAs, KnowsAt, MayBePlaced, MayPlaceKnown, PlacesKnown, renewing};
+ghost use Rattle.docker_desk.specs.Learning.{AllHearKnown, AreLearned, GainedBy, HearsState, HoldsKnown, IsKnown, IsPlaced, IsTrainOf, IsUnsaved, KeepsAs, KnowsAt, ListsTrainsAs, MayBePlaced, MayPlaceKnown, PlacesKnown, renewing};
 ghost use Rattle.docker_desk.specs.SessionViews.{SessionView, Setting, Step};
 ghost use Rattle.docker_desk.specs.Reading.{events_of};
 ghost use Rattle.docker_desk.specs.Replies.{done_with, refused_for};
 ghost use Rattle.docker_desk.specs.Requests.{merge_request, renew_request, save_request};
-ghost use Rattle.docker_desk.specs.Looking.{IsGoodLook};
+ghost use Rattle.docker_desk.specs.Looking.{IsGoodLook, ReplacesOwn};
 ghost use Rattle.docker_desk.specs.Serving.{BeginsAt};
 ghost use Rattle.docker_desk.specs.declared.ending.Ending.{Ending};
 ghost use Rattle.docker_desk.specs.declared.ending.Ending.TheVariants.{Ended};
 
-use docker_train::laws::{found_train_is_plain, train_came_from_a_file};
+use docker_train::laws::{
+    files_fix_trains_text, found_train_is_plain, train_came_from_a_file, trains_text_is_plain,
+};
 use state_lists::laws::{one_known_text, one_places_text};
 
 /// Suppose that, when a session began, STATE held the text of the summary of some files and a
@@ -59,6 +64,23 @@ pub fn looks_come_before_readings()
     ensures { (setting : Setting) (old : List Event) (first last : SessionView) (steps : List Step)
         → BeginsAt setting.name old first → AreSteps setting first steps last
         → IsGoodLook setting.name last.history last.look }
+{}
+
+/// A desk never overwrites a text unread. Suppose that contracts can say which bytes the files of the
+/// folder hold (`standing`). When a desk makes a draft, STATE has held the same bytes since the look
+/// on which the draft is based. The desk has opened these bytes, and read them as the whole text of a
+/// state, or has placed them itself.
+pub fn saves_replace_what_was_read()
+    ensures saved { (standing : Standing) (setting : Setting) (first before after : SessionView)
+        (steps : List Step) (old : List Event) (answer : List ℕ)
+        → BeginsAt setting.name old first → AreSteps setting first steps before
+        → DoesRequest setting save_request before (done_with answer) after
+        → IsStandingOf standing after.history → ReplacesOwn standing setting before }
+    ensures may_be_saved { (standing : Standing) (setting : Setting)
+        (first before after : SessionView) (steps : List Step) (old : List Event)
+        (text : List ℕ) → BeginsAt setting.name old first → AreSteps setting first steps before
+        → IsUnplaced setting.names_bytes setting.name before.look text before.history after.history
+        → IsStandingOf standing after.history → ReplacesOwn standing setting before }
 {}
 
 /// Suppose that the file that `merge` or `renew` read held the text of a summary. Then the desk
@@ -187,6 +209,25 @@ pub fn trains_came_from_known_files()
     // any summary.
     train_came_from_a_file();
     found_train_is_plain();
+}
+
+/// Two desks that know the same files, even with different horizons, give the same answer to
+/// `trains` for each train identity and each day that isn't before either desk's horizon. The law
+/// is also true if an office of a run takes the place of one desk. If no two of the files have the
+/// same moment, these answers list the trains of the plain table.
+pub fn known_files_fix_train_lists()
+    ensures list { (first second : Known) (one two : State) → IsKnown first one
+        → IsKnown second two → HaveSameFiles first.files second.files → (identity : List ℕ)
+        (day : ℕ) → one.horizon ≤ day → two.horizon ≤ day → (text other : List ℕ)
+        → IsTrainsText (live_table one) identity day text
+        → IsTrainsText (live_table two) identity day other → text ≡ other }
+    ensures plain { (known : Known) (state : State) → IsKnown known state
+        → HaveDistinctMoments known.files
+        → (plain : Table) × IsPlainTable known.files plain × ListsTrainsAs state plain }
+{
+    // These calls are made only for their contracts. The contracts state the law for any summaries.
+    files_fix_trains_text();
+    trains_text_is_plain();
 }
 
 /// Two desks that know the same files and the same horizon give the same answer to `places`, and

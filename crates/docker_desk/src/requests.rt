@@ -3,7 +3,7 @@ ghost use Rattle.std.specs.Prelude.{◌≡◌, ◌≢◌, ◌↔◌, ℕ, List, 
 ghost use Rattle.std.specs.Option.{option_copied};
 ghost use Rattle.std.specs.Str.{bytes_eq};
 ghost use Rattle.docker_cmd.specs.JobLine.{IsLineText, words_in};
-ghost use Rattle.docker_desk.specs.Requests.{ArePlaceAndDay, AsksFor, FitsRest, NamesFile, NamesTrain, is_writing, name_of, request_meant, row_meant, row_of, usage_line, verb_named, verbs};
+ghost use Rattle.docker_desk.specs.Requests.{ArePlaceAndDay, AsksFor, FitsRest, NamesFile, NamesIdentity, NamesTrain, is_writing, name_of, request_meant, row_meant, row_of, usage_line, verb_named, verbs};
 ghost use Rattle.docker_cmd.specs.Words.{OfTwo, is_plain_word};
 ghost use Rattle.docker_desk.specs.declared.requests.Verb.TheVariants as verb;
 
@@ -20,6 +20,8 @@ pub enum Verb {
     Permanent,
     /// Shows the schedule that is chosen for a train on a day.
     Train,
+    /// Lists the trains that have a train identity and start on a day.
+    Trains,
     /// Lists the files that are known.
     Files,
     /// Lists the timing points that are known, with the number of live schedules that call at each.
@@ -70,6 +72,7 @@ impl Verb {
             Verb::Print,
             Verb::Permanent,
             Verb::Train,
+            Verb::Trains,
             Verb::Files,
             Verb::Places,
             Verb::Known,
@@ -89,6 +92,7 @@ impl Verb {
             Verb::Print => RequestRow::of("print", &["TIPLOC", "DATE"], false),
             Verb::Permanent => RequestRow::of("permanent", &["TIPLOC", "DATE"], false),
             Verb::Train => RequestRow::of("train", &["UID", "DATE"], false),
+            Verb::Trains => RequestRow::of("trains", &["IDENTITY", "DATE"], false),
             Verb::Files => RequestRow::of("files", &[], false),
             Verb::Places => RequestRow::of("places", &[], false),
             Verb::Known => RequestRow::of("known", &[], false),
@@ -135,7 +139,7 @@ impl Verb {
 pub(crate) fn usage<'a>() -> &'a [u8]
     ensures { result.now ≡ usage_line }
 {
-    b"desk: usage: [--write] STATE, and then a line for each request: print TIPLOC DATE | permanent TIPLOC DATE | train UID DATE | files | places | known | renew | with --write take FILE | merge OTHER | horizon DATE | save\n"
+    b"desk: usage: [--write] STATE, and then a line for each request: print TIPLOC DATE | permanent TIPLOC DATE | train UID DATE | trains IDENTITY DATE | files | places | known | renew | with --write take FILE | merge OTHER | horizon DATE | save\n"
 }
 
 /// Returns the first of these verbs that has this name.
@@ -145,7 +149,8 @@ fn first_named<'a>(verbs: &'a [Verb], name: &str) -> Option<&'a Verb>
     verbs.iter().find(|verb| verb.is_named(name))
 }
 
-/// A request, with the timing point, the train, the day or the file that the request names.
+/// A request, with the timing point, the train, the train identity, the day or the file that the
+/// request names.
 #[derive(Clone, Copy, Debug)]
 pub enum Request<'a> {
     /// `print`: prints the docker of a timing point on a day.
@@ -166,6 +171,13 @@ pub enum Request<'a> {
     Train {
         /// The train.
         uid: Uid,
+        /// The day.
+        day: Day,
+    },
+    /// `trains`: lists the trains that have a train identity and start on a day.
+    Trains {
+        /// The train identity.
+        identity: [u8; 4],
         /// The day.
         day: Day,
     },
@@ -212,6 +224,7 @@ fn request_of(verb: Verb, rest: &str) -> Option<Request<'_>>
         Verb::Print => print_request(rest),
         Verb::Permanent => permanent_request(rest),
         Verb::Train => train_request(rest),
+        Verb::Trains => trains_request(rest),
         Verb::Files => {
             alone(rest)?;
             Some(Request::Files)
@@ -280,6 +293,16 @@ fn train_request(rest: &str) -> Option<Request<'_>>
     Some(Request::Train { uid, day })
 }
 
+/// Returns the `trains` request if this rest of the line fits `trains`.
+fn trains_request(rest: &str) -> Option<Request<'_>>
+    ensures { FitsRest verb.Trains rest.now (option_map request_meant result) }
+{
+    let (word, date) = two_words(rest)?;
+    let identity = identity_named(word)?;
+    let day = Day::from_iso(date)?;
+    Some(Request::Trains { identity, day })
+}
+
 /// Returns the `horizon` request if this rest of the line fits `horizon`.
 fn horizon_request(rest: &str) -> Option<Request<'_>>
     ensures { FitsRest verb.Horizon rest.now (option_map request_meant result) }
@@ -312,6 +335,20 @@ fn train_named(word: &str) -> Option<Uid>
     let mut bytes = [0; 6];
     bytes.copy_from_slice(word);
     Uid::from_field(&bytes)
+}
+
+/// Returns the train identity that a word names, or `None` if the word doesn't have four bytes.
+fn identity_named(word: &str) -> Option<[u8; 4]>
+    ensures named { IfSome result (λ identity. NamesIdentity word.now identity) }
+    ensures none { IsNone result → (identity : List ℕ) → ¬ NamesIdentity word.now identity }
+{
+    let word = word.as_bytes();
+    if word.len() != 4 {
+        return None;
+    }
+    let mut identity = [0; 4];
+    identity.copy_from_slice(word);
+    Some(identity)
 }
 
 /// Returns the file that a text names, or `None` if the text is empty, begins with a hyphen, or is

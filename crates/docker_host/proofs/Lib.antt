@@ -1,4 +1,5 @@
 pub mod Making
 pub mod CopyLemmas
 pub mod PageLemmas
+pub mod StandingLemmas
 pub mod ShelfLemmas

@@ -1,9 +1,17 @@
 -- The calls to a shelf preserve its invariant: the shelf agrees with its history.
-use Rattle.std.proofs.Common.{◌≡◌, List, [], ◌∷◌, ◌++◌, Some, refl, sym, ap, ◌∙◌, string_bytes}
-use Rattle.docker_host.specs.History.{Text, Event, opened, placed}
-use Rattle.docker_host.specs.Shelf.{Texts, no_texts, with_text, after_event, after_events, IsMet, AreMet, text_under}
-use Rattle.docker_host.specs.Places.{texts_of, IsKept}
+use Rattle.std.proofs.Common.{◌≡◌, ℕ, ◌+◌, ◌-◌, ◌^◌, ◌<◌, ◌≤◌, ◌⊎◌, inl, inr, Bool, true, false, List, [], ◌∷◌, ◌++◌}
+use Rattle.std.proofs.Common.{length, Some, arith, refl, sym, ap, subst, ◌∙◌, string_bytes, length-append}
+use Rattle.std.specs.Str.{bytes_eq}
+use Rattle.std.proofs.lemmas.List.{take-append-le, take_all}
+use Rattle.std.proofs.Math.Nat.{eq-or-lt_of_le}
+use Rattle.std.proofs.lemmas.Slice.Eq.{bytes_eq-Decides}
+use Rattle.docker_host.specs.Counts.{IsCountOf}
+use Rattle.docker_host.specs.History.{Text, Event, drafted, opened, placed}
+use Rattle.docker_host.specs.Standing.{HappensAt, IsStandingOf, IsStill}
+use Rattle.docker_host.specs.Shelf.{Texts, no_texts, with_text, after_event, after_events, IsMet, AreMet, shelf_standing, text_under}
+use Rattle.docker_host.specs.Places.{texts_of, since_when, HoldsSince, IsKept}
 use Rattle.docker_host.specs.declared.shelf.Place.{Place}
+use Rattle.docker_host.proofs.StandingLemmas.{happen_append, happen_as}
 
 -- the files after a list of events and then one more event are the files after the list, changed by
 -- this event
@@ -19,33 +27,128 @@ pub AreMet-append : (texts : Texts) (events : List Event) (event : Event)
 AreMet-append texts [] event met last = (last, tt)
 AreMet-append texts (first ∷ events) event met last = (met.0, AreMet-append (after_event texts first) events event met.1 last)
 
+-- ---- what the files hold after one more event
+
+-- at an earlier position, one more event makes no difference
+earlier_standing : (events : List Event) (event : Event) (position : ℕ) (name : Text) → position ≤ length events
+    → shelf_standing (events ++ event ∷ []) position name ≡ shelf_standing events position name
+earlier_standing events event position name low =
+    ap (λ (es : List Event). text_under es name) (take-append-le position events (event ∷ []) low)
+
+-- at the position of the next event, each file holds the text that was last placed under its name
+pub last_standing : (events : List Event) (name : Text) → shelf_standing events (length events) name ≡ text_under events name
+last_standing events name = ap (λ (es : List Event). text_under es name) (take_all (length events) events (omega arith))
+
+-- at the position of an appended event, each file holds the text that was last placed under
+-- its name before
+pub next_standing : (events : List Event) (event : Event) (name : Text)
+    → shelf_standing (events ++ event ∷ []) (length events) name ≡ text_under events name
+next_standing events event name = earlier_standing events event (length events) name (omega arith) ∙ last_standing events name
+
+-- the events of a shelf can happen, also after one more event
+standing_append : (events : List Event) (event : Event) → IsStandingOf (shelf_standing events) events
+    → HappensAt (shelf_standing (events ++ event ∷ [])) (length events) event
+    → IsStandingOf (shelf_standing (events ++ event ∷ [])) (events ++ event ∷ [])
+standing_append events event are last =
+    happen_append (shelf_standing (events ++ event ∷ [])) 0 events event
+    (happen_as (shelf_standing events) (shelf_standing (events ++ event ∷ [])) (length events)
+    (λ position name low. sym (earlier_standing events event position name low)) 0 events (omega arith) are)
+    (subst (λ (n : ℕ). HappensAt (shelf_standing (events ++ event ∷ [])) n event)
+    (let same : length events ≡ 0 + length events = omega arith in same) last)
+
+-- if a file has held the same text since some event, it still has after an event that doesn't change
+-- this file
+since_append : (events : List Event) (event : Event) (name : Text) (since : ℕ)
+    → text_under (events ++ event ∷ []) name ≡ text_under events name → HoldsSince events name since
+    → HoldsSince (events ++ event ∷ []) name since
+since_append events event name since kept holds = λ position from to. by position from (eq-or-lt_of_le to)
+  where
+    long : length (events ++ event ∷ []) ≡ length events + 1
+    long = length-append events (event ∷ [])
+
+    by : (position : ℕ) → since ≤ position → (position ≡ length (events ++ event ∷ [])) ⊎ (position < length (events ++ event ∷ []))
+        → shelf_standing (events ++ event ∷ []) position name ≡ text_under (events ++ event ∷ []) name
+    by position from (inl last) =
+        ap (λ (n : ℕ). shelf_standing (events ++ event ∷ []) n name) last ∙ last_standing (events ++ event ∷ []) name
+    by position from (inr below) =
+        let low : position ≤ length events = omega (arith, long, below) in
+        earlier_standing events event position name low ∙ holds position from low ∙ sym kept
+
+-- a file that has just got its text has held this text since the last event
+since_last : (events : List Event) (name : Text) (since : ℕ) → since ≡ length events → HoldsSince events name since
+since_last events name since is = λ position from to.
+    let last : position ≡ length events = omega (arith, is, from, to) in
+    ap (λ (n : ℕ). shelf_standing events n name) last ∙ last_standing events name
+
+-- ---- the invariant after one more event
+
 -- if an event that changes no file is appended, the shelf's invariant `IsKept` still holds
 pub kept_still : (places : List Place) (events : List Event) (event : Event) → IsKept places events
     → ((texts : Texts) → after_event texts event ≡ texts) → IsMet (after_events no_texts events) event
+    → HappensAt (shelf_standing (events ++ event ∷ [])) (length events) event
     → IsKept places (events ++ event ∷ [])
-kept_still places events event kept still met = record {
+kept_still places events event kept still met happens = record {
   met = AreMet-append no_texts events event kept.met met;
-  same = λ name. kept.same name
-      ∙ sym (ap (λ (texts : Texts). texts name) (after_events-append no_texts events event ∙ still (after_events no_texts events)));
+  standing = standing_append events event kept.standing happens;
+  same = λ name. kept.same name ∙ sym (unchanged name);
+  since = λ name few. since_append events event name (since_when places name) (unchanged name) (kept.since name few);
 }
+  where
+    unchanged : (name : Text) → text_under (events ++ event ∷ []) name ≡ text_under events name
+    unchanged name =
+        ap (λ (texts : Texts). texts name) (after_events-append no_texts events event ∙ still (after_events no_texts events))
 
 -- if a text is written to a file and the event `placed` is appended, the shelf's invariant `IsKept`
--- still holds
+-- still holds. `place.since` counts the events, with the event `placed`
 pub kept_placed : (place : Place) (places : List Place) (events : List Event) (name text : Text) → IsKept places events
-    → string_bytes place.name ≡ name → place.text.items ≡ text
+    → string_bytes place.name ≡ name → place.text.items ≡ text → IsCountOf place.since (length events + 1)
     → IsKept (place ∷ places) (events ++ placed name (Some text) ∷ [])
-kept_placed place places events name text kept named held = record {
+kept_placed place places events name text kept named held counted = record {
   met = AreMet-append no_texts events (placed name (Some text)) kept.met tt;
+  standing = standing_append events (placed name (Some text)) kept.standing now_there;
   same = λ other.
       ap (λ (n : Text). with_text n place.text.items (texts_of places) other) named
       ∙ ap (λ (t : Text). with_text name t (texts_of places) other) held
       ∙ with_same name text other (texts_of places) (after_events no_texts events) (kept.same other)
-      ∙ sym (ap (λ (texts : Texts). texts other) (after_events-append no_texts events (placed name (Some text))));
+      ∙ sym (after other);
+  since = λ other few. by other (bytes_eq (string_bytes place.name) other) refl few;
 }
   where
+    all : List Event
+    all = events ++ placed name (Some text) ∷ []
+
+    after : (other : Text) → text_under all other ≡ with_text name text (after_events no_texts events) other
+    after other = ap (λ (texts : Texts). texts other) (after_events-append no_texts events (placed name (Some text)))
+
     with_same : (name text other : Text) (texts texts' : Texts) → texts other ≡ texts' other
         → with_text name text texts other ≡ with_text name text texts' other
     with_same name text other texts texts' same = rw same refl
+
+    long : length all ≡ length events + 1
+    long = length-append events (placed name (Some text) ∷ [])
+
+    own : (n : Text) (texts : Texts) → with_text n text texts n ≡ Some text
+    own n texts = let same : bytes_eq n n ≡ true = (bytes_eq-Decides n n).1 refl in rw same refl
+
+    now_there : shelf_standing all (length events + 1) name ≡ Some text
+    now_there =
+        ap (λ (n : ℕ). shelf_standing all n name) (sym long) ∙ last_standing all name ∙ after name ∙ own name (after_events no_texts events)
+
+    other_text : (other : Text) → bytes_eq (string_bytes place.name) other ≡ false → text_under all other ≡ text_under events other
+    other_text other differs = after other
+        ∙ (let apart : bytes_eq name other ≡ false = subst (λ (n : Text). bytes_eq n other ≡ false) named differs in rw apart refl)
+
+    by : (other : Text) (is : Bool) → bytes_eq (string_bytes place.name) other ≡ is
+        → since_when (place ∷ places) other < 2 ^ 64 - 1 → HoldsSince all other (since_when (place ∷ places) other)
+    by other true is few =
+        let since : since_when (place ∷ places) other ≡ place.since = rw is refl in
+        subst (HoldsSince all other) (sym since)
+        (since_last all other place.since (counted (subst (λ (n : ℕ). n < 2 ^ 64 - 1) since few) ∙ sym long))
+    by other false is few =
+        let since : since_when (place ∷ places) other ≡ since_when places other = rw is refl in
+        subst (HoldsSince all other) (sym since)
+        (since_append events (placed name (Some text)) other (since_when places other) (other_text other is)
+        (kept.since other (subst (λ (n : ℕ). n < 2 ^ 64 - 1) since few)))
 
 -- if a file is opened and the event `opened` is appended, the shelf's invariant `IsKept` still
 -- holds
@@ -53,3 +156,34 @@ pub kept_opened : (places : List Place) (events : List Event) (name text : Text)
     → text_under events name ≡ Some text → IsKept places (events ++ opened name (Some text) ∷ [])
 kept_opened places events name text kept found =
     kept_still places events (opened name (Some text)) kept (λ texts. refl) (sym found, refl)
+    (sym found ∙ sym (next_standing events (opened name (Some text)) name))
+
+-- if no text was written to a file since a look, one more event doesn't change this
+pub still_after : (events : List Event) (event : Event) (name : Text) (look : ℕ) → IsStill (shelf_standing events) name look (length events)
+    → IsStill (shelf_standing (events ++ event ∷ [])) name look (length events)
+still_after events event name look still = λ position from to.
+    earlier_standing events event position name to ∙ still position from to
+    ∙ sym (earlier_standing events event look name (omega (arith, from, to)))
+
+-- if a draft is made for a file to which no text was written since the look, the shelf's invariant
+-- `IsKept` still holds
+pub kept_drafted : (places : List Place) (events : List Event) (name : Text) (look : ℕ) → IsKept places events
+    → IsStill (shelf_standing events) name look (length events) → IsKept places (events ++ drafted name look ∷ [])
+kept_drafted places events name look kept still =
+    kept_still places events (drafted name look) kept (λ texts. refl) tt (still_after events (drafted name look) name look still)
+
+-- if the text of a file was placed before the look, no text was written to the file since the look
+pub still_since : (places : List Place) (events : List Event) (name : Text) (count look : ℕ) → IsKept places events → IsCountOf count look
+    → count < 2 ^ 64 - 1 → since_when places name ≤ count → IsStill (shelf_standing events) name look (length events)
+still_since places events name count look kept counted few early = λ position from to.
+    let low : since_when places name < 2 ^ 64 - 1 = omega (arith, few, early) in
+    let there : since_when places name ≤ look = subst (λ (n : ℕ). since_when places name ≤ n) (counted few) early in
+    kept.since name low position (omega (arith, from, there)) to
+    ∙ sym (kept.since name low look there (omega (arith, from, to)))
+
+-- the same as `still_since`, for a history and a look that are given by equations
+pub still_as : (events shown : List Event) (name : Text) (look seen : ℕ) → events ≡ shown → look ≡ seen
+    → IsStill (shelf_standing shown) name seen (length shown) → IsStill (shelf_standing events) name look (length events)
+still_as events shown name look seen same at still =
+    subst (λ (es : List Event). IsStill (shelf_standing es) name look (length es)) (sym same)
+    (subst (λ (n : ℕ). IsStill (shelf_standing shown) name n (length shown)) (sym at) still)

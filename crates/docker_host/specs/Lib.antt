@@ -1,5 +1,7 @@
 pub mod History
 pub mod Notes
+pub mod Standing
+pub mod Counts
 pub mod Folder
 pub mod Shelf
 pub mod Places

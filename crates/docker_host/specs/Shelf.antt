@@ -1,6 +1,7 @@
 -- The files on a shelf. The shelf's history determines them.
-use Rattle.std.specs.Prelude.{◌≡◌, ℕ, min, length, Bool, ⊤, if◌then◌else◌, List, [], ◌∷◌, Option, None, Some, IsSome}
+use Rattle.std.specs.Prelude.{◌≡◌, ℕ, min, length, take, Bool, ⊤, if◌then◌else◌, List, [], ◌∷◌, Option, None, Some, IsSome}
 use Rattle.std.specs.Str.{bytes_eq}
+use Rattle.docker_host.specs.Standing.{Standing}
 use Rattle.docker_host.specs.History.{Text, Event, looked, opened, unopened, closed, drafted, undrafted, placed, unplaced, dropped}
 
 -- an opened file on a shelf. `left` has the bytes left in the file, and `sound` is the number of
@@ -74,3 +75,8 @@ IsShelfHistory events = AreMet no_texts events
 -- there is no such file
 abbrev pub text_under : List Event → Text → Option Text
 text_under events name = after_events no_texts events name
+
+-- what the files of a shelf held that was empty at first. At each position of the history a file
+-- holds the text that was last placed under its name
+abbrev pub shelf_standing : List Event → Standing
+shelf_standing events position name = text_under (take position events) name

@@ -62,9 +62,9 @@ impl DraftFile {
     }
 
     /// Replaces the file with the draft, if the file under the name is still the one that was seen.
-    /// Returns the version that the next look will find, or `None` if that version can't be known.
-    /// For example, it can't be known for a file that was written directly. If the file can't be
-    /// replaced, removes the draft if possible and returns `Failed`.
+    /// Returns the version that the next look will find, or `None` if the name is of a pipe or a
+    /// device, which was written directly. If the draft's version can't be read, or the file can't
+    /// be replaced, removes the draft if possible and returns `Failed`.
     pub(crate) fn place(self, rt: &HostRuntime) -> Result<Option<Placed>, Failed> {
         let DraftFile {
             name,
@@ -78,14 +78,13 @@ impl DraftFile {
         // The version is read from the open draft, before the draft has the name of the file. So
         // the version can't be the version of any other file.
         let version = Version::of_open(&file);
-        if place.put(rt, name.as_str(), &file).is_err() {
-            place.remove(rt, &file);
-            return Err(Failed);
+        if let Some(version) = version {
+            if place.put(rt, name.as_str(), &file).is_ok() {
+                return Ok(Some(Placed { name, version }));
+            }
         }
-        let Some(version) = version else {
-            return Ok(None);
-        };
-        Ok(Some(Placed { name, version }))
+        place.remove(rt, &file);
+        Err(Failed)
     }
 
     /// Removes the draft, if possible.

@@ -1,6 +1,7 @@
 //! A folder: a device whose files are looked at, opened, and replaced by drafts.
-ghost use Rattle.std.specs.Prelude.{◌≡◌, ℕ, ◌+◌, ◌-◌, ◌^◌, ◌<◌, Bool, false, List, [], ◌∷◌, ◌++◌, length, IfOk, IsErr, OnOk, OnErr, Err};
+ghost use Rattle.std.specs.Prelude.{◌≡◌, ℕ, ◌+◌, ◌-◌, ◌^◌, ◌<◌, Bool, false, List, [], ◌∷◌, ◌++◌, length, IfOk, IsErr, OnOk, OnErr, Err, Option};
 ghost use Rattle.cif_device.specs.Device.{CountsFailure};
+ghost use Rattle.docker_host.specs.Standing.{IsStill};
 ghost use Rattle.docker_host.specs.History.{Event, looked, opened, unopened, closed, drafted, undrafted, placed, unplaced, dropped, named_if};
 
 use cif_device::{Failed, Sink, Source};
@@ -96,6 +97,12 @@ pub trait Folder {
     // say which bytes real files hold.
     ghost names_bytes: { Bool };
 
+    // The bytes of the file with each name, at each position of the history. `None` means that
+    // there is no such file, or that contracts can't say which bytes it holds. They can't say it of
+    // real files, so for the real folder all bytes are `None`, and the clauses `held` and `still`
+    // say nothing about it.
+    ghost standing: { Self → ℕ → List ℕ → Option (List ℕ) };
+
     /// Looks at the named file. A draft for the file can be based on the result.
     fn look(&mut self, name: &str) -> Self::Seen
         ensures asked { history self.new ≡ history self.old ++ looked name.now ∷ [] }
@@ -111,6 +118,8 @@ pub trait Folder {
         ensures fresh { IfOk result (λ file.
             (Self.File.ended file ≡ false) × (Self.File.passed file ≡ false)) }
         ensures sound { IfOk result (λ file. Self.File.failures file ≡ 0) }
+        ensures held { IfOk result (λ file. Self.File.left file
+            ≡ standing self.new (length (history self.old)) name.now) }
         ensures unopened { OnErr result
             (history self.new ≡ history self.old ++ unopened name.now ∷ []) }
         ensures failures { CountsFailure (result ≡ Err OpenFault.Failed)
@@ -124,7 +133,8 @@ pub trait Folder {
         ensures counted { failures self.new ≡ failures self.old + Self.File.failures file };
 
     /// Makes an empty draft for the named file, based on the result of a look. Fails if the file
-    /// under the name is no longer the file that was looked at.
+    /// under the name is no longer the file that was looked at. So the file has held the same bytes
+    /// since the look.
     fn create<'a>(
         &mut self,
         name: &'a str,
@@ -137,6 +147,8 @@ pub trait Folder {
         ensures sound { IfOk result (λ made. Self.Draft.failures made.draft ≡ 0) }
         ensures asked { OnOk result
             (history self.new ≡ history self.old ++ drafted name.now (look_of seen.now) ∷ []) }
+        ensures still { OnOk result (IsStill (standing self.new) name.now (look_of seen.now)
+            (length (history self.old))) }
         ensures undrafted { OnErr result
             (history self.new ≡ history self.old ++ undrafted name.now (look_of seen.now) ∷ []) }
         ensures failures { CountsFailure (result ≡ Err OpenFault.Failed)

@@ -2,6 +2,7 @@
 //! host is one value that holds all devices of a program.
 #![tactic(auto)]
 
+mod counted;
 mod draft_end;
 mod draft_file;
 mod draft_place;

@@ -84,6 +84,8 @@ impl Folder for RealFolder {
 
     ghost names_bytes = { false };
 
+    ghost standing = { λ _ _ _. None };
+
     fn look(&mut self, name: &str) -> Seen {
         let file = match self.take_placed(name) {
             Some(placed) => Some(placed),

@@ -1,22 +1,26 @@
 //! A folder in memory.
-ghost use Rattle.std.specs.Prelude.{◌≡◌, ◌+◌, ◌-◌, ◌^◌, ◌<◌, [], ◌∷◌, ◌++◌, false, true, Some, None, IfOk, IsErr, OnOk, OnErr, Err, option_map};
+ghost use Rattle.std.specs.Prelude.{◌≡◌, ◌+◌, ◌-◌, ◌^◌, ◌<◌, [], ◌∷◌, ◌++◌, length, false, true, Some, None, IfOk, IsErr, OnOk, OnErr, Err, option_map};
 ghost use Rattle.cif_device.specs.Device.{CountsFailure};
 ghost use Rattle.docker_host.specs.History.{placed, unplaced, dropped};
-ghost use Rattle.docker_host.specs.Shelf.{IsShelfHistory, text_under};
-ghost use Rattle.docker_host.specs.Places.{texts_of};
+ghost use Rattle.docker_host.specs.Standing.{IsStandingOf, IsStill};
+ghost use Rattle.docker_host.specs.Shelf.{IsShelfHistory, shelf_standing, text_under};
+ghost use Rattle.docker_host.specs.Places.{since_when, texts_of};
 
+use crate::counted::{CountedHistory, next_count};
 use crate::folder::{Drafted, Folder, OpenFault};
-use crate::history::{History, Note, Position};
+use crate::history::{Note, Position};
 use crate::page::Page;
 use cif_device::{Failed, Kept, Memory, Sink, Source};
 use std::alloc::Global;
 use std::marker::Model;
 
-/// A file on a shelf: its name and its text.
+/// A file on a shelf: its name, its text, and the number of events that the shelf had counted once
+/// this text was placed.
 #[derive(Drop)]
 pub struct Place {
     name: String,
     text: Vec<u8>,
+    since: u64,
 }
 
 /// The calls at which a shelf fails.
@@ -40,13 +44,23 @@ pub enum Fails {
     AtComplete,
 }
 
-/// The result of a look at a file on a shelf: which of the shelf's texts the file has, and the
-/// position of the look in the history. The texts are numbered from the oldest; `None` means that
-/// there was no file.
+/// The result of a look at a file on a shelf: the position of the look in the history. The shelf
+/// also keeps this position as a number, as far as it counts.
 #[derive(Drop)]
 pub struct Sight {
-    text: Option<usize>,
+    count: u64,
     position: Position,
+}
+
+impl Model for Sight {
+    ghost use Rattle.std.specs.Prelude.{ℕ};
+    ghost use Rattle.docker_host.specs.Counts.{IsCountOf};
+
+    ghost Value = { ℕ };
+
+    ghost view = { λ sight. sight.position.at };
+
+    ghost invariant = { λ sight. IsCountOf sight.count sight.position.at };
 }
 
 /// A folder in memory. Its texts are listed from the newest to the oldest. A text hides older texts
@@ -57,7 +71,7 @@ pub struct Shelf {
     room: usize,
     fails: Fails,
     places: Vec<Place>,
-    history: History,
+    history: CountedHistory,
     failures: u64,
 }
 
@@ -68,11 +82,11 @@ impl Model for Shelf {
     ghost Value = { FolderView };
 
     ghost view = { λ shelf. record {
-      events = shelf.history.events;
+      events = shelf.history;
       failures = shelf.failures;
     } };
 
-    ghost invariant = { λ shelf. IsKept shelf.places.items shelf.history.events };
+    ghost invariant = { λ shelf. IsKept shelf.places.items shelf.history };
 }
 
 /// Returns the text of the file with this name, or `None` if there is no such file.
@@ -87,13 +101,17 @@ fn text_among<'a>(places: &'a [Place], name: &str) -> Option<&'a [u8]>
     None
 }
 
-/// Returns the number of the text that the file with this name has, or `None` if there is no such
-/// file. The shelf's texts are numbered from the oldest, so that a new text changes no number.
-fn number_among(places: &[Place], name: &str) -> Option<usize> {
-    places
-        .iter()
-        .rev()
-        .rposition(|place| place.name.as_str() == name)
+/// Returns how many events the shelf had counted once the text of the file with this name was placed,
+/// or 0 if there is no such file.
+fn since_when(places: &[Place], name: &str) -> u64
+    ensures { result ≡ since_when places.now name.now }
+{
+    for place in places {
+        if place.name.as_str() == name {
+            return place.since;
+        }
+    }
+    0
 }
 
 impl Shelf {
@@ -107,7 +125,7 @@ impl Shelf {
             room,
             fails: Fails::Never,
             places: Vec::new(alloc),
-            history: History::new(),
+            history: CountedHistory::new(),
             failures: 0,
         }
     }
@@ -130,6 +148,7 @@ impl Shelf {
         let place = Place {
             name: String::from_str(self.alloc, name)?,
             text: Vec::from_slice(self.alloc, text)?,
+            since: next_count(self.history.count()),
         };
         self.places.insert(0, place)?;
         self.history = self.history.then(&Note::Placed(name, text));
@@ -144,9 +163,11 @@ impl Shelf {
     }
 
     /// Does nothing at run time. The contract says that each opened file held the text that was
-    /// last placed under its name, and a caller's proof can use that fact.
+    /// last placed under its name. It also says that no draft was made for a file to which a text
+    /// had been written since the look. A caller's proof can use these facts.
     pub fn tell(&self)
-        ensures { IsShelfHistory self.now.events }
+        ensures texts { IsShelfHistory self.now.events }
+        ensures standing { IsStandingOf (shelf_standing self.now.events) self.now.events }
     {
         let _ = &self.places;
     }
@@ -183,14 +204,22 @@ impl Shelf {
         }
     }
 
-    /// Returns an empty draft for the named file, if the file still holds the text that was seen.
+    /// Whether no text was written to the named file since the look, as far as the shelf has counted.
+    fn is_still(&self, name: &str, seen: &Sight) -> bool
+        ensures { result ≡ true → IsStill (shelf_standing self.now.events) name.now seen.now
+            (length self.now.events) }
+    {
+        seen.count < u64::MAX && since_when(self.places.as_slice(), name) <= seen.count
+    }
+
+    /// Returns an empty draft for the named file, if no text was written to the file since the look.
     fn draft_of(&self, name: &str, seen: &Sight) -> Result<Kept, OpenFault>
         ensures empty { IfOk result (λ draft. draft.taken ≡ []) }
         ensures sound { IfOk result (λ draft. draft.failures ≡ 0) }
+        ensures still { OnOk result (IsStill (shelf_standing self.now.events) name.now seen.now
+            (length self.now.events)) }
     {
-        if self.fails == Fails::AtCreate
-            || number_among(self.places.as_slice(), name) != seen.text
-        {
+        if self.fails == Fails::AtCreate || !self.is_still(name, seen) {
             return Err(OpenFault::Failed);
         }
         if self.fails == Fails::AtCreateForMemory {
@@ -227,15 +256,17 @@ impl Folder for Shelf {
 
     ghost failures = { λ shelf. shelf.failures };
 
-    ghost look_of = { λ seen. seen.position.at };
+    ghost look_of = { λ seen. seen };
 
     ghost names_bytes = { true };
 
+    ghost standing = { λ shelf. shelf_standing shelf.events };
+
     fn look(&mut self, name: &str) -> Sight {
-        let text = number_among(self.places.as_slice(), name);
+        let count = self.history.count();
         let position = self.history.position();
         self.history = self.history.then(&Note::Looked(name));
-        Sight { text, position }
+        Sight { count, position }
     }
 
     fn open(&mut self, name: &str) -> Result<Page, OpenFault> {

@@ -32,8 +32,8 @@ impl Model for LedgerOffice {
 
 impl LedgerOffice {
     /// Reads a state from a source, and keeps its ledger. A text with more than `limit` bytes is
-    /// refused. All parts of the text are judged, although no entry is kept. So this call refuses
-    /// every text that `Office::reload` refuses, with `State`, `Source` or `Memory`.
+    /// refused. All parts of the text are judged, although no entry is kept. So if
+    /// `Office::reload` refuses a text with `State`, `Source` or `Memory`, this call refuses it too.
     pub fn read<S: Source>(
         alloc: Global,
         source: &mut S,

@@ -4,4 +4,5 @@ pub mod PrintingLemmas
 pub mod EndingLemmas
 pub mod CommandLemmas
 pub mod VersionLemmas
+pub mod ReplacingLemmas
 pub mod ShelfRunLemmas

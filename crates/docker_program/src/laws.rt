@@ -11,6 +11,8 @@ ghost use Rattle.docker_model.specs.run.Knowledge.{AreOneKnowledge, HaveSameFile
 ghost use Rattle.docker_cmd.specs.Job.{JobView};
 ghost use Rattle.docker_cmd.specs.Words.{Text};
 ghost use Rattle.docker_program.specs.Commands.{AreVersions, IsDone, IsKnownText, IsRun, IsUndone, IsVersion, Knows, MayStore, Prints, PrintsKnown, Run, Stores, Version, WritesKnown, printing};
+ghost use Rattle.docker_host.specs.Standing.{IsStandingOf, Standing};
+ghost use Rattle.docker_program.specs.Replacing.{ReplacesRead};
 ghost use Rattle.docker_program.specs.Sources.{SourcesRead};
 
 /// A command that ends with status 0 has stored or printed the output of its job, which is made
@@ -21,6 +23,20 @@ pub fn commands_store_or_print()
     ensures done { (run : Run) → IsRun run 0 → IsDone run }
     ensures undone { (run : Run) (status : ℕ) → IsRun run status → status ≢ 0
         → IsUndone run status }
+{}
+
+/// A command never overwrites a text unread. Suppose that contracts can say which bytes the files of
+/// the folder hold (`standing`). When a command makes its draft, STATE has held the same bytes since
+/// the command looked at STATE. If the command reads STATE, these are the bytes that it opened, and
+/// they are the whole text of a state. `new` reads nothing: it replaces what STATE held when `new`
+/// looked at it, and nothing that came since.
+pub fn commands_replace_what_they_read()
+    ensures stored { (standing : Standing) (run : Run) (job : JobView) (read : SourcesRead)
+        (text : List ℕ) → Stores run job read text → IsStandingOf standing run.new.history
+        → ReplacesRead standing run job read }
+    ensures may_be_stored { (standing : Standing) (run : Run) (job : JobView) (read : SourcesRead)
+        (text : List ℕ) → MayStore run job read text → IsStandingOf standing run.new.history
+        → ReplacesRead standing run job read }
 {}
 
 /// Suppose that STATE held the text of the summary of some files and a horizon. Suppose also that

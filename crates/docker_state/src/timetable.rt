@@ -86,7 +86,8 @@ impl<'a> Timetable<'a> {
         self.state.horizon()
     }
 
-    /// The body of a timing point. Returns `None` if it isn't live. Timing points always count.
+    /// The body of a timing point, or `None` if the point isn't live. Timing points never lapse, so
+    /// they count on every day.
     pub fn tiploc(&self, tiploc: &Tiploc) -> Option<&'a Body>
         ensures body { option_map body_meant (option_copied result)
             ≡ live_in self.now (tiploc_key tiploc.now) }

@@ -1,3 +1,5 @@
 mod Found
 mod Origins
 mod Printed
+mod ListedTrains
+mod WrittenRows

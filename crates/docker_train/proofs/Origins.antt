@@ -1,5 +1,6 @@
 -- The schedule found for a UID and a day is unique. The schedule came from one of the state's
--- files. Each train on a docker's lines runs according to the schedule found for it.
+-- files. Each train on a docker's lines, or on a list of trains, runs according to the schedule
+-- found for it.
 use Rattle.std.proofs.Common.{◌≡◌, ℕ, ◌+◌, ◌<◌, ◌≤◌, List, Bool, true, false, cond, refl, ap, sym, ◌∙◌, subst, inl, inr, ◌⊎◌, Some, None, Contains, arith}
 use Rattle.std.specs.Prelude.{Option, option_map, IsTrue, ◌&&◌, nat_le, nat_lt}
 use Rattle.std.proofs.lemmas.Bool.{cases_lt, leb-true}
@@ -29,6 +30,7 @@ use Rattle.docker_laws.proofs.dockers.NearStarts.{event_near, association_near}
 use Rattle.train_choice.specs.Along.{IsLiveTrain}
 use Rattle.docker_train.specs.TrainText.{Stamped, IsFoundFor, IsStampOf, IsTrainText, train_text}
 use Rattle.docker_train.specs.Origin.{CameFrom, IsFoundToRun, change_of}
+use Rattle.docker_train.specs.TrainList.{IsListed}
 use Rattle.docker_train.proofs.Found.{stamp_is, entry_there}
 
 -- ---- at most one schedule is found
@@ -152,7 +154,7 @@ found_is_plain files horizon state table uid day found is plain is_day from foun
     (subst (λ (live : Table). IsChosenOn live uid day there) (live_is_lapsed_plain files horizon state table is plain)
     (schedules_are state uid day found found_is))
 
--- ---- the trains of a docker
+-- ---- the trains of a docker or a list
 
 live_has_stamp : (state : State) (train : Train) → IsLiveTrain (live_table state) train → (stamp : Stamp) × IsStampOf state train stamp
 live_has_stamp state train live = by (entry_at state (schedule_key train.key)) refl
@@ -177,6 +179,18 @@ found_to_run state start day key lines open_day near runs =
       stamp = stamped.0;
       found = (runs.chosen, stamped.1);
       runs = runs.no_cancellation;
+    }
+
+-- for each train of a list, the schedule according to which the train runs is the schedule found for
+-- the train's UID on the day
+pub listed_found : (state : State) (identity : List ℕ) (day : ℕ) (train : Train) → state.horizon ≤ day
+    → IsListed (live_table state) identity day train → IsFoundToRun state train.key.uid day train
+listed_found state identity day train from is =
+    let stamped = live_has_stamp state train is.runs.chosen.running.is_live in record {
+      answered = from;
+      stamp = stamped.0;
+      found = (is.runs.chosen, stamped.1);
+      runs = is.runs.no_cancellation;
     }
 
 -- for each event on a docker, the schedule of the event's train is the schedule found for the

@@ -322,6 +322,22 @@ fn permissions_are_kept(rt: HostRuntime) {
 }
 
 #[test]
+fn a_new_file_has_the_permissions_of_any_new_file(rt: HostRuntime) {
+    clear(&rt, "any_new_file");
+    put(&rt, "any_new_file", "one");
+    clear(&rt, "made_anew");
+    let mut folder = RealFolder::new(&rt);
+    stores(&rt, &mut folder, "made_anew", "one", Ok(()));
+    let (Ok(any), Ok(made)) = (
+        fs::metadata(&rt, "any_new_file"),
+        fs::metadata(&rt, "made_anew"),
+    ) else {
+        panic!(rt; "no file");
+    };
+    same(&rt, made.permissions().mode(), any.permissions().mode());
+}
+
+#[test]
 fn a_draft_that_is_given_up(rt: HostRuntime) {
     put(&rt, "given_up", "one");
     let mut folder = RealFolder::new(&rt);

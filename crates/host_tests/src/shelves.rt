@@ -57,6 +57,41 @@ fn another_text_that_came_since(rt: HostRuntime) {
     same(&rt, shelf.failures(), 1);
 }
 
+#[test]
+fn the_same_text_that_came_since(rt: HostRuntime) {
+    let mut shelf = shelf_of(&rt, rt.alloc());
+    let seen = shelf.look("F");
+    assert!(&rt; shelf.put("F", b"one").is_ok());
+    assert!(&rt; shelf.put("F", &[65; 300]).is_ok());
+    same(
+        &rt,
+        store(&rt, &mut shelf, "F", &seen, "two"),
+        Err(OpenFault::Failed),
+    );
+    reads(&rt, rt.alloc(), &mut shelf, Some(300));
+}
+
+#[test]
+fn another_name_that_got_a_text_since(rt: HostRuntime) {
+    let mut shelf = shelf_of(&rt, rt.alloc());
+    let seen = shelf.look("F");
+    assert!(&rt; shelf.put("G", b"one").is_ok());
+    same(&rt, store(&rt, &mut shelf, "F", &seen, "two"), Ok(()));
+    holds(&rt, rt.alloc(), &mut shelf, "F", "two");
+}
+
+#[test]
+fn a_look_at_another_shelf(rt: HostRuntime) {
+    let mut shelf = shelf_of(&rt, rt.alloc());
+    let seen = Shelf::new(rt.alloc(), 0).look("F");
+    same(
+        &rt,
+        store(&rt, &mut shelf, "F", &seen, "two"),
+        Err(OpenFault::Failed),
+    );
+    reads(&rt, rt.alloc(), &mut shelf, Some(300));
+}
+
 /// Reads the file of a shelf that fails at this call. Asserts how often the shelf has then failed,
 /// and that the file can be read to its end once the shelf no longer fails.
 fn fails_reading(rt: &impl Abort, alloc: Global, fails: Fails, failures: u64) {

@@ -1,5 +1,6 @@
 pub mod Search
 pub mod Positions
+pub mod PostingOrders
 pub mod RowPlaces
 pub mod LiveIndexes
 pub mod CountedCalls

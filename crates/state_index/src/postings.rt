@@ -114,6 +114,6 @@ pub(crate) fn settle(postings: &mut Vec<Posting>)
         Contains postings.new.items posting ↔ Contains postings.old.items posting }
     ensures capacity { vec_capacity postings.new ≡ vec_capacity postings.old }
 {
-    postings.sort_unstable();
+    postings.sort_unstable_by(|posting, other| posting.compare(other));
     postings.dedup();
 }

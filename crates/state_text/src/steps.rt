@@ -349,8 +349,9 @@ fn after_last_line<K: Keeper>(
     give(count, parts, key, schedule.stamp, op)
 }
 
-/// Reads the next part and returns the stage after it, or why it can't be read. A line must be the
-/// last line of its schedule: `judged_inner_line` reads the lines before the last.
+/// Reads the next part and returns the stage after it, or why it can't be read. If the
+/// part is a line, it must be the last line of its schedule: `judged_inner_line` reads the lines
+/// before it.
 pub fn step<K: Keeper>(
     alloc: Global,
     format: Format,

@@ -59,8 +59,8 @@ pub(crate) fn association_runs(line: &Line, day: Day) -> bool
     (line.day(16).number() <= day.number()) & runs_until(line, 22, 28, day)
 }
 
-/// Whether the day isn't after the last date, and its weekday is among the days run. `last` and
-/// `days` are the first columns of these two fields.
+/// Whether the day isn't after the line's last date, and its weekday is one of the line's weekdays.
+/// `last` is the first column of the last date, and `days` the first column of the weekdays.
 fn runs_until(line: &Line, last: usize, days: usize, day: Day) -> bool
     requires last_from { 0 < last }
     requires last_within { last ≤ 75 }

@@ -1,5 +1,5 @@
-//! Chooses the schedule according to which a train runs on a day, and the association that counts
-//! in a group. Also lists the events of a schedule.
+//! Chooses the schedule that a train follows on a day, and the association that counts in a group.
+//! Also lists the events of a schedule.
 #![tactic(auto)]
 
 mod choice;

@@ -2,6 +2,7 @@
 mod choice;
 mod compare;
 mod files;
+mod lists;
 mod refusals;
 
 use self::compare::same;

@@ -1,12 +1,9 @@
 """Builders of extracts for the tests of the screen. Each record has the columns that docs/FORMATS.md gives."""
+from offices import record
 
 ALWAYS = "2406032412131111111"
 WEDNESDAY = "2406122406120010000"
 DAY, NEXT = "2024-06-12", "2024-06-13"
-
-
-def record(text, last=" "):
-    return f"{text:<79}{last}\n"
 
 
 def extract(*records, date="110624", time="2100", reference="DFROC1F", indicator="F", last="DFROC1E"):

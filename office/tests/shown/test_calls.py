@@ -25,7 +25,7 @@ TRAINS = {
     ),
     # The departure at 00:03 is of the train that started the day before.
     "a call over midnight": (train("T00007", origin("CORHAM", "2330"), call("ASHFELD", "2358", "0003"), end("BRAYTON", "0100")), [("", "00:03"), ("23:58", "")]),
-    # It starts and ends here each day, so the departure may be the next train's.
+    # It starts and ends here each day, so a departure after an arrival may belong to the next day's train.
     "a circle": (train("T00008", origin("ASHFELD", "0050"), passes("DUNMERE", "1200"), end("ASHFELD", "0020")), [("00:20", "ends"), ("starts", "00:50")]),
     # Two trains of one UID are here at the same time, so it isn't fixed which departs at which time.
     "two trains at once": (

@@ -42,10 +42,10 @@ def served(serves):
 
 
 def journey_of(page):
-    """Each row of a journey: its class, and the text of its cells. What was before stands in brackets, and what is new between asterisks."""
+    """Each row of a journey: its class, and the text of its cells up to the train's identity. What was before stands in brackets, and what is new between asterisks."""
     found = re.findall(r'<tbody class="call([^"]*)"[^>]*>\s*<tr>(.*?)</tr>', page, re.S)
     marked = [(kind.strip(), re.sub(r"<ins>(.*?)</ins>", r"*\1*", re.sub(r"<del>(.*?)</del>", r"[\1]", row))) for kind, row in found]
-    return [(kind, *(text_of(cell) for cell in re.findall(r"<t[dh][^>]*>(.*?)</t[dh]>", row, re.S))) for kind, row in marked]
+    return [(kind, *(text_of(cell) for cell in re.findall(r"<t[dh][^>]*>(.*?)</t[dh]>", row.partition('<td class="here">')[0], re.S))) for kind, row in marked]
 
 
 CALLS = [

@@ -8,8 +8,8 @@ import time
 
 import pytest
 
-from conftest import TESTS
 from extracts import DAY, NEXT, WEDNESDAY, basic, update
+from serving import TESTS
 
 SCREENS = os.environ.get("SCREENS")
 SIZES = {1920: 1080, 1366: 768, 768: 1024, 390: 844, 320: 640}

@@ -1,15 +1,16 @@
 """What `station-office` says of days that aren't covered, and what changed since an earlier time: on the command line, in the morning, and on pages."""
 import json
-import os
+import pathlib
 import re
 import subprocess
 import time
 
 import pytest
 
-from conftest import DESK, OFFICE, Server, docker
 from extracts import DAY, NEXT, PLACES, WEDNESDAY, basic, call, deleted, end, extract, origin, train, update
+from offices_run import Office
 from pages_read import element, times_of
+from serving import DESK, Server, docker
 
 THIRD = "2024-06-14"
 FULL = extract(
@@ -28,37 +29,6 @@ REVISION = update(
 )
 GONE = ["0935  A 1A10 A10001", "0936  D 1A10 A10001", "1035  A 1A10 A10002", "1036  D 1A10 A10002", "1135  A 1A10 A10003", "1136  D 1A10 A10003"]
 NEW = ["0937  A 1A10 A10001", "0938  D 1A10 A10001", "1335  A 1A10 A10005", "1336  D 1A10 A10005"]
-
-
-class Office:
-    """An office in a folder, and its station-office."""
-
-    def __init__(self, folder):
-        self.folder, self.state = folder, folder / "north.state"
-        self.run("new")
-        (folder / "places").write_text("ASHFELD\nBRAYTON\n")
-
-    def run(self, *words, status=0, now=f"{DAY}T05:00", **environment):
-        """Runs a command, whose status is checked. Returns its output and its messages."""
-        words = [words[0], str(self.state), *words[1:]] if words[:2] != ("changes", "--since") else words
-        ended = subprocess.run([OFFICE / "station-office", "--now", now, *map(str, words)], stdin=subprocess.DEVNULL, capture_output=True, text=True, check=False,
-                               env={**os.environ, "DESK": DESK, "STILL": "0", "MAX_AGE": "999", **environment})
-        assert ended.returncode == status, (words, ended.stderr)
-        return ended.stdout, ended.stderr
-
-    def since(self, *words, **how):
-        return self.run("changes", "--since", *words, **how)
-
-    def put(self, text):
-        (self.folder / "in" / "extract.cif").write_text(text)
-
-    def morning(self, text=None, **how):
-        if text:
-            self.put(text)
-        return self.run("morning", **how)
-
-    def copies(self):
-        return sorted((self.folder / "copies").iterdir())
 
 
 @pytest.fixture
@@ -145,6 +115,21 @@ def revised(office):
     office.put(REVISION)
     office.run("take")
     return office
+
+
+def test_nothing_is_written_elsewhere(revised, tmp_path_factory):
+    """The earlier STATE is unpacked in the office's folder, and removed again. So is what a run that was killed has left."""
+    folder = tmp_path_factory.mktemp("desk")
+    wrapper = folder / "desk"
+    wrapper.write_text(f'#!/bin/sh\necho "$@" >>{folder}/asked\nexec {DESK} "$@"\n')
+    wrapper.chmod(0o755)
+    left = revised.folder / ".north.state.since"
+    left.mkdir()
+    (left / "large").touch()
+    revised.since(revised.copies()[-1], revised.state, DAY, DESK=str(wrapper))
+    asked = {pathlib.Path(line) for line in (folder / "asked").read_text().splitlines()}
+    assert {path.is_relative_to(revised.folder) for path in asked} == {True} and len(asked) == 2
+    assert not left.exists()
 
 
 def british(seconds):

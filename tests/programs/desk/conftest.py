@@ -1,7 +1,7 @@
 """Fixtures for the cases of `desk`: the files and states in a case's folder."""
 import shutil
 
-import extracts
+import desk_extracts as extracts
 import mirror
 import pytest
 from programs import build_library, give

@@ -3,7 +3,7 @@ import os
 import pathlib
 import subprocess
 
-import extracts
+import desk_extracts as extracts
 import records
 from desks import (
     DAY_REFUSED, DEVICE, DONE, MEMORY, NOTHING, Answer, Desk, desk, docker, ends_well, written,

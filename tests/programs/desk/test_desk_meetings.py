@@ -184,6 +184,32 @@ def test_a_text_of_the_same_length_is_written_just_after_a_save(meeting):
         assert not os.path.lexists("STATE.new"), "a draft is left"
 
 
+def test_a_text_that_is_written_just_after_a_save_in_which_a_look_fails(
+    meeting, device, monkeypatch
+):
+    """Whichever look of the first save fails, the second save doesn't replace the text."""
+    lines = b"take tuesday\nsave\ntake night\nsave\n"
+    came = give(b"?" * len(state_of("full", "tuesday")), "came")
+    give(state_of("full"))
+    calls = calls_of(meeting, COMMAND, lines)
+    made, placed = calls.index("create STATE.new"), calls.index("rename STATE.new STATE")
+    looks = [at for at, call in enumerate(calls[:placed]) if call.startswith("statx")]
+    monkeypatch.setenv("CALL", "statx")
+    monkeypatch.setenv("TOLD", "failed")
+    for number, at in enumerate(looks, 1):
+        if at < made:
+            continue
+        monkeypatch.setenv("FAIL_AT", str(number))
+        give(state_of("full"))
+        found = met(f"{meeting}:{device}", placed + 2, "cat came >STATE", COMMAND, lines)
+        what = f"look {number} of {len(looks)}, before {found.after[:3]}"
+        assert (found.status, held("failed")) == (0, b"statx"), what
+        os.remove("failed")
+        assert held("STATE") == came, what
+        assert answers_in(found.ended.output)[-1] == DEVICE, what
+        assert (found.ended.status, found.ended.errors) == (1, NOT_SAVED), what
+
+
 @pytest.mark.timeout(120)
 @each("name, line", GOES | BECOMES_PIPE)
 def test_a_state_that_is_read_and(meeting, name, line):

@@ -7,7 +7,7 @@ import pathlib
 import random
 import termios
 
-import extracts
+import desk_extracts as extracts
 from checks import soon
 from desks import NOTHING, USAGE, Desk, desk, docker, ends_well, written
 from mirror import WRITING_LINES, Mirror, give_large, state_of

@@ -3,7 +3,7 @@ import datetime
 import pathlib
 import random
 
-import extracts
+import desk_extracts as extracts
 import lists
 import pytest
 import records

@@ -5,7 +5,7 @@ import random
 
 import records
 from desks import DAY_REFUSED, DONE, Answer, Desk, docker, ends_well
-from dockers import LINES
+from docker_lines import LINES
 from outcomes import docker_text
 from tables import each
 

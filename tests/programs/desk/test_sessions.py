@@ -3,7 +3,7 @@ import itertools
 import os
 import random
 
-import extracts
+import desk_extracts as extracts
 import pytest
 from desks import DONE, Desk, desk, docker, written
 from mirror import STATES, Mirror

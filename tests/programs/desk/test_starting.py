@@ -2,7 +2,7 @@
 import os
 import pathlib
 
-import extracts
+import desk_extracts as extracts
 from desks import DONE, USAGE, Answer, Desk, desk, docker, written
 from mirror import BAD_STATES, Mirror, bad_states, state_of
 from programs import DESK, DEVICE_LINE, Ended, give, held, run

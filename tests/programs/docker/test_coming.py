@@ -1,6 +1,8 @@
-"""`docker new` into a pipe that another file replaces, and `docker new` without hard links.
+"""Tests `docker new` when another file replaces the pipe that it writes to, and when hard links
+aren't possible.
 
-test_whatever_comes.py tries what comes in the place of a file, or under a free name."""
+test_whatever_comes.py tests what happens if something else takes the place of a file, or takes a
+name that was free."""
 import os
 import stat
 import time

@@ -1,6 +1,6 @@
 """The lines of dockers: `day` prints them from a file, and `print` from a state that took the
 file."""
-from dockers import LINES
+from docker_lines import LINES
 from outcomes import prints, takes
 from programs import docker
 from tables import each

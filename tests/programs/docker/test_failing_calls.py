@@ -6,9 +6,9 @@ import signal
 import stat
 
 import pytest
-from dockers import LINES
+from docker_lines import LINES
 from given import ONE, STATE_OF_BOTH, STATE_OF_ONE, STATE_OF_REVISED, STATES
-from outcomes import DEVICE, DONE, MEMORY, accepted, done, prints, stores
+from outcomes import DEVICE, DONE, MEMORY, accepted, done, file_refused, prints, stores
 from programs import DOCKER, docker, give, held, preloading, untried
 from tables import each
 
@@ -221,3 +221,27 @@ def test_a_merge_whose_reads_and_writes_are_interrupted(interrupting):
     give(STATE_OF_ONE, "office")
     words = ("merge", "office", "stdin")
     stores(STATE_OF_BOTH, *words, before=interrupting, given=STATE_OF_REVISED)
+
+
+# What a write doesn't write is written by the next one.
+
+
+@pytest.fixture
+def writing_partly(device):
+    """Each write of more than one byte writes only half of them. There has to be such a write."""
+    yield preloading(device, PARTLY=1, TOLD="met")
+    assert os.path.exists("met"), "each write wrote all its bytes"
+
+
+@each("words, wanted", {
+    "a docker": ("print state_of_one ASHFELD 2024-06-10", ASHFELD),
+    "the line of a fault": ("check short", file_refused("2: Length")),
+})
+def test_written_partly(writing_partly, words, wanted):
+    assert docker(*words.split(), before=writing_partly) == wanted
+
+
+def test_a_state_that_is_written_partly(writing_partly):
+    give(STATE_OF_ONE, "office")
+    words = ("merge", "office", "stdin")
+    stores(STATE_OF_BOTH, *words, before=writing_partly, given=STATE_OF_REVISED)

@@ -1,5 +1,5 @@
 """`check` and `day`, on files that are accepted and on files that are refused."""
-from dockers import EVENING_AT_COLWELL, LINES
+from docker_lines import EVENING_AT_COLWELL, LINES
 from given import BAD
 from outcomes import accepted, file_refused, prints
 from programs import ROOT, docker

@@ -1,15 +1,16 @@
 """The launcher at the root of the repository."""
 import os
 import shutil
+import sys
 
 import pytest
-from dockers import LINES
+from docker_lines import LINES
 from outcomes import accepted, prints
 from programs import DOCKER, ROOT, Ended, run
 
 LAUNCHER = str(ROOT / "docker")
 # All tools that the launcher runs before it looks for the kit.
-TOOLS = ("bash", "env", "awk", "dirname", "find", "mkdir", "readlink")
+TOOLS = ("bash", "dirname", "readlink")
 NOT_BUILT = (
     b"docker: the program isn't built, and the kit's command rt isn't on the PATH to prove and"
     b" build it\n"
@@ -43,5 +44,6 @@ def test_the_launcher_if_nothing_can_be_built():
     os.mkdir("bin")
     for tool in TOOLS:
         os.symlink(shutil.which(tool), f"bin/{tool}")
+    os.symlink(sys.executable, "bin/python3")
     ended = run(["bare/docker", "check", "one"], env=os.environ | {"PATH": os.path.abspath("bin")})
     assert ended == Ended(70, b"", NOT_BUILT)

@@ -6,7 +6,7 @@ import stat
 import subprocess
 
 import pytest
-from dockers import LINES
+from docker_lines import LINES
 from given import STATE_OF_BOTH, STATE_OF_ONE, STATES
 from outcomes import DEVICE, DONE, holds_only, prints, stores
 from programs import DOCKER, as_nobody, docker, give, held, redirected, run

@@ -2,7 +2,7 @@
 its files."""
 import itertools
 
-from dockers import LINES
+from docker_lines import LINES
 from given import (
     FILES_LINE, REVISED_FILES_LINE, STATES, STATE_OF_BOTH, STATE_OF_ONE, STATE_OF_REVISED,
 )

@@ -3,7 +3,7 @@ import os
 import subprocess
 
 import pytest
-from dockers import LINES
+from docker_lines import LINES
 from given import FILES_LINE, ONE, STATE_OF_BOTH, STATE_OF_ONE, STATES
 from outcomes import (
     DEVICE, DONE, USAGE, accepted, done, file_refused, keeps, prints, state_refused, stores,

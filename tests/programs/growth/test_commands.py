@@ -14,8 +14,8 @@ from tables import each
 
 @pytest.fixture(autouse=True)
 def states(folder):
-    """The extracts of the office, and the states with which commands start: of no file, of the full
-    extract, of the updates, and the second one in the older format."""
+    """The extracts of the office, and the states that commands start with. One state is of no file, one
+    of the updates, and two are of the full extract, of which one has the older format."""
     for name in ("full.cif", "monday.cif", "tuesday.cif"):
         shutil.copy(ROOT / "examples" / "office" / name, folder)
     takes("empty.state")

@@ -11,7 +11,7 @@ import typing
 
 import pytest
 from checks import holds, named
-from dockers import event, works_on
+from docker_lines import event, works_on
 from outcomes import DONE, accepted, done, holds_only, prints, ran_out
 from programs import docker, give, held, preloading
 from records import (

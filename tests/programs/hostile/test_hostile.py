@@ -8,9 +8,10 @@ import signal
 
 import pytest
 from checks import same
-from dockers import event, works_on
+from desks import Answer
+from docker_lines import event, works_on
 from outcomes import DONE, done, holds_only, prints
-from programs import docker, give, in_seconds
+from programs import DESK, Ended, docker, give, in_seconds, run
 from records import ALWAYS, NO_END, association, basic, extract, header, origin, record, terminus
 from states import File, state
 from tables import by_itself, each
@@ -135,6 +136,15 @@ def answers(wanted, *words):
 def test_day_of_a_hostile_file(units, place, wanted):
     give(extract(header("240609", indicator="F"), *units()).encode(), "hostile")
     answers(wanted, "day", "hostile", place, DAY)
+
+
+def test_trains_of_one_uid_with_many_schedules():
+    """All schedules of the UID run on the day and have the train identity."""
+    give(extract(header("240609", indicator="F"), *of_one_uid()).encode(), "hostile")
+    same("the new state", docker("new", "STATE"), DONE)
+    same("the taken file", docker("take", "STATE", "hostile"), DONE)
+    ended = run([*in_seconds(1), DESK, "STATE"], f"trains 1A10 {DAY}\n".encode())
+    same("the answer", ended, Ended(0, Answer(0, f"A00001 {DAY} N\n".encode()).written(), b""))
 
 
 def ledger(numbers):

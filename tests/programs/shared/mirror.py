@@ -3,7 +3,7 @@ import datetime
 import functools
 import pathlib
 
-import extracts
+import desk_extracts as extracts
 import lists
 from checks import same
 from desks import DAY_REFUSED, DEVICE, DONE, NOT_SAVED, NOTHING, Answer, docker

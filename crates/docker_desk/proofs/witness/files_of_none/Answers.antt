@@ -14,4 +14,4 @@ returns c =
     (search (rules, tests)) (subst IsValid c.new-office.ensures.empty c.state-state.ensures.valid)
     (ap (λ (it : FolderView). it.events) c.folder.view_is ∙ c.in_ok-put.ensures.placed
     ∙ ap (λ (events : List Event). events ++ placed (codes "S") (Some c.bytes-bytes.result.now) ∷ []) c.new-folder.ensures.events)
-    (ap Some c.new-2.ensures.left) (ap Some c.in_ok-new.ensures.empty) c.tell.ensures (search (rules, tests)) refl
+    (ap Some c.new-2.ensures.left) (ap Some c.in_ok-new.ensures.empty) c.tell.ensures.texts (search (rules, tests)) refl

@@ -15,5 +15,5 @@ returns c =
     let empty : ◌≡◌ {A = List ℕ} c.in-Ok-new.output.taken [] = c.in-Ok-new.ensures.empty in
     let text : c.bytes.result.now ≡ count_line (length (lines_of c.args.extract.now)) (length (changes (lines_of c.args.extract.now))) =
     check_result c.args.extract.now c.bytes.result.now _ _ _ c.perform.new.host c.perform.result refl zero c.host.view_is put
-    (ap (λ (taken : List ℕ). Some taken) empty) c.tell.ensures c.perform.ensures.performs (search rules) in
+    (ap (λ (taken : List ℕ). Some taken) empty) c.tell.ensures.texts c.perform.ensures.performs (search rules) in
     search rules

@@ -1,0 +1,315 @@
+"""Proves and builds a program, if it isn't built or is older than one of its sources, and then runs it: `python3 lib/launch.py PROGRAM [WORD..]`.
+
+Progress goes to standard error, and the report on each crate to crates/PROGRAM/out/proving/CRATE.log. Status 70 says that the program couldn't be built."""
+import dataclasses
+import hashlib
+import os
+import pathlib
+import re
+import shutil
+import signal
+import subprocess
+import sys
+import time
+
+ROOT = pathlib.Path(__file__).resolve().parent.parent
+# How many kilobytes of memory the check of one crate may need, and each job of a check.
+MEMORY_OF_A_CHECK, MEMORY_OF_A_JOB = 5 * 1024 * 1024, 3 * 1024 * 1024
+# A check that started less than this many seconds ago hasn't allocated all its memory yet.
+YOUNG = 60
+# With this many functions or more, a crate is proved by several jobs. In smaller crates, more jobs were slower.
+MANY_FUNCTIONS = 100
+NOT_BUILT = 70
+# The folders of a crate on which its proof depends.
+PARTS = ("src", "specs", "proofs")
+
+
+class NotBuilt(Exception):
+    """Why the program can't be built."""
+
+
+class Stopped(Exception):
+    """A signal that ends the launcher. It has the signal's number."""
+
+
+def say(text):
+    print(f"{sys.argv[1]}: {text}", file=sys.stderr, flush=True)
+
+
+def processors():
+    return len(os.sched_getaffinity(0))
+
+
+def free_memory():
+    """How many kilobytes are free."""
+    return int(re.search(r"^MemAvailable:\s*(\d+)", pathlib.Path("/proc/meminfo").read_text(encoding="ascii"), re.M)[1])
+
+
+# ---- The crates and their sources
+
+
+def plan(program):
+    """The crates from which a program is built, including its own, each with the crates of this repository that it cites. The crate with the longest chain of crates up to
+    the program comes first, so each crate comes after the crates that it cites."""
+    lines = [re.split("[: ]+", line) for line in (ROOT / "crates.txt").read_text(encoding="utf-8").splitlines()]
+    ours = {words[0] for words in lines}
+    cited = {words[0]: [it for it in words[1:] if it in ours] for words in lines}
+    chain = {program: 1}
+    for crate in reversed(cited):
+        for it in cited[crate] if crate in chain else ():
+            chain[it] = max(chain.get(it, 0), chain[crate] + 1)
+    return {crate: cited[crate] for crate in sorted((it for it in cited if it in chain), key=lambda it: -chain[it])}
+
+
+def sources(crate):
+    """The sources, definitions and proofs of a crate."""
+    found = (path for part in PARTS for path in (ROOT / "crates" / crate / part).rglob("*"))
+    return [path for path in found if path.suffix in (".rt", ".antt")]
+
+
+def out(crate, *names):
+    """The folder of what is built of a crate, or something in it."""
+    return ROOT.joinpath("crates", crate, "out", *names)
+
+
+def is_old(program):
+    """Whether a program doesn't exist, or is older than one of its sources."""
+    built = out(program, program)
+    if not os.access(built, os.X_OK):
+        return True
+    at = built.stat().st_mtime_ns
+    return any(path.stat().st_mtime_ns > at for path in (ROOT / "crates.txt", *(path for crate in plan(program) for path in sources(crate))))
+
+
+def lists_sources(program):
+    """Lists the folders that lib/launch.sh compares with the program."""
+    text, path = "".join(f"crates/{crate}/{part}\n" for crate in plan(program) for part in PARTS), out(program, f"{program}.sources")
+    if not path.is_file() or path.read_text(encoding="utf-8") != text:
+        path.write_text(text, encoding="utf-8")
+
+
+def checksums(kit, cites):
+    """A checksum for each crate, of everything on which its proof depends. These are the kit, the crate's line in crates.txt, its sources and proofs, and the checksums of
+    the crates that it cites."""
+    sums, lines = {}, (ROOT / "crates.txt").read_text(encoding="utf-8").splitlines()
+    for crate, cited in cites.items():
+        made = hashlib.sha256(repr((kit, [line for line in lines if line.startswith(f"{crate}:")], [(it, sums[it]) for it in cited])).encode())
+        for path in sorted(sources(crate)):
+            made.update(f"{path.relative_to(ROOT)} {hashlib.sha256(path.read_bytes()).hexdigest()}\n".encode())
+        sums[crate] = made.hexdigest()
+    return sums
+
+
+# ---- The checks
+
+
+@dataclasses.dataclass
+class Check:
+    """A check that is running: its crate, its lane, its process, and when it began."""
+
+    crate: str
+    lane: int
+    process: subprocess.Popen
+    began: float
+
+
+class Proving:
+    """The proof of a program's crates, in lanes. A lane is a folder in which one check runs at a time. The first lane is the checkout. While `rt` checks a crate, it locks
+    the folders of this crate and of all crates below it. So the other lanes are copies."""
+
+    def __init__(self, program):
+        self.program, self.logs, self.began = program, out(program, "proving"), time.monotonic()
+        self.lanes, self.running, self.proved_in = [ROOT], [], {}
+        self.cites = plan(program)
+        self.sums = checksums(subprocess.run(["rt", "version"], check=True, capture_output=True, text=True).stdout, self.cites)
+        self.proved = {crate for crate in self.cites if self.was_proved(crate)}
+        self.waiting = [crate for crate in self.cites if crate not in self.proved]
+
+    def was_proved(self, crate):
+        """Whether an earlier launch has proved this crate as it is now."""
+        kept = out(crate, "proved")
+        return kept.is_file() and kept.read_text(encoding="utf-8").strip() == self.sums[crate]
+
+    def shares_work(self):
+        """Whether a check in a copy begins with what checks in the checkout have proved. `rt` shares this work among the copies through a folder next to the kit."""
+        page = subprocess.run(["rt", "doc"], check=True, capture_output=True, text=True).stdout.strip()
+        shared = pathlib.Path(page).parent.parent / "rattle-kept"
+        try:
+            shared.mkdir(mode=0o700, exist_ok=True)
+            return shared.stat().st_uid == os.getuid()
+        except OSError:
+            return False
+
+    def makes_lanes(self):
+        """There is a lane for every two processors, and there are at least two. There is only one if the copies would have to prove everything themselves. A launch that
+        was killed may have left old copies."""
+        for old in self.logs.glob("lane-*"):
+            shutil.rmtree(old)
+        if len(self.waiting) < 2 or not self.shares_work():
+            return
+        for number in range(1, max(2, processors() // 2)):
+            lane = self.logs / f"lane-{number}"
+            self.lanes.append(lane)
+            shutil.copytree(ROOT / "crates", lane / "crates", ignore=shutil.ignore_patterns("out"))
+            shutil.copy2(ROOT / "crates.txt", lane)
+
+    def removes_copies(self):
+        """Moves to the checkout what `rt` keeps of the crates that were proved in copies, and removes the copies."""
+        for crate, lane in self.proved_in.items():
+            kept = lane / "crates" / crate / "out" / "incremental"
+            if kept.is_dir():
+                shutil.rmtree(out(crate, "incremental"), ignore_errors=True)
+                shutil.move(kept, out(crate))
+        for lane in self.lanes[1:]:
+            shutil.rmtree(lane, ignore_errors=True)
+        self.lanes, self.proved_in = [ROOT], {}
+
+    def begins(self, crate, lane, *words, given=subprocess.DEVNULL):
+        """Runs `rt` with these words for a crate. It gets a session of its own, so that it can be stopped together with everything that it started."""
+        with open(self.logs / f"{crate}.log", "wb") as log:
+            process = subprocess.Popen(["rt", *words], cwd=self.lanes[lane] / "crates" / crate, stdin=given, stdout=log, stderr=subprocess.STDOUT, start_new_session=True)
+        self.running.append(Check(crate, lane, process, time.monotonic()))
+
+    def has_memory(self):
+        """Whether there is memory for one more check."""
+        young = sum(time.monotonic() - it.began < YOUNG for it in self.running)
+        return free_memory() >= (1 + young) * MEMORY_OF_A_CHECK
+
+    def next_crate(self):
+        """The first crate that waits for no other crate."""
+        return next((crate for crate in self.waiting if self.proved.issuperset(self.cites[crate])), None)
+
+    def words_for(self, crate):
+        """The words for the check of a crate while no other check runs. A crate with many functions gets a job for every processor, if memory allows. `rt` chooses one job
+        if many crates are below, since it expects a job to take more memory than was measured."""
+        functions = sum(len(re.findall(r"^.*\bfn ", path.read_text(encoding="utf-8"), re.M)) for path in (ROOT / "crates" / crate / "src").rglob("*.rt"))
+        jobs = min(free_memory() // MEMORY_OF_A_JOB, processors())
+        return ["--jobs", str(jobs)] if functions >= MANY_FUNCTIONS and jobs >= 2 else []
+
+    def begins_more(self):
+        """Starts checks until the lanes are full, memory is short or no crate can start. If no check is running, it starts one in any case."""
+        while free := sorted(set(range(len(self.lanes))) - {it.lane for it in self.running}):
+            crate = self.next_crate()
+            if crate is None or self.running and not self.has_memory():
+                return
+            self.waiting.remove(crate)
+            words = [] if self.running or self.next_crate() else self.words_for(crate)
+            self.begins(crate, free[0], "check", *words)
+
+    def waits(self):
+        """Waits until a check has ended, and returns it. While crates wait for memory, it looks every ten seconds whether there is some."""
+        until = time.monotonic() + 10
+        while time.monotonic() < until:
+            for it in self.running:
+                if it.process.poll() is not None:
+                    self.running.remove(it)
+                    return it
+            time.sleep(0.02)
+        return None
+
+    def so_far(self):
+        seconds = int(time.monotonic() - self.began)
+        return f"{seconds} s" if seconds < 60 else f"{seconds // 60} min"
+
+    def proves(self):
+        """Proves the crates. A crate starts when the crates that it cites are proved. After a failure no other crate starts, and the running checks are completed."""
+        self.makes_lanes()
+        total, is_failed = len(self.cites), False
+        say(f"proving {len(self.waiting)} crates of {total} and building the program: the first time up to an hour on four processors, later only what changed")
+        while True:
+            if not is_failed:
+                self.begins_more()
+            if not self.running:
+                break
+            if (it := self.waits()) is None:
+                continue
+            if it.process.returncode == 0:
+                self.keeps(it)
+                say(f"{it.crate} is proved ({len(self.proved)} of {total}, {time.monotonic() - it.began:.0f} s; {self.so_far()} so far)")
+                continue
+            is_failed = True
+            say(f"{it.crate} isn't proved: see {self.logs}/{it.crate}.log")
+            if self.running:
+                say(f"no other crate begins; still under way: {' '.join(other.crate for other in self.running)}")
+        self.removes_copies()
+        if is_failed:
+            sys.exit(NOT_BUILT)
+
+    def keeps(self, check):
+        """Records that a crate is proved as it was when the launch started."""
+        self.proved.add(check.crate)
+        if check.lane:
+            self.proved_in[check.crate] = self.lanes[check.lane]
+        out(check.crate).mkdir(exist_ok=True)
+        out(check.crate, "proved").write_text(self.sums[check.crate] + "\n", encoding="utf-8")
+
+    def generates(self):
+        """Generates machine code, by a first run of the program."""
+        given = ROOT / "crates" / self.program / "stdin"
+        with open(given if given.is_file() else os.devnull, "rb") as text:
+            self.begins(self.program, 0, "run", "--", *first_words(self.program), given=text)
+        if self.running.pop().process.wait():
+            raise NotBuilt(f"the program isn't built: see {self.logs}/{self.program}.log")
+
+    def stops(self):
+        """Stops all running checks, with everything that they started."""
+        for it in self.running:
+            os.killpg(it.process.pid, signal.SIGTERM)
+        for it in self.running:
+            it.process.wait()
+        self.removes_copies()
+        say("stopped; what is proved is kept")
+
+
+def first_words(program):
+    """The words for a program's first run, from its `args`. A word that names a file in its `data` becomes that file's path."""
+    folder = ROOT / "crates" / program
+    lines = (folder / "args").read_text(encoding="utf-8").splitlines() if (folder / "args").is_file() else []
+    return [f"data/{word}" if (folder / "data" / word).is_file() else word for word in map(str.strip, lines)]
+
+
+def raises(number, _):
+    raise Stopped(number)
+
+
+def builds(program):
+    """Proves and builds a program."""
+    if shutil.which("rt") is None:
+        raise NotBuilt("the program isn't built, and the kit's command rt isn't on the PATH to prove and build it")
+    # The program gets the time at which its build began. So a source that changes during the build is newer than the program.
+    began = out(program, "proving", "began")
+    began.parent.mkdir(parents=True, exist_ok=True)
+    began.write_bytes(b"")
+    proving = Proving(program)
+    # A signal that was ignored when the launcher began stays so.
+    signals = [it for it in (signal.SIGINT, signal.SIGTERM, signal.SIGHUP) if signal.getsignal(it) != signal.SIG_IGN]
+    for it in signals:
+        signal.signal(it, raises)
+    try:
+        proving.proves()
+        proving.generates()
+    except Stopped as found:
+        for it in signals:
+            signal.signal(it, signal.SIG_IGN)
+        proving.stops()
+        sys.exit(128 + found.args[0])
+    at = began.stat().st_mtime_ns
+    os.utime(out(program, program), ns=(at, at))
+
+
+def main():
+    program = sys.argv[1]
+    try:
+        if is_old(program):
+            builds(program)
+    except NotBuilt as found:
+        say(str(found))
+        sys.exit(NOT_BUILT)
+    lists_sources(program)
+    # Python ignores these, and the program would too.
+    for it in (signal.SIGPIPE, signal.SIGXFSZ):
+        signal.signal(it, signal.SIG_DFL)
+    os.execv(out(program, program), [out(program, program), *sys.argv[2:]])
+
+
+main()

@@ -1,0 +1,111 @@
+"""The request `trains`, compared with an independent reading of extracts."""
+import datetime
+import pathlib
+import random
+
+import desk_extracts
+import pytest
+import records
+from desks import DAY_REFUSED, DONE, Answer, Desk, docker
+
+PLACES = ["ASHFELD", "BRAYTON", "CORHAM"]
+IDENTITIES = ["1A10", "1A11", "2B20"]
+DAYS = [datetime.date(2024, 6, day) for day in range(8, 18)]
+
+
+def identities(lines):
+    """The train identities in the records of a schedule."""
+    columns = {"BS": slice(32, 36), "CR": slice(12, 16)}
+    return {line[columns[line[:2]]] for line in lines if line[:2] in columns}
+
+
+def trains_text(files, identity, day):
+    """The expected answer for these files."""
+    uids = {line[3:9] for text in files for line in text.split("\n") if line[:2] == "BS"}
+    lines = []
+    for uid in sorted(uids):
+        found = desk_extracts.chosen(files, uid, day)
+        if found and found[0][2] != "C" and identity in identities(found[1].lines):
+            lines.append(f"{uid} {day.isoformat()} {found[0][2]}\n")
+    return "".join(lines).encode()
+
+
+def state_of(*texts):
+    """Makes the state of these extracts."""
+    assert docker("new", "STATE") == DONE
+    for number, text in enumerate(texts):
+        pathlib.Path(f"FILE{number}").write_text(text, encoding="ascii")
+        assert docker("take", "STATE", f"FILE{number}") == DONE
+
+
+def schedule(uid, dates, days, train, stp="P", changed=""):
+    """A schedule that calls at three places. Its train gets the identity `changed`, if there is
+    one, at the second place. A cancellation has only its basic schedule."""
+    basic = records.basic("N", uid, *dates, days, train, stp)
+    if stp == "C":
+        return basic
+    middle = records.change("BRAYTON", changed) if changed else ""
+    calls = records.calls("BRAYTON", "0910", "0912"), records.terminus("CORHAM", "0930")
+    return basic + records.origin("ASHFELD", "0900") + middle + "".join(calls)
+
+
+WEEK = ("240610", "240616")
+WEEK_OF_TRAINS = records.extract(
+    records.header("240609", indicator="F"),
+    schedule("C10003", WEEK, records.ALWAYS, "1A10"),
+    schedule("C10002", WEEK, "1100000", "1A11", changed="1A10"),
+    schedule("C10001", WEEK, records.ALWAYS, "1A10"),
+    schedule("C10001", ("240611", "240611"), "0100000", "1A12", "O"),
+    schedule("C10003", ("240612", "240612"), "0010000", "", "C"),
+    schedule("C10004", WEEK, records.ALWAYS, "1A1"),
+)
+
+
+def test_the_list_to_the_letter():
+    state_of(WEEK_OF_TRAINS)
+    with Desk("STATE") as now:
+        got = [now.ask(f"trains 1A10 2024-06-{day}") for day in (10, 11, 12, 17)]
+        got.append(now.ask("trains 1A12 2024-06-11"))
+    monday = b"C10001 2024-06-10 P\nC10002 2024-06-10 P\nC10003 2024-06-10 P\n"
+    tuesday = b"C10002 2024-06-11 P\nC10003 2024-06-11 P\n"
+    wednesday = b"C10001 2024-06-12 P\n"
+    overlay = b"C10001 2024-06-11 O\n"
+    assert got == [Answer(0, text) for text in (monday, tuesday, wednesday, b"", overlay)]
+
+
+def test_a_day_before_the_horizon():
+    state_of(WEEK_OF_TRAINS)
+    with Desk("--write", "STATE") as now:
+        assert now.ask("horizon 2024-06-12") == DONE
+        assert now.ask("trains 1A10 2024-06-11") == DAY_REFUSED
+        assert now.ask("trains 1A10 2024-06-12") == Answer(0, b"C10001 2024-06-12 P\n")
+
+
+class Plan(random.Random):
+    """Random schedules of one week, with few UIDs and few train identities."""
+
+    def dates(self):
+        first, last = sorted(self.choices(range(8, 17), k=2))
+        return f"2406{first:02}", f"2406{last:02}"
+
+    def schedule(self):
+        days = self.choice([records.ALWAYS, records.ALWAYS, "1010101", "0101010"])
+        train, changed = self.choice(IDENTITIES), self.choice(["", "", *IDENTITIES])
+        return schedule(
+            f"C1000{self.randrange(8)}", self.dates(), days, train, self.choice("PPPONC"), changed
+        )
+
+    def text(self, *header):
+        return records.extract(records.header(*header), *(self.schedule() for _ in range(40)))
+
+
+@pytest.mark.parametrize("seed", range(6))
+def test_random_extracts(seed):
+    plan = Plan(f"trains {seed}")
+    files = plan.text("240601", "DFROC1A", "F"), plan.text("240602", "DFROC1B", "U")
+    state_of(*files)
+    with Desk("STATE") as now:
+        for identity in [*IDENTITIES, "9Z99"]:
+            for day in DAYS:
+                wanted = Answer(0, trains_text(files, identity, day))
+                assert now.ask(f"trains {identity} {day}") == wanted, (identity, day)
