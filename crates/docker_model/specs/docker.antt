@@ -7,4 +7,5 @@ pub mod DockerLine
 pub mod Association
 pub mod DockerList
 pub mod DockerText
+pub mod DetailedText
 pub mod Permanent
