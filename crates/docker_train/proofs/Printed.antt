@@ -3,7 +3,7 @@ use Rattle.std.proofs.Common.{◌≡◌, ℕ, List, ◌∙◌}
 use Rattle.std.specs.Prelude.{Option}
 use Rattle.docker_model.specs.docker.DockerText.{ended}
 use Rattle.docker_model.specs.state.State.{State}
-use Rattle.docker_model.specs.lists.TrainText.{IsTrainText, Stamped, found_text, heading, heading_with, train_text}
+use Rattle.docker_model.specs.lists.TrainText.{IsTrainText, Stamped, found_text, train_heading, train_heading_with, train_text}
 use Rattle.docker_train.specs.Answer.{Answer, IsAnswerOf, text_of}
 
 -- for a UID and a day, the text that is written for the schedule found in a state is the state's
@@ -13,5 +13,5 @@ printed state uid day answer is = (answer.found, is.is_found, λ i. train_text (
 
 -- the heading that is written equals the heading in the definitions
 pub heading_is : (uid given : List ℕ) (day told : ℕ) (found : Option Stamped) (shown bytes : List ℕ) → given ≡ uid → told ≡ day → shown ≡ found_text found
-    → bytes ≡ ended (heading_with given told shown) → bytes ≡ ended (heading uid day found)
-heading_is uid given day told found shown bytes one two three is = is ∙ (λ i. ended (heading_with (one i) (two i) (three i)))
+    → bytes ≡ ended (train_heading_with given told shown) → bytes ≡ ended (train_heading uid day found)
+heading_is uid given day told found shown bytes one two three is = is ∙ (λ i. ended (train_heading_with (one i) (two i) (three i)))

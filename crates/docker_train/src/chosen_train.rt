@@ -2,7 +2,7 @@
 ghost use Rattle.std.specs.Prelude.{◌≡◌};
 ghost use Rattle.std.specs.Option.{option_copied, option_map};
 ghost use Rattle.docker_join.specs.Meaning.{stamp_meant};
-ghost use Rattle.docker_model.specs.lists.TrainText.{lines_of};
+ghost use Rattle.docker_model.specs.lists.TrainText.{found_lines};
 ghost use Rattle.docker_model.specs.lists.TrainText as text;
 
 use crate::stamped::Stamped;
@@ -87,7 +87,7 @@ impl<'a> ChosenTrain<'a> {
 
     /// The lines of the chosen schedule. There are none if no schedule runs.
     pub(crate) fn lines(&self) -> &[Line]
-        ensures { result.now ≡ lines_of self.now.found }
+        ensures { result.now ≡ found_lines self.now.found }
     {
         match &self.found {
             Some(stamped) => stamped.schedule().lines(),

@@ -10,7 +10,7 @@ ghost use Rattle.docker_model.specs.state.State as states;
 ghost use Rattle.cif_line.specs.Letter.{stp_letter};
 ghost use Rattle.docker_train.specs.Answer.{IsAnswerOf, PrintsPart, PrintsTrain, text_of};
 ghost use Rattle.docker_model.specs.records.PrintedNumber.{number_text};
-ghost use Rattle.docker_model.specs.lists.TrainText.{IsTrainText, found_text, heading_with, last_line, running_text, stamp_text};
+ghost use Rattle.docker_model.specs.lists.TrainText.{IsTrainText, found_text, running_text, stamp_text, train_end, train_heading_with};
 
 use crate::chosen_train::ChosenTrain;
 use crate::fault::TrainFault;
@@ -86,9 +86,9 @@ fn write_lines<K: Sink>(sink: &mut K, lines: &[Line]) -> Result<(), Failed>
 }
 
 /// The text of the heading, with a line feed.
-#[tactic(auto, unfolding(docker_model::specs::lists::TrainText::heading_with))]
+#[tactic(auto, unfolding(docker_model::specs::lists::TrainText::train_heading_with))]
 fn heading(uid: &Uid, day: Day, found: &[u8; 46]) -> [u8; WIDTH]
-    ensures { result ≡ ended (heading_with uid.now day found.now) }
+    ensures { result ≡ ended (train_heading_with uid.now day found.now) }
 {
     let mut text = ArrayVec::new();
     put(&mut text, b"TRAIN  ");
@@ -181,7 +181,7 @@ fn text_of_line(line: &Line) -> [u8; WIDTH]
 
 /// The text of the last line, with a line feed.
 fn last_line() -> [u8; WIDTH]
-    ensures { result ≡ ended last_line }
+    ensures { result ≡ ended train_end }
 {
     let mut text = ArrayVec::new();
     put(&mut text, b"END");

@@ -9,7 +9,7 @@ use Rattle.docker_model.specs.state.State.{State, IsGoodItem, IsValid}
 use Rattle.docker_join.specs.declared.stamp.FileStamp as stamps
 use Rattle.docker_join.specs.Meaning.{file_stamp_meant}
 use Rattle.docker_state.specs.Live.{live_rows}
-use Rattle.docker_model.specs.lists.KnownText.{IsKnownText, count_line, full_line, horizon_line, last_line}
+use Rattle.docker_model.specs.lists.KnownText.{IsKnownText, count_line, full_line, horizon_line, last_day_line}
 use Rattle.state_lists.specs.Tallies.{IsTallyOf, known_lines}
 use Rattle.state_lists.specs.declared.tally.Tally.{Tally}
 use Rattle.state_lists.proofs.Counts.{rows_are}
@@ -37,6 +37,6 @@ module _ (state : State) (valid : IsValid state) (entries : List (model.Key × o
     are = rows_are state valid;
     last = tally.last;
     is_last = of_all.last;
-    text_is = is ∙ (λ i. horizon_line (horizon_is i) ++ full_line full ++ last_line tally.last ++ count_line (codes "SCHEDULES   ") (of_all.schedules i)
+    text_is = is ∙ (λ i. horizon_line (horizon_is i) ++ full_line full ++ last_day_line tally.last ++ count_line (codes "SCHEDULES   ") (of_all.schedules i)
         ++ count_line (codes "ASSOCIATIONS") (of_all.associations i) ++ count_line (codes "PLACES      ") (of_all.places i));
   }

@@ -2,7 +2,7 @@
 use Rattle.std.specs.Prelude.{◌≡◌, ℕ, ◌<◌, ◌^◌, List, [], ◌∷◌, ◌++◌, codes, Option, Some, None}
 use Rattle.docker_model.specs.state.Stamp.{FileStamp}
 use Rattle.docker_model.specs.state.Row.{Row}
-use Rattle.docker_model.specs.lists.KnownText.{IsGreatest, count_line, count_of, ends_of, full_line, horizon_line, last_line}
+use Rattle.docker_model.specs.lists.KnownText.{IsGreatest, count_line, count_of, ends_of, full_line, horizon_line, last_day_line}
 use Rattle.state_lists.specs.declared.tally.Tally.{Tally}
 
 -- says that the tally is correct for these live rows
@@ -27,5 +27,5 @@ with_day days (Some day) = days ++ day ∷ []
 -- a tally
 abbrev pub known_lines : ℕ → Option FileStamp → Tally → List ℕ
 known_lines horizon full tally =
-    horizon_line horizon ++ full_line full ++ last_line tally.last ++ count_line (codes "SCHEDULES   ") tally.schedules
+    horizon_line horizon ++ full_line full ++ last_day_line tally.last ++ count_line (codes "SCHEDULES   ") tally.schedules
     ++ count_line (codes "ASSOCIATIONS") tally.associations ++ count_line (codes "PLACES      ") tally.places

@@ -3,7 +3,7 @@
 ghost use Rattle.std.specs.Prelude.{◌≡◌, ◌<◌, IfSome, option_map};
 ghost use Rattle.docker_model.specs.records.Date.{IsDay};
 ghost use Rattle.docker_join.specs.Meaning.{file_stamp_meant};
-ghost use Rattle.docker_model.specs.lists.KnownText.{IsKnownText, count_line, full_line, horizon_line, horizon_text, last_line};
+ghost use Rattle.docker_model.specs.lists.KnownText.{IsKnownText, count_line, full_line, horizon_line, horizon_text, last_day_line};
 ghost use Rattle.state_lists.specs.Tallies.{known_lines};
 
 use crate::tally::{Tally, tally_of};
@@ -115,9 +115,9 @@ fn full_line(full: Option<FileStamp>) -> ArrayVec<u8, 37>
 
 /// The line for the latest day on which a schedule ends, with a line feed. There is no line if no
 /// schedule has a last day.
-#[tactic(auto, unfolding(docker_model::specs::lists::KnownText::last_line))]
+#[tactic(auto, unfolding(docker_model::specs::lists::KnownText::last_day_line))]
 fn last_line(last: Option<Day>) -> ArrayVec<u8, 24>
-    ensures { result.items ≡ last_line last }
+    ensures { result.items ≡ last_day_line last }
 {
     let mut text = ArrayVec::new();
     if let Some(day) = last {

@@ -58,9 +58,9 @@ full_line (Some stamp) =
 
 -- the line for the latest day on which a schedule ends. There is no line if no schedule has a last
 -- day
-unfoldable pub last_line : Option ℕ → List ℕ
-last_line None = []
-last_line (Some day) = named_line (codes "LAST        ") (day_text day)
+unfoldable pub last_day_line : Option ℕ → List ℕ
+last_day_line None = []
+last_day_line (Some day) = named_line (codes "LAST        ") (day_text day)
 
 -- the line of a count
 unfoldable pub count_line : List ℕ → ℕ → List ℕ
@@ -69,7 +69,7 @@ count_line name count = named_line name (decimal count)
 -- the text that lists what an office knows, made from its state's horizon, newest full extract, latest last day of a schedule, and all live rows
 abbrev pub known_text : ℕ → Option FileStamp → Option ℕ → List Row → List ℕ
 known_text horizon full last rows =
-    horizon_line horizon ++ full_line full ++ last_line last ++ count_line (codes "SCHEDULES   ") (count_of 3 rows)
+    horizon_line horizon ++ full_line full ++ last_day_line last ++ count_line (codes "SCHEDULES   ") (count_of 3 rows)
     ++ count_line (codes "ASSOCIATIONS") (count_of 2 rows) ++ count_line (codes "PLACES      ") (count_of 1 rows)
 
 -- says that this text lists what an office with this state knows

@@ -48,26 +48,26 @@ found_text (Some found) =
     found.schedule.key.indicator ∷ spaces 1 ++ running_text found.schedule.key.indicator ++ spaces 1 ++ stamp_text found.stamp
 
 -- the 80 columns of a heading, with the text `found` in columns 27 to 72
-unfoldable pub heading_with : List ℕ → ℕ → List ℕ → List ℕ
-heading_with uid day found = codes "TRAIN  " ++ uid ++ spaces 2 ++ day_text day ++ spaces 1 ++ found ++ spaces 8
+unfoldable pub train_heading_with : List ℕ → ℕ → List ℕ → List ℕ
+train_heading_with uid day found = codes "TRAIN  " ++ uid ++ spaces 2 ++ day_text day ++ spaces 1 ++ found ++ spaces 8
 
 -- the 80 columns of the heading for a UID, a day and the schedule found
-abbrev pub heading : List ℕ → ℕ → Option Stamped → List ℕ
-heading uid day found = heading_with uid day (found_text found)
+abbrev pub train_heading : List ℕ → ℕ → Option Stamped → List ℕ
+train_heading uid day found = train_heading_with uid day (found_text found)
 
 -- the lines of the schedule found, each with 80 columns. There are none if no schedule runs
-abbrev pub lines_of : Option Stamped → List (List ℕ)
-lines_of None = []
-lines_of (Some found) = found.schedule.lines
+abbrev pub found_lines : Option Stamped → List (List ℕ)
+found_lines None = []
+found_lines (Some found) = found.schedule.lines
 
 -- the 80 columns of the last line
-abbrev pub last_line : List ℕ
-last_line = codes "END" ++ spaces 77
+abbrev pub train_end : List ℕ
+train_end = codes "END" ++ spaces 77
 
 -- the text for a UID, a day and the schedule found: the heading, the lines of the schedule and the
 -- last line, each with a line feed
 abbrev pub train_text : List ℕ → ℕ → Option Stamped → List ℕ
-train_text uid day found = ended (heading uid day found) ++ flat_map ended (lines_of found) ++ ended last_line
+train_text uid day found = ended (train_heading uid day found) ++ flat_map ended (found_lines found) ++ ended train_end
 
 -- says that this is the train text for a state, a UID and a day
 abbrev pub IsTrainText : State → List ℕ → ℕ → List ℕ → Type 0

@@ -3,7 +3,7 @@ use Rattle.std.specs.List.{flat_map}
 use Rattle.std.proofs.lemmas.Result.{on_ok_weaker, on_err_weaker}
 use Rattle.docker_model.specs.docker.DockerText.{ended}
 use Rattle.docker_day.proofs.Written.{as_often, last_failed, on_any_err, one_failed, all_taken, part_of_first, part_of_second, part_of_third}
-use Rattle.docker_model.specs.lists.TrainText.{found_text, heading, last_line, lines_of}
+use Rattle.docker_model.specs.lists.TrainText.{found_lines, found_text, train_end, train_heading}
 use Rattle.docker_train.proofs.Printed.{heading_is, printed}
 use Rattle.docker_train.proofs.print.write_train.Goals as goal
 
@@ -12,8 +12,8 @@ returns-in_err-write_all-clause-part g c =
     let train = c.args.train.now in
     on_any_err c.from_residual.result
     (part_of_first (g.K.Sink.taken c.args.sink.now) (g.K.Sink.taken c.write_all.new.sink) (g.K.Sink.taken c.write_all.new.sink)
-    (g.K.Sink.taken c.write_all.new.sink) c.heading-heading.result (flat_map ended (lines_of train.found)) (ended last_line)
-    (ended (heading train.uid train.day train.found)) (flat_map ended (lines_of train.found)) (ended last_line)
+    (g.K.Sink.taken c.write_all.new.sink) c.heading-heading.result (flat_map ended (found_lines train.found)) (ended train_end)
+    (ended (train_heading train.uid train.day train.found)) (flat_map ended (found_lines train.found)) (ended train_end)
     (heading_is train.uid c.uid.result train.day c.day.result train.found c.text_of_found.result c.heading-heading.result c.uid.ensures c.day.ensures
     (c.text_of_found.ensures ∙ ap found_text c.found.ensures) c.heading-heading.ensures) refl refl
     c.in_err-write_all.ensures.part)
@@ -23,8 +23,8 @@ returns-in_err-write_lines-clause-part g c =
     let train = c.args.train.now in
     on_any_err c.from_residual-in_err-write_lines.result
     (part_of_second (g.K.Sink.taken c.args.sink.now) (g.K.Sink.taken c.write_all.new.sink) (g.K.Sink.taken c.write_lines.new.sink)
-    (g.K.Sink.taken c.write_lines.new.sink) c.heading-heading.result (flat_map ended c.lines.result.now) (ended last_line)
-    (ended (heading train.uid train.day train.found)) (flat_map ended (lines_of train.found)) (ended last_line)
+    (g.K.Sink.taken c.write_lines.new.sink) c.heading-heading.result (flat_map ended c.lines.result.now) (ended train_end)
+    (ended (train_heading train.uid train.day train.found)) (flat_map ended (found_lines train.found)) (ended train_end)
     (heading_is train.uid c.uid.result train.day c.day.result train.found c.text_of_found.result c.heading-heading.result c.uid.ensures c.day.ensures
     (c.text_of_found.ensures ∙ ap found_text c.found.ensures) c.heading-heading.ensures)
     (ap (flat_map ended) c.lines.ensures) refl c.in_ok-write_all.ensures.whole c.in_err-write_lines.ensures.part)
@@ -35,7 +35,7 @@ returns-clause-whole g c =
     on_ok_weaker c.write_all-2.result
     (all_taken (g.K.Sink.taken c.args.sink.now) (g.K.Sink.taken c.write_all.new.sink) (g.K.Sink.taken c.write_lines.new.sink)
     (g.K.Sink.taken c.write_all-2.new.sink) c.heading-heading.result (flat_map ended c.lines.result.now) c.last_line.result
-    (ended (heading train.uid train.day train.found)) (flat_map ended (lines_of train.found)) (ended last_line)
+    (ended (train_heading train.uid train.day train.found)) (flat_map ended (found_lines train.found)) (ended train_end)
     (heading_is train.uid c.uid.result train.day c.day.result train.found c.text_of_found.result c.heading-heading.result c.uid.ensures c.day.ensures
     (c.text_of_found.ensures ∙ ap found_text c.found.ensures) c.heading-heading.ensures)
     (ap (flat_map ended) c.lines.ensures) c.last_line.ensures c.in_ok-write_all.ensures.whole c.in_ok-write_lines.ensures.whole)
@@ -47,7 +47,7 @@ returns-clause-part g c =
     on_err_weaker c.write_all-2.result
     (part_of_third (g.K.Sink.taken c.args.sink.now) (g.K.Sink.taken c.write_all.new.sink) (g.K.Sink.taken c.write_lines.new.sink)
     (g.K.Sink.taken c.write_all-2.new.sink) c.heading-heading.result (flat_map ended c.lines.result.now) c.last_line.result
-    (ended (heading train.uid train.day train.found)) (flat_map ended (lines_of train.found)) (ended last_line)
+    (ended (train_heading train.uid train.day train.found)) (flat_map ended (found_lines train.found)) (ended train_end)
     (heading_is train.uid c.uid.result train.day c.day.result train.found c.text_of_found.result c.heading-heading.result c.uid.ensures c.day.ensures
     (c.text_of_found.ensures ∙ ap found_text c.found.ensures) c.heading-heading.ensures)
     (ap (flat_map ended) c.lines.ensures) c.last_line.ensures c.in_ok-write_all.ensures.whole c.in_ok-write_lines.ensures.whole)
