@@ -198,6 +198,7 @@ class Seen(Office):
         super().setUpClass()
 
     def browser(self, width, height, is_phone=False):
+        """The browser, with an empty page of this size. What an earlier case left, such as the layout for paper, is gone."""
         self.made.open("about:blank")
         self.made.media("")
         self.made.sized(width, height, is_phone)

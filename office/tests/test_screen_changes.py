@@ -389,7 +389,7 @@ class Differing(Changed):
 
     def test_everybody(self):
         """The pages fit each screen, all texts have enough contrast, and the column has a name."""
-        made = self.made
+        made = self.browser(320, 844, True)
         for path in PATHS:
             made.open(self.address(path))
             for width in WIDTHS:

@@ -402,7 +402,7 @@ class Everybody(Trains):
 
     def test_widths(self):
         """From 320 to 3840 pixels, nothing is wider than the screen, and no text is cut off."""
-        made = self.made
+        made = self.browser(320, 844, True)
         for path in self.pages:
             made.open(self.address(path))
             for width in WIDTHS:
