@@ -37,6 +37,8 @@ def weight(item):
     return hasattr(item.module, "MORNINGS"), limit.args[0] if limit else 0, item.get_closest_marker("xdist_group") is not None
 
 
+# The workers of xdist read the groups in the same hook, and theirs would come before this one.
+@pytest.hookimpl(tryfirst=True)
 def pytest_collection_modifyitems(items):
     for item in items:
         # One process runs all cases of a class that has something in common, such as a server or a browser.

@@ -26,6 +26,8 @@ NO_PROGRAM = "there is no program docker: build it by `./docker` or install it b
 TIPLOC = re.compile(r"[!-,.-~][!-~]{0,6}")
 # A UID as `desk` reads it: six bytes from 0x21 to 0x7E.
 UID = re.compile(r"[!-~]{6}")
+# A train identity as `desk` reads it.
+IDENTITY = re.compile(r"[!-~]{4}")
 # The first and the last column of each field in a line of `files`, and in the heading of a docker.
 # The fields have the names that docs/FORMATS.md gives them. docs/check compares the columns with
 # that page.
@@ -200,6 +202,14 @@ class Reader:
         if not self.has_trains:
             return wrong_train(uid, date) or Answer(UNKNOWN, b"a train by itself needs the program desk\n")
         return wrong_train(uid, date) or self.ask(("train", uid, date))
+
+    def listed(self, identity, date):
+        """The trains that have a train identity and start on a day. Only `desk` knows them; a desk of an older version refuses with NO_REQUEST."""
+        if not self.has_trains:
+            return Answer(UNKNOWN, b"trains by their identity need the program desk\n")
+        if not IDENTITY.fullmatch(identity):
+            return Answer(2, f"{identity!r} is no train identity: it has four characters\n".encode())
+        return wrong_day(date) or self.ask(("trains", identity, date))
 
     def trains(self, wanted):
         """The schedules of many UIDs, each on its day. They are asked for together."""

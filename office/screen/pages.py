@@ -350,16 +350,14 @@ class Screen:
         return names.readable(dockers.description_of(answer.text)) if answer and answer.status == 0 else None
 
     def finder(self, text, is_codes, date="", near=""):
-        """The page with the office's places, and with what matches a text: trains of a day, and places. A train identity is looked for on the dockers of the
-        office's places, and of the place from whose page the text came."""
+        """The page with the office's places, and with what matches a text: trains of a day, and places. `near` is the place from whose page the text came."""
         named, sought = self.named(), text.strip()
         found = named.find(sought)
         day = date if dockers.is_date(date) else self.today()
-        around = [place for place in (near, *(self.codes() or ())) if dockers.is_tiploc(place)]
-        trains_found = finding.trains_of(self.reader, sought, day, around)
+        trains_found = finding.trains_of(self.reader, sought, day, near, self.codes() or ())
         code = sought.upper() if dockers.is_tiploc(sought.upper()) and sought.upper() not in named.places else None
         return flask.render_template(
             "places.html", places=self.list_of_places(), few=self.thinned_places(), labels=names.Labels(named, is_codes), text=text, sought=sought, found=found[:finding.SHOWN], number=len(found), code=code,
-            trains=trains_found, is_train=finding.is_train(sought), is_uid=bool(finding.UID.fullmatch(sought.upper())), day=datetime.date.fromisoformat(day), today=self.now(),
+            trains=trains_found.trains, way=trains_found.way, is_whole=trains_found.is_whole, day=datetime.date.fromisoformat(day), today=self.now(),
             on=date if date and day == date else "", style=STYLE, script=SEARCH, is_finder=True, query=f"?q={rows.part(text)}" if text else "",
         )

@@ -26,15 +26,19 @@ class Kept(NamedTuple):
     def docker(self, place, date):
         """The docker of a place on a day; None if the file doesn't have it."""
         try:
-            found = os.stat(self.path)
-            return opened(self.path, found.st_ino, found.st_mtime_ns).read(entry(place, date))
+            return open_file(self.path).read(entry(place, date))
         except (KeyError, OSError, zipfile.BadZipFile):
             return None
 
 
-@functools.lru_cache(maxsize=4)
+def open_file(path):
+    """A zip file, opened once as long as no other file takes its place. All files of both folders stay open, since a docker may be looked for in each of them."""
+    found = os.stat(path)
+    return opened(path, found.st_ino, found.st_mtime_ns)
+
+
+@functools.lru_cache(maxsize=2 * MOST)
 def opened(path, *_):
-    """A zip file, opened once as long as no other file takes its place."""
     return zipfile.ZipFile(path)
 
 
@@ -46,9 +50,8 @@ def entry(place, date):
 def kept_in(path):
     """The file of dockers at a path; None if there is none."""
     try:
-        with zipfile.ZipFile(path) as file:
-            moment, _, copy = file.comment.decode("utf-8", "replace").partition(" ")
-            return Kept(path, datetime.datetime.fromisoformat(moment), copy)
+        moment, _, copy = open_file(path).comment.decode("utf-8", "replace").partition(" ")
+        return Kept(path, datetime.datetime.fromisoformat(moment), copy)
     except (OSError, ValueError, zipfile.BadZipFile):
         return None
 

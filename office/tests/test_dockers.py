@@ -174,6 +174,16 @@ class OneDesk(Office):
             self.assertEqual(self.reader(dockers.Desk, "/bin/false").permanent(place, day).status, 2)
         self.assertEqual(self.reader(dockers.Commands, "/bin/false").permanent("ASHFELD", "2024-06-12").status, dockers.UNKNOWN)
 
+    def test_listed(self):
+        """A desk lists the trains with an identity. A desk of an older version refuses, and so does `docker`."""
+        self.assertEqual(self.desk().listed("1A10", "2024-06-12"), (0, b"A10001 2024-06-12 P\n"))
+        self.assertEqual(self.desk().listed("9Z99", "2024-06-12"), (0, b""))
+        self.assertEqual({self.reader(dockers.Desk, "/bin/false").listed(*words).status for words in (("1A1", "2024-06-12"), ("1A 1", "2024-06-12"), ("1A10", "12/06/2024"))}, {2})
+        self.assertEqual(self.reader(dockers.Commands, "/bin/false").listed("1A10", "2024-06-12").status, dockers.UNKNOWN)
+        os.environ["OLD"] = "trains"
+        self.addCleanup(os.environ.pop, "OLD")
+        self.assertEqual(self.reader(dockers.Desk, STAND_IN).listed("1A10", "2024-06-12").status, dockers.NO_REQUEST)
+
     def test_together(self):
         """Many trains are asked for together. Their answers come in order, even if the process ends in the middle."""
         wanted = [(f"A1000{number % 10}", f"2024-06-{10 + number % 7}") for number in range(400)] + [("A 0001", "2024-06-12"), ("A10001", "2024-06-31")]

@@ -11,13 +11,13 @@ from serving import Server, made  # noqa: E402
 
 @pytest.fixture(scope="module")
 def serves(tmp_path_factory):
-    """Makes an office of these extracts, and serves its pages."""
+    """Makes an office of these extracts, and serves its pages. Variables of the server's environment may be given."""
     servers = []
 
-    def serving(*extracts, now="2024-06-12T08:55", places="ASHFELD\n"):
+    def serving(*extracts, now="2024-06-12T08:55", places="ASHFELD\n", **environment):
         folder = tmp_path_factory.mktemp("office")
         made(folder, *extracts, places=places)
-        servers.append(Server(folder, now))
+        servers.append(Server(folder, now, **environment))
         return servers[-1]
 
     yield serving

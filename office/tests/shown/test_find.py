@@ -6,6 +6,7 @@ import pytest
 import browser
 from extracts import DAY, NEXT, PLACES, WEDNESDAY, basic, call, end, extract, origin, place, record, train
 from pages_read import element, links_of, text_of
+from serving import TESTS
 
 MORE = place("ASHVALE", "ASHVALE", "AHV") + place("BUSY", "CORHAM ROAD", "TWO") + place("CALM", "CORHAM YARD", "TWO") + place("BLANK", "")
 FOUND = extract(
@@ -17,6 +18,7 @@ FOUND = extract(
     train("A10004", origin("CORHAM", "1130"), end("BRAYTON", "1200"), identity="2C04"),
     train("A10005", origin("CORHAM", "1130"), call("ASHFELD", "1200", "1202"), end("BRAYTON", "1230"), identity="2C05"), basic("A10005", "C", WEDNESDAY, "    "),
     *(train(f"B2000{number}", origin(code, f"1{number}00"), end("BRAYTON", f"1{number}30"), identity="2D00") for number, code in enumerate(("BUSY", "BUSY", "CALM"))),
+    train("A10006", origin("CORHAM", "0530"), record("CRASHFELD XX9M07"), call("ASHFELD", "0600", "0602"), end("BRAYTON", "0630"), identity="9M06"),
     # Its place has no record of its own.
     train("B20004", origin("NEWHALT", "1200"), end("BRAYTON", "1230"), identity="2D00"),
 )
@@ -70,9 +72,13 @@ def test_keyboard(served, chrome):
 SEARCHES = [
     # By UID: the train that starts on the day of the page.
     ("?q=A10001", ["/train/A10001/2024-06-12"]), ("?q=a10001&on=2024-06-13", ["/train/A10001/2024-06-13"]), ("?q=A99999", []),
-    # By identity: the trains on the dockers of the office's places and of the page's place, on the day of the page.
-    ("?q=1A10", ["/train/A10001/2024-06-12?at=ASHFELD.0800", "/train/A10002/2024-06-12?at=ASHFELD.1000"]), ("?q=1a10&on=2024-06-13", ["/train/A10001/2024-06-13?at=ASHFELD.0800", "/train/A10002/2024-06-13?at=ASHFELD.1000"]),
-    ("?q=5N03&on=2024-06-13", ["/train/A10003/2024-06-13?at=ASHFELD.0010"]), ("?q=2C04", ["/train/A10004/2024-06-12?at=CORHAM.1130"]), ("?q=9Z99", []),
+    # By identity: all trains that run on the day of the page, also those that started before it.
+    ("?q=1A10", ["/train/A10001/2024-06-12#CORHAM", "/train/A10002/2024-06-12#BRAYTON"]), ("?q=1a10&on=2024-06-13", ["/train/A10001/2024-06-13#CORHAM", "/train/A10002/2024-06-13#BRAYTON"]),
+    ("?q=5N03&on=2024-06-13", ["/train/A10003/2024-06-12#ASHFELD", "/train/A10003/2024-06-13#CORHAM"]), ("?q=5N03&on=2024-06-03", ["/train/A10003/2024-06-03#CORHAM"]),
+    ("?q=2C04", ["/train/A10004/2024-06-12#CORHAM"]), ("?q=2D00", [f"/train/B2000{number}/2024-06-12#{code}" for number, code in ((0, "BUSY"), (1, "BUSY"), (2, "CALM"), (4, "NEWHALT"))]),
+    ("?q=2C05", []), ("?q=2C05&on=2024-06-13", ["/train/A10005/2024-06-13#CORHAM"]), ("?q=9Z99", []),
+    # A train may get its identity on the way.
+    ("?q=9M06", ["/train/A10006/2024-06-12#CORHAM"]), ("?q=9M07", ["/train/A10006/2024-06-12#CORHAM"]), ("?q=1A10&on=1960-01-01", []),
     # By name, CRS and TIPLOC.
     ("?q=dunmere", ["/DUNMERE"]), ("?q=bry", ["/BRAYTON"]), ("?q=ASHVALE", ["/ASHVALE"]),
 ]
@@ -84,16 +90,39 @@ def test_search(served, words, expected):
 
 
 def test_search_from_a_page(served):
-    """A train is also looked for at the place of the page from which the text comes."""
-    assert links_of(served.page("/?q=1A10&at=BRAYTON&on=2024-06-12"), "found") == ["/train/A10001/2024-06-12?at=BRAYTON.0830", "/train/A10002/2024-06-12?at=BRAYTON.0930"]
+    """A train that is at the place of the page from which the text comes is shown there."""
+    assert links_of(served.page("/?q=1A10&at=BRAYTON&on=2024-06-12"), "found") == ["/train/A10001/2024-06-12#BRAYTON", "/train/A10002/2024-06-12#BRAYTON"]
+    assert links_of(served.page("/?q=2D00&at=CALM"), "found")[2] == "/train/B20002/2024-06-12#CALM"
     assert '<input type="hidden" name="at" value="ASHFELD">' in served.page("/ASHFELD")
 
 
+@pytest.mark.parametrize("environment", [{"DESK": str(TESTS / "desk-of-docker"), "OLD": "trains"}, {"DESK": "/nonexistent"}])
+def test_search_without_lists_of_trains(serves, environment):
+    """If the desk is of an older version, or if there is none, an identity is looked for on the dockers of the office's places and of the page's place."""
+    served = serves(FOUND, places="ASHFELD\nCORHAM\n", **environment)
+    for words, places in (("1A10", ["A10001/2024-06-12?at=ASHFELD.0800", "A10002/2024-06-12?at=ASHFELD.1000"]), ("5N03&on=2024-06-13", ["A10003/2024-06-13?at=ASHFELD.0010"]), ("2C04", ["A10004/2024-06-12?at=CORHAM.1130"]),
+                          ("2D00", []), ("2D00&at=CALM", ["B20002/2024-06-12?at=CALM.1200"])):
+        page = served.page(f"/?q={words}")
+        assert [link for link in links_of(page, "found") if "/train/" in link] == [f"/train/{place}" for place in places], words
+        assert ("Trains at this office’s places on" in page) == bool(places)
+    assert element(served.page("/?q=9Z99"), "number") == "No train with this identity is at this office’s places on Wednesday 12 June 2024"
+
+
+def test_search_of_very_many_trains(serves):
+    """The search shows only the first of very many trains with the same identity, and says so."""
+    trains = [train(f"D{number:05}", origin("CORHAM", f"{6 + number // 60:02}{number % 60:02}"), end("BRAYTON", "2300"), identity="0B00", days=WEDNESDAY) for number in range(301)]
+    served = serves(extract(PLACES, *trains))
+    assert len(links_of(served.page("/?q=0B00"), "found")) == 300
+    assert element(served.page("/?q=0B00"), "number") == "The first 300 trains"
+    assert element(served.page("/?q=D00300"), "number") == "1 train"
+
+
 def test_search_says_what_it_found(served):
-    for words, said in (("A10005", "cancelled on this day"), ("5N03&on=2024-06-13", "00:10 at Ashfeld Junction"), ("1A10", "1A10 Corham Exchange to Brayton")):
+    for words, said in (("A10005", "cancelled on this day"), ("5N03&on=2024-06-13", "00:10 at Ashfeld Junction, started on Wednesday 12 June"), ("1A10", "1A10 Corham Exchange to Brayton"),
+                        ("9M07", "05:30 at Corham Exchange, 9M06 at first"), ("9M07&at=ASHFELD", "06:00 at Ashfeld Junction, 9M06 at first")):
         assert said in text_of(served.page(f"/?q={words}")), words
     assert element(served.page("/?q=A99999"), "number") == "No train with this UID starts on Wednesday 12 June 2024"
-    assert element(served.page("/?q=9Z99"), "number") == "No train with this identity is at this office’s places on Wednesday 12 June 2024"
+    assert element(served.page("/?q=9Z99"), "number") == "No train with this identity runs on Wednesday 12 June 2024"
     assert element(served.page("/?q=1A10"), "number") == "2 trains"
 
 
