@@ -35,8 +35,7 @@ def device(work):
 
 @pytest.fixture(scope="session")
 def meeting(work):
-    """The library that runs something else just before one of the program's calls of the file
-    system."""
+    """The library that runs something else just before one of the program's calls of the file system."""
     return programs.build_library("programs/meet.c", work / "meet.so")
 
 

@@ -5,17 +5,14 @@ import subprocess
 
 import desk_extracts as extracts
 import records
-from desks import (
-    DAY_REFUSED, DEVICE, DONE, MEMORY, NOTHING, Answer, Desk, desk, docker, ends_well, written,
-)
+from desks import DAY_REFUSED, DEVICE, DONE, MEMORY, NOTHING, Answer, Desk, desk, docker, ends_well, written
 from mirror import BAD_STATES, WRITING_LINES, Mirror, bad_states, give_large, state_of
 from programs import give, held, in_memory
 from tables import each
 
 PLACE_DAYS = [
-    ("ASHFELD", "2024-06-12"), ("BRAYTON", "2024-06-13"), ("CORHAM", "2024-06-10"),
-    ("NOWHERE", "2024-06-12"), ("ASHFELD", "2024-06-30"), ("ASHFELD", "1960-01-01"),
-    ("ASHFELD", "2059-12-31"),
+    ("ASHFELD", "2024-06-12"), ("BRAYTON", "2024-06-13"), ("CORHAM", "2024-06-10"), ("NOWHERE", "2024-06-12"), ("ASHFELD", "2024-06-30"),
+    ("ASHFELD", "1960-01-01"), ("ASHFELD", "2059-12-31"),
 ]
 
 
@@ -74,9 +71,7 @@ def test_a_revision_is_kept_as_a_new_schedule():
         assert asked.ask("train A00002 2024-06-14") == Answer(0, text)
 
 
-@each("names", {
-    "no file": (), "one file": ("full",), "three files": ("full", "monday", "night"),
-})
+@each("names", {"no file": (), "one file": ("full",), "three files": ("full", "monday", "night")})
 def test_files_answers_as_docker_files_does(names):
     give(state_of(*names))
     with Desk("STATE") as asked:
@@ -223,10 +218,7 @@ def test_a_desk_without_write_writes_nothing():
 def test_files_are_named_by_all_that_follows_spaces_too():
     mirror = Mirror()
     give(mirror.stored)
-    lines = {
-        "take my file": "my file", "  take   my file ": "my file ", "take    full": "full",
-        "take ./monday": "monday",
-    }
+    lines = {"take my file": "my file", "  take   my file ": "my file ", "take    full": "full", "take ./monday": "monday"}
     with Desk("--write", "STATE") as asked:
         for line, name in lines.items():
             assert asked.ask(line) == mirror.answer("take", name), line
@@ -292,9 +284,7 @@ def renamed(text):
     os.replace("other", "extract")
 
 
-@each("comes", {
-    "written in place": lambda text: give(text, "extract"), "renamed into its place": renamed,
-})
+@each("comes", {"written in place": lambda text: give(text, "extract"), "renamed into its place": renamed})
 def test_a_file_that_changes_between_two_takes_of_its_name(comes):
     """Each `take` takes what the file holds when that `take` opens it."""
     mirror = Mirror("full")

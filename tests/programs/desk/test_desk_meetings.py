@@ -1,14 +1,11 @@
-"""A desk that may write, when something else happens just before one of its calls of the file
-system. This may be another command, another text of STATE, or the draft of another program. No text
-is lost unread, and the session continues."""
+"""A desk that may write, when something else happens just before one of its calls of the file system. This may be another command, another text of STATE, or
+the draft of another program. No text is lost unread, and the session continues."""
 import os
 import typing
 
 import pytest
 from desks import DEVICE, DONE, NOT_SAVED, answers_in, written
-from meetings import (
-    BECOMES_PIPE, DRAFTS, GOES, Draft, Losing, Names, at_each_call, calls_of, met,
-)
+from meetings import BECOMES_PIPE, DRAFTS, GOES, Draft, Losing, Names, at_each_call, calls_of, met
 from mirror import by_docker, given, state_of
 from programs import DESK, DOCKER, Ended, give, held, untried
 from tables import each
@@ -35,10 +32,9 @@ def parts_of(calls):
 
 
 class Session(typing.NamedTuple):
-    """The requests of a session. `looks` has, for each save but the last, the number of the look on
-    which this save relies. The looks are counted from the save before it, or from the start; 0 is
-    the look of the save before it. `refused` has the numbers of the requests that are refused if
-    STATE changes after that look."""
+    """The requests of a session. `looks` has, for each save but the last, the number of the look on which this save relies. The looks are counted from the
+    save before it, or from the start; 0 is the look of the save before it. `refused` has the numbers of the requests that are refused if STATE changes after
+    that look."""
 
     requests: tuple
     looks: tuple
@@ -49,12 +45,9 @@ class Session(typing.NamedTuple):
 
 
 CHANGES = ("take tuesday", "merge monday.state")
-# A save itself also makes looks, but after the look on which it relies. So these looks don't change
-# the numbers here.
+# A save itself also makes looks, but after the look on which it relies. So these looks don't change the numbers here.
 SESSIONS = {
-    "that saves what it read": Session(
-        (*CHANGES, "save", "renew", "save", "renew", "save"), (1, 1), ((2,), (4,)),
-    ),
+    "that saves what it read": Session((*CHANGES, "save", "renew", "save", "renew", "save"), (1, 1), ((2,), (4,))),
     "that renews before it saves, and saves twice": Session(
         (*CHANGES, "renew", "save", "save", "renew", "save", "renew", "save"), (2, 0, 1),
         ((3, 4), (4,), (6,)),
@@ -63,9 +56,8 @@ SESSIONS = {
 
 
 class Part(typing.NamedTuple):
-    """Where in a session something else happens: the number of saves done before, and the calls
-    since the last of them. `all_looks` counts the looks at STATE from there to the end of the next
-    save."""
+    """Where in a session something else happens: the number of saves done before, and the calls since the last of them. `all_looks` counts the looks at
+    STATE from there to the end of the next save."""
 
     session: Session
     saves: int
@@ -96,9 +88,8 @@ class Beside:
         self.both = by_docker(self.own, "take", given("last"))[1]
 
     def at(self, number, line):
-        """Runs the session, and just before the call with this number a line of the shell. Returns
-        how the session ended, and where in the session the call was. Returns None if all saves but
-        the last were done before the call."""
+        """Runs the session, and just before the call with this number a line of the shell. Returns how the session ended, and where in the session the call
+        was. Returns None if all saves but the last were done before the call."""
         give(state_of("full"))
         found = met(self.meeting, number, line, COMMAND, self.session.lines())
         assert found is not None, "there is no such call"
@@ -122,8 +113,7 @@ class Beside:
 @pytest.mark.timeout(120)
 @each("session", SESSIONS)
 def test_another_command_meets_a_session(meeting, session):
-    """The other command may be refused only while the desk has a draft. Otherwise STATE has both
-    changes at the end."""
+    """The other command may be refused only while the desk has a draft. Otherwise STATE has both changes at the end."""
     beside = Beside(meeting, session)
 
     def trial(number):
@@ -141,8 +131,7 @@ def test_another_command_meets_a_session(meeting, session):
         return part.saves, "refused" if part.refused() else "both done"
 
     wanted = {(saves, end) for saves in range(len(session.looks)) for end in ENDS}
-    # A save may rely on the look that the previous save made. It is then refused at each of its
-    # calls.
+    # A save may rely on the look that the previous save made. It is then refused at each of its calls.
     wanted -= {(saves, "both done") for saves, looks in enumerate(session.looks) if looks == 0}
     assert set(at_each_call(trial)) == wanted
 
@@ -150,9 +139,8 @@ def test_another_command_meets_a_session(meeting, session):
 @pytest.mark.timeout(120)
 @each("session", SESSIONS)
 def test_a_text_meets_a_session(meeting, session):
-    """A program that ignores drafts puts a text in STATE's place. If it does so before a save's
-    last look, the desk notices it, and STATE has both at the end. A text that comes after the last
-    look isn't noticed."""
+    """A program that ignores drafts puts a text in STATE's place. If it does so before a save's last look, the desk notices it, and STATE has both at the
+    end. A text that comes after the last look isn't noticed."""
     beside = Beside(meeting, session)
 
     def trial(number):
@@ -184,9 +172,7 @@ def test_a_text_of_the_same_length_is_written_just_after_a_save(meeting):
         assert not os.path.lexists("STATE.new"), "a draft is left"
 
 
-def test_a_text_that_is_written_just_after_a_save_in_which_a_look_fails(
-    meeting, device, monkeypatch
-):
+def test_a_text_that_is_written_just_after_a_save_in_which_a_look_fails(meeting, device, monkeypatch):
     """Whichever look of the first save fails, the second save doesn't replace the text."""
     lines = b"take tuesday\nsave\ntake night\nsave\n"
     came = give(b"?" * len(state_of("full", "tuesday")), "came")
@@ -223,8 +209,7 @@ def test_a_state_that_is_read_and(meeting, name, line):
 
 @each("is_locked, mode", DRAFTS)
 def test_what_takes_the_place_of_a_draft_that_is_just_made(meeting, is_locked, mode):
-    """Before the draft was locked, another command removed it as left over by a killed command. The
-    save is refused."""
+    """Before the draft was locked, another command removed it as left over by a killed command. The save is refused."""
     lines = b"take monday\nsave\n"
     give(state_of("full"))
     calls = calls_of(meeting, COMMAND, lines)

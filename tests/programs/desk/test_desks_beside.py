@@ -147,8 +147,7 @@ def test_another_state_that_comes_just_after_a_save_takes_its_place(overtaking):
 
 
 def save_all(desks):
-    """Has several desks save at the same time, until each has saved. A desk whose save is refused
-    renews before its next save."""
+    """Has several desks save at the same time, until each has saved. A desk whose save is refused renews before its next save."""
     waiting = desks
     while waiting:
         for asked in waiting:
@@ -181,6 +180,5 @@ def test_four_desks_that_save_at_once_lose_nothing():
         four_at_once()
 
 
-# If no lock holds, a desk may take the draft of another that saves for left over, and remove it. The
-# other notices this and refuses to save. So the case above passes even then, and doesn't show that
-# the locks hold. The cases in test_whatever_comes_to_a_desk.py show it, where another locks the draft.
+# If no lock holds, a desk may take the draft of another that saves for left over, and remove it. The other notices this and refuses to save. So the case above
+# passes even then, and doesn't show that the locks hold. The cases in test_whatever_comes_to_a_desk.py show it, where another locks the draft.

@@ -100,8 +100,7 @@ def test_a_renewal_of_an_older_state_by_a_desk_that_only_reads():
         assert asked.closed() == Ended(0, b"", b"")
 
 
-# If a stream fails while there are unsaved changes, standard error gets two lines: one for the
-# failure, and one for the unsaved changes.
+# If a stream fails while there are unsaved changes, standard error gets two lines: one for the failure, and one for the unsaved changes.
 
 BOTH_LINES = DEVICE_LINE + NOT_SAVED
 
@@ -190,10 +189,7 @@ def test_an_output_that_takes_a_part(size):
     give(state_of("full"))
     wanted = written([docker("files", "STATE"), docker("print", "STATE", "ASHFELD", "2024-06-12")])
     with open("output", "wb") as output:
-        ended = run(
-            ["prlimit", f"--fsize={size}", DESK, "STATE"], b"files\nprint ASHFELD 2024-06-12\n",
-            stdout=output, restore_signals=False,
-        )
+        ended = run(["prlimit", f"--fsize={size}", DESK, "STATE"], b"files\nprint ASHFELD 2024-06-12\n", stdout=output, restore_signals=False)
     assert ended == Ended(4, None, DEVICE_LINE)
     assert held("output") == wanted[:size]
 

@@ -1,5 +1,4 @@
-"""How lines are read: which lines aren't requests, their bytes and lengths, and the pieces in which
-they come."""
+"""How lines are read: which lines aren't requests, their bytes and lengths, and the pieces in which they come."""
 import array
 import fcntl
 import os
@@ -17,21 +16,15 @@ from tables import each
 GOOD_LINE = "print ASHFELD 2024-06-12"
 # Lines that aren't requests, for a desk that may write.
 NOT_ASKED = [
-    "", " ", "   ", "print", "print ASHFELD", "print 2024-06-12", "print ASHFELD 2024-06-12 more",
-    "print 2024-06-12 ASHFELD", "print ASHFELDS 2024-06-12", "print -SHFELD 2024-06-12",
-    "print ASHFELD 2024-06-31", "print ASHFELD 2023-02-29", "print ASHFELD 24-06-12",
-    "print ASHFELD 2024-6-12", "print ASHFELD 20240612", "print ASHFELD 2024/06/12",
-    "print ASHFELD 1959-12-31", "print ASHFELD 2060-01-01", "print ASHFELD 2024-06-12x",
-    "print STATE ASHFELD 2024-06-12", "PRINT ASHFELD 2024-06-12", "Print ASHFELD 2024-06-12",
-    "printASHFELD 2024-06-12", "print,ASHFELD,2024-06-12", "prints ASHFELD 2024-06-12",
-    "train", "train A00001", "train 2024-06-12", "train A00001 2024-06-12 more",
-    "train A0001 2024-06-12", "train A000001 2024-06-12", "train A00001 2024-13-12",
-    "train ASHFELD 2024-06-12", "files all", "files STATE", "file", "FILES", "renew now", "renews",
-    "take", "take ", "take   ", "merge", "merge  ", "horizon", "horizon 2024-06-31",
-    "horizon 2024-06-12 2024-06-13", "horizon ASHFELD", "save STATE", "save now", "new STATE",
-    "check full", "day full ASHFELD 2024-06-12", "migrate STATE", "take stdin", "merge stdin",
-    "take -x", "take --write", "--write", "-", "help", "quit", "exit", "0 0 0", "desk: usage:",
-    "#files", "files;files", "files|files", "files>out",
+    "", " ", "   ", "print", "print ASHFELD", "print 2024-06-12", "print ASHFELD 2024-06-12 more", "print 2024-06-12 ASHFELD", "print ASHFELDS 2024-06-12",
+    "print -SHFELD 2024-06-12", "print ASHFELD 2024-06-31", "print ASHFELD 2023-02-29", "print ASHFELD 24-06-12", "print ASHFELD 2024-6-12",
+    "print ASHFELD 20240612", "print ASHFELD 2024/06/12", "print ASHFELD 1959-12-31", "print ASHFELD 2060-01-01", "print ASHFELD 2024-06-12x",
+    "print STATE ASHFELD 2024-06-12", "PRINT ASHFELD 2024-06-12", "Print ASHFELD 2024-06-12", "printASHFELD 2024-06-12", "print,ASHFELD,2024-06-12",
+    "prints ASHFELD 2024-06-12", "train", "train A00001", "train 2024-06-12", "train A00001 2024-06-12 more", "train A0001 2024-06-12",
+    "train A000001 2024-06-12", "train A00001 2024-13-12", "train ASHFELD 2024-06-12", "files all", "files STATE", "file", "FILES", "renew now", "renews",
+    "take", "take ", "take   ", "merge", "merge  ", "horizon", "horizon 2024-06-31", "horizon 2024-06-12 2024-06-13", "horizon ASHFELD", "save STATE",
+    "save now", "new STATE", "check full", "day full ASHFELD 2024-06-12", "migrate STATE", "take stdin", "merge stdin", "take -x", "take --write", "--write",
+    "-", "help", "quit", "exit", "0 0 0", "desk: usage:", "#files", "files;files", "files|files", "files>out",
 ]
 
 
@@ -147,10 +140,9 @@ def test_no_line():
 
 # One line of each kind. The tests below mix them.
 KINDS = [
-    b"print ASHFELD 2024-06-12\n", b"print  BRAYTON   2024-06-13 \n", b"train A00001 2024-06-10\n",
-    b"train Z00000 2024-06-10\n", b"files\n", b" files \n", b"renew\n", b"save\n", b"\n", b"no\n",
-    b"x" * 255 + b"\n", b"x" * 256 + b"\n", b"x" * 5000 + b"\n", b"\x80files\n", b"files\r\n",
-    b"files\0\n", b"print ASHFELD 2024-06-31\n",
+    b"print ASHFELD 2024-06-12\n", b"print  BRAYTON   2024-06-13 \n", b"train A00001 2024-06-10\n", b"train Z00000 2024-06-10\n", b"files\n", b" files \n",
+    b"renew\n", b"save\n", b"\n", b"no\n", b"x" * 255 + b"\n", b"x" * 256 + b"\n", b"x" * 5000 + b"\n", b"\x80files\n", b"files\r\n", b"files\0\n",
+    b"print ASHFELD 2024-06-31\n",
 ]
 
 

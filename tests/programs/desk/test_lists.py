@@ -37,10 +37,7 @@ def test_the_lists_to_the_letter():
         b"BRAYTON           BRAYTON                             4\n"
         b"CORHAM            CORHAM CENTRAL                      4\n"
     )
-    known = (
-        b"HORIZON      2024-06-10\nFULL         2024-06-09 2100 DFROC1B\n"
-        b"LAST         2024-06-30\nSCHEDULES    4\nASSOCIATIONS 2\nPLACES       3\n"
-    )
+    known = b"HORIZON      2024-06-10\nFULL         2024-06-09 2100 DFROC1B\nLAST         2024-06-30\nSCHEDULES    4\nASSOCIATIONS 2\nPLACES       3\n"
     with Desk("STATE") as now:
         got = [now.ask("places"), now.ask("known")]
         ends_well(now)
@@ -52,10 +49,7 @@ def day(date):
     return datetime.date.fromisoformat(date)
 
 
-@each("names", {
-    "no file": (), "an update": ("monday",), "a full extract": ("full",),
-    "a later full extract": ("full", "second"), "all files": tuple(NAMES),
-})
+@each("names", {"no file": (), "an update": ("monday",), "a full extract": ("full",), "a later full extract": ("full", "second"), "all files": tuple(NAMES)})
 def test_the_lists_of_files(names):
     give(state_of(*names))
     assert asked() == listed(extracts.GOOD[name] for name in names)
@@ -130,10 +124,7 @@ class Network(random.Random):
             for minute, code in enumerate(along[1:-1], 10)
         )
         extra = self.choice(["", records.record("BX         NT")])
-        return (
-            first + extra + records.origin(along[0], "0900") + middle
-            + records.terminus(along[-1], "0930")
-        )
+        return first + extra + records.origin(along[0], "0900") + middle + records.terminus(along[-1], "0930")
 
     def link(self):
         base, other = f"X{self.randrange(40):05}", f"X{self.randrange(40):05}"

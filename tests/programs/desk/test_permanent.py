@@ -1,5 +1,4 @@
-"""Dockers without the short-term plan, compared with `print` from extracts without short-term
-records."""
+"""Dockers without the short-term plan, compared with `print` from extracts without short-term records."""
 import pathlib
 import random
 
@@ -14,8 +13,7 @@ DAYS = [f"2024-06-{day:02}" for day in range(8, 18)]
 
 
 def schedule(uid, first, last, days, stp, at, along, train="1A10"):
-    """A schedule that calls at these places, five minutes apart. A cancellation has only its basic
-    schedule."""
+    """A schedule that calls at these places, five minutes apart. A cancellation has only its basic schedule."""
     basic = records.basic("N", uid, first, last, days, train, stp)
     if stp == "C":
         return basic
@@ -52,20 +50,13 @@ LEAVES = LINES["LEAVES_0900"]
 @each(("short", "day", "wanted"), {
     "overlaid": (schedule("C10001", "240611", "240611", "0100000", "O", 555, DIRECT), 11, [LEAVES]),
     "cancelled": (schedule("C10001", "240611", "240611", "0100000", "C", 0, []), 11, [LEAVES]),
-    "moved away": (
-        schedule("C10001", "240611", "240611", "0100000", "O", 555, ["CORHAM", "DUNMERE"]), 11,
-        [LEAVES],
-    ),
+    "moved away": (schedule("C10001", "240611", "240611", "0100000", "O", 555, ["CORHAM", "DUNMERE"]), 11, [LEAVES]),
     "a new train": (schedule("C10009", "240611", "240611", "0100000", "N", 555, DIRECT), 11, [LEAVES]),
-    "a later permanent schedule": (
-        schedule("C10001", "240611", "240611", "0100000", "P", 550, DIRECT), 11, [LINES["LEAVES_0910"]],
-    ),
+    "a later permanent schedule": (schedule("C10001", "240611", "240611", "0100000", "P", 550, DIRECT), 11, [LINES["LEAVES_0910"]]),
     "a day without a train": ("", 17, []),
 })
 def test_a_day_to_the_letter(short, day, wanted):
-    text = records.extract(
-        records.header("240609"), records.place("TI", "ASHFELD", "ASHFELD JUNCTION"), PERMANENT, short
-    )
+    text = records.extract(records.header("240609"), records.place("TI", "ASHFELD", "ASHFELD JUNCTION"), PERMANENT, short)
     state_of("STATE", text)
     with Desk("STATE") as now:
         got = now.ask(f"permanent ASHFELD 2024-06-{day}")
@@ -109,9 +100,7 @@ class Plan(random.Random):
         base, other = self.sample([f"C1000{number}" for number in range(8)], 2)
         category, date = self.choice(["JJ", "VV", "NP"]), self.choice("SNP")
         first, last = self.dates()
-        link = records.association(
-            base, other, first, last, self.choice(CODES), category, date, days=self.days()
-        )
+        link = records.association(base, other, first, last, self.choice(CODES), category, date, days=self.days())
         return with_stp(link, self.stp())
 
     def parts(self):
@@ -122,8 +111,7 @@ class Plan(random.Random):
 
 
 def asked_twice(seed):
-    """The answers to `permanent`, the answers to `print` from the extracts without short-term
-    records, and the answers to `print` from the whole extracts."""
+    """The answers to `permanent`, the answers to `print` from the extracts without short-term records, and the answers to `print` from the whole extracts."""
     plan = Plan(f"permanent {seed}")
     heads = [records.header("240601", "DFROC1A", "F"), records.header("240602", "DFROC1B", "U")]
     files = [(head, plan.parts()) for head in heads]

@@ -58,8 +58,7 @@ def limit_files(process, size):
 def test_a_disk_that_is_full_at(size):
     give_large(800)
     before = give(state_of("full"))
-    # Python ignores the signal for a file that grows beyond its limit, and so does the desk that it
-    # starts.
+    # Python ignores the signal for a file that grows beyond its limit, and so does the desk that it starts.
     with Desk("--write", "STATE", restore_signals=False) as asked:
         assert asked.ask("take large") == DONE
         limit_files(asked.process, size)
@@ -81,8 +80,7 @@ ON_SMALL = 'mount -t tmpfs -o size=512k none small && cp STATE small/STATE && ex
 
 
 def apart():
-    """The words that run a program in a mount namespace of its own, with a file system of 512 KiB
-    in the folder `small`."""
+    """The words that run a program in a mount namespace of its own, with a file system of 512 KiB in the folder `small`."""
     os.mkdir("small")
     unshare = ["unshare", "-m" if os.getuid() == 0 else "-rm"]
     command = [*unshare, "sh", "-c", ON_SMALL, "sh"]

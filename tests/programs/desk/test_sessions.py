@@ -12,20 +12,13 @@ from programs import Ended, give, held
 SESSIONS = 1000
 DATES = [f"2024-06-{day:02}" for day in range(1, 22)] + ["2024-05-20", "1960-01-01", "2059-12-31"]
 PLACES = ["ASHFELD", "BRAYTON", "CORHAM", "NOWHERE"]
-NO_REQUESTS = [
-    "", "no", "print ASHFELD", "take stdin", "files " + "x" * 250, "save\t", "horizon 2024",
-    "places ASHFELD", "known 2024-06-12",
-]
+NO_REQUESTS = ["", "no", "print ASHFELD", "take stdin", "files " + "x" * 250, "save\t", "horizon 2024", "places ASHFELD", "known 2024-06-12"]
 # The refusals that have to occur among the answers: a request and its status.
 REFUSALS = [
-    ("print", 1), ("train", 1), ("take", 1), ("take", 2), ("take", 4), ("merge", 1), ("merge", 4),
-    ("horizon", 2), ("save", 2), ("save", 4), ("nothing", 2),
+    ("print", 1), ("train", 1), ("take", 1), ("take", 2), ("take", 4), ("merge", 1), ("merge", 4), ("horizon", 2), ("save", 2), ("save", 4), ("nothing", 2),
 ]
 # How often each request is asked, in percent.
-WEIGHTS = {
-    "print": 18, "train": 18, "files": 7, "places": 5, "known": 5, "renew": 9, "take": 14,
-    "merge": 7, "horizon": 4, "save": 8, "nothing": 5,
-}
+WEIGHTS = {"print": 18, "train": 18, "files": 7, "places": 5, "known": 5, "renew": 9, "take": 14, "merge": 7, "horizon": 4, "save": 8, "nothing": 5}
 
 
 class Numbers(random.Random):
@@ -62,8 +55,7 @@ class Numbers(random.Random):
 
 
 def put_beside(asked, mirror, name):
-    """Another `docker take` changes STATE. The desk has just answered, so it waits for the next
-    line."""
+    """Another `docker take` changes STATE. The desk has just answered, so it waits for the next line."""
     assert asked.held == b""
     assert docker("take", "STATE", name) == DONE
     mirror.take_beside(name)

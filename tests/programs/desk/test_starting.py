@@ -9,17 +9,14 @@ from programs import DESK, DEVICE_LINE, Ended, give, held, run
 from tables import each
 
 REFUSED_WORDS = [
-    (), ("--write",), ("STATE", "STATE"), ("STATE", "--write"), ("--write", "STATE", "more"),
-    ("--write", "--write"), ("--write", "--write", "STATE"), ("--read", "STATE"), ("-w", "STATE"),
-    ("--Write", "STATE"), ("--help",), ("-h",), ("--", "STATE"), ("-",), ("-STATE",), ("",),
-    ("--write", ""), ("stdin",), ("--write", "stdin"), ("--write=yes", "STATE"), ("print", "STATE"),
-    ("--write", "-STATE"), (b"STATE\xff",), (b"--write", b"\xff\xfe"), ("--write STATE",),
+    (), ("--write",), ("STATE", "STATE"), ("STATE", "--write"), ("--write", "STATE", "more"), ("--write", "--write"), ("--write", "--write", "STATE"),
+    ("--read", "STATE"), ("-w", "STATE"), ("--Write", "STATE"), ("--help",), ("-h",), ("--", "STATE"), ("-",), ("-STATE",), ("",), ("--write", ""), ("stdin",),
+    ("--write", "stdin"), ("--write=yes", "STATE"), ("print", "STATE"), ("--write", "-STATE"), (b"STATE\xff",), (b"--write", b"\xff\xfe"), ("--write STATE",),
 ]
 
 
 def unread_by(*words):
-    """Gives a desk a file of three lines. Returns how the desk ends, and how much it leaves
-    unread."""
+    """Gives a desk a file of three lines. Returns how the desk ends, and how much it leaves unread."""
     pathlib.Path("lines").write_bytes(b"files\nrenew\nsave\n")
     with open("lines", "rb") as source:
         ended = desk(*words, stdin=source)

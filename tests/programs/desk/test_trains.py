@@ -91,9 +91,7 @@ class Plan(random.Random):
     def schedule(self):
         days = self.choice([records.ALWAYS, records.ALWAYS, "1010101", "0101010"])
         train, changed = self.choice(IDENTITIES), self.choice(["", "", *IDENTITIES])
-        return schedule(
-            f"C1000{self.randrange(8)}", self.dates(), days, train, self.choice("PPPONC"), changed
-        )
+        return schedule(f"C1000{self.randrange(8)}", self.dates(), days, train, self.choice("PPPONC"), changed)
 
     def text(self, *header):
         return records.extract(records.header(*header), *(self.schedule() for _ in range(40)))

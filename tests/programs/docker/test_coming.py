@@ -1,8 +1,6 @@
-"""Tests `docker new` when another file replaces the pipe that it writes to, and when hard links
-aren't possible.
+"""Tests `docker new` when another file replaces the pipe that it writes to, and when hard links aren't possible.
 
-test_whatever_comes.py tests what happens if something else takes the place of a file, or takes a
-name that was free."""
+test_whatever_comes.py tests what happens if something else takes the place of a file, or takes a name that was free."""
 import os
 import stat
 import time
@@ -20,15 +18,12 @@ COME = b"DKS2 by another program"
 
 
 class Pipes:
-    """Two named pipes, `pipe` and `other`. The test holds both ends of each, so that no program
-    waits for them."""
+    """Two named pipes, `pipe` and `other`. The test holds both ends of each, so that no program waits for them."""
 
     def __enter__(self):
         for name in ("pipe", "other"):
             os.mkfifo(name)
-        self.pipe, self.other = (
-            os.open(name, os.O_RDWR | os.O_NONBLOCK) for name in ("pipe", "other")
-        )
+        self.pipe, self.other = (os.open(name, os.O_RDWR | os.O_NONBLOCK) for name in ("pipe", "other"))
         return self
 
     def __exit__(self, *_):
@@ -76,8 +71,7 @@ def test_what_takes_the_place_of_a_pipe(meeting, line):
     assert set(found) == {"came first", "refused", "came last"}
 
 
-# Makes a pipe in the place of the pipe, with the number of the old one if the file system gives it
-# to one of fifty pipes. Reads from the new pipe.
+# Makes a pipe in the place of the pipe, with the number of the old one if the file system gives it to one of fifty pipes. Reads from the new pipe.
 ANEW = (
     "old=$(stat -c %i pipe); rm pipe; n=0;"
     ' until mkfifo "anew$n"; [ "$(stat -c %i "anew$n")" = "$old" ] || [ "$n" = 50 ];'
@@ -86,8 +80,7 @@ ANEW = (
 
 
 def test_a_new_pipe_with_the_number_of_the_old_one(meeting):
-    """The new pipe is made just before the command opens the pipe that it saw. The command doesn't
-    write to it."""
+    """The new pipe is made just before the command opens the pipe that it saw. The command doesn't write to it."""
     command = [DOCKER, "new", "pipe"]
     with Pipes():
         number = calls_of(meeting, command).index("open pipe") + 1
@@ -101,8 +94,7 @@ def test_a_new_pipe_with_the_number_of_the_old_one(meeting):
 
 
 def test_another_pipe_that_has_no_name(meeting):
-    """Pipes without names are all on one device, and no time says when one was made. The command
-    writes only to the pipe that it saw."""
+    """Pipes without names are all on one device, and no time says when one was made. The command writes only to the pipe that it saw."""
     (seen, to_seen), (other, to_other) = os.pipe(), os.pipe()
     for pipe in (seen, other):
         os.set_blocking(pipe, False)

@@ -1,14 +1,11 @@
-"""A command that writes STATE, when something else happens just before one of its calls of the file
-system. This may be another command, another text of STATE, or the draft of another program. No text
-is lost unread."""
+"""A command that writes STATE, when something else happens just before one of its calls of the file system. This may be another command, another text of
+STATE, or the draft of another program. No text is lost unread."""
 import os
 import stat
 
 import pytest
 from given import FIRST, STATE_OF_BOTH, STATE_OF_ONE, STATE_OF_REVISED, STATES, trip
-from meetings import (
-    BECOMES_PIPE, DRAFTS, GOES, Draft, Losing, Names, at_each_call, calls_of, met, what_is,
-)
+from meetings import BECOMES_PIPE, DRAFTS, GOES, Draft, Losing, Names, at_each_call, calls_of, met, what_is
 from outcomes import DEVICE, DONE, holds_only
 from programs import DOCKER, docker, give, held, untried
 from states import lines, older, schedule, state
@@ -26,8 +23,7 @@ def command_of(words):
 
 
 def one_by_one(before, *commands):
-    """Runs these commands one after another. Returns how the last one ends, and the state after
-    it."""
+    """Runs these commands one after another. Returns how the last one ends, and the state after it."""
     give(before, "office")
     for words in commands:
         ended = docker(*words.split())
@@ -41,8 +37,7 @@ def looks_of(meeting, before, words):
     return calls[:calls.index("rename office.new office")].count(LOOK)
 
 
-# Before its first look at STATE a command has read nothing. So a change of STATE before this look
-# has the same effect as a change before the command.
+# Before its first look at STATE a command has read nothing. So a change of STATE before this look has the same effect as a change before the command.
 
 
 class Beside:
@@ -56,8 +51,7 @@ class Beside:
         self.other_last = one_by_one(before, words, other)
 
     def at(self, meeting, number):
-        """Runs the other command at this call. Returns which command was refused; if neither was,
-        which of them counts as the first."""
+        """Runs the other command at this call. Returns which command was refused; if neither was, which of them counts as the first."""
         give(self.before, "office")
         other = f"{DOCKER} {self.other} </dev/null 2>/dev/null"
         found = met(meeting, number, other, command_of(self.words))
@@ -107,16 +101,14 @@ WAYS = {"renamed into its place": "mv -f came office", "written in place": "cat 
 
 
 def state_of_many(hour):
-    """The text of a state of 1,000 trains that leave at this hour. It is read and written in
-    pieces."""
+    """The text of a state of 1,000 trains that leave at this hour. It is read and written in pieces."""
     uids = [f"C{number}" for number in range(20000, 21000)]
     trips = [lines(trip(hour).replace("C10001", uid)) for uid in uids]
     return state([FIRST], [FIRST.put(schedule(uid), text) for uid, text in zip(uids, trips)])
 
 
 class Coming:
-    """A command, and a text that a program which ignores drafts puts in STATE's place in the middle
-    of it."""
+    """A command, and a text that a program which ignores drafts puts in STATE's place in the middle of it."""
 
     def __init__(self, meeting, before, words, came):
         self.before, self.words, self.came = before, words, came
@@ -125,8 +117,7 @@ class Coming:
         self.looks = looks_of(meeting, before, words)
 
     def at(self, meeting, number, way):
-        """The text comes at this call. Returns whether the command was refused. The text before it
-        has the same length, and was written long before."""
+        """The text comes at this call. Returns whether the command was refused. The text before it has the same length, and was written long before."""
         give(self.before, "office")
         os.utime("office", ns=(THEN, THEN))
         give(self.came, "came")
@@ -144,8 +135,7 @@ class Coming:
         if found.has_placed("office.new"):
             return DONE, self.came
         if "flock" in found.before and found.looks("office") == self.looks:
-            # A program that ignores drafts may store a text after the last look. The command
-            # doesn't notice that text.
+            # A program that ignores drafts may store a text after the last look. The command doesn't notice that text.
             return self.alone
         return DEVICE, self.came
 
@@ -200,8 +190,7 @@ GIVES = "timeout 5 sh -c 'cat elsewhere >{}' >/dev/null 2>&1 &"
 
 @each("name, line", BECOMES_PIPE)
 def test_take_of_what_a_pipe_gives_into_a_state_that(meeting, name, line):
-    """STATE becomes a pipe before it is read. The program reads a state from the pipe, and writes
-    nothing to it."""
+    """STATE becomes a pipe before it is read. The program reads a state from the pipe, and writes nothing to it."""
     taking = command_of(f"take {name} revised")
     NAMES.make()
     calls = calls_of(meeting, taking)
@@ -213,14 +202,12 @@ def test_take_of_what_a_pipe_gives_into_a_state_that(meeting, name, line):
         assert not os.path.lexists("office.new"), "a draft is left"
 
 
-# The drafts of other programs. The first look at the draft's name is for a draft that a killed
-# command left.
+# The drafts of other programs. The first look at the draft's name is for a draft that a killed command left.
 #
-# These cases were themselves tested, with programs that make the calls of `docker` in the same
-# order but leave one out. The call left out was one of the two locks, the last look at STATE, or
-# one of the three looks at a locked file. These three looks are at the draft's name, at the name of
-# the left-over draft, and at its mark. The cases were also run with the last look at STATE before
-# the draft is made, and with the first look after STATE is read. Each time some cases failed.
+# These cases were themselves tested, with programs that make the calls of `docker` in the same order but leave one out. The call left out was one of the two
+# locks, the last look at STATE, or one of the three looks at a locked file. These three looks are at the draft's name, at the name of the left-over draft, and
+# at its mark. The cases were also run with the last look at STATE before the draft is made, and with the first look after STATE is read. Each time some cases
+# failed.
 
 DRAFT_LOOK = "statx office.new"
 TAKE = command_of("take office revised")
@@ -302,8 +289,7 @@ def calls_with_left_over(meeting):
 
 @each("is_locked, mode", DRAFTS)
 def test_what_takes_the_place_of_a_draft_that_is_left_over(meeting, is_locked, mode):
-    """The file is removed only if it is also a left-over draft, and if the command opened it and
-    not the first draft."""
+    """The file is removed only if it is also a left-over draft, and if the command opened it and not the first draft."""
     calls = calls_with_left_over(meeting)
     opened = calls.index("open office.new")
     for number in range(1, last_of(calls, "flock", DRAFT_LOOK) + 2):
@@ -356,8 +342,7 @@ NO_DRAFTS = {
 
 
 def refuses_at(meeting, number, line, command):
-    """At this call, something that can't be a draft gets the name of the draft. The command is
-    refused without waiting for anything, and changes nothing."""
+    """At this call, something that can't be a draft gets the name of the draft. The command is refused without waiting for anything, and changes nothing."""
     found = met(meeting, number, line, command)
     assert (found.ended, found.status) == (DEVICE, 0), f"before {found.after[:3]}"
     now = what_is("office.new")

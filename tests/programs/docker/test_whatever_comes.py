@@ -35,9 +35,7 @@ SUBJECTS = {
     "new where nothing is": subject("new office", ANEW, NOTHING),
     "new by a link to nothing": NEW_BY_LINK._replace(texts=NOTHING),
     "new by a link to nothing that changes": NEW_BY_LINK._replace(texts=NOTHING, at="leading"),
-    "new by two links to nothing": subject(
-        "new first", ANEW, NOTHING, links={"first": "leading"} | LINK,
-    ),
+    "new by two links to nothing": subject("new first", ANEW, NOTHING, links={"first": "leading"} | LINK),
 }
 
 

@@ -1,6 +1,5 @@
-"""Each command is run with its first memory growth refused, then with its second, and so on, until
-a run has no growth to refuse. After each of these runs, the command is run with enough memory, and
-has to give the whole answer."""
+"""Each command is run with its first memory growth refused, then with its second, and so on, until a run has no growth to refuse. After each of these runs,
+the command is run with enough memory, and has to give the whole answer."""
 import pathlib
 import shutil
 

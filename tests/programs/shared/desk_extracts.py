@@ -1,20 +1,14 @@
-"""The extracts about which desks are asked. Also finds, by an independent reading of them, which
-schedule of a UID runs on a day.
+"""The extracts about which desks are asked. Also finds, by an independent reading of them, which schedule of a UID runs on a day.
 
 It follows docs/FORMATS.md and shares nothing with the program."""
 import datetime
 import functools
 import typing
 
-from records import (
-    ALWAYS, NO_END, TRAILER, association, basic, calls, extract, header, origin, passes, place,
-    record, terminus,
-)
+from records import ALWAYS, NO_END, TRAILER, association, basic, calls, extract, header, origin, passes, place, record, terminus
 
 
-def trip(
-    uid, train, first="240101", last=NO_END, days=ALWAYS, stp="P", hour="09", transaction="N"
-):
+def trip(uid, train, first="240101", last=NO_END, days=ALWAYS, stp="P", hour="09", transaction="N"):
     """A schedule from Ashfeld through Corham to Brayton."""
     return (
         basic(transaction, uid, first, last, days, train, stp)
@@ -26,26 +20,15 @@ def trip(
 
 def night(uid, train, first="240101", last=NO_END):
     """A schedule that runs past midnight."""
-    return (
-        basic("N", uid, first, last, ALWAYS, train) + origin("CORHAM", "2340", "3")
-        + calls("ASHFELD", "0012", "0014") + terminus("BRAYTON", "0100")
-    )
+    return basic("N", uid, first, last, ALWAYS, train) + origin("CORHAM", "2340", "3") + calls("ASHFELD", "0012", "0014") + terminus("BRAYTON", "0100")
 
 
-PLACES = (
-    place("TI", "ASHFELD", "ASHFELD JUNCTION")
-    + place("TI", "BRAYTON", "BRAYTON")
-    + place("TI", "CORHAM", "CORHAM EXCHANGE")
-)
+PLACES = place("TI", "ASHFELD", "ASHFELD JUNCTION") + place("TI", "BRAYTON", "BRAYTON") + place("TI", "CORHAM", "CORHAM EXCHANGE")
 
 
 # Good files by name. No two have the same moment.
 GOOD = {
-    "early": extract(
-        header("240607"),
-        trip("A00001", "1E01", hour="07"),
-        trip("A00009", "1E09"),
-    ),
+    "early": extract(header("240607"), trip("A00001", "1E01", hour="07"), trip("A00009", "1E09")),
     "full": extract(
         header("240609", "DFROC1B", "F"),
         PLACES,
@@ -69,11 +52,7 @@ GOOD = {
         trip("A00002", "2R20", hour="12", transaction="R"),
         place("TA", "CORHAM", "CORHAM CENTRAL", "CORHAM"),
     ),
-    "night": extract(
-        header("240611", "DFROC1E", minute="2359"),
-        night("A00006", "5N06"),
-        place("TD", "BRAYTON"),
-    ),
+    "night": extract(header("240611", "DFROC1E", minute="2359"), night("A00006", "5N06"), place("TD", "BRAYTON")),
     "second": extract(
         header("240615", "DFROC1F", "F"),
         PLACES,
@@ -111,8 +90,7 @@ def day_of(text):
 
 
 class Put(typing.NamedTuple):
-    """What a file does to a schedule's key. Puts are ordered by the file's moment, and then by the
-    number of the record."""
+    """What a file does to a schedule's key. Puts are ordered by the file's moment, and then by the number of the record."""
 
     stamp: tuple
     number: int
@@ -155,8 +133,7 @@ def runs(put, day):
 
 @functools.cache
 def chosen(files, uid, day):
-    """The key and the put of the schedule that is chosen for the UID on the day; None if there is
-    none."""
+    """The key and the put of the schedule that is chosen for the UID on the day; None if there is none."""
     latest = {}
     for text in kept_of(files):
         for key, put in schedules_of(text):
@@ -167,8 +144,7 @@ def chosen(files, uid, day):
 
 
 def train_text(files, uid, date):
-    """The answer to `train` for a UID and a date YYYY-MM-DD, as in *The schedule of a UID on a day*
-    of docs/FORMATS.md."""
+    """The answer to `train` for a UID and a date YYYY-MM-DD, as in *The schedule of a UID on a day* of docs/FORMATS.md."""
     columns, lines = [" "] * 80, []
 
     def put_at(column, text):

@@ -58,8 +58,7 @@ def answers_in(output):
 
 
 def docker(*words):
-    """The answer that a command of `docker` amounts to: its output, or its fault's line if it
-    fails."""
+    """The answer that a command of `docker` amounts to: its output, or its fault's line if it fails."""
     ended = run([DOCKER, *words], stdin=subprocess.DEVNULL)
     return Answer(ended.status, ended.errors if ended.status else ended.output)
 
@@ -118,8 +117,7 @@ class Desk:
         return self.answer()
 
     def ended(self):
-        """How the desk ends by itself, and what it wrote after its last answer. Its input stays
-        open."""
+        """How the desk ends by itself, and what it wrote after its last answer. Its input stays open."""
         source, self.process.stdin = self.process.stdin, None
         try:
             output, errors = self.process.communicate(timeout=checks.PATIENCE)

@@ -1,8 +1,7 @@
-"""The answers to `places` and `known`, by an independent reading of extracts. They have the timing
-points with the number of schedules that call at each, and the counts of everything that is live.
+"""The answers to `places` and `known`, by an independent reading of extracts. They have the timing points with the number of schedules that call at each, and
+the counts of everything that is live.
 
-It follows docs/FORMATS.md and shares nothing with the program. Files are a tuple of their texts,
-and a horizon is a date."""
+It follows docs/FORMATS.md and shares nothing with the program. Files are a tuple of their texts, and a horizon is a date."""
 import datetime
 import functools
 import typing

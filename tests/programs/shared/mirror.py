@@ -31,8 +31,7 @@ def given(name):
 
 
 def ran(text, command, *words):
-    """Runs a command of `docker` on a state of this text. Returns its answer, and the state's text
-    after it."""
+    """Runs a command of `docker` on a state of this text. Returns its answer, and the state's text after it."""
     state = CHANGED / "held"
     state.write_bytes(text)
     answer = docker(command, str(state), *words)
@@ -41,8 +40,7 @@ def ran(text, command, *words):
 
 @functools.cache
 def by_docker(text, command, *words):
-    """Like `ran`, but remembers the result. So the words may only name files that no command
-    changes."""
+    """Like `ran`, but remembers the result. So the words may only name files that no command changes."""
     return ran(text, command, *words)
 
 
@@ -87,10 +85,7 @@ def bad_states():
     }
 
 
-BAD_STATES = (
-    "an extract", "nothing", "a cut state", "half a state", "a byte more", "the older format",
-    "a horizon too high", "a tag that isn't one",
-)
+BAD_STATES = ("an extract", "nothing", "a cut state", "half a state", "a byte more", "the older format", "a horizon too high", "a tag that isn't one")
 
 
 def give_large(count):
@@ -115,8 +110,7 @@ class Mirror:
         self.past = [(self.stored, self.stored_known)]
 
     def answer(self, verb, *words):
-        """Does a request, and returns its answer. The verb `nothing` stands for a line that isn't a
-        request."""
+        """Does a request, and returns its answer. The verb `nothing` stands for a line that isn't a request."""
         if verb == "nothing" or (verb in WRITING and not self.may_write):
             return NOTHING
         match verb:

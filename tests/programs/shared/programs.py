@@ -77,8 +77,7 @@ def preloading(library, **settings):
 
 
 def as_nobody():
-    """The words that run the program as a user that may not write anywhere, if this user may do
-    so."""
+    """The words that run the program as a user that may not write anywhere, if this user may do so."""
     if os.getuid():
         return ()
     return ("setpriv", "--reuid=65534", "--regid=65534", "--clear-groups")
@@ -98,8 +97,7 @@ def names_in(kind, path):
 
 
 def untried(program, library):
-    """The calls that a program imports, and that the library neither wraps nor lists as left
-    out."""
+    """The calls that a program imports, and that the library neither wraps nor lists as left out."""
     lines = (ROOT / "tests/device/untried").read_text(encoding="ascii").splitlines()
     known = {line.split()[0] for line in lines if not line.startswith("#")}
     return sorted(names_in("undefined", program) - names_in("defined", library) - known)
