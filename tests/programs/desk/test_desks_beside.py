@@ -129,23 +129,6 @@ def test_a_link_that_leads_to_another_state_meanwhile():
         ends_well(asked, 1, NOT_SAVED)
 
 
-def test_another_state_that_comes_just_after_a_save_takes_its_place(overtaking):
-    environment = os.environ | {"LD_PRELOAD": overtaking, "COMING": "coming"}
-    give(state_of("full"))
-    there = give(state_of("full", "tuesday"), "coming")
-    with Desk("--write", "STATE", env=environment) as asked:
-        assert asked.ask("take night") == DONE
-        assert asked.ask("save") == DONE
-        assert held() == there
-        assert asked.ask("take monday") == DONE
-        assert asked.ask("save") == DEVICE
-        assert held() == there
-        assert asked.ask("renew") == DONE
-        assert asked.ask("save") == DONE
-        assert held() == state_of("full", "night", "monday", "tuesday")
-        ends_well(asked)
-
-
 def save_all(desks):
     """Has several desks save at the same time, until each has saved. A desk whose save is refused renews before its next save."""
     waiting = desks

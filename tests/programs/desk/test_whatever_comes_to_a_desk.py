@@ -31,6 +31,6 @@ SUBJECTS = {
 @pytest.mark.usefixtures("given")
 @each("act", TO_STATE | TO_DRAFT)
 @each("subject", SUBJECTS)
-def test_another_program_comes_to_a_desk(meeting, subject, act):
+def test_another_program_comes_to_a_desk(device, subject, act):
     make_room()
-    Coming(meeting, subject, act).is_as_promised()
+    Coming(device, subject, act).is_as_promised()

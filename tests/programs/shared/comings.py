@@ -181,14 +181,14 @@ class Coming:
     """One act of another program, done to one subject. `alone` is the content of the folder if only
     the act is done, and `last` is the content if the act comes after the program."""
 
-    def __init__(self, meeting, subject, act):
-        self.meeting, self.subject, self.act = meeting, subject, act
+    def __init__(self, device, subject, act):
+        self.device, self.subject, self.act = device, subject, act
         self.stored = subject.stores[subject.texts[0]]
         self.alone, self.leads_to, self.is_in_place = subject.left_by(act, subject.texts[0])
         self.last, _, _ = subject.left_by(act, self.stored)
         subject.make(subject.texts[0])
         self.undisturbed = subject.there() | {subject.file: self.stored}
-        self.calls = calls_of(meeting, subject.command, subject.given)
+        self.calls = calls_of(device, subject.command, subject.given)
         assert subject.there() == self.undisturbed
 
     def numbers(self):
@@ -205,7 +205,7 @@ class Coming:
         line = self.subject.line(self.act)
         with open_pipe() as pipe:
             try:
-                found = met(self.meeting, number, line, self.subject.command, self.subject.given)
+                found = met(self.device, number, line, self.subject.command, self.subject.given)
             finally:
                 release()
             self.is_in_pipe = taken_from(pipe)

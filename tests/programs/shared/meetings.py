@@ -1,4 +1,4 @@
-"""Runs something else just before one of a program's calls of the file system (meet.c).
+"""Runs something else just before one of a program's calls of the file system (tests/device).
 
 So the work of another program is tried between any two calls, and doesn't depend on luck."""
 import fcntl
