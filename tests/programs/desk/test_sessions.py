@@ -83,7 +83,7 @@ def session(seed, counts, older=0):
     words = ["--write", "STATE"] if mirror.may_write else ["STATE"]
     with Desk(*words) as asked:
         # The desk has read STATE when its first answer comes.
-        assert asked.ask("files") == mirror.answer("files")
+        mirror.agrees(asked, "files")
         for _ in range(numbers.randrange(1, 15)):
             if numbers.random() < 0.06:
                 put_beside(asked, mirror, numbers.choice(sorted(extracts.GOOD)))

@@ -116,6 +116,19 @@ class Desk:
         self.say(line.encode() + b"\n")
         return self.answer()
 
+    def gives(self, wanted, *lines):
+        """Asks these lines. Each has to get this answer."""
+        for line in lines:
+            same(f"the answer to {line}", self.ask(line), wanted)
+
+    def does(self, *lines):
+        self.gives(DONE, *lines)
+
+    def loses_its_reader(self):
+        """The only reader of the desk's answers goes away."""
+        self.process.stdout.close()
+        self.process.stdout = None
+
     def ended(self):
         """How the desk ends by itself, and what it wrote after its last answer. Its input stays open."""
         source, self.process.stdin = self.process.stdin, None
