@@ -6,7 +6,7 @@ import pytest
 from checks import soon
 from desks import DEVICE, DONE, NOTHING, NOT_SAVED, Desk, desk, docker, written
 from mirror import give_large, reading, state_of
-from programs import DESK, DEVICE_LINE, Ended, give, held, preloading, run
+from programs import DESK, DEVICE_LINE, Ended, give, held, in_turn, preloading, run
 from tables import each
 
 WELL, UNSAVED_END = Ended(0, b"", b""), Ended(1, b"", NOT_SAVED)
@@ -110,16 +110,11 @@ def test_an_output_that_fails_while_changes_are_unsaved():
 })
 def test_an_input_that_fails_while(device, lines, errors):
     """The last read of a session is a read of its input."""
-    before, number, last = state_of("full"), 0, None
-    while True:
-        number += 1
-        give(before)
-        settings = {"CALL": "read", "FAIL_AT": number, "TOLD": "met"}
-        ended = run([*preloading(device, **settings), DESK, "--write", "STATE"], lines)
-        if not os.path.exists("met"):
-            break
-        os.remove("met")
-        last = ended
+    def trial(number):
+        give(state_of("full"))
+        return run([*preloading(device, CALL="read", FAIL_AT=number, TOLD="met"), DESK, "--write", "STATE"], lines)
+
+    *_, (_, last, _), (_, ended, _) = in_turn(trial)
     assert ended.status == (1 if errors == BOTH_LINES else 0)
     assert last == Ended(4, ended.output, errors)
 

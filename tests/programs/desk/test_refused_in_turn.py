@@ -10,7 +10,7 @@ import pytest
 from checks import named
 from desks import DEVICE, MEMORY, NOT_SAVED, answers_in, desk
 from mirror import Mirror, give_large, given
-from programs import DESK, DEVICE_LINE, MEMORY_LINE, Ended, give, held, run, untried
+from programs import DESK, DEVICE_LINE, MEMORY_LINE, Ended, give, held, in_turn, run, untried
 from tables import each
 
 # A session with every request. It saves its changes before it ends, and requests no day that its horizon excludes. So the same session can be run again.
@@ -101,15 +101,14 @@ def refused_growth(ended, before):
 
 @pytest.mark.timeout(600)
 def test_each_growth_of_a_session_is_refused_in_turn(refusing):
-    met, growth = set(), 1
-    while True:
-        before = start()
-        ended = desk_on(refusing, GROWTH=str(growth), REFUSED=here("refused"))
-        if not os.path.exists("refused"):
-            break
+    def trial(growth):
+        return start(), desk_on(refusing, GROWTH=str(growth), REFUSED=here("refused"))
+
+    met = set()
+    for growth, (before, ended), told in in_turn(trial, "refused"):
         with named(f"growth {growth}"):
-            met.add(refused_growth(ended, before))
-        growth += 1
+            if told is not None:
+                met.add(refused_growth(ended, before))
     assert follow(ended, ()).refused == []
     for verb in ("start", "print", "train", "files", "take", "merge", "renew", "save"):
         assert verb in met, f"no growth of {verb} was refused"
@@ -219,19 +218,18 @@ def afterwards(stored):
 
 def at_each_call(device, look, **settings):
     """Runs the session once for each of its calls, with these settings, and checks how it ended."""
-    whole, number = whole_session(), 1
-    while True:
+    def trial(number):
         start()
         at = {name: value or str(number) for name, value in settings.items()}
-        ended = desk_on(device, TOLD=here("met"), WRONG=here("wrong"), **at)
+        return desk_on(device, TOLD=here("met"), WRONG=here("wrong"), **at)
+
+    whole = whole_session()
+    for number, ended, call in in_turn(trial):
         assert not os.path.exists("wrong"), f"at call {number}, what may not be"
-        if not os.path.exists("met"):
-            break
-        call = held("met").decode()
         with named(f"call {number}, {call}"):
-            look(ended, call, whole)
-            afterwards(whole[1])
-        number += 1
+            if call is not None:
+                look(ended, call, whole)
+                afterwards(whole[1])
     assert number > 40, "no call was met"
     assert ended == Ended(0, whole[0], b"")
 

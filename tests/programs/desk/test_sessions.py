@@ -5,6 +5,7 @@ import random
 
 import desk_extracts as extracts
 import pytest
+from checks import named
 from desks import DONE, Desk, desk, docker, written
 from mirror import STATES, Mirror
 from programs import Ended, give, held
@@ -103,10 +104,8 @@ def session(seed, counts, older=0):
 def test_1000_random_sessions():
     counts = {}
     for seed in range(SESSIONS):
-        try:
+        with named(f"session {seed}"):
             session(seed, counts)
-        except AssertionError as found:
-            raise AssertionError(f"session {seed}: {found}") from found
     for verb in WEIGHTS:
         assert (verb, 0) in counts or verb == "nothing", f"no {verb} was done"
     for verb, status in REFUSALS:
@@ -115,10 +114,8 @@ def test_1000_random_sessions():
 
 def test_200_random_sessions_in_which_older_states_come_back():
     for seed in range(200):
-        try:
+        with named(f"session {seed}"):
             session(f"older {seed}", {}, 0.2)
-        except AssertionError as found:
-            raise AssertionError(f"session {seed}: {found}") from found
 
 
 def test_100_random_sessions_each_asked_at_once():

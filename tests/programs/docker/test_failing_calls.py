@@ -6,10 +6,11 @@ import signal
 import stat
 
 import pytest
+from checks import named
 from docker_lines import LINES
 from given import ONE, STATE_OF_BOTH, STATE_OF_ONE, STATE_OF_REVISED, STATES
 from outcomes import DEVICE, DONE, MEMORY, accepted, done, file_refused, prints, stores
-from programs import DOCKER, docker, give, held, preloading, untried
+from programs import DOCKER, docker, give, held, in_turn, preloading, untried
 from tables import each
 
 ACCEPTED = accepted(5, 1)
@@ -86,24 +87,20 @@ class Tried:
 
     def at_each_call(self, device, how, error="EIO"):
         """Runs the command once for each of its calls, and returns the number of calls."""
-        number = 0
-        while True:
-            number += 1
+        def trial(number):
             put_back(self.before)
-            settings = {how: number, "ERROR": error, "TOLD": "met", "WRONG": "wrong"}
-            ended = docker(*self.words, before=preloading(device, **settings))
+            return docker(*self.words, before=preloading(device, **{how: number}, ERROR=error, TOLD="met", WRONG="wrong"))
+
+        for number, ended, call in in_turn(trial):
             assert not os.path.exists("wrong"), f"at call {number}, what may not be"
-            if not os.path.exists("met"):
+            if call is None:
                 return number - 1
-            call = held("met").decode()
-            try:
+            with named(f"call {number}, {call}"):
                 if how == "END_AT":
                     self.look_at_end(ended)
                 else:
                     self.look_at_failure(ended, error, call)
                 self.look_afterwards()
-            except AssertionError as found:
-                raise AssertionError(f"call {number}, {call}: {found}") from found
 
 
 ENDED = {
@@ -145,15 +142,11 @@ def test_each_call_fails(device, words, before, after, wanted, error):
 
 def statuses(device, call, error, before, words):
     """How a command ends if the first call with this name fails, if the second one fails, and so on."""
-    found, number = [], 1
-    while True:
+    def trial(number):
         put_back(before)
-        settings = {"CALL": call, "FAIL_AT": number, "ERROR": error, "TOLD": "met"}
-        ended = docker(*words.split(), before=preloading(device, **settings))
-        if not os.path.exists("met"):
-            return found
-        found.append(ended.status)
-        number += 1
+        return docker(*words.split(), before=preloading(device, CALL=call, FAIL_AT=number, ERROR=error, TOLD="met")).status
+
+    return [status for _, status, met in in_turn(trial) if met]
 
 
 # The program first looks for each standard stream, then opens STATE, the file and the draft. The draft gets its permissions before it is put in place. Its mark

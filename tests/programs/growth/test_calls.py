@@ -6,14 +6,13 @@ what its call promises for this. After that it makes the call again, and prints 
 manage with less memory and print that answer at once. But in each row, at least one growth has to make the call fail."""
 import fcntl
 import os
-import pathlib
 import re
 import subprocess
 import textwrap
 
 import pytest
 from checks import holds, same
-from programs import CALLS, ROOT, preloading, run
+from programs import CALLS, ROOT, in_turn, preloading, run
 from tables import each
 
 CRATE = ROOT / "crates" / "hostile_tests"
@@ -101,15 +100,13 @@ def calls(work):
 def refused_in_turn(calls, library, row):
     """What is printed for a row if the first growth of its call is refused, then if the second is,
     and so on. The last text is from a run that had no growth to refuse."""
-    refused, texts = pathlib.Path("refused").absolute(), []
-    while True:
-        refused.unlink(missing_ok=True)
-        refusing = preloading(library, CALL=1, GROWTH=len(texts) + 1, REFUSED=refused)
+    def trial(growth):
+        refusing = preloading(library, CALL=1, GROWTH=growth, REFUSED=os.path.abspath("refused"))
         ended = run([*refusing, calls], f"{row}\n".encode(), cwd=CRATE / "data")
-        same(f"the status at growth {len(texts) + 1}", ended.status, 0)
-        texts.append(ended.output.decode())
-        if not refused.exists():
-            return texts
+        same(f"the status at growth {growth}", ended.status, 0)
+        return ended.output.decode()
+
+    return [text for _, text, _ in in_turn(trial, "refused")]
 
 
 @each("row", rows())

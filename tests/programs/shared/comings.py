@@ -11,6 +11,7 @@ import pathlib
 import signal
 import typing
 
+from checks import named
 from given import ENTRY, FIRST, ONE, REVISION, SECOND, STATE_OF_BOTH, STATE_OF_ONE, STATE_OF_REVISED
 from meetings import all_that_is_there, calls_of, met
 from outcomes import DEVICE, DONE
@@ -345,10 +346,8 @@ class Coming:
         """Does the act at each call. Returns how many of the outcomes follow each rule or exception."""
         found = []
         for number in self.numbers():
-            try:
+            with named(f"at call {number}"):
                 found.append(self.at(number))
-            except AssertionError as wrong:
-                raise AssertionError(f"at call {number}: {wrong}") from wrong
         return collections.Counter(found)
 
     def is_as_promised(self):

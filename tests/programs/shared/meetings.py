@@ -6,6 +6,7 @@ import itertools
 import os
 import typing
 
+from checks import named
 from programs import Ended, give, held, preloading, run
 
 
@@ -50,10 +51,8 @@ def at_each_call(trial):
     """Calls `trial` with 1, 2, 3 and so on, until it returns None. Returns all that it returned before."""
     found = []
     for number in itertools.count(1):
-        try:
+        with named(f"at call {number}"):
             outcome = trial(number)
-        except AssertionError as wrong:
-            raise AssertionError(f"at call {number}: {wrong}") from wrong
         if outcome is None:
             return found
         found.append(outcome)
@@ -149,10 +148,8 @@ class Losing(typing.NamedTuple):
         numbers = self.numbers(name, first)
         assert len(numbers) > 3
         for number in numbers:
-            try:
+            with named(f"at call {number}"):
                 self.at(number, line)
-            except AssertionError as wrong:
-                raise AssertionError(f"at call {number}: {wrong}") from wrong
 
 
 def is_empty(pipe):

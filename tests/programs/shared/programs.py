@@ -1,4 +1,5 @@
 """Runs the two programs: with limits, on given streams, and with a preloaded library."""
+import itertools
 import os
 import pathlib
 import subprocess
@@ -88,6 +89,19 @@ def build_library(source, target):
     flags = ["-shared", "-fPIC", "-O2", "-o", str(target), str(ROOT / "tests" / source), "-ldl"]
     subprocess.run(["cc", *flags], check=True)
     return str(target)
+
+
+def in_turn(trial, told="met"):
+    """Calls `trial` with 1, 2, 3 and so on, the number of the call or the growth that a preloaded library meets. Yields the number, what `trial` returns, and the text
+    of the file in which the library says what it met. The last text is None, because that run ended before the library met anything."""
+    for number in itertools.count(1):
+        pathlib.Path(told).unlink(missing_ok=True)
+        found, met = trial(number), None
+        if os.path.exists(told):
+            met = held(told).decode()
+        yield number, found, met
+        if met is None:
+            return
 
 
 def names_in(kind, path):
