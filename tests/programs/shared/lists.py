@@ -1,5 +1,5 @@
-"""The answers to `places`, `known` and `train`, by an independent reading of extracts. They have the timing points with the number of schedules that call at each,
-the counts of everything that is live, and the schedule of a UID that runs on a day.
+"""The answers to `places`, `known` and `train`, by an independent reading of extracts. They have the timing points with the number of schedules that call at each.
+They also have the counts of everything that is live, and the schedule of a UID that runs on a day.
 
 It follows docs/FORMATS.md and shares nothing with the program. Files are a tuple of their texts, and a horizon is a date."""
 import datetime
