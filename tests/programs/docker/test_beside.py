@@ -152,37 +152,22 @@ def test_a_take_whose_state(change, wanted):
 # A link is followed: its target is what counts.
 
 
-@pytest.fixture
-def leading(given):
-    """A link to the state."""
-    give(STATE_OF_ONE, "office")
+def leads_elsewhere():
+    os.remove("leading")
+    os.symlink("elsewhere", "leading")
+
+
+@each("change, office", {
+    "leads elsewhere meanwhile": (leads_elsewhere, STATE_OF_ONE),
+    "leads to a file that is written in place": (lambda: in_place(STATE_OF_REVISED), STATE_OF_REVISED),
+    "leads to a file into which another take stored": (takes_revised, STATE_OF_BOTH),
+})
+def test_a_take_by_a_link_that(change, office):
+    """What the changes leave stays: in the link's old target, and in its new one."""
+    for name, text in (("office", STATE_OF_ONE), ("elsewhere", STATE_OF_REVISED)):
+        give(text, name)
+        os.utime(name, ns=(THEN, THEN))
     os.symlink("office", "leading")
-
-
-@pytest.mark.usefixtures("leading")
-def test_a_take_by_a_link_that_leads_elsewhere_meanwhile():
-    """Both states stay: the link's old target and its new target."""
-    give(STATE_OF_REVISED, "elsewhere")
-    stamp = os.stat("office")
-    os.utime("elsewhere", ns=(stamp.st_atime_ns, stamp.st_mtime_ns))
-
-    def leads_elsewhere():
-        os.remove("leading")
-        os.symlink("elsewhere", "leading")
-
-    assert meanwhile("leading", leads_elsewhere) == DEVICE
-    holds_only("office", STATE_OF_ONE)
+    assert meanwhile("leading", change) == DEVICE
+    holds_only("office", office)
     holds_only("elsewhere", STATE_OF_REVISED)
-
-
-@pytest.mark.usefixtures("leading")
-def test_a_take_by_a_link_whose_file_is_written_in_place():
-    assert meanwhile("leading", lambda: in_place(STATE_OF_REVISED)) == DEVICE
-    holds_only("office", STATE_OF_REVISED)
-
-
-@pytest.mark.usefixtures("leading")
-def test_a_take_by_a_link_that_another_take_overtook():
-    """The state that the other command stored stays."""
-    assert meanwhile("leading", takes_revised) == DEVICE
-    holds_only("office", STATE_OF_BOTH)
