@@ -89,6 +89,13 @@ def watched(program):
         yield from {pathlib.Path(rt), *(it for it in (kit / "rt", kit / "rattle", kit.parent / "KIT-ID") if it.exists())}
 
 
+def puts(path, text):
+    """Writes a file as a whole, because another launcher may read it at the same time."""
+    new = path.with_name(f"{path.name}.{os.getpid()}")
+    new.write_text(text, encoding="utf-8")
+    os.replace(new, path)
+
+
 class Record:
     """What is recorded of a program when it is built: the checksum of all from which it was built, its own checksum, and the version of the kit."""
 
@@ -117,8 +124,8 @@ class Record:
         """Records the program, and lists what lib/launch.sh compares with it. The program gets the time at which its sources were first read. So what changes later is
         newer than the program."""
         names = (os.path.relpath(path, ROOT) if path.is_relative_to(ROOT) else str(path) for path in watched(self.program))
-        out(self.program, f"{self.program}.sources").write_text("".join(f"{name}\0" for name in names), encoding="utf-8")
-        self.path.write_text(f"{wanted}\n{self.own_now()}\n{kit}", encoding="utf-8")
+        puts(out(self.program, f"{self.program}.sources"), "".join(f"{name}\0" for name in names))
+        puts(self.path, f"{wanted}\n{self.own_now()}\n{kit}")
         os.utime(out(self.program, self.program), ns=(began, began))
 
 
@@ -333,7 +340,8 @@ def time_now(program):
         began.write_bytes(b"")
         time.sleep(TICK)
         return began.stat().st_mtime_ns
-    return out(program, program).stat().st_mtime_ns
+    built = out(program, program)
+    return built.stat().st_mtime_ns if built.is_file() else 0
 
 
 def main():
