@@ -1,6 +1,7 @@
-"""Proves and builds a program, if it isn't built or is older than one of its sources, and then runs it: `python3 lib/launch.py PROGRAM [WORD..]`.
+"""Proves and builds a program, if it isn't built from its sources as they are now, and then runs it: `python3 lib/launch.py PROGRAM [WORD..]`.
 
 Progress goes to standard error, and the report on each crate to crates/PROGRAM/out/proving/CRATE.log. Status 70 says that the program couldn't be built."""
+import contextlib
 import dataclasses
 import hashlib
 import os
@@ -20,6 +21,8 @@ YOUNG = 60
 # With this many functions or more, a crate is proved by several jobs. In smaller crates, more jobs were slower.
 MANY_FUNCTIONS = 100
 NOT_BUILT = 70
+# The clock of a file system ticks at least this often, in seconds.
+TICK = 0.01
 # The folders of a crate on which its proof depends.
 PARTS = ("src", "specs", "proofs")
 
@@ -72,20 +75,58 @@ def out(crate, *names):
     return ROOT.joinpath("crates", crate, "out", *names)
 
 
-def is_old(program):
-    """Whether a program doesn't exist, or is older than one of its sources."""
-    built = out(program, program)
-    if not os.access(built, os.X_OK):
-        return True
-    at = built.stat().st_mtime_ns
-    return any(path.stat().st_mtime_ns > at for path in (ROOT / "crates.txt", *(path for crate in plan(program) for path in sources(crate))))
+def watched(program):
+    """What lib/launch.sh compares with the program: its sources with their folders, crates.txt, and the files by which the kit is known."""
+    yield ROOT / "crates.txt"
+    for crate in plan(program):
+        folders = [ROOT / "crates" / crate / part for part in PARTS]
+        if not all(path.is_dir() for path in folders):
+            yield ROOT / "crates" / crate
+        yield from (path for folder in folders if folder.is_dir() for path in (folder, *(it for it in folder.rglob("*") if it.is_dir())))
+        yield from sources(crate)
+    if rt := shutil.which("rt"):
+        kit = pathlib.Path(rt).resolve().parent
+        yield from {pathlib.Path(rt), *(it for it in (kit / "rt", kit / "rattle", kit.parent / "KIT-ID") if it.exists())}
 
 
-def lists_sources(program):
-    """Lists the folders that lib/launch.sh compares with the program."""
-    text, path = "".join(f"crates/{crate}/{part}\n" for crate in plan(program) for part in PARTS), out(program, f"{program}.sources")
-    if not path.is_file() or path.read_text(encoding="utf-8") != text:
-        path.write_text(text, encoding="utf-8")
+def puts(path, text):
+    """Writes a file as a whole, because another launcher may read it at the same time."""
+    new = path.with_name(f"{path.name}.{os.getpid()}")
+    new.write_text(text, encoding="utf-8")
+    os.replace(new, path)
+
+
+class Record:
+    """What is recorded of a program when it is built: the checksum of all from which it was built, its own checksum, and the version of the kit."""
+
+    def __init__(self, program):
+        self.program, self.path = program, out(program, f"{program}.built")
+        text = self.path.read_text(encoding="utf-8") if self.path.is_file() else ""
+        self.sum, self.own, self.kit = (text.split("\n", 2) + ["", "", ""])[:3]
+
+    def kit_now(self):
+        """The version of the kit. Without a kit it is the one with which the program was built."""
+        return subprocess.run(["rt", "version"], check=True, capture_output=True, text=True).stdout if shutil.which("rt") else self.kit
+
+    def own_now(self):
+        return hashlib.sha256(out(self.program, self.program).read_bytes()).hexdigest()
+
+    def is_built(self, wanted):
+        """Whether the program was built from what has this checksum. A program that `rt` built has no record; it may not be older than one of its sources."""
+        built = out(self.program, self.program)
+        if not os.access(built, os.X_OK):
+            return False
+        if self.sum:
+            return (self.sum, self.own) == (wanted, self.own_now())
+        return all(path.stat().st_mtime_ns <= built.stat().st_mtime_ns for path in watched(self.program) if path.is_relative_to(ROOT))
+
+    def keeps(self, wanted, kit, began):
+        """Records the program, and lists what lib/launch.sh compares with it. The program gets the time at which its sources were first read. So what changes later is
+        newer than the program."""
+        names = (os.path.relpath(path, ROOT) if path.is_relative_to(ROOT) else str(path) for path in watched(self.program))
+        puts(out(self.program, f"{self.program}.sources"), "".join(f"{name}\0" for name in names))
+        puts(self.path, f"{wanted}\n{self.own_now()}\n{kit}")
+        os.utime(out(self.program, self.program), ns=(began, began))
 
 
 def checksums(kit, cites):
@@ -117,11 +158,10 @@ class Proving:
     """The proof of a program's crates, in lanes. A lane is a folder in which one check runs at a time. The first lane is the checkout. While `rt` checks a crate, it locks
     the folders of this crate and of all crates below it. So the other lanes are copies."""
 
-    def __init__(self, program):
+    def __init__(self, program, sums):
         self.program, self.logs, self.began = program, out(program, "proving"), time.monotonic()
         self.lanes, self.running, self.proved_in = [ROOT], [], {}
-        self.cites = plan(program)
-        self.sums = checksums(subprocess.run(["rt", "version"], check=True, capture_output=True, text=True).stdout, self.cites)
+        self.cites, self.sums = plan(program), sums
         self.proved = {crate for crate in self.cites if self.was_proved(crate)}
         self.waiting = [crate for crate in self.cites if crate not in self.proved]
 
@@ -272,15 +312,11 @@ def raises(number, _):
     raise Stopped(number)
 
 
-def builds(program):
-    """Proves and builds a program."""
+def builds(program, sums):
+    """Proves and builds a program from sources with these checksums."""
     if shutil.which("rt") is None:
         raise NotBuilt("the program isn't built, and the kit's command rt isn't on the PATH to prove and build it")
-    # The program gets the time at which its build began. So a source that changes during the build is newer than the program.
-    began = out(program, "proving", "began")
-    began.parent.mkdir(parents=True, exist_ok=True)
-    began.write_bytes(b"")
-    proving = Proving(program)
+    proving = Proving(program, sums)
     # A signal that was ignored when the launcher began stays so.
     signals = [it for it in (signal.SIGINT, signal.SIGTERM, signal.SIGHUP) if signal.getsignal(it) != signal.SIG_IGN]
     for it in signals:
@@ -293,19 +329,35 @@ def builds(program):
             signal.signal(it, signal.SIG_IGN)
         proving.stops()
         sys.exit(128 + found.args[0])
-    at = began.stat().st_mtime_ns
-    os.utime(out(program, program), ns=(at, at))
+
+
+def time_now(program):
+    """The time by the clock of the file system. What changes after this has a later time. A user who may not write there gets the time of the program."""
+    began = out(program, "proving", "began")
+    with contextlib.suppress(PermissionError):
+        for folder in (*map(out, plan(program)), began.parent):
+            folder.mkdir(parents=True, exist_ok=True)
+        began.write_bytes(b"")
+        time.sleep(TICK)
+        return began.stat().st_mtime_ns
+    built = out(program, program)
+    return built.stat().st_mtime_ns if built.is_file() else 0
 
 
 def main():
     program = sys.argv[1]
+    record, began = Record(program), time_now(program)
+    kit = record.kit_now()
+    sums = checksums(kit, plan(program))
     try:
-        if is_old(program):
-            builds(program)
+        if not record.is_built(sums[program]):
+            builds(program, sums)
     except NotBuilt as found:
         say(str(found))
         sys.exit(NOT_BUILT)
-    lists_sources(program)
+    # A user who may not write here runs the program all the same.
+    with contextlib.suppress(PermissionError):
+        record.keeps(sums[program], kit, began)
     # Python ignores these, and the program would too.
     for it in (signal.SIGPIPE, signal.SIGXFSZ):
         signal.signal(it, signal.SIG_DFL)

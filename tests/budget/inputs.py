@@ -1,5 +1,4 @@
-"""The extract, the updates and the states with which the budget is measured. They are the same on
-every machine."""
+"""The extract, the updates and the states with which the budget is measured. They are the same on every machine."""
 import pathlib
 import subprocess
 
@@ -16,8 +15,7 @@ HORIZON = "2024-05-01"
 HUB = "ASHFELD"
 # The identity of each train that an overlay alters.
 OVERLAID = "1X99"
-# How the text of a state begins: with the mark and the horizon in the new format, and with the mark
-# in the older one.
+# How the text of a state begins: with the mark and the horizon in the new format, and with the mark in the older one.
 MARK, OLD_MARK = b"DKS2\0\0", b"DKS1"
 # A file's date and time, two bytes each: 2005-09-26 and 01:05.
 LONG_AGO = (16705).to_bytes(2, "big") + (65).to_bytes(2, "big")
@@ -58,8 +56,7 @@ def route(number):
 
 
 def journey(number, salt):
-    """The locations of a train. One train in ten has a change en route. Some trains run past
-    midnight."""
+    """The locations of a train. One train in ten has a change en route. Some trains run past midnight."""
     at, time = route(number), 2 * mixed(number, salt, 1400)
     lines = [records.origin(at[0], clock(time), "1", "FL")]
     for stop, place in enumerate(at[1:-1]):
@@ -79,14 +76,12 @@ def base(number, salt=8, transaction="N"):
     days = ("1111100", "1111111", "0000011", "1111110")[mixed(number, 10, 4)]
     train = identity_of(number)
     extra = records.record("BX         NTY") if number % 2 else ""
-    return (records.basic(transaction, uid_of(number), "231210", last, days, train)
-            + extra + journey(number, salt))
+    return records.basic(transaction, uid_of(number), "231210", last, days, train) + extra + journey(number, salt)
 
 
 def overlay(number, transaction="N"):
     first, last = f"2406{1 + mixed(number, 12, 15):02}", f"2406{16 + mixed(number, 12, 15):02}"
-    schedule = records.basic(
-        transaction, uid_of(number), first, last, "1111111", OVERLAID, stp="O")
+    schedule = records.basic(transaction, uid_of(number), first, last, "1111111", OVERLAID, stp="O")
     return schedule + journey(number, 13)
 
 
@@ -116,8 +111,7 @@ def full():
 
 
 def update(date, reference, turn):
-    """An update that changes some places, some associations, and the schedules of every twentieth
-    UID."""
+    """An update that changes some places, some associations, and the schedules of every twentieth UID."""
     parts = [records.header(date, reference)]
     for number in range(20 + turn, 50, 3):
         new = place_of(number).replace("X", "Y") if number % 2 else ""
@@ -141,20 +135,16 @@ def item(number):
 
 
 def ledger(first):
-    """The text of a state without entries. Its files have every second number, starting with
-    `first`."""
+    """The text of a state without entries. Its files have every second number, starting with `first`."""
     items = [item(first + 2 * number) for number in range(LEDGER)]
     return MARK + LEDGER.to_bytes(8, "big") + b"".join(items) + bytes(8)
 
 
 def endless():
-    """Texts of states that are cut short. In each, one count is far too great; the text's name is
-    that count."""
+    """Texts of states that are cut short. In each, one count is far too great; the text's name is that count."""
     one = MARK + (1).to_bytes(8, "big") + item(0)
     stamp = item(0)[:11] + (2).to_bytes(4, "big")
-    places = b"".join(
-        b"\1" + place_of(number).encode() + stamp + b"\1" + b" " * 63 for number in range(1, 600)
-    )
+    places = b"".join(b"\1" + place_of(number).encode() + stamp + b"\1" + b" " * 63 for number in range(1, 600))
     lines = records.basic("N", "C00001", "600101", "991231", "1111111")
     lines += records.origin(HUB, "0900") + 599 * records.passes(HUB, "0900 ")
     key = b"C00001" + bytes(2) + b"P"

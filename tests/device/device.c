@@ -1,5 +1,8 @@
-// Preloaded into the program. It wraps system calls and counts them from 1. If CALL names one of
-// them, only the calls with that name are counted.
+// Preloaded into a program. It wraps system calls and counts them from 1. If CALL names one of
+// them, END_AT and FAIL_AT count only the calls with that name.
+//   CALLS=FILE   writes a line for each call to this file: its name, and the names of its files
+//   MEET_AT=N    the shell runs the line in MEET just before call N. The file that CALLS names gets
+//                a line `met` with the shell's status
 //   END_AT=N     kills the program at call N; if the call is a write, after half of it
 //   FAIL_AT=N    makes call N fail, with EIO or the error that ERROR names
 //   INTERRUPT=1  interrupts each read and each write once before it moves a byte
@@ -17,11 +20,13 @@
 #include <fcntl.h>
 #include <signal.h>
 #include <stdarg.h>
+#include <stdio.h>
 #include <stdlib.h>
 #include <string.h>
 #include <sys/file.h>
 #include <sys/stat.h>
 #include <sys/syscall.h>
+#include <sys/wait.h>
 #include <unistd.h>
 
 #define NEXT(name) ((__typeof__(&name))dlsym(RTLD_NEXT, #name))
@@ -32,13 +37,40 @@ enum { FOLLOWED = 64 };
 static long calls;
 static char is_unflushed[FOLLOWED], is_at_end[FOLLOWED];
 
-// Makes the file that a variable names, with this text, without any wrapped call.
-static void make(const char *variable, const char *text) {
+// Writes a text to the file that a variable names, without any wrapped call.
+static void put(const char *variable, int how, const char *text) {
   const char *name = getenv(variable);
   if (!name) return;
-  int fd = syscall(SYS_openat, AT_FDCWD, name, O_CREAT | O_TRUNC | O_WRONLY, 0600);
+  int fd = syscall(SYS_openat, AT_FDCWD, name, O_CREAT | O_WRONLY | how, 0600);
   syscall(SYS_write, fd, text, strlen(text));
   syscall(SYS_close, fd);
+}
+
+// Makes the file that a variable names, with this text.
+static void make(const char *variable, const char *text) { put(variable, O_TRUNC, text); }
+
+// Writes a line to the file that CALLS names.
+static void note(const char *format, ...) {
+  char line[12288];
+  va_list parts;
+  va_start(parts, format);
+  vsnprintf(line, sizeof line, format, parts);
+  va_end(parts);
+  put("CALLS", O_APPEND, line);
+}
+
+// Records a call. If it is the call in MEET_AT, runs the shell first.
+static void meet(const char *call, const char *first, const char *second) {
+  static long count;
+  const char *at = getenv("MEET_AT");
+  int error = errno;
+  if (!at) return;
+  if (++count == atol(at)) {
+    unsetenv("LD_PRELOAD");
+    note("met %d\n", WEXITSTATUS(system(getenv("MEET"))));
+  }
+  note("%s %s %s\n", call, first, second);
+  errno = error;
 }
 
 // Whether this variable has the number of the current call.
@@ -80,7 +112,12 @@ static int meets(enum fate fate) {
   return fate == FAILS;
 }
 
-static int fails(const char *call) { return meets(fate_of(call)); }
+static int fails_at(const char *call, const char *first, const char *second) {
+  meet(call, first, second);
+  return meets(fate_of(call));
+}
+
+static int fails(const char *call) { return fails_at(call, "", ""); }
 
 // Whether this read or write is interrupted. Every second read or write is.
 static int is_interrupted(const char *call) {
@@ -121,6 +158,7 @@ ssize_t write(int fd, const void *from, size_t size) {
   if (is_interrupted("write")) return -1;
   if (size == 0) make("WRONG", "write");
   mark_unflushed(fd, 1);
+  meet("write", "", "");
   enum fate fate = fate_of("write");
   if (fate == ENDS) NEXT(write)(fd, from, size / 2);
   return meets(fate) ? -1 : NEXT(write)(fd, from, written_of(size));
@@ -134,7 +172,8 @@ int open(const char *path, int flags, ...) {
   va_start(more, flags);
   mode_t mode = flags & O_CREAT ? va_arg(more, mode_t) : 0;
   va_end(more);
-  if (fails("open")) return -1;
+  meet(flags & O_CREAT ? "create" : "open", path, "");
+  if (meets(fate_of("open"))) return -1;
   int fd = NEXT(open)(path, flags, mode);
   if (fd >= 0 && fd <= STDERR_FILENO && strcmp(path, "/")) make("WRONG", "open");
   mark_end(fd, 0);
@@ -143,15 +182,15 @@ int open(const char *path, int flags, ...) {
 }
 
 int close(int fd) {
-  int closed = NEXT(close)(fd);
-  return fails("close") ? -1 : closed;
+  int is_failed = fails("close"), closed = NEXT(close)(fd);
+  return is_failed ? -1 : closed;
 }
 
 int statx(int folder, const char *restrict path, int flags, unsigned mask, struct statx *restrict into) {
-  return fails("statx") ? -1 : NEXT(statx)(folder, path, flags, mask, into);
+  return fails_at("statx", path, "") ? -1 : NEXT(statx)(folder, path, flags, mask, into);
 }
 
-char *realpath(const char *restrict path, char *restrict into) { return fails("realpath") ? NULL : NEXT(realpath)(path, into); }
+char *realpath(const char *restrict path, char *restrict into) { return fails_at("realpath", path, "") ? NULL : NEXT(realpath)(path, into); }
 
 int fchmod(int fd, mode_t mode) { return fails("fchmod") ? -1 : NEXT(fchmod)(fd, mode); }
 
@@ -173,16 +212,16 @@ int ftruncate(int fd, off_t size) { return fails("ftruncate") ? -1 : NEXT(ftrunc
 
 int rename(const char *from, const char *to) {
   if (memchr(is_unflushed, 1, FOLLOWED)) make("WRONG", "rename");
-  return fails("rename") ? -1 : NEXT(rename)(from, to);
+  return fails_at("rename", from, to) ? -1 : NEXT(rename)(from, to);
 }
 
-int unlink(const char *path) { return fails("unlink") ? -1 : NEXT(unlink)(path); }
+int unlink(const char *path) { return fails_at("unlink", path, "") ? -1 : NEXT(unlink)(path); }
 
 int link(const char *from, const char *to) {
   if (memchr(is_unflushed, 1, FOLLOWED)) make("WRONG", "link");
-  return fails("link") ? -1 : NEXT(link)(from, to);
+  return fails_at("link", from, to) ? -1 : NEXT(link)(from, to);
 }
 
 ssize_t readlink(const char *restrict path, char *restrict into, size_t size) {
-  return fails("readlink") ? -1 : NEXT(readlink)(path, into, size);
+  return fails_at("readlink", path, "") ? -1 : NEXT(readlink)(path, into, size);
 }

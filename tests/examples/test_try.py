@@ -26,7 +26,7 @@ def test_a_command_that_writes_a_state(tmp_path, words):
 
 @pytest.mark.timeout(3600)
 def test_the_first_command_of_readme():
-    """Takes a minute or two, since it compiles the program."""
+    """Takes a few minutes, since it compiles the program."""
     shown = re.search(FIRST, (ROOT / "README.md").read_text(encoding="utf-8"), re.M | re.S)[1]
     ended = tries("day", "full.cif", "ASHFELD", "2024-06-12")
     assert (ended.returncode, ended.stdout) == (0, shown), ended.stderr

@@ -68,9 +68,10 @@ class Tree:
         (desk / "data" / "a state").touch()
         (desk / "args").write_text("--write\na state\nno file\n", encoding="utf-8")
         (desk / "stdin").write_text("files\n", encoding="utf-8")
-        (folder / "bin").mkdir()
-        (folder / "bin" / "rt").write_text(RT, encoding="utf-8")
-        (folder / "bin" / "rt").chmod(0o755)
+        for name, text in (("rt", RT), ("rattle", "")):
+            (folder / "bin").mkdir(exist_ok=True)
+            (folder / "bin" / name).write_text(text, encoding="utf-8")
+            (folder / "bin" / name).chmod(0o755)
         self.has_memory(MUCH)
 
     def source(self, crate):
@@ -96,6 +97,13 @@ class Tree:
         ended = subprocess.run([self.folder / program, "day", "x"], env=self.environment(**environment), stdin=subprocess.DEVNULL, capture_output=True, text=True, check=False)
         assert (ended.returncode, ended.stdout) == (status, "" if status else "day x\n"), ended.stderr
         return ended.stderr
+
+    def runs_at_once(self, program, **environment):
+        """The next launch runs the program without lib/launch.py."""
+        script = self.folder / "lib" / "launch.py"
+        script.rename(self.folder / "aside")
+        self.launch(program, **environment)
+        (self.folder / "aside").rename(script)
 
     def events(self):
         """The pairs of a word, `begin`, `end` or `old`, and a crate."""
@@ -194,11 +202,104 @@ def test_a_source_that_changes_during_the_build(tree):
     assert tree.events() == []
 
 
-def test_with_another_kit_all_is_asked(tree):
+# Ways in which what a program is built from changes. Each has a line of the shell in the folder of a crate, in which `src/old.rt` is a file with a time long ago.
+CHANGES = {
+    "a source is written": "echo '// changed' >>src/lib.rt",
+    "a source is written, and gets its old time back": "touch -r src/lib.rt at; echo '// changed' >>src/lib.rt; touch -r at src/lib.rt; rm at",
+    "another source with its time takes its place": "cp -p src/lib.rt new; echo '// changed' >>new; touch -r src/lib.rt new; mv new src/lib.rt",
+    "a source is removed": "rm src/old.rt",
+    "a source gets another name": "mv src/old.rt src/new.rt",
+    "a source with an old time is put there": "cp -p src/old.rt new && mv new src/new.rt",
+    "a source in a new folder is put there": "cp -p src/old.rt new && mkdir src/part && mv new src/part/new.rt",
+    "a definition is written": "echo '-- changed' >>specs/Deep/Lib.antt",
+    "a proof with an old time is put there": "touch -r src/old.rt new.antt && mv new.antt proofs/",
+    "a first proof is put there, where there was no folder": "mkdir ../desk/proofs && touch -r src/old.rt ../desk/proofs/Lib.antt",
+}
+
+
+@pytest.mark.parametrize("line", CHANGES.values(), ids=CHANGES)
+def test_what_changes_is_noticed(tree, line):
+    """The crate and those above it are asked, and then no more. Long before, nothing else changes."""
+    folder = tree.folder / "crates" / "docker_train"
+    for name in ("src/old.rt", "specs/Deep/Lib.antt", "proofs/Lib.antt"):
+        (folder / name).parent.mkdir(parents=True, exist_ok=True)
+        (folder / name).touch()
+    for path in (folder / "src").iterdir():
+        os.utime(path, (1, 1))
     tree.launch("desk")
-    tree.program("desk").unlink()
+    tree.runs_at_once("desk")
+    subprocess.run(["sh", "-ec", line], cwd=folder, check=True)
+    tree.launch("desk")
+    assert tree.crates("begin") == ({it for it in below("desk") if "docker_train" in below(it)} if "desk" not in line else {"desk"})
+    tree.runs_at_once("desk")
+
+
+def test_a_list_of_crates_that_changes_is_noticed(tree):
+    tree.launch("desk")
+    listed = tree.folder / "crates.txt"
+    text = listed.read_text(encoding="utf-8")
+    listed.write_text(re.sub(r"^(docker_train:.*)$", r"\1 another", text, flags=re.M), encoding="utf-8")
+    tree.launch("desk")
+    assert tree.crates("begin") == {it for it in below("desk") if "docker_train" in below(it)}
+    tree.runs_at_once("desk")
+
+
+@pytest.mark.parametrize("name", ["rt", "rattle"])
+def test_with_another_kit_all_is_asked(tree, name):
+    tree.launch("desk")
+    (tree.folder / "bin" / name).touch()
     tree.launch("desk", KIT="another kit")
     assert tree.crates("begin") == below("desk")
+    tree.runs_at_once("desk")
+
+
+def test_what_is_as_it_was_is_not_asked_again(tree):
+    """A source that is written with the same text, or another copy of the checkout. The program runs at once the next time."""
+    tree.launch("desk")
+    os.utime(tree.source("docker_train"))
+    tree.launch("desk")
+    assert tree.events() == []
+    tree.runs_at_once("desk")
+    shutil.copytree(tree.folder / "crates", tree.folder / "copy")
+    shutil.rmtree(tree.folder / "crates")
+    (tree.folder / "copy").rename(tree.folder / "crates")
+    tree.launch("desk")
+    assert tree.events() == []
+    tree.runs_at_once("desk")
+
+
+def test_without_a_kit_what_is_built_runs(tree):
+    tree.launch("desk")
+    (tree.folder / "bin" / "rt").unlink()
+    bare = {"PATH": "/usr/bin:/bin"}
+    tree.launch("desk", **bare)
+    tree.runs_at_once("desk", **bare)
+    tree.changes("docker_train")
+    assert tree.launch("desk", 70, **bare) == "desk: the program isn't built, and the kit's command rt isn't on the PATH to prove and build it\n"
+
+
+def test_a_program_that_something_else_built_from_other_sources(tree):
+    """The sources are put back afterwards, but the program isn't from them."""
+    tree.launch("desk")
+    tree.program("desk").write_text("#!/bin/sh\necho another\n", encoding="utf-8")
+    time.sleep(0.1)
+    os.utime(tree.source("desk"))
+    tree.launch("desk")
+    tree.runs_at_once("desk")
+
+
+def test_a_program_that_rt_built_runs(tree):
+    """There is no record of it, and no source is newer."""
+    tree.launch("desk")
+    for change in ("", "// changed\n"):
+        for name in ("desk.built", "desk.sources"):
+            (tree.program("desk").parent / name).unlink()
+        tree.program("desk").touch()
+        time.sleep(0.1)
+        tree.changes("docker_train", change)
+        tree.launch("desk")
+        assert ("docker_train" in tree.crates("begin")) == bool(change)
+        tree.runs_at_once("desk")
 
 
 def test_what_is_proved_in_a_copy_is_kept(tree):

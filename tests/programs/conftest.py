@@ -29,15 +29,8 @@ def work():
 
 @pytest.fixture(scope="session")
 def device(work):
-    """The library that makes a system call fail, kills the program at it, or interrupts it."""
+    """The library that makes a system call fail, kills the program at it or interrupts it, or runs something else just before it."""
     return programs.build_library("device/device.c", work / "device.so")
-
-
-@pytest.fixture(scope="session")
-def meeting(work):
-    """The library that runs something else just before one of the program's calls of the file
-    system."""
-    return programs.build_library("programs/meet.c", work / "meet.so")
 
 
 @pytest.fixture(scope="session")

@@ -4,7 +4,7 @@ import shutil
 import desk_extracts as extracts
 import mirror
 import pytest
-from programs import build_library, give
+from programs import give
 
 
 @pytest.fixture(scope="session")
@@ -26,9 +26,3 @@ def given(folder, given_files):
     shutil.copytree(given_files, folder, dirs_exist_ok=True)
     # The folder has the permissions of the folder that was copied.
     folder.chmod(0o755)
-
-
-@pytest.fixture(scope="session")
-def overtaking(work):
-    """The library that puts another file in STATE's place just after a save."""
-    return build_library("programs/desk/overtake.c", work / "overtake.so")

@@ -5,28 +5,24 @@ import subprocess
 
 import desk_extracts as extracts
 import records
-from desks import (
-    DAY_REFUSED, DEVICE, DONE, MEMORY, NOTHING, Answer, Desk, desk, docker, ends_well, written,
-)
-from mirror import BAD_STATES, WRITING_LINES, Mirror, bad_states, give_large, state_of
-from programs import give, held, in_memory
+from desks import DAY_REFUSED, DEVICE, DONE, MEMORY, NOTHING, Answer, Desk, desk, docker, ends_well, written
+from lists import train_text
+from mirror import BAD_STATES, WRITING_LINES, bad_states, give_large, give_taken, mirrored, reading, state_of, writing
+from programs import Ended, give, held, in_memory
 from tables import each
 
 PLACE_DAYS = [
-    ("ASHFELD", "2024-06-12"), ("BRAYTON", "2024-06-13"), ("CORHAM", "2024-06-10"),
-    ("NOWHERE", "2024-06-12"), ("ASHFELD", "2024-06-30"), ("ASHFELD", "1960-01-01"),
-    ("ASHFELD", "2059-12-31"),
+    ("ASHFELD", "2024-06-12"), ("BRAYTON", "2024-06-13"), ("CORHAM", "2024-06-10"), ("NOWHERE", "2024-06-12"), ("ASHFELD", "2024-06-30"),
+    ("ASHFELD", "1960-01-01"), ("ASHFELD", "2059-12-31"),
 ]
 
 
 def test_print_answers_as_docker_print_does():
-    give(state_of("full", "monday"))
-    with Desk("STATE") as asked:
+    with reading("full", "monday") as asked:
         for place, date in PLACE_DAYS:
             wanted = docker("print", "STATE", place, date)
             assert wanted.status == 0, f"status for {place} {date}"
             assert asked.ask(f"print {place} {date}") == wanted, f"{place} {date}"
-        ends_well(asked)
 
 
 @each("uid, date, wanted", {
@@ -41,17 +37,13 @@ def test_print_answers_as_docker_print_does():
     "a UID of other characters": ("-~!#$%", "2024-06-12", "  NONE "),
 })
 def test_train_answers_by_formats(uid, date, wanted):
-    give(state_of("full", "monday"))
-    files = (extracts.GOOD["full"], extracts.GOOD["monday"])
-    text = extracts.train_text(files, uid, date)
+    text = train_text((extracts.GOOD["full"], extracts.GOOD["monday"]), uid, date)
     assert text[26:26 + len(wanted)] == wanted.encode()
-    with Desk("STATE") as asked:
+    with reading("full", "monday") as asked:
         assert asked.ask(f"train {uid} {date}") == Answer(0, text)
-        ends_well(asked)
 
 
 def test_train_to_the_letter():
-    give(state_of("full"))
     lines = [
         "TRAIN  A00002  2024-06-14 P RUNS      2024-06-09 2100 DFROC1B         15        ",
         "BSNA000022401019999991111100 POO2B20                                           P",
@@ -60,103 +52,77 @@ def test_train_to_the_letter():
         "LTBRAYTON 1030 10302                                                            ",
         "END                                                                             ",
     ]
-    with Desk("STATE") as asked:
-        answer = asked.ask("train A00002 2024-06-14")
-    assert answer == Answer(0, "".join(f"{line}\n" for line in lines).encode())
+    with reading("full") as asked:
+        assert asked.ask("train A00002 2024-06-14") == Answer(0, "".join(f"{line}\n" for line in lines).encode())
 
 
 def test_a_revision_is_kept_as_a_new_schedule():
-    give(state_of("full", "tuesday"))
-    files = (extracts.GOOD["full"], extracts.GOOD["tuesday"])
-    text = extracts.train_text(files, "A00002", "2024-06-14")
+    text = train_text((extracts.GOOD["full"], extracts.GOOD["tuesday"]), "A00002", "2024-06-14")
     assert text[81:90] == b"BSNA00002"
-    with Desk("STATE") as asked:
+    with reading("full", "tuesday") as asked:
         assert asked.ask("train A00002 2024-06-14") == Answer(0, text)
 
 
-@each("names", {
-    "no file": (), "one file": ("full",), "three files": ("full", "monday", "night"),
-})
+@each("names", {"no file": (), "one file": ("full",), "three files": ("full", "monday", "night")})
 def test_files_answers_as_docker_files_does(names):
-    give(state_of(*names))
-    with Desk("STATE") as asked:
+    with reading(*names) as asked:
         assert asked.ask("files") == docker("files", "STATE")
-        ends_well(asked)
 
 
 def test_each_change_is_seen_at_once_is_in_state_after_save_and_not_before():
-    mirror = Mirror("full")
-    give(mirror.stored)
-    with Desk("--write", "STATE") as asked:
+    with mirrored("full") as (asked, mirror):
         for change in ("take monday", "merge second.state", "horizon 2024-06-11"):
             assert asked.ask(change) == mirror.answer(*change.split()), change
-            for line in ("files", "print ASHFELD 2024-06-16", "train A00001 2024-06-16"):
-                assert asked.ask(line) == mirror.answer(*line.split())
+            mirror.agrees(asked, "files", "print ASHFELD 2024-06-16", "train A00001 2024-06-16")
         assert held() == mirror.stored
-        assert asked.ask("save") == DONE
-        mirror.answer("save")
+        mirror.agrees(asked, "save")
         assert held() == mirror.stored
         assert mirror.stored != state_of("full"), "the changes changed something"
-        ends_well(asked)
 
 
 def test_renew_joins_what_state_holds_and_loses_nothing():
-    mirror = Mirror("full")
-    give(mirror.stored)
-    with Desk("--write", "STATE") as asked:
-        assert asked.ask("take night") == mirror.answer("take", "night")
+    with mirrored("full") as (asked, mirror):
+        mirror.agrees(asked, "take night")
         assert docker("take", "STATE", "monday") == DONE
         mirror.take_beside("monday")
-        for line in ("files", "renew", "files", "print ASHFELD 2024-06-12"):
-            assert asked.ask(line) == mirror.answer(*line.split()), line
+        mirror.agrees(asked, "files", "renew", "files", "print ASHFELD 2024-06-12")
         assert asked.ask("files").text.count(b"\n") == 3
-        ends_well(asked, *mirror.end())
 
 
 def test_renew_of_a_desk_that_only_reads():
-    give(state_of("full"))
-    with Desk("STATE") as asked:
+    with reading("full") as asked:
         before = asked.ask("files")
         assert docker("take", "STATE", "monday") == DONE
         assert asked.ask("files") == before
-        assert asked.ask("renew") == DONE
+        asked.does("renew")
         assert asked.ask("files") == docker("files", "STATE")
-        ends_well(asked)
 
 
 @each("name", list(extracts.BAD))
 def test_a_file_that_is_refused_changes_nothing(name):
     cause = extracts.BAD[name][1]
-    give(state_of("full", "monday"))
-    with Desk("--write", "STATE") as asked:
+    with writing("full", "monday") as asked:
         before = asked.ask("files"), asked.ask("print ASHFELD 2024-06-12")
         wanted = Answer(1, f"docker: file refused: {cause}\n".encode())
-        assert asked.ask(f"take {name}") == wanted
-        assert docker("take", "STATE", name) == wanted
-        after = asked.ask("files"), asked.ask("print ASHFELD 2024-06-12")
-        assert after == before
-        ends_well(asked)
+        assert asked.ask(f"take {name}") == docker("take", "STATE", name) == wanted
+        assert (asked.ask("files"), asked.ask("print ASHFELD 2024-06-12")) == before
 
 
 @each("name", BAD_STATES)
 def test_a_state_that_is_refused_is_not_merged(name):
     give(bad_states()[name], "other")
-    give(state_of("monday"))
-    with Desk("--write", "STATE") as asked:
+    with writing("monday") as asked:
         before = asked.ask("files"), asked.ask("print ASHFELD 2024-06-12")
         wanted = docker("merge", "STATE", "other")
         assert wanted.status == 1
         assert asked.ask("merge other") == wanted
-        after = asked.ask("files"), asked.ask("print ASHFELD 2024-06-12")
-        assert after == before
-        ends_well(asked)
+        assert (asked.ask("files"), asked.ask("print ASHFELD 2024-06-12")) == before
 
 
 @each("name", BAD_STATES)
 def test_renew_refuses_a_state_that_is_none_now(name):
-    good = give(state_of("full"))
-    with Desk("--write", "STATE") as asked:
-        before = asked.ask("files")
+    with writing("full") as asked:
+        before, good = asked.ask("files"), held()
         bad = give(bad_states()[name])
         wanted = docker("files", "STATE")
         assert wanted.status == 1
@@ -165,100 +131,74 @@ def test_renew_refuses_a_state_that_is_none_now(name):
         assert asked.ask("save") == DEVICE
         assert held() == bad
         give(good)
-        assert asked.ask("renew") == DONE
-        assert asked.ask("save") == DONE
-        ends_well(asked)
+        asked.does("renew", "save")
 
 
 def test_files_that_cannot_be_opened_or_read():
     os.mkdir("folder")
-    give(state_of("full"))
-    with Desk("--write", "STATE") as asked:
+    with writing("full") as asked:
         for line in ("take missing", "take folder", "merge missing", "merge folder", "take full/"):
             assert asked.ask(line) == DEVICE, line
             assert docker(line.split()[0], "STATE", line.split()[1]) == DEVICE, f"{line}, by docker"
         assert asked.ask("files") == docker("files", "STATE")
         os.remove("STATE")
-        assert asked.ask("renew") == DEVICE
-        assert asked.ask("save") == DEVICE
+        asked.gives(DEVICE, "renew", "save")
         assert not os.path.exists("STATE"), "save made a STATE"
-        ends_well(asked)
 
 
 def test_days_before_the_horizon_are_refused():
-    give(state_of("full", horizon="2024-06-10"))
-    with Desk("STATE") as asked:
+    with reading("full", horizon="2024-06-10") as asked:
         for date in ("2024-06-09", "2024-06-10", "2024-06-11", "2024-06-12"):
             assert asked.ask(f"print ASHFELD {date}") == DAY_REFUSED, f"print {date}"
             assert docker("print", "STATE", "ASHFELD", date) == DAY_REFUSED
         assert asked.ask("print ASHFELD 2024-06-13").status == 0
         assert asked.ask("train A00001 2024-06-09") == DAY_REFUSED
-        text = extracts.train_text((extracts.GOOD["full"],), "A00001", "2024-06-10")
+        text = train_text((extracts.GOOD["full"],), "A00001", "2024-06-10")
         assert asked.ask("train A00001 2024-06-10") == Answer(0, text)
-        ends_well(asked)
 
 
 def test_a_lower_horizon_changes_nothing():
-    mirror = Mirror("full", horizon="2024-06-10")
-    give(mirror.stored)
-    with Desk("--write", "STATE") as asked:
-        for line in ("horizon 2024-06-01", "print ASHFELD 2024-06-12", "save"):
-            assert asked.ask(line) == mirror.answer(*line.split()), line
+    with mirrored("full", horizon="2024-06-10") as (asked, mirror):
+        mirror.agrees(asked, "horizon 2024-06-01", "print ASHFELD 2024-06-12", "save")
         assert held() == state_of("full", horizon="2024-06-10")
 
 
 def test_a_desk_without_write_writes_nothing():
-    before = give(state_of("full"))
-    stamp = os.stat("STATE")
-    with Desk("STATE") as asked:
-        for line in WRITING_LINES:
-            assert asked.ask(line) == NOTHING, line
+    with reading("full") as asked:
+        stamp = os.stat("STATE")
+        asked.gives(NOTHING, *WRITING_LINES)
         assert asked.ask("files") == docker("files", "STATE")
-        ends_well(asked)
-    assert held() == before
+    assert held() == state_of("full")
     now = os.stat("STATE")
     assert (now.st_ino, now.st_mtime_ns) == (stamp.st_ino, stamp.st_mtime_ns)
 
 
 def test_files_are_named_by_all_that_follows_spaces_too():
-    mirror = Mirror()
-    give(mirror.stored)
-    lines = {
-        "take my file": "my file", "  take   my file ": "my file ", "take    full": "full",
-        "take ./monday": "monday",
-    }
-    with Desk("--write", "STATE") as asked:
+    lines = {"take my file": "my file", "  take   my file ": "my file ", "take    full": "full", "take ./monday": "monday"}
+    with mirrored() as (asked, mirror):
         for line, name in lines.items():
             assert asked.ask(line) == mirror.answer("take", name), line
-            assert asked.ask("files") == mirror.answer("files")
-        for line in ("take my  file", "take full ", "merge monday.state ", "take 'my file'"):
-            assert asked.ask(line) == DEVICE, line
-        assert asked.ask("merge  second.state") == mirror.answer("merge", "second.state")
-        assert asked.ask("files") == mirror.answer("files")
+            mirror.agrees(asked, "files")
+        asked.gives(DEVICE, "take my  file", "take full ", "merge monday.state ", "take 'my file'")
+        mirror.agrees(asked, "merge  second.state", "files")
 
 
 def test_a_file_named_stdin_or_with_a_hyphen_is_named_by_its_folder():
     for name in ("stdin", "-x"):
         pathlib.Path(name).write_text(extracts.GOOD["monday"], encoding="ascii")
-    mirror = Mirror()
-    give(mirror.stored)
-    with Desk("--write", "STATE") as asked:
-        for line in ("take stdin", "take -x", "merge stdin", "merge -x", "take  stdin"):
-            assert asked.ask(line) == NOTHING, line
-        for line in ("take ./stdin", "take ./-x"):
-            assert asked.ask(line) == mirror.answer("take", "monday"), line
-        assert asked.ask("files") == mirror.answer("files")
+    with mirrored() as (asked, mirror):
+        asked.gives(NOTHING, "take stdin", "take -x", "merge stdin", "merge -x", "take  stdin")
+        asked.gives(mirror.answer("take", "monday"), "take ./stdin", "take ./-x")
+        mirror.agrees(asked, "files")
 
 
 def test_a_file_from_a_pipe():
     os.mkfifo("queue")
-    mirror = Mirror()
-    give(mirror.stored)
-    with Desk("--write", "STATE") as asked:
+    with mirrored() as (asked, mirror):
         asked.say(b"take queue\n")
         pathlib.Path("queue").write_text(extracts.GOOD["monday"], encoding="ascii")
         assert asked.answer() == mirror.answer("take", "monday")
-        assert asked.ask("files") == mirror.answer("files")
+        mirror.agrees(asked, "files")
 
 
 HEADER, BLANK = records.header("240612")[:-1], records.place("TI", "ASHFELD")[:-1]
@@ -272,19 +212,15 @@ HEADER, BLANK = records.header("240612")[:-1], records.place("TI", "ASHFELD")[:-
 def test_a_file_without_end_of(first, again, wanted):
     """In 64 MB of memory the file is refused, and the session continues."""
     os.mkfifo("queue")
-    mirror = Mirror("full")
-    give(mirror.stored)
     line = f"exec >queue; echo '{first}'; exec yes '{again}'"
-    with Desk("--write", "STATE", program=in_memory(65536)) as asked:
+    with mirrored("full", program=in_memory(65536)) as (asked, mirror):
         with subprocess.Popen(["sh", "-c", line]) as source:
             try:
                 assert asked.ask("take queue") == wanted
             finally:
                 source.terminate()
-        for line in ("files", "take monday", "files", "save"):
-            assert asked.ask(line) == mirror.answer(*line.split()), line
+        mirror.agrees(asked, "files", "take monday", "files", "save")
         assert held() == mirror.stored
-        ends_well(asked)
 
 
 def renamed(text):
@@ -292,25 +228,19 @@ def renamed(text):
     os.replace("other", "extract")
 
 
-@each("comes", {
-    "written in place": lambda text: give(text, "extract"), "renamed into its place": renamed,
-})
+@each("comes", {"written in place": lambda text: give(text, "extract"), "renamed into its place": renamed})
 def test_a_file_that_changes_between_two_takes_of_its_name(comes):
     """Each `take` takes what the file holds when that `take` opens it."""
-    mirror = Mirror("full")
-    give(mirror.stored)
-    with Desk("--write", "STATE") as asked:
+    with mirrored("full") as (asked, mirror):
         for name in ("monday", "night", "field", "tuesday", "cut", "last", "monday"):
             comes(held(name))
             assert asked.ask("take extract") == mirror.answer("take", name), name
-            for line in ("files", "print ASHFELD 2024-06-12", "print CORHAM 2024-06-18"):
-                assert asked.ask(line) == mirror.answer(*line.split()), f"{line} after {name}"
+            mirror.agrees(asked, "files", "print ASHFELD 2024-06-12", "print CORHAM 2024-06-18")
         os.remove("extract")
         assert asked.ask("take extract") == DEVICE
-        assert asked.ask("save") == mirror.answer("save")
+        mirror.agrees(asked, "save")
         assert held() == mirror.stored
         assert held() == state_of("full", "monday", "night", "tuesday", "last")
-        ends_well(asked)
 
 
 def test_a_docker_that_no_pipe_holds_at_once_of_a_reader_that_reads_little():
@@ -351,13 +281,9 @@ def test_the_same_dockers_as_docker_print_of_50_places():
     places = [f"P{n:05}" for n in range(50)]
     trips = "".join(trip_between(number, places) for number in range(500))
     codes = "".join(records.place("TI", code, f"PLACE {code}") for code in places)
-    text = records.extract(records.header("240609"), codes, trips)
-    pathlib.Path("large").write_text(text, encoding="ascii")
-    give(state_of())
-    assert docker("take", "STATE", "large") == DONE
+    give_taken(records.extract(records.header("240609"), codes, trips))
     lines = "".join(f"print {code} 2024-06-12\n" for code in places)
     ended = desk("STATE", given=lines.encode())
     wanted = [docker("print", "STATE", code, "2024-06-12") for code in places]
     assert all(answer.text.count(b"\n") > 4 for answer in wanted), "each docker has lines"
-    assert ended.output == written(wanted)
-    assert (ended.status, ended.errors) == (0, b"")
+    assert ended == Ended(0, written(wanted), b"")

@@ -1,26 +1,19 @@
-"""A desk that may write, when something else happens just before one of its calls of the file
-system. This may be another command, another text of STATE, or the draft of another program. No text
-is lost unread, and the session continues."""
+"""A desk that may write, when something else happens just before one of its calls of the file system. This may be another command, another text of STATE, or
+the draft of another program. No text is lost unread, and the session continues."""
 import os
 import typing
 
 import pytest
 from desks import DEVICE, DONE, NOT_SAVED, answers_in, written
-from meetings import (
-    BECOMES_PIPE, DRAFTS, GOES, Draft, Losing, Names, at_each_call, calls_of, met,
-)
+from meetings import BECOMES_PIPE, DRAFTS, GOES, Draft, Losing, Names, at_each_call, calls_of, met
 from mirror import by_docker, given, state_of
-from programs import DESK, DOCKER, Ended, give, held, untried
+from programs import DESK, DOCKER, Ended, give, held
 from tables import each
 
 COMMAND = [DESK, "--write", "STATE"]
 LOOK = "statx STATE"
 # How a case with another command may end.
 ENDS = ("both done", "refused", "other refused")
-
-
-def test_each_call_of_the_system_that_the_desk_makes_may_be_met(meeting):
-    assert untried(DESK, meeting) == []
 
 
 def parts_of(calls):
@@ -35,10 +28,9 @@ def parts_of(calls):
 
 
 class Session(typing.NamedTuple):
-    """The requests of a session. `looks` has, for each save but the last, the number of the look on
-    which this save relies. The looks are counted from the save before it, or from the start; 0 is
-    the look of the save before it. `refused` has the numbers of the requests that are refused if
-    STATE changes after that look."""
+    """The requests of a session. `looks` has, for each save but the last, the number of the look on which this save relies. The looks are counted from the
+    save before it, or from the start; 0 is the look of the save before it. `refused` has the numbers of the requests that are refused if STATE changes after
+    that look."""
 
     requests: tuple
     looks: tuple
@@ -49,12 +41,9 @@ class Session(typing.NamedTuple):
 
 
 CHANGES = ("take tuesday", "merge monday.state")
-# A save itself also makes looks, but after the look on which it relies. So these looks don't change
-# the numbers here.
+# A save itself also makes looks, but after the look on which it relies. So these looks don't change the numbers here.
 SESSIONS = {
-    "that saves what it read": Session(
-        (*CHANGES, "save", "renew", "save", "renew", "save"), (1, 1), ((2,), (4,)),
-    ),
+    "that saves what it read": Session((*CHANGES, "save", "renew", "save", "renew", "save"), (1, 1), ((2,), (4,))),
     "that renews before it saves, and saves twice": Session(
         (*CHANGES, "renew", "save", "save", "renew", "save", "renew", "save"), (2, 0, 1),
         ((3, 4), (4,), (6,)),
@@ -63,9 +52,8 @@ SESSIONS = {
 
 
 class Part(typing.NamedTuple):
-    """Where in a session something else happens: the number of saves done before, and the calls
-    since the last of them. `all_looks` counts the looks at STATE from there to the end of the next
-    save."""
+    """Where in a session something else happens: the number of saves done before, and the calls since the last of them. `all_looks` counts the looks at
+    STATE from there to the end of the next save."""
 
     session: Session
     saves: int
@@ -86,21 +74,20 @@ class Part(typing.NamedTuple):
 class Beside:
     """A session, and the expected STATE at its end: without and with another command's change."""
 
-    def __init__(self, meeting, session):
-        self.meeting, self.session = meeting, session
+    def __init__(self, device, session):
+        self.device, self.session = device, session
         give(state_of("full"))
-        parts = parts_of(calls_of(meeting, COMMAND, session.lines()))
+        parts = parts_of(calls_of(device, COMMAND, session.lines()))
         self.all_looks = [part.count(LOOK) for part in parts]
         self.own = held("STATE")
         assert self.own == state_of("full", "tuesday", "monday", "night")
         self.both = by_docker(self.own, "take", given("last"))[1]
 
     def at(self, number, line):
-        """Runs the session, and just before the call with this number a line of the shell. Returns
-        how the session ended, and where in the session the call was. Returns None if all saves but
-        the last were done before the call."""
+        """Runs the session, and just before the call with this number a line of the shell. Returns how the session ended, and where in the session the call
+        was. Returns None if all saves but the last were done before the call."""
         give(state_of("full"))
-        found = met(self.meeting, number, line, COMMAND, self.session.lines())
+        found = met(self.device, number, line, COMMAND, self.session.lines())
         assert found is not None, "there is no such call"
         parts = parts_of(found.before)
         saves = len(parts) - 1
@@ -121,10 +108,9 @@ class Beside:
 
 @pytest.mark.timeout(120)
 @each("session", SESSIONS)
-def test_another_command_meets_a_session(meeting, session):
-    """The other command may be refused only while the desk has a draft. Otherwise STATE has both
-    changes at the end."""
-    beside = Beside(meeting, session)
+def test_another_command_meets_a_session(device, session):
+    """The other command may be refused only while the desk has a draft. Otherwise STATE has both changes at the end."""
+    beside = Beside(device, session)
 
     def trial(number):
         meets = beside.at(number, f"{DOCKER} take STATE last </dev/null 2>/dev/null")
@@ -141,19 +127,17 @@ def test_another_command_meets_a_session(meeting, session):
         return part.saves, "refused" if part.refused() else "both done"
 
     wanted = {(saves, end) for saves in range(len(session.looks)) for end in ENDS}
-    # A save may rely on the look that the previous save made. It is then refused at each of its
-    # calls.
+    # A save may rely on the look that the previous save made. It is then refused at each of its calls.
     wanted -= {(saves, "both done") for saves, looks in enumerate(session.looks) if looks == 0}
     assert set(at_each_call(trial)) == wanted
 
 
 @pytest.mark.timeout(120)
 @each("session", SESSIONS)
-def test_a_text_meets_a_session(meeting, session):
-    """A program that ignores drafts puts a text in STATE's place. If it does so before a save's
-    last look, the desk notices it, and STATE has both at the end. A text that comes after the last
-    look isn't noticed."""
-    beside = Beside(meeting, session)
+def test_a_text_meets_a_session(device, session):
+    """A program that ignores drafts puts a text in STATE's place. If it does so before a save's last look, the desk notices it, and STATE has both at the
+    end. A text that comes after the last look isn't noticed."""
+    beside = Beside(device, session)
 
     def trial(number):
         give(state_of("full", "last"), "came")
@@ -168,30 +152,42 @@ def test_a_text_meets_a_session(meeting, session):
     assert set(at_each_call(trial)) == {(part, end) for part in parts for end in (False, True)}
 
 
-def test_a_text_of_the_same_length_is_written_just_after_a_save(meeting):
-    """The text comes between the rename and the answer. The next save notices it."""
-    lines = b"take tuesday\nsave\ntake night\nsave\n"
-    wanted = Ended(1, written([DONE, DONE, DONE, DEVICE]), NOT_SAVED)
-    came = give(b"?" * len(state_of("full", "tuesday")), "came")
+def just_after_a_save(device, line, came, *requests):
+    """Runs a session, and this line of the shell at each call between the rename of its first save and the next read. Yields how the session ends."""
+    lines = "".join(f"{request}\n" for request in requests).encode()
     give(state_of("full"))
-    calls = calls_of(meeting, COMMAND, lines)
+    calls = calls_of(device, COMMAND, lines)
     placed = calls.index("rename STATE.new STATE")
     for number in range(placed + 2, calls.index("read", placed) + 2):
         give(state_of("full"))
-        found = met(meeting, number, "cat came >STATE", COMMAND, lines)
-        assert (found.ended, found.status) == (wanted, 0), f"before {found.after[:3]}"
+        give(came, "came")
+        found = met(device, number, line, COMMAND, lines)
+        assert (found.status, os.path.lexists("STATE.new")) == (0, False), f"before {found.after[:3]}"
+        yield found.ended
+
+
+def test_a_text_of_the_same_length_is_written_just_after_a_save(device):
+    """The next save notices it."""
+    came = b"?" * len(state_of("full", "tuesday"))
+    for ended in just_after_a_save(device, "cat came >STATE", came, "take tuesday", "save", "take night", "save"):
+        assert ended == Ended(1, written([DONE, DONE, DONE, DEVICE]), NOT_SAVED)
         assert held("STATE") == came
-        assert not os.path.lexists("STATE.new"), "a draft is left"
 
 
-def test_a_text_that_is_written_just_after_a_save_in_which_a_look_fails(
-    meeting, device, monkeypatch
-):
+def test_another_state_takes_its_place_just_after_a_save(device):
+    """The next save notices it. After a renewal, STATE has both at the end."""
+    requests = ("take night", "save", "take monday", "save", "renew", "save")
+    for ended in just_after_a_save(device, "mv -f came STATE", state_of("full", "tuesday"), *requests):
+        assert ended == Ended(0, written([DONE, DONE, DONE, DEVICE, DONE, DONE]), b"")
+        assert held("STATE") == state_of("full", "night", "monday", "tuesday")
+
+
+def test_a_text_that_is_written_just_after_a_save_in_which_a_look_fails(device, monkeypatch):
     """Whichever look of the first save fails, the second save doesn't replace the text."""
     lines = b"take tuesday\nsave\ntake night\nsave\n"
     came = give(b"?" * len(state_of("full", "tuesday")), "came")
     give(state_of("full"))
-    calls = calls_of(meeting, COMMAND, lines)
+    calls = calls_of(device, COMMAND, lines)
     made, placed = calls.index("create STATE.new"), calls.index("rename STATE.new STATE")
     looks = [at for at, call in enumerate(calls[:placed]) if call.startswith("statx")]
     monkeypatch.setenv("CALL", "statx")
@@ -201,7 +197,7 @@ def test_a_text_that_is_written_just_after_a_save_in_which_a_look_fails(
             continue
         monkeypatch.setenv("FAIL_AT", str(number))
         give(state_of("full"))
-        found = met(f"{meeting}:{device}", placed + 2, "cat came >STATE", COMMAND, lines)
+        found = met(device, placed + 2, "cat came >STATE", COMMAND, lines)
         what = f"look {number} of {len(looks)}, before {found.after[:3]}"
         assert (found.status, held("failed")) == (0, b"statx"), what
         os.remove("failed")
@@ -212,28 +208,27 @@ def test_a_text_that_is_written_just_after_a_save_in_which_a_look_fails(
 
 @pytest.mark.timeout(120)
 @each("name, line", GOES | BECOMES_PIPE)
-def test_a_state_that_is_read_and(meeting, name, line):
+def test_a_state_that_is_read_and(device, name, line):
     """A save between the reading and its last look at STATE is refused, and writes nothing."""
     names = Names(state_of("full"), state_of("tuesday"))
     wanted = Ended(1, written([DONE, DEVICE]), NOT_SAVED)
     command = [DESK, "--write", name]
-    losing = Losing(meeting, names, command, b"take monday\nsave\n", wanted)
+    losing = Losing(device, names, command, b"take monday\nsave\n", wanted)
     losing.at_each(name, line, "open monday")
 
 
 @each("is_locked, mode", DRAFTS)
-def test_what_takes_the_place_of_a_draft_that_is_just_made(meeting, is_locked, mode):
-    """Before the draft was locked, another command removed it as left over by a killed command. The
-    save is refused."""
+def test_what_takes_the_place_of_a_draft_that_is_just_made(device, is_locked, mode):
+    """Before the draft was locked, another command removed it as left over by a killed command. The save is refused."""
     lines = b"take monday\nsave\n"
     give(state_of("full"))
-    calls = calls_of(meeting, COMMAND, lines)
+    calls = calls_of(device, COMMAND, lines)
     made = calls.index("create STATE.new")
     last = max(at for at, call in enumerate(calls) if call in ("flock", "statx STATE.new"))
     for number in range(made + 2, last + 2):
         before = give(state_of("full"))
         with Draft(is_locked, mode) as draft:
-            found = met(meeting, number, "mv -f draft STATE.new", COMMAND, lines)
+            found = met(device, number, "mv -f draft STATE.new", COMMAND, lines)
             assert found.ended == Ended(1, written([DONE, DEVICE]), NOT_SAVED)
             draft.is_under("STATE.new")
             assert held("STATE") == before

@@ -1,37 +1,28 @@
 """Several desks and commands on one STATE."""
 import contextlib
 import os
-import pathlib
 
 from desks import DEVICE, DONE, NOT_SAVED, Desk, docker, ends_well
-from mirror import by_docker, given, joined, state_of
+from mirror import joined, state_of, writing
 from programs import give, held
 from tables import alone, each
 
 
-def taken(text, *names):
-    """The text of a state after `docker` took these files into it."""
-    for name in names:
-        _, text = by_docker(text, "take", given(name))
-    return text
-
-
 def test_two_desks_on_one_state():
-    before = give(state_of("full"))
+    give(state_of("full"))
     with Desk("--write", "STATE") as first, Desk("--write", "STATE") as second:
-        assert first.ask("take monday") == DONE
-        assert second.ask("take night") == DONE
-        assert first.ask("save") == DONE
+        first.does("take monday")
+        second.does("take night")
+        first.does("save")
         assert second.ask("save") == DEVICE
-        assert held() == taken(before, "monday")
-        assert second.ask("renew") == DONE
-        assert held() == taken(before, "monday")
-        assert second.ask("save") == DONE
-        assert held() == taken(before, "monday", "night")
+        assert held() == state_of("full", "monday")
+        second.does("renew")
+        assert held() == state_of("full", "monday")
+        second.does("save")
+        assert held() == state_of("full", "monday", "night")
         assert first.ask("save") == DEVICE
-        assert first.ask("renew") == DONE
-        assert first.ask("files") == second.ask("files")
-        assert first.ask("files") == docker("files", "STATE")
+        first.does("renew")
+        assert first.ask("files") == second.ask("files") == docker("files", "STATE")
         ends_well(first)
         ends_well(second)
 
@@ -43,76 +34,55 @@ def test_two_desks_on_one_state():
     "take that brings nothing": ("take", "STATE", "full"),
 })
 def test_beside_a_docker(words):
-    give(state_of("full"))
-    with Desk("--write", "STATE") as asked:
-        assert asked.ask("take night") == DONE
+    with writing("full") as asked:
+        asked.does("take night")
         assert docker(*words) == DONE
         there = held()
         for _ in range(2):
             assert asked.ask("save") == DEVICE
             assert held() == there
-        assert asked.ask("renew") == DONE
-        assert asked.ask("save") == DONE
-        assert held() == joined(taken(state_of("full"), "night"), there)[1]
-        ends_well(asked)
-
-
-def written_in_place(text):
-    pathlib.Path("STATE").write_bytes(text)
+        asked.does("renew", "save")
+        assert held() == joined(state_of("full", "night"), there)[1]
 
 
 def renamed(text):
-    pathlib.Path("other").write_bytes(text)
+    give(text, "other")
     os.replace("other", "STATE")
 
 
-def in_place_at_its_time(text):
-    """Writes the text in place, with the old file's time up to the second."""
+def at_its_time(way, text, more=0):
+    """A text comes, with the time of the old file and some nanoseconds more."""
     stamp = os.stat("STATE")
-    written_in_place(text)
-    os.utime("STATE", ns=(stamp.st_atime_ns, stamp.st_mtime_ns + 1))
-
-
-def renamed_at_its_time(text):
-    stamp = os.stat("STATE")
-    renamed(text)
-    os.utime("STATE", ns=(stamp.st_atime_ns, stamp.st_mtime_ns))
+    way(text)
+    os.utime("STATE", ns=(stamp.st_atime_ns, stamp.st_mtime_ns + more))
 
 
 @each("way", {
-    "written in place": written_in_place,
+    "written in place": give,
     "renamed into its place": renamed,
-    "written in place within the second": in_place_at_its_time,
-    "another file of the same time": renamed_at_its_time,
+    "written in place within the second": lambda text: at_its_time(give, text, 1),
+    "another file of the same time": lambda text: at_its_time(renamed, text),
 })
 def test_a_state_that_is(way):
-    give(state_of("full"))
-    with Desk("--write", "STATE") as asked:
-        assert asked.ask("take night") == DONE
-        assert asked.ask("save") == DONE
-        assert asked.ask("take monday") == DONE
-        there = state_of("full", "tuesday")
-        way(there)
+    with writing("full") as asked:
+        asked.does("take night", "save", "take monday")
+        way(state_of("full", "tuesday"))
         assert asked.ask("save") == DEVICE
-        assert held() == there
-        assert asked.ask("renew") == DONE
-        assert asked.ask("save") == DONE
+        assert held() == state_of("full", "tuesday")
+        asked.does("renew", "save")
         assert held() == state_of("full", "night", "monday", "tuesday")
-        ends_well(asked)
 
 
 def test_a_state_that_goes_away_and_comes_back():
-    before = give(state_of("full"))
-    with Desk("--write", "STATE") as asked:
-        assert asked.ask("take night") == DONE
+    with writing("full") as asked:
+        asked.does("take night")
         os.rename("STATE", "elsewhere")
         assert asked.ask("save") == DEVICE
         assert not os.path.lexists("STATE"), "save made a STATE"
-        assert held("elsewhere") == before
+        assert held("elsewhere") == state_of("full")
         os.rename("elsewhere", "STATE")
-        assert asked.ask("save") == DONE
-        assert held() == taken(before, "night")
-        ends_well(asked)
+        asked.does("save")
+        assert held() == state_of("full", "night")
 
 
 def test_a_link_that_leads_to_another_state_meanwhile():
@@ -120,7 +90,7 @@ def test_a_link_that_leads_to_another_state_meanwhile():
     give(state_of("tuesday"), "second")
     os.symlink("first", "STATE")
     with Desk("--write", "STATE") as asked:
-        assert asked.ask("take night") == DONE
+        asked.does("take night")
         os.remove("STATE")
         os.symlink("second", "STATE")
         assert asked.ask("save") == DEVICE
@@ -129,26 +99,8 @@ def test_a_link_that_leads_to_another_state_meanwhile():
         ends_well(asked, 1, NOT_SAVED)
 
 
-def test_another_state_that_comes_just_after_a_save_takes_its_place(overtaking):
-    environment = os.environ | {"LD_PRELOAD": overtaking, "COMING": "coming"}
-    give(state_of("full"))
-    there = give(state_of("full", "tuesday"), "coming")
-    with Desk("--write", "STATE", env=environment) as asked:
-        assert asked.ask("take night") == DONE
-        assert asked.ask("save") == DONE
-        assert held() == there
-        assert asked.ask("take monday") == DONE
-        assert asked.ask("save") == DEVICE
-        assert held() == there
-        assert asked.ask("renew") == DONE
-        assert asked.ask("save") == DONE
-        assert held() == state_of("full", "night", "monday", "tuesday")
-        ends_well(asked)
-
-
 def save_all(desks):
-    """Has several desks save at the same time, until each has saved. A desk whose save is refused
-    renews before its next save."""
+    """Has several desks save at the same time, until each has saved. A desk whose save is refused renews before its next save."""
     waiting = desks
     while waiting:
         for asked in waiting:
@@ -158,7 +110,7 @@ def save_all(desks):
         assert DONE in answers, "no desk could save"
         waiting = [asked for asked, answer in zip(waiting, answers) if answer == DEVICE]
         for asked in waiting:
-            assert asked.ask("renew") == DONE
+            asked.does("renew")
 
 
 def four_at_once():
@@ -168,7 +120,7 @@ def four_at_once():
     with contextlib.ExitStack() as stack:
         desks = [stack.enter_context(Desk("--write", "STATE")) for _ in names]
         for asked, name in zip(desks, names):
-            assert asked.ask(f"take {name}") == DONE
+            asked.does(f"take {name}")
         save_all(desks)
         for asked in desks:
             ends_well(asked)
@@ -181,6 +133,5 @@ def test_four_desks_that_save_at_once_lose_nothing():
         four_at_once()
 
 
-# If no lock holds, a desk may take the draft of another that saves for left over, and remove it. The
-# other notices this and refuses to save. So the case above passes even then, and doesn't show that
-# the locks hold. The cases in test_whatever_comes_to_a_desk.py show it, where another locks the draft.
+# If no lock holds, a desk may take the draft of another that saves for left over, and remove it. The other notices this and refuses to save. So the case above
+# passes even then, and doesn't show that the locks hold. The cases in test_whatever_comes_to_a_desk.py show it, where another locks the draft.

@@ -2,12 +2,14 @@
 import os
 import pty
 
+import pytest
 from checks import soon
 from desks import DEVICE, DONE, NOTHING, NOT_SAVED, Desk, desk, docker, written
-from mirror import give_large, state_of
-from programs import DESK, DEVICE_LINE, Ended, give, held, preloading, run
+from mirror import give_large, reading, state_of
+from programs import DESK, DEVICE_LINE, Ended, give, held, in_turn, preloading, run
 from tables import each
 
+WELL, UNSAVED_END = Ended(0, b"", b""), Ended(1, b"", NOT_SAVED)
 CHANGES = ("take monday", "merge second.state", "horizon 2024-06-12")
 # The requests, and whether there are unsaved changes at the end.
 UNSAVED = {
@@ -40,37 +42,28 @@ def test_the_end_of_input_after(lines, is_unsaved):
 def test_changes_whose_save_was_refused_are_unsaved():
     give(state_of("full"))
     with Desk("--write", "STATE") as asked:
-        assert asked.ask("take monday") == DONE
+        asked.does("take monday")
         assert docker("take", "STATE", "night") == DONE
         assert asked.ask("save") == DEVICE
-        assert asked.closed() == Ended(1, b"", NOT_SAVED)
+        assert asked.closed() == UNSAVED_END
 
 
 # A renewal finds out whether STATE holds everything that the desk knows.
 
 
-def test_an_older_state_that_comes_after_a_save_and_is_renewed_leaves_changes_unsaved():
+@each("lines, end, names", {
+    "and is renewed leaves changes unsaved": (["renew"], UNSAVED_END, ["full"]),
+    "may be saved over": (["renew", "save"], WELL, ["full", "monday"]),
+})
+def test_an_older_state_that_comes_after_a_save(lines, end, names):
     before = give(state_of("full"))
     with Desk("--write", "STATE") as asked:
-        for line in ("take monday", "save"):
-            assert asked.ask(line) == DONE
+        asked.does("take monday", "save")
         give(before)
-        assert asked.ask("renew") == DONE
+        asked.does(*lines)
         assert asked.ask("files").text.count(b"\n") == 2
-        assert asked.closed() == Ended(1, b"", NOT_SAVED)
-    assert held() == before
-
-
-def test_an_older_state_that_comes_after_a_save_may_be_saved_over():
-    before = give(state_of("full"))
-    with Desk("--write", "STATE") as asked:
-        for line in ("take monday", "save"):
-            assert asked.ask(line) == DONE
-        give(before)
-        for line in ("renew", "save"):
-            assert asked.ask(line) == DONE
-        assert asked.closed() == Ended(0, b"", b"")
-    assert held() == state_of("full", "monday")
+        assert asked.closed() == end
+    assert held() == state_of(*names)
 
 
 @each("names, is_unsaved", {
@@ -82,26 +75,22 @@ def test_an_older_state_that_comes_after_a_save_may_be_saved_over():
 def test_a_renewal_of_a_state_that_holds(names, is_unsaved):
     give(state_of("full"))
     with Desk("--write", "STATE") as asked:
-        for line in ("take monday", "save"):
-            assert asked.ask(line) == DONE
+        asked.does("take monday", "save")
         give(state_of(*names), "other")
         os.replace("other", "STATE")
-        assert asked.ask("renew") == DONE
-        assert asked.closed() == (Ended(1, b"", NOT_SAVED) if is_unsaved else Ended(0, b"", b""))
+        asked.does("renew")
+        assert asked.closed() == (UNSAVED_END if is_unsaved else WELL)
 
 
 def test_a_renewal_of_an_older_state_by_a_desk_that_only_reads():
-    give(state_of("full", "monday"))
-    with Desk("STATE") as asked:
+    with reading("full", "monday") as asked:
         # After this answer the desk has read STATE, so it doesn't read the next one half written.
         assert asked.ask("files").status == 0
         give(state_of("full"))
-        assert asked.ask("renew") == DONE
-        assert asked.closed() == Ended(0, b"", b"")
+        asked.does("renew")
 
 
-# If a stream fails while there are unsaved changes, standard error gets two lines: one for the
-# failure, and one for the unsaved changes.
+# If a stream fails while there are unsaved changes, standard error gets two lines: one for the failure, and one for the unsaved changes.
 
 BOTH_LINES = DEVICE_LINE + NOT_SAVED
 
@@ -114,17 +103,6 @@ def test_an_output_that_fails_while_changes_are_unsaved():
     assert held() == before
 
 
-def test_a_reader_that_goes_away_while_changes_are_unsaved():
-    before = give(state_of("full"))
-    with Desk("--write", "STATE") as asked:
-        assert asked.ask("take monday") == DONE
-        asked.process.stdout.close()
-        asked.process.stdout = None
-        asked.say(b"files\n")
-        assert asked.ended() == Ended(4, b"", BOTH_LINES)
-    assert held() == before
-
-
 @each("lines, errors", {
     "changes are unsaved": (b"take monday\n", BOTH_LINES),
     "all is saved": (b"take monday\nsave\n", DEVICE_LINE),
@@ -132,27 +110,28 @@ def test_a_reader_that_goes_away_while_changes_are_unsaved():
 })
 def test_an_input_that_fails_while(device, lines, errors):
     """The last read of a session is a read of its input."""
-    before, number, last = state_of("full"), 0, None
-    while True:
-        number += 1
-        give(before)
-        settings = {"CALL": "read", "FAIL_AT": number, "TOLD": "met"}
-        ended = run([*preloading(device, **settings), DESK, "--write", "STATE"], lines)
-        if not os.path.exists("met"):
-            break
-        os.remove("met")
-        last = ended
+    def trial(number):
+        give(state_of("full"))
+        return run([*preloading(device, CALL="read", FAIL_AT=number, TOLD="met"), DESK, "--write", "STATE"], lines)
+
+    *_, (_, last, _), (_, ended, _) = in_turn(trial)
     assert ended.status == (1 if errors == BOTH_LINES else 0)
     assert last == Ended(4, ended.output, errors)
 
 
-def test_a_reader_that_went_away_before_the_first_answer():
-    give(state_of("full"))
-    with Desk("STATE") as asked:
-        asked.process.stdout.close()
-        asked.process.stdout = None
-        asked.say(b"files\n")
-        assert asked.ended() == Ended(4, b"", DEVICE_LINE)
+@each("first, lines, errors", {
+    "before the first answer": ([], b"files\n", DEVICE_LINE),
+    "while changes are unsaved": (["take monday"], b"files\n", BOTH_LINES),
+    "and leaves the rest undone": ([], b"take monday\nsave\n", BOTH_LINES),
+})
+def test_a_reader_that_goes_away(first, lines, errors):
+    before = give(state_of("full"))
+    with Desk("--write", "STATE") as asked:
+        asked.does(*first)
+        asked.loses_its_reader()
+        asked.say(lines)
+        assert asked.ended() == Ended(4, b"", errors)
+    assert held() == before
 
 
 def test_a_reader_that_goes_away_within_an_answer():
@@ -161,19 +140,8 @@ def test_a_reader_that_goes_away_within_an_answer():
         asked.say(b"print ASHFELD 2024-06-12\n")
         assert asked.more(100), "an answer begins"
         asked.held = b""
-        asked.process.stdout.close()
-        asked.process.stdout = None
+        asked.loses_its_reader()
         assert asked.ended() == Ended(4, b"", DEVICE_LINE)
-
-
-def test_a_reader_that_went_away_leaves_state_as_it_was_and_the_rest_undone():
-    before = give(state_of("full"))
-    with Desk("--write", "STATE") as asked:
-        asked.process.stdout.close()
-        asked.process.stdout = None
-        asked.say(b"take monday\nsave\n")
-        assert asked.ended().status == 4
-    assert held() == before
 
 
 def test_a_full_device_as_output():
@@ -190,80 +158,52 @@ def test_an_output_that_takes_a_part(size):
     give(state_of("full"))
     wanted = written([docker("files", "STATE"), docker("print", "STATE", "ASHFELD", "2024-06-12")])
     with open("output", "wb") as output:
-        ended = run(
-            ["prlimit", f"--fsize={size}", DESK, "STATE"], b"files\nprint ASHFELD 2024-06-12\n",
-            stdout=output, restore_signals=False,
-        )
+        ended = run(["prlimit", f"--fsize={size}", DESK, "STATE"], b"files\nprint ASHFELD 2024-06-12\n", stdout=output, restore_signals=False)
     assert ended == Ended(4, None, DEVICE_LINE)
     assert held("output") == wanted[:size]
 
 
-class Terminal:
-    """A desk whose standard input is a terminal."""
-
-    def __init__(self, *words):
-        self.ours, theirs = pty.openpty()
-        self.desk = Desk(*words, stdin=theirs)
-        os.close(theirs)
-
-    def __enter__(self):
-        return self
-
-    def __exit__(self, *_):
-        self.desk.__exit__()
-        os.close(self.ours)
-
-    def type(self, text):
-        os.write(self.ours, text)
+@pytest.fixture
+def terminal():
+    """Both ends of a terminal."""
+    ours, theirs = pty.openpty()
+    yield ours, theirs
+    os.close(ours)
+    os.close(theirs)
 
 
 END_KEY = b"\x04"
 
 
-def test_a_terminal_one_ctrl_d_ends_it():
+# Each row has the words, what is typed at first, its answer, what is typed then, and the end. Of a line that is cut, the first END_KEY only sends what was typed.
+@each("words, first, wanted, typed, end", {
+    "one Ctrl-D ends it": (["STATE"], b"files\n", None, [END_KEY], WELL),
+    "Ctrl-D at once": (["STATE"], b"", None, [END_KEY], WELL),
+    "a line that is cut, and then one Ctrl-D for it and one for the end": (
+        ["--write", "STATE"], b"take monday\n", DONE, [b"save" + END_KEY, END_KEY], Ended(1, NOTHING.written(), NOT_SAVED),
+    ),
+    "a line that is too long and is cut": (["STATE"], b"", None, [b"x" * 300 + END_KEY, END_KEY], Ended(0, NOTHING.written(), b"")),
+})
+def test_a_terminal(terminal, words, first, wanted, typed, end):
+    ours, theirs = terminal
     give(state_of("full"))
-    with Terminal("STATE") as typed:
-        typed.type(b"files\n")
-        assert typed.desk.answer() == docker("files", "STATE")
-        typed.type(END_KEY)
-        assert typed.desk.ended() == Ended(0, b"", b"")
-
-
-def test_a_terminal_ctrl_d_at_once():
-    give(state_of("full"))
-    with Terminal("STATE") as typed:
-        typed.type(END_KEY)
-        assert typed.desk.ended() == Ended(0, b"", b"")
-
-
-def test_a_terminal_a_line_that_is_cut_and_then_one_ctrl_d_for_it_and_one_for_the_end():
-    give(state_of("full"))
-    with Terminal("--write", "STATE") as typed:
-        typed.type(b"take monday\n")
-        assert typed.desk.answer() == DONE
-        # The first control character only sends what was typed.
-        typed.type(b"save" + END_KEY)
-        typed.type(END_KEY)
-        ended = typed.desk.ended()
-    assert ended == Ended(1, NOTHING.written(), NOT_SAVED)
-
-
-def test_a_terminal_a_line_that_is_too_long_and_is_cut():
-    give(state_of("full"))
-    with Terminal("STATE") as typed:
-        typed.type(b"x" * 300 + END_KEY)
-        typed.type(END_KEY)
-        assert typed.desk.ended() == Ended(0, NOTHING.written(), b"")
+    with Desk(*words, stdin=theirs) as asked:
+        os.write(ours, first)
+        assert not first or asked.answer() == (wanted or docker("files", "STATE"))
+        for text in typed:
+            os.write(ours, text)
+        assert asked.ended() == end
 
 
 def test_a_terminal_that_hangs_up():
     give(state_of("full"))
-    with Terminal("STATE") as typed:
-        typed.type(b"files\n")
-        assert typed.desk.answer() == docker("files", "STATE")
-        os.close(typed.ours)
-        typed.ours = os.open("/dev/null", os.O_RDONLY)
-        ended = typed.desk.ended()
+    ours, theirs = pty.openpty()
+    with Desk("STATE", stdin=theirs) as asked:
+        os.close(theirs)
+        os.write(ours, b"files\n")
+        assert asked.answer() == docker("files", "STATE")
+        os.close(ours)
+        ended = asked.ended()
     assert ended in (Ended(4, b"", DEVICE_LINE), Ended(0, b"", b"")), f"it ended otherwise: {ended}"
 
 

@@ -1,5 +1,4 @@
-"""How lines are read: which lines aren't requests, their bytes and lengths, and the pieces in which
-they come."""
+"""How lines are read: which lines aren't requests, their bytes and lengths, and the pieces in which they come."""
 import array
 import fcntl
 import os
@@ -10,40 +9,30 @@ import termios
 import desk_extracts as extracts
 from checks import soon
 from desks import NOTHING, USAGE, Desk, desk, docker, ends_well, written
-from mirror import WRITING_LINES, Mirror, give_large, state_of
+from mirror import WRITING_LINES, give_large, mirrored, reading, state_of, writing
 from programs import ROOT, Ended, give, held
 from tables import each
 
 GOOD_LINE = "print ASHFELD 2024-06-12"
 # Lines that aren't requests, for a desk that may write.
 NOT_ASKED = [
-    "", " ", "   ", "print", "print ASHFELD", "print 2024-06-12", "print ASHFELD 2024-06-12 more",
-    "print 2024-06-12 ASHFELD", "print ASHFELDS 2024-06-12", "print -SHFELD 2024-06-12",
-    "print ASHFELD 2024-06-31", "print ASHFELD 2023-02-29", "print ASHFELD 24-06-12",
-    "print ASHFELD 2024-6-12", "print ASHFELD 20240612", "print ASHFELD 2024/06/12",
-    "print ASHFELD 1959-12-31", "print ASHFELD 2060-01-01", "print ASHFELD 2024-06-12x",
-    "print STATE ASHFELD 2024-06-12", "PRINT ASHFELD 2024-06-12", "Print ASHFELD 2024-06-12",
-    "printASHFELD 2024-06-12", "print,ASHFELD,2024-06-12", "prints ASHFELD 2024-06-12",
-    "train", "train A00001", "train 2024-06-12", "train A00001 2024-06-12 more",
-    "train A0001 2024-06-12", "train A000001 2024-06-12", "train A00001 2024-13-12",
-    "train ASHFELD 2024-06-12", "files all", "files STATE", "file", "FILES", "renew now", "renews",
-    "take", "take ", "take   ", "merge", "merge  ", "horizon", "horizon 2024-06-31",
-    "horizon 2024-06-12 2024-06-13", "horizon ASHFELD", "save STATE", "save now", "new STATE",
-    "check full", "day full ASHFELD 2024-06-12", "migrate STATE", "take stdin", "merge stdin",
-    "take -x", "take --write", "--write", "-", "help", "quit", "exit", "0 0 0", "desk: usage:",
-    "#files", "files;files", "files|files", "files>out",
+    "", " ", "   ", "print", "print ASHFELD", "print 2024-06-12", "print ASHFELD 2024-06-12 more", "print 2024-06-12 ASHFELD", "print ASHFELDS 2024-06-12",
+    "print -SHFELD 2024-06-12", "print ASHFELD 2024-06-31", "print ASHFELD 2023-02-29", "print ASHFELD 24-06-12", "print ASHFELD 2024-6-12",
+    "print ASHFELD 20240612", "print ASHFELD 2024/06/12", "print ASHFELD 1959-12-31", "print ASHFELD 2060-01-01", "print ASHFELD 2024-06-12x",
+    "print STATE ASHFELD 2024-06-12", "PRINT ASHFELD 2024-06-12", "Print ASHFELD 2024-06-12", "printASHFELD 2024-06-12", "print,ASHFELD,2024-06-12",
+    "prints ASHFELD 2024-06-12", "train", "train A00001", "train 2024-06-12", "train A00001 2024-06-12 more", "train A0001 2024-06-12",
+    "train A000001 2024-06-12", "train A00001 2024-13-12", "train ASHFELD 2024-06-12", "files all", "files STATE", "file", "FILES", "renew now", "renews",
+    "take", "take ", "take   ", "merge", "merge  ", "horizon", "horizon 2024-06-31", "horizon 2024-06-12 2024-06-13", "horizon ASHFELD", "save STATE",
+    "save now", "new STATE", "check full", "day full ASHFELD 2024-06-12", "migrate STATE", "take stdin", "merge stdin", "take -x", "take --write", "--write",
+    "-", "help", "quit", "exit", "0 0 0", "desk: usage:", "#files", "files;files", "files|files", "files>out",
 ]
 
 
 def test_lines_that_ask_for_nothing():
-    before = give(state_of("full"))
-    with Desk("--write", "STATE") as asked:
-        files = docker("files", "STATE")
-        for line in NOT_ASKED:
-            assert asked.ask(line) == NOTHING, f"{line!r}"
-        assert asked.ask("files") == files
-        ends_well(asked)
-    assert held() == before
+    with writing("full") as asked:
+        asked.gives(NOTHING, *NOT_ASKED)
+        assert asked.ask("files") == docker("files", "STATE")
+    assert held() == state_of("full")
 
 
 def test_the_usage_line_is_the_one_of_formats():
@@ -63,9 +52,8 @@ def test_a_byte_that_is_not_printable(byte, at):
     give(state_of("full"))
     line = GOOD_LINE.encode()
     line = line[:at] + bytes([byte]) + line[at:] + b"\n"
-    ended = desk("STATE", given=line + b"files\n" + line)
     wanted = written([NOTHING, docker("files", "STATE"), NOTHING])
-    assert ended == Ended(0, wanted, b"")
+    assert desk("STATE", given=line + b"files\n" + line) == Ended(0, wanted, b"")
 
 
 def test_each_other_byte_is_read_as_a_words():
@@ -79,28 +67,24 @@ def test_each_other_byte_is_read_as_a_words():
 
 @each("size", {f"{size} bytes": size for size in (254, 255, 256, 257, 4096, 70000)})
 def test_a_line_of(size):
-    give(state_of("full"))
-    wanted = docker("print", "STATE", *GOOD_LINE.split()[1:])
     spaces = " " * (size - len(GOOD_LINE))
-    with Desk("STATE") as asked:
+    with reading("full") as asked:
+        wanted = docker("print", "STATE", *GOOD_LINE.split()[1:])
         for line in (GOOD_LINE + spaces, spaces + GOOD_LINE, f"print{spaces}{GOOD_LINE[5:]}"):
             assert len(line) == size
             assert asked.ask(line) == (wanted if size <= 255 else NOTHING)
             assert asked.ask(GOOD_LINE) == wanted
-        ends_well(asked)
 
 
 def test_a_files_name_up_to_the_lines_last_byte():
-    mirror = Mirror()
-    give(mirror.stored)
     folder = "/".join(["d" * 60] * 3)
     os.makedirs(folder)
     name = f"{folder}/".ljust(250, "f")
-    pathlib.Path(name).write_text(extracts.GOOD["monday"], encoding="ascii")
-    with Desk("--write", "STATE") as asked:
+    give(extracts.GOOD["monday"].encode(), name)
+    with mirrored() as (asked, mirror):
         assert asked.ask(f"take {name}") == mirror.answer("take", "monday")
         assert asked.ask(f"take  {name}") == NOTHING
-        assert asked.ask("files") == mirror.answer("files")
+        mirror.agrees(asked, "files")
 
 
 def memory(process):
@@ -110,8 +94,7 @@ def memory(process):
 
 
 def test_a_line_of_100_mb_in_no_more_memory():
-    give(state_of("full"))
-    with Desk("STATE") as asked:
+    with reading("full") as asked:
         files = asked.ask("files")
         before = memory(asked.process)
         piece = b"files " * 17476
@@ -122,7 +105,6 @@ def test_a_line_of_100_mb_in_no_more_memory():
         grown = memory(asked.process) - before
         assert grown < 256, f"it took {grown} KB more"
         assert asked.ask("files") == files
-        ends_well(asked)
 
 
 CUT = ["files", GOOD_LINE, "save", "take monday", "x", " ", "x" * 255, "x" * 300, "\x7f"]
@@ -131,12 +113,10 @@ CUT = ["files", GOOD_LINE, "save", "take monday", "x", " ", "x" * 255, "x" * 300
 @each("line", {repr(line) if len(line) < 255 else f"{len(line)} bytes": line for line in CUT})
 def test_a_last_line_without_its_line_feed_asks_for_nothing(line):
     before = give(state_of("full"))
-    files = docker("files", "STATE")
-    ended = desk("--write", "STATE", given=b"files\n" + line.encode())
-    assert ended == Ended(0, written([files, NOTHING]), b"")
+    wanted = written([docker("files", "STATE"), NOTHING])
+    assert desk("--write", "STATE", given=b"files\n" + line.encode()) == Ended(0, wanted, b"")
     assert held() == before
-    ended = desk("--write", "STATE", given=line.encode())
-    assert ended == Ended(0, NOTHING.written(), b"")
+    assert desk("--write", "STATE", given=line.encode()) == Ended(0, NOTHING.written(), b"")
 
 
 def test_no_line():
@@ -147,10 +127,9 @@ def test_no_line():
 
 # One line of each kind. The tests below mix them.
 KINDS = [
-    b"print ASHFELD 2024-06-12\n", b"print  BRAYTON   2024-06-13 \n", b"train A00001 2024-06-10\n",
-    b"train Z00000 2024-06-10\n", b"files\n", b" files \n", b"renew\n", b"save\n", b"\n", b"no\n",
-    b"x" * 255 + b"\n", b"x" * 256 + b"\n", b"x" * 5000 + b"\n", b"\x80files\n", b"files\r\n",
-    b"files\0\n", b"print ASHFELD 2024-06-31\n",
+    b"print ASHFELD 2024-06-12\n", b"print  BRAYTON   2024-06-13 \n", b"train A00001 2024-06-10\n", b"train Z00000 2024-06-10\n", b"files\n", b" files \n",
+    b"renew\n", b"save\n", b"\n", b"no\n", b"x" * 255 + b"\n", b"x" * 256 + b"\n", b"x" * 5000 + b"\n", b"\x80files\n", b"files\r\n", b"files\0\n",
+    b"print ASHFELD 2024-06-31\n",
 ]
 
 
@@ -204,15 +183,12 @@ def unread(process):
 def test_requests_by_one_byte_at_a_time():
     give(state_of("full", "monday"))
     answers = answers_by_line("STATE")
-    lines = [line for line in KINDS if len(line) < 1000] + mixed("bytes", 5)
-    lines = [line for line in lines if len(line) < 1000]
-    with Desk("STATE") as asked:
-        for line in lines:
+    with reading("full", "monday") as asked:
+        for line in [it for it in KINDS + mixed("bytes", 5) if len(it) < 1000]:
             for byte in line:
                 asked.say(bytes([byte]))
                 soon("a byte isn't read", lambda: unread(asked.process) == 0)
             assert asked.answer() == answers[line], f"{line[:40]!r}"
-        ends_well(asked)
 
 
 def test_requests_in_pieces_of_every_size():
@@ -233,25 +209,20 @@ def test_requests_in_pieces_of_every_size():
 
 
 def test_an_answer_comes_before_the_next_line_is_there():
-    mirror = Mirror("full")
-    give(mirror.stored)
-    with Desk("--write", "STATE") as asked:
+    with mirrored("full") as (asked, mirror):
         for line in WRITING_LINES + ("files", "renew", GOOD_LINE, "train A00001 2024-06-15", "no"):
             wanted = mirror.answer(*line.split()) if line != "no" else NOTHING
             assert asked.ask(line) == wanted, line
             assert asked.held == b""
-        ends_well(asked)
 
 
 def test_no_answer_to_half_a_line():
-    give(state_of("full"))
-    with Desk("STATE") as asked:
+    with reading("full") as asked:
         asked.say(b"files\nfil")
         assert asked.answer() == docker("files", "STATE")
         soon("the half isn't read", lambda: unread(asked.process) == 0)
         assert asked.held == b""
         assert asked.ask("es") == docker("files", "STATE")
-        ends_well(asked)
 
 
 def test_a_folder_as_standard_input():

@@ -7,8 +7,8 @@ import desk_extracts as extracts
 import lists
 import pytest
 import records
-from desks import DONE, Answer, Desk, desk, docker, ends_well, written
-from mirror import Mirror, given, state_of
+from desks import DONE, Answer, Desk, desk, docker, written
+from mirror import give_taken, given, mirrored, reading, state_of
 from programs import DESK, Ended, give, in_seconds, run
 from tables import by_itself, each
 
@@ -25,25 +25,19 @@ def listed(files, horizon=lists.FIRST_DAY):
 def asked(*lines):
     """The answers of a desk to both requests, after these lines."""
     with Desk("--write", "STATE") as now:
-        for line in lines:
-            assert now.ask(line) == DONE, line
+        now.does(*lines)
         return [now.ask("places"), now.ask("known")]
 
 
 def test_the_lists_to_the_letter():
-    give(state_of("full", "tuesday", horizon="2024-06-10"))
     places = (
         b"ASHFELD           ASHFELD JUNCTION                    4\n"
         b"BRAYTON           BRAYTON                             4\n"
         b"CORHAM            CORHAM CENTRAL                      4\n"
     )
-    known = (
-        b"HORIZON      2024-06-10\nFULL         2024-06-09 2100 DFROC1B\n"
-        b"LAST         2024-06-30\nSCHEDULES    4\nASSOCIATIONS 2\nPLACES       3\n"
-    )
-    with Desk("STATE") as now:
+    known = b"HORIZON      2024-06-10\nFULL         2024-06-09 2100 DFROC1B\nLAST         2024-06-30\nSCHEDULES    4\nASSOCIATIONS 2\nPLACES       3\n"
+    with reading("full", "tuesday", horizon="2024-06-10") as now:
         got = [now.ask("places"), now.ask("known")]
-        ends_well(now)
     assert got == listed((extracts.GOOD["full"], extracts.GOOD["tuesday"]), day("2024-06-10"))
     assert got == [Answer(0, places), Answer(0, known)]
 
@@ -52,10 +46,7 @@ def day(date):
     return datetime.date.fromisoformat(date)
 
 
-@each("names", {
-    "no file": (), "an update": ("monday",), "a full extract": ("full",),
-    "a later full extract": ("full", "second"), "all files": tuple(NAMES),
-})
+@each("names", {"no file": (), "an update": ("monday",), "a full extract": ("full",), "a later full extract": ("full", "second"), "all files": tuple(NAMES)})
 def test_the_lists_of_files(names):
     give(state_of(*names))
     assert asked() == listed(extracts.GOOD[name] for name in names)
@@ -80,15 +71,12 @@ def test_the_lists_of_the_example_office():
 
 
 def test_what_is_taken_merged_and_lapses_is_seen_at_once():
-    mirror = Mirror("full")
-    give(mirror.stored)
-    with Desk("--write", "STATE") as now:
+    with mirrored("full") as (now, mirror):
         for change in ("take monday", "take night", "merge second.state", "horizon 2024-06-20"):
             verb, word = change.split()
             line = change if verb == "horizon" else f"{verb} {given(word)}"
             assert now.ask(line) == mirror.answer(verb, word), change
-            for line in ("places", "known"):
-                assert now.ask(line) == mirror.answer(line), f"{line} after {change}"
+            mirror.agrees(now, "places", "known")
 
 
 class Network(random.Random):
@@ -130,10 +118,7 @@ class Network(random.Random):
             for minute, code in enumerate(along[1:-1], 10)
         )
         extra = self.choice(["", records.record("BX         NT")])
-        return (
-            first + extra + records.origin(along[0], "0900") + middle
-            + records.terminus(along[-1], "0930")
-        )
+        return first + extra + records.origin(along[0], "0900") + middle + records.terminus(along[-1], "0930")
 
     def link(self):
         base, other = f"X{self.randrange(40):05}", f"X{self.randrange(40):05}"
@@ -162,7 +147,7 @@ def test_random_extracts_with_updates():
         ]
         horizon = network.choice([lists.FIRST_DAY, day("2024-06-15"), day("2024-11-01")])
         for number, text in enumerate(texts):
-            pathlib.Path(f"file{number}").write_text(text, encoding="ascii")
+            give(text.encode(), f"file{number}")
         give(state_of())
         lines = [f"take file{number}" for number in network.sample(range(3), 3)]
         if horizon != lists.FIRST_DAY:
@@ -177,11 +162,8 @@ def test_random_extracts_with_updates():
 @by_itself
 def test_known_again_and_again():
     """Only the first answer takes the time that it takes to count all entries."""
-    trips = "".join(extracts.trip(f"L{n:05}", "1L00") for n in range(20000))
-    text = records.extract(records.header("240612"), trips)
-    pathlib.Path("large").write_text(text, encoding="ascii")
-    give(state_of())
-    assert docker("take", "STATE", "large") == DONE
+    text = records.extract(records.header("240612"), *(extracts.trip(f"L{n:05}", "1L00") for n in range(20000)))
+    give_taken(text)
     ended = run([*in_seconds(2), DESK, "STATE"], b"known\n" * 10000)
     assert ended == Ended(0, written(listed([text])[1:] * 10000), b"")
 
@@ -191,10 +173,6 @@ def test_a_list_that_no_pipe_holds_at_once():
     places = "".join(records.place("TI", code, f"PLACE {code}") for code in codes)
     trips = "".join(extracts.trip(f"L{n:05}", "1L00") for n in range(12))
     text = records.extract(records.header("240612"), places, trips)
-    pathlib.Path("large").write_text(text, encoding="ascii")
-    give(state_of())
-    assert docker("take", "STATE", "large") == DONE
+    give_taken(text)
     wanted = listed([text])
-    ended = desk("STATE", given=b"places\nknown\nplaces\n")
-    assert ended.output == written([*wanted, wanted[0]])
-    assert (ended.status, ended.errors) == (0, b"")
+    assert desk("STATE", given=b"places\nknown\nplaces\n") == Ended(0, written([*wanted, wanted[0]]), b"")

@@ -10,8 +10,7 @@ OFFICE = ROOT / "examples" / "office"
 
 
 def session():
-    """The words of the command, its requests, and the answers that the page shows. An answer's
-    header has the number of lines that follow it."""
+    """The words of the command, its requests, and the answers that the page shows. An answer's header has the number of lines that follow it."""
     lines = (OFFICE / "desk-session").read_text(encoding="ascii").splitlines(keepends=True)
     command, requests, answers = lines.pop(0), "", ""
     while lines:

@@ -1,12 +1,12 @@
-"""Dockers without the short-term plan, compared with `print` from extracts without short-term
-records."""
-import pathlib
+"""Dockers without the short-term plan, compared with `print` from extracts without short-term records."""
 import random
 
 import records
-from desks import DAY_REFUSED, DONE, Answer, Desk, docker, ends_well
+from desks import DAY_REFUSED, Answer, Desk, ends_well
 from docker_lines import LINES
+from mirror import give_taken
 from outcomes import docker_text
+from programs import give
 from tables import each
 
 CODES = ["ASHFELD", "BRAYTON", "CORHAM", "DUNMERE"]
@@ -14,8 +14,7 @@ DAYS = [f"2024-06-{day:02}" for day in range(8, 18)]
 
 
 def schedule(uid, first, last, days, stp, at, along, train="1A10"):
-    """A schedule that calls at these places, five minutes apart. A cancellation has only its basic
-    schedule."""
+    """A schedule that calls at these places, five minutes apart. A cancellation has only its basic schedule."""
     basic = records.basic("N", uid, first, last, days, train, stp)
     if stp == "C":
         return basic
@@ -28,14 +27,6 @@ def schedule(uid, first, last, days, stp, at, along, train="1A10"):
 def with_stp(record, stp):
     """An association's record with another STP indicator."""
     return record[:79] + stp + "\n"
-
-
-def state_of(name, *texts):
-    """Makes the state of these extracts, in a file with this name."""
-    assert docker("new", name) == DONE
-    for number, text in enumerate(texts):
-        pathlib.Path(f"{name}{number}").write_text(text, encoding="ascii")
-        assert docker("take", name, f"{name}{number}") == DONE
 
 
 def is_permanent(part):
@@ -52,21 +43,14 @@ LEAVES = LINES["LEAVES_0900"]
 @each(("short", "day", "wanted"), {
     "overlaid": (schedule("C10001", "240611", "240611", "0100000", "O", 555, DIRECT), 11, [LEAVES]),
     "cancelled": (schedule("C10001", "240611", "240611", "0100000", "C", 0, []), 11, [LEAVES]),
-    "moved away": (
-        schedule("C10001", "240611", "240611", "0100000", "O", 555, ["CORHAM", "DUNMERE"]), 11,
-        [LEAVES],
-    ),
+    "moved away": (schedule("C10001", "240611", "240611", "0100000", "O", 555, ["CORHAM", "DUNMERE"]), 11, [LEAVES]),
     "a new train": (schedule("C10009", "240611", "240611", "0100000", "N", 555, DIRECT), 11, [LEAVES]),
-    "a later permanent schedule": (
-        schedule("C10001", "240611", "240611", "0100000", "P", 550, DIRECT), 11, [LINES["LEAVES_0910"]],
-    ),
+    "a later permanent schedule": (schedule("C10001", "240611", "240611", "0100000", "P", 550, DIRECT), 11, [LINES["LEAVES_0910"]]),
     "a day without a train": ("", 17, []),
 })
 def test_a_day_to_the_letter(short, day, wanted):
-    text = records.extract(
-        records.header("240609"), records.place("TI", "ASHFELD", "ASHFELD JUNCTION"), PERMANENT, short
-    )
-    state_of("STATE", text)
+    text = records.extract(records.header("240609"), records.place("TI", "ASHFELD", "ASHFELD JUNCTION"), PERMANENT, short)
+    give_taken(text)
     with Desk("STATE") as now:
         got = now.ask(f"permanent ASHFELD 2024-06-{day}")
         ends_well(now)
@@ -75,9 +59,9 @@ def test_a_day_to_the_letter(short, day, wanted):
 
 
 def test_days_that_are_refused():
-    state_of("STATE", records.extract(records.header("240609"), PERMANENT))
+    give_taken(records.extract(records.header("240609"), PERMANENT))
     with Desk("--write", "STATE") as now:
-        assert now.ask("horizon 2024-06-12") == DONE
+        now.does("horizon 2024-06-12")
         for day in range(8, 15):
             assert now.ask(f"permanent ASHFELD 2024-06-{day:02}") == DAY_REFUSED, day
             assert now.ask(f"print ASHFELD 2024-06-{day:02}") == DAY_REFUSED, day
@@ -109,9 +93,7 @@ class Plan(random.Random):
         base, other = self.sample([f"C1000{number}" for number in range(8)], 2)
         category, date = self.choice(["JJ", "VV", "NP"]), self.choice("SNP")
         first, last = self.dates()
-        link = records.association(
-            base, other, first, last, self.choice(CODES), category, date, days=self.days()
-        )
+        link = records.association(base, other, first, last, self.choice(CODES), category, date, days=self.days())
         return with_stp(link, self.stp())
 
     def parts(self):
@@ -122,14 +104,13 @@ class Plan(random.Random):
 
 
 def asked_twice(seed):
-    """The answers to `permanent`, the answers to `print` from the extracts without short-term
-    records, and the answers to `print` from the whole extracts."""
+    """The answers to `permanent`, the answers to `print` from the extracts without short-term records, and the answers to `print` from the whole extracts."""
     plan = Plan(f"permanent {seed}")
     heads = [records.header("240601", "DFROC1A", "F"), records.header("240602", "DFROC1B", "U")]
     files = [(head, plan.parts()) for head in heads]
-    state_of("STATE", *(records.extract(head, *parts) for head, parts in files))
+    give_taken(*(records.extract(head, *parts) for head, parts in files))
     kept = [(head, [part for part in parts if is_permanent(part)]) for head, parts in files]
-    state_of("OTHER", *(records.extract(head, *parts) for head, parts in kept))
+    give_taken(*(records.extract(head, *parts) for head, parts in kept), state="OTHER")
     lines = [f"{code} {day}" for code in CODES for day in DAYS]
     with Desk("STATE") as now, Desk("OTHER") as other:
         got = [now.ask(f"permanent {line}") for line in lines]
@@ -152,13 +133,12 @@ def test_as_print_from_extracts_without_short_term_records(start):
 
 def test_a_desk_goes_on_with_both():
     """A change shows in both dockers as soon as it is taken, and nothing is saved."""
-    state_of("STATE", records.extract(records.header("240609"), PERMANENT))
+    give_taken(records.extract(records.header("240609"), PERMANENT))
     overlay = schedule("C10001", "240611", "240611", "0100000", "O", 555, DIRECT)
-    update = records.extract(records.header("240610", "DFROC1B"), overlay)
-    pathlib.Path("update").write_text(update, encoding="ascii")
+    give(records.extract(records.header("240610", "DFROC1B"), overlay).encode(), "update")
     with Desk("--write", "STATE") as now:
         before = now.ask("print ASHFELD 2024-06-11")
         assert now.ask("permanent ASHFELD 2024-06-11") == before
-        assert now.ask("take update") == DONE
+        now.does("take update")
         assert now.ask("permanent ASHFELD 2024-06-11") == before
         assert now.ask("print ASHFELD 2024-06-11") != before

@@ -1,5 +1,4 @@
-"""Each memory growth of a session is refused in turn. Each of its system calls fails in turn, or
-the session is killed there."""
+"""Each memory growth of a session is refused in turn. Each of its system calls fails in turn, or the session is killed there."""
 import contextlib
 import os
 import pathlib
@@ -11,18 +10,14 @@ import pytest
 from checks import named
 from desks import DEVICE, MEMORY, NOT_SAVED, answers_in, desk
 from mirror import Mirror, give_large, given
-from programs import DESK, DEVICE_LINE, MEMORY_LINE, Ended, give, held, run, untried
+from programs import DESK, DEVICE_LINE, MEMORY_LINE, Ended, give, held, in_turn, run, untried
 from tables import each
 
-# A session with every request. It saves its changes before it ends, and requests no day that its
-# horizon excludes. So the same session can be run again.
+# A session with every request. It saves its changes before it ends, and requests no day that its horizon excludes. So the same session can be run again.
 REQUESTS = [
-    ("files",), ("print", "ASHFELD", "2024-06-14"), ("train", "A00001", "2024-06-12"),
-    ("places",), ("known",), ("take", "monday"), ("print", "ASHFELD", "2024-06-14"),
-    ("merge", "second.state"),
-    ("train", "A00001", "2024-06-16"), ("horizon", "2024-06-11"), ("save",), ("renew",),
-    ("take", "short"), ("nothing",), ("take", "last"), ("files",),
-    ("print", "BRAYTON", "2024-06-17"), ("save",),
+    ("files",), ("print", "ASHFELD", "2024-06-14"), ("train", "A00001", "2024-06-12"), ("places",), ("known",), ("take", "monday"),
+    ("print", "ASHFELD", "2024-06-14"), ("merge", "second.state"), ("train", "A00001", "2024-06-16"), ("horizon", "2024-06-11"), ("save",), ("renew",),
+    ("take", "short"), ("nothing",), ("take", "last"), ("files",), ("print", "BRAYTON", "2024-06-17"), ("save",),
 ]
 
 
@@ -46,8 +41,7 @@ def desk_on(library, **settings):
 
 
 class Followed:
-    """The states and the texts of STATE that a session goes through if its refused requests are
-    left out."""
+    """The states and the texts of STATE that a session goes through if its refused requests are left out."""
 
     def __init__(self, requests, answers, refusals):
         self.mirror, self.refused = Mirror("full"), []
@@ -98,8 +92,7 @@ def is_refused_start(ended, before):
 
 
 def refused_growth(ended, before):
-    """Where a growth was refused: `start`, or a request's name. `none` if the session managed with
-    less memory."""
+    """Where a growth was refused: `start`, or a request's name. `none` if the session managed with less memory."""
     if is_refused_start(ended, before):
         return "start"
     followed = follow(ended, (MEMORY,))
@@ -108,15 +101,14 @@ def refused_growth(ended, before):
 
 @pytest.mark.timeout(600)
 def test_each_growth_of_a_session_is_refused_in_turn(refusing):
-    met, growth = set(), 1
-    while True:
-        before = start()
-        ended = desk_on(refusing, GROWTH=str(growth), REFUSED=here("refused"))
-        if not os.path.exists("refused"):
-            break
+    def trial(growth):
+        return start(), desk_on(refusing, GROWTH=str(growth), REFUSED=here("refused"))
+
+    met = set()
+    for growth, (before, ended), told in in_turn(trial, "refused"):
         with named(f"growth {growth}"):
-            met.add(refused_growth(ended, before))
-        growth += 1
+            if told is not None:
+                met.add(refused_growth(ended, before))
     assert follow(ended, ()).refused == []
     for verb in ("start", "print", "train", "files", "take", "merge", "renew", "save"):
         assert verb in met, f"no growth of {verb} was refused"
@@ -169,8 +161,7 @@ def whole_session():
 
 
 def fault_of(line, error, call):
-    """Whether this line may report a call that failed with this error. Only a call that looks at a
-    file or opens it can say that memory ran out."""
+    """Whether this line may report a call that failed with this error. Only a call that looks at a file or opens it can say that memory ran out."""
     can_want = error == "ENOMEM" and call in ("open", "statx", "realpath", "fchmod")
     return line == DEVICE_LINE or (line == MEMORY_LINE and can_want)
 
@@ -189,8 +180,7 @@ def unsaved_at(output, whole):
 
 
 def failed_call(ended, error, call, whole):
-    """Checks a session in which this call failed. The session was refused at its start, was ended
-    by a stream that failed, or had one request refused."""
+    """Checks a session in which this call failed. The session was refused at its start, was ended by a stream that failed, or had one request refused."""
     output, stored = whole
     if ended.status in (3, 4):
         line = ended.errors.removesuffix(NOT_SAVED)
@@ -209,8 +199,7 @@ def failed_call(ended, error, call, whole):
 
 
 def draft_of(call):
-    """A draft may be left only if the program was killed, or if a look at the draft failed. It then
-    still has its mark."""
+    """A draft may be left only if the program was killed, or if a look at the draft failed. It then still has its mark."""
     if os.path.lexists("STATE.new"):
         assert call in ("end", "statx"), "a draft is left"
         mode = os.lstat("STATE.new").st_mode
@@ -229,19 +218,18 @@ def afterwards(stored):
 
 def at_each_call(device, look, **settings):
     """Runs the session once for each of its calls, with these settings, and checks how it ended."""
-    whole, number = whole_session(), 1
-    while True:
+    def trial(number):
         start()
         at = {name: value or str(number) for name, value in settings.items()}
-        ended = desk_on(device, TOLD=here("met"), WRONG=here("wrong"), **at)
+        return desk_on(device, TOLD=here("met"), WRONG=here("wrong"), **at)
+
+    whole = whole_session()
+    for number, ended, call in in_turn(trial):
         assert not os.path.exists("wrong"), f"at call {number}, what may not be"
-        if not os.path.exists("met"):
-            break
-        call = held("met").decode()
         with named(f"call {number}, {call}"):
-            look(ended, call, whole)
-            afterwards(whole[1])
-        number += 1
+            if call is not None:
+                look(ended, call, whole)
+                afterwards(whole[1])
     assert number > 40, "no call was met"
     assert ended == Ended(0, whole[0], b"")
 

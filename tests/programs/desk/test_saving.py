@@ -10,7 +10,7 @@ import time
 
 import pytest
 from desks import DEVICE, DONE, Desk, desk, docker, ends_well
-from mirror import Mirror, give_large, state_of
+from mirror import give_large, mirrored, state_of, writing
 from programs import Ended, give, held
 from tables import alone, each
 
@@ -19,35 +19,30 @@ def no_draft():
     assert not os.path.lexists("STATE.new"), "a draft is left"
 
 
-def taken(text, name):
-    """The text of the state after `docker` took a file into it."""
-    give(text, "by_docker")
-    assert docker("take", "by_docker", name) == DONE
+def with_large():
+    """The text of a state that knows the file `full` and the large file."""
+    give(state_of("full"), "by_docker")
+    assert docker("take", "by_docker", "large") == DONE
     return held("by_docker")
 
 
 def test_save_twice_in_a_row_and_with_nothing_changed():
-    mirror = Mirror("full")
-    give(mirror.stored)
-    with Desk("--write", "STATE") as asked:
+    with mirrored("full") as (asked, mirror):
         for line in ("save", "save", "take monday", "save", "save", "files", "save"):
             assert asked.ask(line) == mirror.answer(*line.split()), line
             assert held() == mirror.stored
             no_draft()
-        ends_well(asked)
 
 
 def test_save_keeps_the_permissions_of_state_and_its_link():
     give(state_of("full"), "office")
     os.chmod("office", 0o640)
     os.symlink("office", "STATE")
-    with Desk("--write", "STATE") as asked:
-        assert asked.ask("take monday") == DONE
-        assert asked.ask("save") == DONE
-        ends_well(asked)
+    with writing("full") as asked:
+        asked.does("take monday", "save")
     assert os.readlink("STATE") == "office"
     assert stat.S_IMODE(os.stat("office").st_mode) == 0o640
-    assert held("office") == taken(state_of("full"), "monday")
+    assert held("office") == state_of("full", "monday")
 
 
 def limit_files(process, size):
@@ -57,11 +52,10 @@ def limit_files(process, size):
 @each("size", {f"{size} bytes, at a save": size for size in (0, 1, 1024, 7168, 50000)})
 def test_a_disk_that_is_full_at(size):
     give_large(800)
-    before = give(state_of("full"))
-    # Python ignores the signal for a file that grows beyond its limit, and so does the desk that it
-    # starts.
-    with Desk("--write", "STATE", restore_signals=False) as asked:
-        assert asked.ask("take large") == DONE
+    before = state_of("full")
+    # Python ignores the signal for a file that grows beyond its limit, and so does the desk that it starts.
+    with writing("full", restore_signals=False) as asked:
+        asked.does("take large")
         limit_files(asked.process, size)
         for _ in range(2):
             assert asked.ask("save") == DEVICE
@@ -70,19 +64,17 @@ def test_a_disk_that_is_full_at(size):
         files = asked.ask("files")
         assert asked.ask("print ASHFELD 2024-06-14").text.count(b" L0") == 800
         limit_files(asked.process, resource.RLIM_INFINITY)
-        assert asked.ask("save") == DONE
-        assert held() == taken(before, "large")
+        asked.does("save")
+        assert held() == with_large()
         assert files == docker("files", "STATE")
         no_draft()
-        ends_well(asked)
 
 
 ON_SMALL = 'mount -t tmpfs -o size=512k none small && cp STATE small/STATE && exec "$@"'
 
 
 def apart():
-    """The words that run a program in a mount namespace of its own, with a file system of 512 KiB
-    in the folder `small`."""
+    """The words that run a program in a mount namespace of its own, with a file system of 512 KiB in the folder `small`."""
     os.mkdir("small")
     unshare = ["unshare", "-m" if os.getuid() == 0 else "-rm"]
     command = [*unshare, "sh", "-c", ON_SMALL, "sh"]
@@ -107,7 +99,7 @@ def test_a_small_file_system_that_is_full():
     give_large(800)
     before = give(state_of("full"))
     with Desk("--write", "small/STATE", program=apart()) as asked:
-        assert asked.ask("take large") == DONE
+        asked.does("take large")
         folder = f"/proc/{asked.process.pid}/root{os.getcwd()}/small"
         filler = fill(folder)
         assert asked.ask("save") == DEVICE
@@ -115,52 +107,35 @@ def test_a_small_file_system_that_is_full():
         assert held(f"{folder}/STATE") == before
         assert asked.ask("print ASHFELD 2024-06-14").text.count(b" L0") == 800
         os.remove(filler)
-        assert asked.ask("save") == DONE
-        assert held(f"{folder}/STATE") == taken(before, "large")
+        asked.does("save")
+        assert held(f"{folder}/STATE") == with_large()
         ends_well(asked)
 
 
 def test_a_file_that_has_the_drafts_name_and_is_no_draft():
-    before = give(state_of("full"))
-    with Desk("--write", "STATE") as asked:
-        assert asked.ask("take monday") == DONE
+    with writing("full") as asked:
+        asked.does("take monday")
         give(b"mine", "STATE.new")
         assert asked.ask("save") == DEVICE
-        assert held("STATE.new") == b"mine"
-        assert held() == before
+        assert (held("STATE.new"), held()) == (b"mine", state_of("full"))
         os.remove("STATE.new")
-        assert asked.ask("save") == DONE
-        assert held() == taken(before, "monday")
+        asked.does("save")
+        assert held() == state_of("full", "monday")
         no_draft()
-        ends_well(asked)
 
 
 def test_a_draft_that_a_killed_command_left():
-    give(state_of("full"))
     give(b"DKS2", "STATE.new")
     os.chmod("STATE.new", 0o1640)
-    with Desk("--write", "STATE") as asked:
+    with writing("full") as asked:
         assert asked.ask("files") == docker("files", "STATE")
         assert os.path.exists("STATE.new"), "it is gone before a save"
-        assert asked.ask("take monday") == DONE
-        assert asked.ask("save") == DONE
+        asked.does("take monday", "save")
         no_draft()
-        ends_well(asked)
-    assert held() == taken(state_of("full"), "monday")
+    assert held() == state_of("full", "monday")
 
 
 SIGNALS = ["SIGINT", "SIGTERM"]
-
-
-class Signals:
-    """The signals of this case, and how often each came during a save."""
-
-    def __init__(self, seed):
-        self.numbers = random.Random(seed)
-        self.kept = self.stored = self.drafts = 0
-
-    def delay(self, longest):
-        return self.numbers.uniform(0, longest)
 
 
 def default_signals():
@@ -174,28 +149,27 @@ def time_of_save(before):
     with Desk("--write", "STATE") as asked:
         asked.ask("take large")
         began = time.monotonic()
-        assert asked.ask("save") == DONE
+        asked.does("save")
         return time.monotonic() - began
 
 
-def signalled(which, before, wanted, met, longest):
-    """Sends a signal to a desk during a save, and checks what it leaves."""
+def signalled(which, before, wanted, delay):
+    """Sends a signal to a desk during a save, and checks what it leaves. Returns whether STATE is as before, and whether a draft is left."""
     give(before)
     with Desk("--write", "STATE", preexec_fn=default_signals) as asked:
-        assert asked.ask("take large") == DONE
+        asked.does("take large")
         asked.say(b"save\n")
-        time.sleep(met.delay(longest))
+        time.sleep(delay)
         asked.process.send_signal(which)
         assert asked.ended().status == -which
     now = held()
     assert now in (before, wanted), "STATE is neither as it was nor as it is to be"
-    met.kept += now == before
-    met.stored += now == wanted
-    if os.path.lexists("STATE.new"):
-        met.drafts += 1
+    is_left = os.path.lexists("STATE.new")
+    if is_left:
         mode = os.lstat("STATE.new").st_mode
         assert stat.S_ISREG(mode) and mode & stat.S_ISVTX, "a draft without its mark"
         assert now == before, "a draft beside what is stored"
+    return now == before, is_left
 
 
 @alone
@@ -203,15 +177,15 @@ def signalled(which, before, wanted, met, longest):
 def test_a_signal_at_random_moments_of_a_save(name):
     which, before = getattr(signal, name), state_of("full")
     give_large(4000)
-    wanted, met = taken(before, "large"), Signals(name)
+    wanted, numbers, met = with_large(), random.Random(name), set()
     longest = 1.3 * time_of_save(before)
     for _ in range(60):
-        signalled(which, before, wanted, met, longest)
+        met.add(signalled(which, before, wanted, numbers.uniform(0, longest)))
         ended = desk("--write", "STATE", given=b"take large\nsave\n")
         assert ended == Ended(0, DONE.written() * 2, b"")
         assert held() == wanted
         no_draft()
-    assert met.kept and met.drafts, "no signal met a save"
+    assert (True, True) in met, "no signal met a save"
 
 
 @alone
@@ -219,7 +193,7 @@ def test_a_signal_at_random_moments_of_a_save(name):
 def test_a_signal_between_requests(name):
     which, before = getattr(signal, name), give(state_of("full"))
     with Desk("--write", "STATE", preexec_fn=default_signals) as asked:
-        assert asked.ask("take monday") == DONE
+        asked.does("take monday")
         asked.process.send_signal(which)
         assert asked.ended() == Ended(-which, b"", b"")
     assert held() == before

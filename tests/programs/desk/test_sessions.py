@@ -5,6 +5,7 @@ import random
 
 import desk_extracts as extracts
 import pytest
+from checks import named
 from desks import DONE, Desk, desk, docker, written
 from mirror import STATES, Mirror
 from programs import Ended, give, held
@@ -12,20 +13,13 @@ from programs import Ended, give, held
 SESSIONS = 1000
 DATES = [f"2024-06-{day:02}" for day in range(1, 22)] + ["2024-05-20", "1960-01-01", "2059-12-31"]
 PLACES = ["ASHFELD", "BRAYTON", "CORHAM", "NOWHERE"]
-NO_REQUESTS = [
-    "", "no", "print ASHFELD", "take stdin", "files " + "x" * 250, "save\t", "horizon 2024",
-    "places ASHFELD", "known 2024-06-12",
-]
+NO_REQUESTS = ["", "no", "print ASHFELD", "take stdin", "files " + "x" * 250, "save\t", "horizon 2024", "places ASHFELD", "known 2024-06-12"]
 # The refusals that have to occur among the answers: a request and its status.
 REFUSALS = [
-    ("print", 1), ("train", 1), ("take", 1), ("take", 2), ("take", 4), ("merge", 1), ("merge", 4),
-    ("horizon", 2), ("save", 2), ("save", 4), ("nothing", 2),
+    ("print", 1), ("train", 1), ("take", 1), ("take", 2), ("take", 4), ("merge", 1), ("merge", 4), ("horizon", 2), ("save", 2), ("save", 4), ("nothing", 2),
 ]
 # How often each request is asked, in percent.
-WEIGHTS = {
-    "print": 18, "train": 18, "files": 7, "places": 5, "known": 5, "renew": 9, "take": 14,
-    "merge": 7, "horizon": 4, "save": 8, "nothing": 5,
-}
+WEIGHTS = {"print": 18, "train": 18, "files": 7, "places": 5, "known": 5, "renew": 9, "take": 14, "merge": 7, "horizon": 4, "save": 8, "nothing": 5}
 
 
 class Numbers(random.Random):
@@ -62,8 +56,7 @@ class Numbers(random.Random):
 
 
 def put_beside(asked, mirror, name):
-    """Another `docker take` changes STATE. The desk has just answered, so it waits for the next
-    line."""
+    """Another `docker take` changes STATE. The desk has just answered, so it waits for the next line."""
     assert asked.held == b""
     assert docker("take", "STATE", name) == DONE
     mirror.take_beside(name)
@@ -91,7 +84,7 @@ def session(seed, counts, older=0):
     words = ["--write", "STATE"] if mirror.may_write else ["STATE"]
     with Desk(*words) as asked:
         # The desk has read STATE when its first answer comes.
-        assert asked.ask("files") == mirror.answer("files")
+        mirror.agrees(asked, "files")
         for _ in range(numbers.randrange(1, 15)):
             if numbers.random() < 0.06:
                 put_beside(asked, mirror, numbers.choice(sorted(extracts.GOOD)))
@@ -111,10 +104,8 @@ def session(seed, counts, older=0):
 def test_1000_random_sessions():
     counts = {}
     for seed in range(SESSIONS):
-        try:
+        with named(f"session {seed}"):
             session(seed, counts)
-        except AssertionError as found:
-            raise AssertionError(f"session {seed}: {found}") from found
     for verb in WEIGHTS:
         assert (verb, 0) in counts or verb == "nothing", f"no {verb} was done"
     for verb, status in REFUSALS:
@@ -123,10 +114,8 @@ def test_1000_random_sessions():
 
 def test_200_random_sessions_in_which_older_states_come_back():
     for seed in range(200):
-        try:
+        with named(f"session {seed}"):
             session(f"older {seed}", {}, 0.2)
-        except AssertionError as found:
-            raise AssertionError(f"session {seed}: {found}") from found
 
 
 def test_100_random_sessions_each_asked_at_once():

@@ -1,26 +1,23 @@
 """How a desk starts: its words, a STATE that is refused, and streams that are closed."""
 import os
-import pathlib
 
-import desk_extracts as extracts
 from desks import DONE, USAGE, Answer, Desk, desk, docker, written
+from lists import train_text
 from mirror import BAD_STATES, Mirror, bad_states, state_of
 from programs import DESK, DEVICE_LINE, Ended, give, held, run
 from tables import each
 
 REFUSED_WORDS = [
-    (), ("--write",), ("STATE", "STATE"), ("STATE", "--write"), ("--write", "STATE", "more"),
-    ("--write", "--write"), ("--write", "--write", "STATE"), ("--read", "STATE"), ("-w", "STATE"),
-    ("--Write", "STATE"), ("--help",), ("-h",), ("--", "STATE"), ("-",), ("-STATE",), ("",),
-    ("--write", ""), ("stdin",), ("--write", "stdin"), ("--write=yes", "STATE"), ("print", "STATE"),
-    ("--write", "-STATE"), (b"STATE\xff",), (b"--write", b"\xff\xfe"), ("--write STATE",),
+    (), ("--write",), ("STATE", "STATE"), ("STATE", "--write"), ("--write", "STATE", "more"), ("--write", "--write"), ("--write", "--write", "STATE"),
+    ("--read", "STATE"), ("-w", "STATE"), ("--Write", "STATE"), ("--help",), ("-h",), ("--", "STATE"), ("-",), ("-STATE",), ("",), ("--write", ""), ("stdin",),
+    ("--write", "stdin"), ("--write=yes", "STATE"), ("print", "STATE"), ("--write", "-STATE"), (b"STATE\xff",), (b"--write", b"\xff\xfe"), ("--write STATE",),
 ]
+SAVING = b"files\nrenew\nsave\n"
 
 
 def unread_by(*words):
-    """Gives a desk a file of three lines. Returns how the desk ends, and how much it leaves
-    unread."""
-    pathlib.Path("lines").write_bytes(b"files\nrenew\nsave\n")
+    """Gives a desk a file of three lines. Returns how the desk ends, and how much it leaves unread."""
+    give(SAVING, "lines")
     with open("lines", "rb") as source:
         ended = desk(*words, stdin=source)
         return ended, source.read()
@@ -29,9 +26,7 @@ def unread_by(*words):
 @each("words", {str(words): words for words in REFUSED_WORDS})
 def test_words_that_are_refused(words):
     before = give(state_of("full"))
-    ended, rest = unread_by(*words)
-    assert ended == Ended(2, b"", USAGE)
-    assert rest == b"files\nrenew\nsave\n"
+    assert unread_by(*words) == (Ended(2, b"", USAGE), SAVING)
     assert held() == before
 
 
@@ -39,9 +34,8 @@ def test_words_that_are_refused(words):
 def test_a_state_by_any_name_that_is_a_plain_word(name):
     mirror = Mirror("full")
     give(mirror.stored, name)
-    ended = desk("--write", name, given=b"files\ntake monday\nsave\n")
     wanted = [mirror.answer("files"), mirror.answer("take", "monday"), mirror.answer("save")]
-    assert ended == Ended(0, written(wanted), b"")
+    assert desk("--write", name, given=b"files\ntake monday\nsave\n") == Ended(0, written(wanted), b"")
     assert held(name) == mirror.stored
 
 
@@ -51,9 +45,7 @@ def test_a_state_that_is_refused(name):
     wanted = docker("files", "STATE")
     assert wanted.status == 1
     for words in (("STATE",), ("--write", "STATE")):
-        ended, rest = unread_by(*words)
-        assert ended == Ended(1, b"", wanted.text)
-        assert rest == b"files\nrenew\nsave\n"
+        assert unread_by(*words) == (Ended(1, b"", wanted.text), SAVING)
     assert held() == text
 
 
@@ -70,16 +62,14 @@ def test_a_state_that_cannot_be_read(name):
     wanted = docker("files", name)
     assert wanted.status == 4
     for words in ((name,), ("--write", name)):
-        ended, rest = unread_by(*words)
-        assert ended == Ended(4, b"", wanted.text)
-        assert rest == b"files\nrenew\nsave\n"
+        assert unread_by(*words) == (Ended(4, b"", wanted.text), SAVING)
     assert not os.path.exists("missing"), "a STATE was made"
 
 
 def test_a_state_that_is_there_but_empty_of_files():
     assert docker("new", "STATE") == DONE
     wanted = [DONE, docker("print", "STATE", "ASHFELD", "2024-06-12")]
-    wanted.append(Answer(0, extracts.train_text((), "A00001", "2024-06-12")))
+    wanted.append(Answer(0, train_text((), "A00001", "2024-06-12")))
     ended = desk("STATE", given=b"files\nprint ASHFELD 2024-06-12\ntrain A00001 2024-06-12\n")
     assert ended == Ended(0, written(wanted), b"")
 

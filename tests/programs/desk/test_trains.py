@@ -1,12 +1,12 @@
 """The request `trains`, compared with an independent reading of extracts."""
 import datetime
-import pathlib
 import random
 
-import desk_extracts
+import lists
 import pytest
 import records
-from desks import DAY_REFUSED, DONE, Answer, Desk, docker
+from desks import DAY_REFUSED, Answer, Desk
+from mirror import give_taken
 
 PLACES = ["ASHFELD", "BRAYTON", "CORHAM"]
 IDENTITIES = ["1A10", "1A11", "2B20"]
@@ -24,18 +24,10 @@ def trains_text(files, identity, day):
     uids = {line[3:9] for text in files for line in text.split("\n") if line[:2] == "BS"}
     lines = []
     for uid in sorted(uids):
-        found = desk_extracts.chosen(files, uid, day)
-        if found and found[0][2] != "C" and identity in identities(found[1].lines):
-            lines.append(f"{uid} {day.isoformat()} {found[0][2]}\n")
+        found = lists.chosen(files, uid, day)
+        if found and found[0][3] != "C" and identity in identities(found[1].lines):
+            lines.append(f"{uid} {day.isoformat()} {found[0][3]}\n")
     return "".join(lines).encode()
-
-
-def state_of(*texts):
-    """Makes the state of these extracts."""
-    assert docker("new", "STATE") == DONE
-    for number, text in enumerate(texts):
-        pathlib.Path(f"FILE{number}").write_text(text, encoding="ascii")
-        assert docker("take", "STATE", f"FILE{number}") == DONE
 
 
 def schedule(uid, dates, days, train, stp="P", changed=""):
@@ -62,7 +54,7 @@ WEEK_OF_TRAINS = records.extract(
 
 
 def test_the_list_to_the_letter():
-    state_of(WEEK_OF_TRAINS)
+    give_taken(WEEK_OF_TRAINS)
     with Desk("STATE") as now:
         got = [now.ask(f"trains 1A10 2024-06-{day}") for day in (10, 11, 12, 17)]
         got.append(now.ask("trains 1A12 2024-06-11"))
@@ -74,9 +66,9 @@ def test_the_list_to_the_letter():
 
 
 def test_a_day_before_the_horizon():
-    state_of(WEEK_OF_TRAINS)
+    give_taken(WEEK_OF_TRAINS)
     with Desk("--write", "STATE") as now:
-        assert now.ask("horizon 2024-06-12") == DONE
+        now.does("horizon 2024-06-12")
         assert now.ask("trains 1A10 2024-06-11") == DAY_REFUSED
         assert now.ask("trains 1A10 2024-06-12") == Answer(0, b"C10001 2024-06-12 P\n")
 
@@ -91,9 +83,7 @@ class Plan(random.Random):
     def schedule(self):
         days = self.choice([records.ALWAYS, records.ALWAYS, "1010101", "0101010"])
         train, changed = self.choice(IDENTITIES), self.choice(["", "", *IDENTITIES])
-        return schedule(
-            f"C1000{self.randrange(8)}", self.dates(), days, train, self.choice("PPPONC"), changed
-        )
+        return schedule(f"C1000{self.randrange(8)}", self.dates(), days, train, self.choice("PPPONC"), changed)
 
     def text(self, *header):
         return records.extract(records.header(*header), *(self.schedule() for _ in range(40)))
@@ -103,7 +93,7 @@ class Plan(random.Random):
 def test_random_extracts(seed):
     plan = Plan(f"trains {seed}")
     files = plan.text("240601", "DFROC1A", "F"), plan.text("240602", "DFROC1B", "U")
-    state_of(*files)
+    give_taken(*files)
     with Desk("STATE") as now:
         for identity in [*IDENTITIES, "9Z99"]:
             for day in DAYS:

@@ -9,8 +9,7 @@ from tables import each
 
 
 def told(ended):
-    """How a desk ends, and its answer to `save`. What it answers to `renew` depends on the text
-    that it finds."""
+    """How a desk ends, and its answer to `save`. What it answers to `renew` depends on the text that it finds."""
     answers = answers_in(ended.output)
     return ended.status, answers[-1] if answers else None, ended.errors
 
@@ -21,23 +20,17 @@ SAVE = Subject(
     refused=Ended(1, written([DONE, DEVICE]), NOT_SAVED),
 )
 # A desk that renews also knows what it read at its start.
-RENEWED = {text: WITH_THIRD[STATE_OF_BOTH] for text in TEXTS} | {
-    STATE_OF_ONE: WITH_THIRD[STATE_OF_ONE],
-}
+RENEWED = {text: WITH_THIRD[STATE_OF_BOTH] for text in TEXTS} | {STATE_OF_ONE: WITH_THIRD[STATE_OF_ONE]}
 SUBJECTS = {
     "that saves": SAVE,
-    "that saves by a link": SAVE._replace(
-        command=[DESK, "--write", "leading"], name="leading", links={"leading": "office"},
-    ),
-    "that renews and saves": SAVE._replace(
-        given=b"take ../third\nrenew\nsave\n", renews=RENEWED,
-    ),
+    "that saves by a link": SAVE._replace(command=[DESK, "--write", "leading"], name="leading", links={"leading": "office"}),
+    "that renews and saves": SAVE._replace(given=b"take ../third\nrenew\nsave\n", renews=RENEWED),
 }
 
 
 @pytest.mark.usefixtures("given")
 @each("act", TO_STATE | TO_DRAFT)
 @each("subject", SUBJECTS)
-def test_another_program_comes_to_a_desk(meeting, subject, act):
+def test_another_program_comes_to_a_desk(device, subject, act):
     make_room()
-    Coming(meeting, subject, act).is_as_promised()
+    Coming(device, subject, act).is_as_promised()

@@ -1,5 +1,4 @@
-"""Several commands on one STATE at the same time, and a STATE that changes while a `take` waits for
-its file."""
+"""Several commands on one STATE at the same time, and a STATE that changes while a `take` waits for its file."""
 import os
 import subprocess
 import time
@@ -50,12 +49,9 @@ def larger(large, larger_texts):
 
 
 def test_a_hundred_pairs_of_takes_at_once(larger):
-    """Two takes at the same time. Either both files are known, or one command was refused and only
-    the other command's file is known."""
+    """Two takes at the same time. Either both files are known, or one command was refused and only the other command's file is known."""
     commands = [("take", "office", name) for name in ("large", "larger")]
-    wanted = {
-        (DONE, DONE): "wanted_all", (DONE, DEVICE): "wanted_large", (DEVICE, DONE): "wanted_larger",
-    }
+    wanted = {(DONE, DONE): "wanted_all", (DONE, DEVICE): "wanted_large", (DEVICE, DONE): "wanted_larger"}
     for number in range(1, 101):
         give(STATE_OF_BOTH, "office")
         leave_draft(number)
@@ -86,15 +82,12 @@ def test_eight_takes_at_once_again_and_again(eight_files):
         holds_only("office", wanted)
 
 
-# If no lock holds, a command may take the draft of a running command for left over, and remove it.
-# The running command notices this and is refused. So these cases pass even then, and don't show
-# that the locks hold. The cases in test_meetings.py show it: while a draft is there, any other
-# command is refused.
+# If no lock holds, a command may take the draft of a running command for left over, and remove it. The running command notices this and is refused. So these
+# cases pass even then, and don't show that the locks hold. The cases in test_meetings.py show it: while a draft is there, any other command is refused.
 
 
 def meanwhile(state, change):
-    """A `take` that has read its state waits for its file, while `change` changes what is in the
-    folder. Returns how the `take` ends."""
+    """A `take` that has read its state waits for its file, while `change` changes what is in the folder. Returns how the `take` ends."""
     os.mkfifo("queue")
     command = [DOCKER, "take", state, "queue"]
     pipes = {"stdout": subprocess.PIPE, "stderr": subprocess.PIPE}
@@ -139,16 +132,10 @@ def replaced_by(text):
 # The states of a file and of its revision have the same size.
 @each("change, wanted", {
     "is written in place": (lambda: in_place(STATE_OF_REVISED), STATE_OF_REVISED),
-    "is written in place within the second": (
-        lambda: in_place(STATE_OF_REVISED, THEN + 1), STATE_OF_REVISED,
-    ),
-    "is written in place, and nanoseconds are equal": (
-        lambda: in_place(STATE_OF_REVISED, THEN + SECOND), STATE_OF_REVISED,
-    ),
+    "is written in place within the second": (lambda: in_place(STATE_OF_REVISED, THEN + 1), STATE_OF_REVISED),
+    "is written in place, and nanoseconds are equal": (lambda: in_place(STATE_OF_REVISED, THEN + SECOND), STATE_OF_REVISED),
     "differs only in size": (lambda: in_place(STATE_OF_BOTH, THEN), STATE_OF_BOTH),
-    "differs only in being another file": (
-        lambda: replaced_by(STATE_OF_REVISED), STATE_OF_REVISED,
-    ),
+    "differs only in being another file": (lambda: replaced_by(STATE_OF_REVISED), STATE_OF_REVISED),
     "goes away": (lambda: os.remove("office"), None),
 })
 def test_a_take_whose_state(change, wanted):
@@ -165,37 +152,22 @@ def test_a_take_whose_state(change, wanted):
 # A link is followed: its target is what counts.
 
 
-@pytest.fixture
-def leading(given):
-    """A link to the state."""
-    give(STATE_OF_ONE, "office")
+def leads_elsewhere():
+    os.remove("leading")
+    os.symlink("elsewhere", "leading")
+
+
+@each("change, office", {
+    "leads elsewhere meanwhile": (leads_elsewhere, STATE_OF_ONE),
+    "leads to a file that is written in place": (lambda: in_place(STATE_OF_REVISED), STATE_OF_REVISED),
+    "leads to a file into which another take stored": (takes_revised, STATE_OF_BOTH),
+})
+def test_a_take_by_a_link_that(change, office):
+    """What the changes leave stays: in the link's old target, and in its new one."""
+    for name, text in (("office", STATE_OF_ONE), ("elsewhere", STATE_OF_REVISED)):
+        give(text, name)
+        os.utime(name, ns=(THEN, THEN))
     os.symlink("office", "leading")
-
-
-@pytest.mark.usefixtures("leading")
-def test_a_take_by_a_link_that_leads_elsewhere_meanwhile():
-    """Both states stay: the link's old target and its new target."""
-    give(STATE_OF_REVISED, "elsewhere")
-    stamp = os.stat("office")
-    os.utime("elsewhere", ns=(stamp.st_atime_ns, stamp.st_mtime_ns))
-
-    def leads_elsewhere():
-        os.remove("leading")
-        os.symlink("elsewhere", "leading")
-
-    assert meanwhile("leading", leads_elsewhere) == DEVICE
-    holds_only("office", STATE_OF_ONE)
+    assert meanwhile("leading", change) == DEVICE
+    holds_only("office", office)
     holds_only("elsewhere", STATE_OF_REVISED)
-
-
-@pytest.mark.usefixtures("leading")
-def test_a_take_by_a_link_whose_file_is_written_in_place():
-    assert meanwhile("leading", lambda: in_place(STATE_OF_REVISED)) == DEVICE
-    holds_only("office", STATE_OF_REVISED)
-
-
-@pytest.mark.usefixtures("leading")
-def test_a_take_by_a_link_that_another_take_overtook():
-    """The state that the other command stored stays."""
-    assert meanwhile("leading", takes_revised) == DEVICE
-    holds_only("office", STATE_OF_BOTH)

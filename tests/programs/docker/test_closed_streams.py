@@ -20,10 +20,7 @@ def test_refused_and_keeps_the_state(before, file, wanted):
     keeps(wanted, "take", "office", file, before=before)
 
 
-@each("before", {
-    "take with all streams closed": ALL_CLOSED,
-    "take with standard output closed": redirected(">&-"),
-})
+@each("before", {"take with all streams closed": ALL_CLOSED, "take with standard output closed": redirected(">&-")})
 def test_done_and_stores(before):
     give(STATE_OF_ONE, "office")
     stores(STATE_OF_BOTH, "take", "office", "revised", before=before)

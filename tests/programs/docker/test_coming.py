@@ -1,8 +1,6 @@
-"""Tests `docker new` when another file replaces the pipe that it writes to, and when hard links
-aren't possible.
+"""Tests `docker new` when another file replaces the pipe that it writes to, and when hard links aren't possible.
 
-test_whatever_comes.py tests what happens if something else takes the place of a file, or takes a
-name that was free."""
+test_whatever_comes.py tests what happens if something else takes the place of a file, or takes a name that was free."""
 import os
 import stat
 import time
@@ -20,15 +18,12 @@ COME = b"DKS2 by another program"
 
 
 class Pipes:
-    """Two named pipes, `pipe` and `other`. The test holds both ends of each, so that no program
-    waits for them."""
+    """Two named pipes, `pipe` and `other`. The test holds both ends of each, so that no program waits for them."""
 
     def __enter__(self):
         for name in ("pipe", "other"):
             os.mkfifo(name)
-        self.pipe, self.other = (
-            os.open(name, os.O_RDWR | os.O_NONBLOCK) for name in ("pipe", "other")
-        )
+        self.pipe, self.other = (os.open(name, os.O_RDWR | os.O_NONBLOCK) for name in ("pipe", "other"))
         return self
 
     def __exit__(self, *_):
@@ -46,12 +41,12 @@ def clear():
 INSTEAD = {"another pipe": "mv -f other pipe", "a text": "mv -f came pipe"}
 
 
-def instead_at(meeting, number, line):
+def instead_at(device, number, line):
     """Something takes the place of a pipe at this call. Returns what happened."""
     clear()
     give(COME, "came")
     with Pipes() as pipes:
-        found = met(meeting, number, line, [DOCKER, "new", "pipe"])
+        found = met(device, number, line, [DOCKER, "new", "pipe"])
         if found is None:
             return None
         assert found.status == 0
@@ -70,14 +65,13 @@ def instead_at(meeting, number, line):
 
 @pytest.mark.timeout(120)
 @each("line", INSTEAD)
-def test_what_takes_the_place_of_a_pipe(meeting, line):
+def test_what_takes_the_place_of_a_pipe(device, line):
     """A command writes only to the pipe that it saw."""
-    found = at_each_call(lambda number: instead_at(meeting, number, line))
+    found = at_each_call(lambda number: instead_at(device, number, line))
     assert set(found) == {"came first", "refused", "came last"}
 
 
-# Makes a pipe in the place of the pipe, with the number of the old one if the file system gives it
-# to one of fifty pipes. Reads from the new pipe.
+# Makes a pipe in the place of the pipe, with the number of the old one if the file system gives it to one of fifty pipes. Reads from the new pipe.
 ANEW = (
     "old=$(stat -c %i pipe); rm pipe; n=0;"
     ' until mkfifo "anew$n"; [ "$(stat -c %i "anew$n")" = "$old" ] || [ "$n" = 50 ];'
@@ -85,33 +79,31 @@ ANEW = (
 )
 
 
-def test_a_new_pipe_with_the_number_of_the_old_one(meeting):
-    """The new pipe is made just before the command opens the pipe that it saw. The command doesn't
-    write to it."""
+def test_a_new_pipe_with_the_number_of_the_old_one(device):
+    """The new pipe is made just before the command opens the pipe that it saw. The command doesn't write to it."""
     command = [DOCKER, "new", "pipe"]
     with Pipes():
-        number = calls_of(meeting, command).index("open pipe") + 1
+        number = calls_of(device, command).index("open pipe") + 1
     clear()
     os.mkfifo("pipe")
     # The times when the two pipes are made have to differ.
     time.sleep(0.05)
-    found = met(meeting, number, ANEW, command)
+    found = met(device, number, ANEW, command)
     assert (found.ended, found.status) == (DEVICE, 0)
     assert held("got") == b"", "the new pipe got something"
 
 
-def test_another_pipe_that_has_no_name(meeting):
-    """Pipes without names are all on one device, and no time says when one was made. The command
-    writes only to the pipe that it saw."""
+def test_another_pipe_that_has_no_name(device):
+    """Pipes without names are all on one device, and no time says when one was made. The command writes only to the pipe that it saw."""
     (seen, to_seen), (other, to_other) = os.pipe(), os.pipe()
     for pipe in (seen, other):
         os.set_blocking(pipe, False)
     under = f"/proc/{os.getpid()}/fd"
     os.symlink(f"{under}/{to_seen}", "pipe")
     command = [DOCKER, "new", "pipe"]
-    number = calls_of(meeting, command).index("open pipe") + 1
+    number = calls_of(device, command).index("open pipe") + 1
     assert taken_from(seen) == NO_FILES
-    found = met(meeting, number, f"ln -fns {under}/{to_other} pipe", command)
+    found = met(device, number, f"ln -fns {under}/{to_other} pipe", command)
     assert (found.ended, found.status) == (DEVICE, 0)
     assert (taken_from(seen), taken_from(other)) == (b"", b"")
     for pipe in (seen, to_seen, other, to_other):

@@ -1,5 +1,4 @@
-"""The lines of dockers: `day` prints them from a file, and `print` from a state that took the
-file."""
+"""The lines of dockers: `day` prints them from a file, and `print` from a state that took the file."""
 from docker_lines import LINES
 from outcomes import prints, takes
 from programs import docker
@@ -14,30 +13,14 @@ DOCKERS = {
     "past midnight": ("midnight", "COLWELL", "2024-06-11", ["NIGHT_COMES", "NIGHT_LEAVES"]),
     "a pass past midnight": ("midnight", "DUNMERE", "2024-06-11", ["NIGHT_PASSES"]),
     "a train that divides at its second call": (
-        "divides", "COLWELL", "2024-06-10",
-        [
-            "FIRST_COMES", "FIRST_LEAVES", "AGAIN_COMES", "DIVIDES", "AGAIN_LEAVES",
-            "OTHER_LEAVES",
-        ],
+        "divides", "COLWELL", "2024-06-10", ["FIRST_COMES", "FIRST_LEAVES", "AGAIN_COMES", "DIVIDES", "AGAIN_LEAVES", "OTHER_LEAVES"],
     ),
-    "a train that goes on the next day": (
-        "next_day", "COLWELL", "2024-06-10", ["COMES_2350", "WORKS_ON"],
-    ),
-    "a train that does not run the same day": (
-        "same_day", "COLWELL", "2024-06-10", ["COMES_2350", "WORKS_ON_UNKNOWN"],
-    ),
-    "an association of another category": (
-        "other_category", "COLWELL", "2024-06-10", ["COMES_2350"],
-    ),
-    "a partner that is cancelled": (
-        "cancelled", "COLWELL", "2024-06-10", ["COMES_2350", "WORKS_ON_UNKNOWN"],
-    ),
-    "an identity that changes": (
-        "another_identity", "COLWELL", "2024-06-10", ["PASSES_AS_5E51"],
-    ),
-    "a train without an end, on the last day": (
-        "without_end", "ASHFELD", "2059-12-31", ["LEAVES_0900"],
-    ),
+    "a train that goes on the next day": ("next_day", "COLWELL", "2024-06-10", ["COMES_2350", "WORKS_ON"]),
+    "a train that does not run the same day": ("same_day", "COLWELL", "2024-06-10", ["COMES_2350", "WORKS_ON_UNKNOWN"]),
+    "an association of another category": ("other_category", "COLWELL", "2024-06-10", ["COMES_2350"]),
+    "a partner that is cancelled": ("cancelled", "COLWELL", "2024-06-10", ["COMES_2350", "WORKS_ON_UNKNOWN"]),
+    "an identity that changes": ("another_identity", "COLWELL", "2024-06-10", ["PASSES_AS_5E51"]),
+    "a train without an end, on the last day": ("without_end", "ASHFELD", "2059-12-31", ["LEAVES_0900"]),
 }
 
 

@@ -6,10 +6,11 @@ import signal
 import stat
 
 import pytest
+from checks import named
 from docker_lines import LINES
 from given import ONE, STATE_OF_BOTH, STATE_OF_ONE, STATE_OF_REVISED, STATES
 from outcomes import DEVICE, DONE, MEMORY, accepted, done, file_refused, prints, stores
-from programs import DOCKER, docker, give, held, preloading, untried
+from programs import DOCKER, docker, give, held, in_turn, preloading, untried
 from tables import each
 
 ACCEPTED = accepted(5, 1)
@@ -39,9 +40,8 @@ def is_as(text):
 
 
 class Tried:
-    """A command that is run once for each of its calls. That call fails, or the command is killed
-    at it. The fields are STATE before and after the command, and how the command ends if no call
-    fails."""
+    """A command that is run once for each of its calls. That call fails, or the command is killed at it. The fields are STATE before and after the command,
+    and how the command ends if no call fails."""
 
     def __init__(self, words, before, after, wanted):
         self.words, self.before, self.after, self.wanted = words.split(), before, after, wanted
@@ -52,8 +52,7 @@ class Tried:
         """Checks a command in which one call failed with an error."""
         if ended == self.wanted:
             assert is_as(self.after)
-            # A draft that got a hard link keeps its own name if a look at this name fails, or the
-            # removal. The next command removes the name.
+            # A draft that got a hard link keeps its own name if a look at this name fails, or the removal. The next command removes the name.
             assert not os.path.lexists("office.new") or call in ("statx", "unlink")
             return
         wanted = [DEVICE]
@@ -65,8 +64,7 @@ class Tried:
         self.look_at_draft(call)
 
     def look_at_draft(self, call):
-        """A command looks twice whether the draft is its own. If one of these looks fails, the
-        draft stays, and the next command removes it."""
+        """A command looks twice whether the draft is its own. If one of these looks fails, the draft stays, and the next command removes it."""
         if os.path.lexists("office.new"):
             assert call == "statx", "a draft is left"
             self.drafts += 1
@@ -78,8 +76,7 @@ class Tried:
         assert is_as(self.before) or is_as(self.after)
 
     def look_afterwards(self):
-        """The same command succeeds when it is run again; but what is migrated can't be migrated
-        again."""
+        """The same command succeeds when it is run again; but what is migrated can't be migrated again."""
         if self.words[0] == "migrate" and is_as(self.after):
             return
         assert docker(*self.words) == self.wanted
@@ -90,24 +87,20 @@ class Tried:
 
     def at_each_call(self, device, how, error="EIO"):
         """Runs the command once for each of its calls, and returns the number of calls."""
-        number = 0
-        while True:
-            number += 1
+        def trial(number):
             put_back(self.before)
-            settings = {how: number, "ERROR": error, "TOLD": "met", "WRONG": "wrong"}
-            ended = docker(*self.words, before=preloading(device, **settings))
+            return docker(*self.words, before=preloading(device, **{how: number}, ERROR=error, TOLD="met", WRONG="wrong"))
+
+        for number, ended, call in in_turn(trial):
             assert not os.path.exists("wrong"), f"at call {number}, what may not be"
-            if not os.path.exists("met"):
+            if call is None:
                 return number - 1
-            call = held("met").decode()
-            try:
+            with named(f"call {number}, {call}"):
                 if how == "END_AT":
                     self.look_at_end(ended)
                 else:
                     self.look_at_failure(ended, error, call)
                 self.look_afterwards()
-            except AssertionError as found:
-                raise AssertionError(f"call {number}, {call}: {found}") from found
 
 
 ENDED = {
@@ -148,44 +141,28 @@ def test_each_call_fails(device, words, before, after, wanted, error):
 
 
 def statuses(device, call, error, before, words):
-    """How a command ends if the first call with this name fails, if the second one fails, and so
-    on."""
-    found, number = [], 1
-    while True:
+    """How a command ends if the first call with this name fails, if the second one fails, and so on."""
+    def trial(number):
         put_back(before)
-        settings = {"CALL": call, "FAIL_AT": number, "ERROR": error, "TOLD": "met"}
-        ended = docker(*words.split(), before=preloading(device, **settings))
-        if not os.path.exists("met"):
-            return found
-        found.append(ended.status)
-        number += 1
+        return docker(*words.split(), before=preloading(device, CALL=call, FAIL_AT=number, ERROR=error, TOLD="met")).status
+
+    return [status for _, status, met in in_turn(trial) if met]
 
 
-# The program first looks for each standard stream, then opens STATE, the file and the draft. The
-# draft gets its permissions before it is put in place. Its mark is removed last; if that fails, the
-# state is stored all the same.
+# The program first looks for each standard stream, then opens STATE, the file and the draft. The draft gets its permissions before it is put in place. Its mark
+# is removed last; if that fails, the state is stored all the same.
 @each("call, error, before, words, wanted", {
-    "take, if a file that it opens wants memory": (
-        "open", "ENOMEM", STATE_OF_ONE, "take office revised", [0, 0, 0, 3, 3, 3],
-    ),
-    "take, if a file that it opens fails": (
-        "open", "EIO", STATE_OF_ONE, "take office revised", [0, 0, 0, 4, 4, 4],
-    ),
+    "take, if a file that it opens wants memory": ("open", "ENOMEM", STATE_OF_ONE, "take office revised", [0, 0, 0, 3, 3, 3]),
+    "take, if a file that it opens fails": ("open", "EIO", STATE_OF_ONE, "take office revised", [0, 0, 0, 4, 4, 4]),
     "new, if its draft wants memory": ("open", "ENOMEM", None, "new office", [0, 0, 0, 3]),
     "check, if its file wants memory": ("open", "ENOMEM", None, "check one", [0, 0, 0, 3]),
     "take, if its draft is not flushed": ("fsync", "EIO", STATE_OF_ONE, "take office revised", [4]),
-    "merge, if its draft is not flushed": (
-        "fsync", "EIO", STATE_OF_ONE, "merge office state_of_revised", [4],
-    ),
+    "merge, if its draft is not flushed": ("fsync", "EIO", STATE_OF_ONE, "merge office state_of_revised", [4]),
     "new, if its draft is not flushed": ("fsync", "ENOSPC", None, "new office", [4]),
-    "take, if its draft is not put in place": (
-        "rename", "EIO", STATE_OF_ONE, "take office revised", [4],
-    ),
+    "take, if its draft is not put in place": ("rename", "EIO", STATE_OF_ONE, "take office revised", [4]),
     "new, if its draft gets no hard link": ("link", "EIO", None, "new office", [0]),
     "new, if its draft keeps its own name": ("unlink", "EIO", None, "new office", [0]),
-    "take, if permissions are not given": (
-        "fchmod", "EIO", STATE_OF_ONE, "take office revised", [4, 0],
-    ),
+    "take, if permissions are not given": ("fchmod", "EIO", STATE_OF_ONE, "take office revised", [4, 0]),
 })
 def test_statuses_as_one_call_fails(device, call, error, before, words, wanted):
     assert statuses(device, call, error, before, words) == wanted
@@ -203,9 +180,7 @@ def interrupting(device):
 
 @each("words, text, wanted", {
     "a file whose reads are interrupted": ("check one", "", ACCEPTED),
-    "standard input whose reads are interrupted": (
-        "", "day stdin ASHFELD 2024-06-10\n" + ONE, ASHFELD,
-    ),
+    "standard input whose reads are interrupted": ("", "day stdin ASHFELD 2024-06-10\n" + ONE, ASHFELD),
     "a docker whose writes are interrupted": ("print state_of_one ASHFELD 2024-06-10", "", ASHFELD),
 })
 def test_interrupted(interrupting, words, text, wanted):

@@ -8,16 +8,10 @@ from tables import each
 ONE_ACCEPTED = accepted(5, 1)
 ACCEPTED = {
     "check of one schedule": ("check one", ONE_ACCEPTED),
-    "day at the origin": (
-        "day one ASHFELD 2024-06-10", prints("ASHFELD", "2024-06-10", LINES["LEAVES_0900"])
-    ),
-    "day at the terminus": (
-        "day one BRAYTON 2024-06-10", prints("BRAYTON", "2024-06-10", LINES["COMES_0930"])
-    ),
+    "day at the origin": ("day one ASHFELD 2024-06-10", prints("ASHFELD", "2024-06-10", LINES["LEAVES_0900"])),
+    "day at the terminus": ("day one BRAYTON 2024-06-10", prints("BRAYTON", "2024-06-10", LINES["COMES_0930"])),
     "day on which no train runs": ("day one ASHFELD 2024-06-15", prints("ASHFELD", "2024-06-15")),
-    "day at a timing point in lower case, which has no train": (
-        "day one ashfeld 2024-06-10", prints("ashfeld", "2024-06-10"),
-    ),
+    "day at a timing point in lower case, which has no train": ("day one ashfeld 2024-06-10", prints("ashfeld", "2024-06-10")),
     "lines that end in carriage return and line feed": ("check returns", ONE_ACCEPTED),
     "a last line without its line feed": ("check unended", ONE_ACCEPTED),
     "a deletion, whose journey is not read": ("check deletion", ONE_ACCEPTED),
@@ -42,9 +36,6 @@ def test_day_refuses(name, _text, fault):
 
 
 def test_the_example_with_associations():
-    """An evening with a train that runs past midnight, one that another train joins, and one that
-    divides."""
+    """An evening with a train that runs past midnight, one that another train joins, and one that divides."""
     example = str(ROOT / "examples/association.cif")
-    assert docker("day", example, "COLWELL", "2024-06-11") == prints(
-        "COLWELL", "2024-06-11", *EVENING_AT_COLWELL, name="COLWELL JUNCTION",
-    )
+    assert docker("day", example, "COLWELL", "2024-06-11") == prints("COLWELL", "2024-06-11", *EVENING_AT_COLWELL, name="COLWELL JUNCTION")

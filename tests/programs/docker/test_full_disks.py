@@ -100,8 +100,7 @@ def test_a_link_of_the_name_of_a_draft():
     assert held("office") == STATE_OF_ONE
 
 
-# A file system of 64 KiB, mounted for this command only. It is full, then has little room, then is
-# read-only, and finally has all its room.
+# A file system of 64 KiB, mounted for this command only. It is full, then has little room, then is read-only, and finally has all its room.
 ROOMS = """
     mount -t tmpfs -o size=64k none small && cp state_of_both small/office || exit 1
     takes() {

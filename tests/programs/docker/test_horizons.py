@@ -15,9 +15,7 @@ OLD = older(STATE_OF_ONE)
     "horizon after the last day": (TO_JUNE, "horizon office 2024-06-15", LAPSED),
     "a horizon that is not greater": (LAPSED, "horizon office 2024-06-10", LAPSED),
     "the first day as a horizon": (LAPSED, "horizon office 1960-01-01", LAPSED),
-    "merge of a state under a greater horizon": (
-        STATE_OF_ONE, "merge office state_of_lapsed", LAPSED,
-    ),
+    "merge of a state under a greater horizon": (STATE_OF_ONE, "merge office state_of_lapsed", LAPSED),
     "merge under a horizon": (LAPSED, "merge office state_of_one", LAPSED),
     "take under a horizon": (LAPSED, "take office one", LAPSED),
 })
@@ -39,13 +37,9 @@ def test_the_text_of_a_state_that_lapsed():
 
 @each("text, date, wanted", {
     "print before the horizon plus three days": (TO_JUNE, "2024-06-16", DAY_REFUSED),
-    "print on the horizon plus three days": (
-        TO_JUNE, "2024-06-17", prints("ASHFELD", "2024-06-17"),
-    ),
+    "print on the horizon plus three days": (TO_JUNE, "2024-06-17", prints("ASHFELD", "2024-06-17")),
     "print before the later horizon plus three days": (LAPSED, "2024-06-17", DAY_REFUSED),
-    "print on the later horizon plus three days": (
-        LAPSED, "2024-06-18", prints("ASHFELD", "2024-06-18"),
-    ),
+    "print on the later horizon plus three days": (LAPSED, "2024-06-18", prints("ASHFELD", "2024-06-18")),
 })
 def test_prints(text, date, wanted):
     give(text, "office")

@@ -11,10 +11,7 @@ from programs import DOCKER, ROOT, Ended, run
 LAUNCHER = str(ROOT / "docker")
 # All tools that the launcher runs before it looks for the kit.
 TOOLS = ("bash", "dirname", "readlink")
-NOT_BUILT = (
-    b"docker: the program isn't built, and the kit's command rt isn't on the PATH to prove and"
-    b" build it\n"
-)
+NOT_BUILT = b"docker: the program isn't built, and the kit's command rt isn't on the PATH to prove and build it\n"
 
 
 @pytest.fixture

@@ -41,10 +41,7 @@ def endless(line, *words):
             source.terminate()
 
 
-@each("text, fault", {
-    "of zeros": (b"", "1: Length"),
-    "without a header": (b"headless", "1: Place"),
-})
+@each("text, fault", {"of zeros": (b"", "1: Length"), "without a header": (b"headless", "1: Place")})
 def test_a_file_of_100_gb(text, fault):
     huge("huge", held("headless") if text else b"")
     assert docker("check", "huge", before=LITTLE) == file_refused(fault)
@@ -80,14 +77,10 @@ def test_zeros_without_end_as_a_state():
 
 @each("line, words, wanted", {
     "a mark and zeros without end": (MARKED_ZEROS, "merge office stdin", state_refused(22, "Tail")),
-    "a mark and bytes 0xFF without end": (
-        MARKED_ONES, "merge office stdin", state_refused(4, "Horizon"),
-    ),
+    "a mark and bytes 0xFF without end": (MARKED_ONES, "merge office stdin", state_refused(4, "Horizon")),
     "take of good records without end": (RECORDS, "take office stdin", MEMORY),
     "take of blank places without end": (BLANK_PLACES, "take office stdin", MEMORY),
-    "take of blank places without end or header": (
-        BLANK_PLACES_ALONE, "take office stdin", file_refused("1: Place"),
-    ),
+    "take of blank places without end or header": (BLANK_PLACES_ALONE, "take office stdin", file_refused("1: Place")),
     "take of headers without end": (HEADERS, "take office stdin", file_refused("2: Place")),
 })
 def test_an_endless_pipe_keeps_the_state(line, words, wanted):

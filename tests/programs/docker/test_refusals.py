@@ -1,5 +1,4 @@
-"""Files and states that are refused, and good ones that are cut at each byte. STATE stays
-unchanged."""
+"""Files and states that are refused, and good ones that are cut at each byte. STATE stays unchanged."""
 from given import BAD_STATES, FAULTS, ONE, STATE_OF_ONE, STATE_OF_REVISED
 from outcomes import file_refused, holds_only, keeps, state_refused
 from programs import docker, give
@@ -29,8 +28,7 @@ def test_take_of_each_cut_of_a_file():
 
 
 def offset_of_cut(size):
-    """The offset at which the state of one schedule is too short if it is cut to this many
-    bytes."""
+    """The offset at which the state of one schedule is too short if it is cut to this many bytes."""
     parts = (0, 4, 6, 14, 33, 41)
     return max(part for part in parts if part <= size)
 

@@ -1,11 +1,8 @@
-"""`new`, `take`, `merge`, `print` and `files`: what a state holds, in whatever order it learned of
-its files."""
+"""`new`, `take`, `merge`, `print` and `files`: what a state holds, in whatever order it learned of its files."""
 import itertools
 
 from docker_lines import LINES
-from given import (
-    FILES_LINE, REVISED_FILES_LINE, STATES, STATE_OF_BOTH, STATE_OF_ONE, STATE_OF_REVISED,
-)
+from given import FILES_LINE, REVISED_FILES_LINE, STATES, STATE_OF_BOTH, STATE_OF_ONE, STATE_OF_REVISED
 from outcomes import DONE, done, holds_only, prints, stores, takes
 from programs import docker, give
 from tables import each
@@ -23,36 +20,18 @@ def test_the_text_of_a_state_of_one_schedule():
 @each("state, words, wanted", {
     "print of no file": ("no_files", "print office ELM 2024-06-10", prints("ELM", "2024-06-10")),
     "files of no file": ("no_files", "files office", DONE),
-    "print at the origin": (
-        "state_of_one", "print office ASHFELD 2024-06-10",
-        prints("ASHFELD", "2024-06-10", LINES["LEAVES_0900"]),
-    ),
-    "print at the terminus": (
-        "state_of_one", "print office BRAYTON 2024-06-10",
-        prints("BRAYTON", "2024-06-10", LINES["COMES_0930"]),
-    ),
-    "print on which no train runs": (
-        "state_of_one", "print office ASHFELD 2024-06-15", prints("ASHFELD", "2024-06-15"),
-    ),
+    "print at the origin": ("state_of_one", "print office ASHFELD 2024-06-10", prints("ASHFELD", "2024-06-10", LINES["LEAVES_0900"])),
+    "print at the terminus": ("state_of_one", "print office BRAYTON 2024-06-10", prints("BRAYTON", "2024-06-10", LINES["COMES_0930"])),
+    "print on which no train runs": ("state_of_one", "print office ASHFELD 2024-06-15", prints("ASHFELD", "2024-06-15")),
     "files of one": ("state_of_one", "files office", done(FILES_LINE)),
-    "print of a revision": (
-        "state_of_both", "print office ASHFELD 2024-06-10",
-        prints("ASHFELD", "2024-06-10", LINES["LEAVES_0905"]),
-    ),
-    "files of a revision": (
-        "state_of_both", "files office", done(FILES_LINE + REVISED_FILES_LINE),
-    ),
+    "print of a revision": ("state_of_both", "print office ASHFELD 2024-06-10", prints("ASHFELD", "2024-06-10", LINES["LEAVES_0905"])),
+    "files of a revision": ("state_of_both", "files office", done(FILES_LINE + REVISED_FILES_LINE)),
     "print of a late full extract": (
         "state_of_three", "print office ASHFELD 2024-06-10",
         prints("ASHFELD", "2024-06-10", LINES["LEAVES_1000"], LINES["LEAVES_1100"]),
     ),
-    "the heading of the new TIPLOC": (
-        "state_of_renamed", "print office ASHFLDN 2024-06-10",
-        prints("ASHFLDN", "2024-06-10", name="ASHFIELD NEW"),
-    ),
-    "the heading of the old TIPLOC": (
-        "state_of_renamed", "print office ASHFELD 2024-06-10", prints("ASHFELD", "2024-06-10"),
-    ),
+    "the heading of the new TIPLOC": ("state_of_renamed", "print office ASHFLDN 2024-06-10", prints("ASHFLDN", "2024-06-10", name="ASHFIELD NEW")),
+    "the heading of the old TIPLOC": ("state_of_renamed", "print office ASHFELD 2024-06-10", prints("ASHFELD", "2024-06-10")),
 })
 def test_prints(state, words, wanted):
     give(STATES[state], "office")
@@ -106,8 +85,7 @@ def test_three_offices_merged():
     stores(STATES["state_of_three"], "merge", "of_full", "of_late_update", state="of_full")
 
 
-# Files with equal stamps: the later last day wins, then the greater bytes, and a put wins over a
-# deletion.
+# Files with equal stamps: the later last day wins, then the greater bytes, and a put wins over a deletion.
 EQUAL_STAMPS = {
     "longer, one": ("longer", "0850"),
     "one, longer": ("longer", "0850"),

@@ -5,9 +5,7 @@ import subprocess
 import pytest
 from docker_lines import LINES
 from given import FILES_LINE, ONE, STATE_OF_BOTH, STATE_OF_ONE, STATES
-from outcomes import (
-    DEVICE, DONE, USAGE, accepted, done, file_refused, keeps, prints, state_refused, stores,
-)
+from outcomes import DEVICE, DONE, USAGE, accepted, done, file_refused, keeps, prints, state_refused, stores
 from programs import Ended, docker, give, held, in_seconds, on_disk, redirected
 from states import under
 from tables import alone, each
@@ -42,12 +40,8 @@ def test_job_line(text, wanted):
 @each("before, text, wanted", {
     "a job line of new": (b"", b"new office\n" + FILE, STATES["no_files"]),
     "a job line of take": (STATES["no_files"], b"take office stdin\n" + FILE, STATE_OF_ONE),
-    "a job line of merge": (
-        STATE_OF_ONE, b"merge office stdin\n" + STATES["state_of_revised"], STATE_OF_BOTH,
-    ),
-    "a job line of horizon": (
-        STATE_OF_ONE, b"horizon office 2024-06-14\n", under("2024-06-14", STATE_OF_ONE),
-    ),
+    "a job line of merge": (STATE_OF_ONE, b"merge office stdin\n" + STATES["state_of_revised"], STATE_OF_BOTH),
+    "a job line of horizon": (STATE_OF_ONE, b"horizon office 2024-06-14\n", under("2024-06-14", STATE_OF_ONE)),
     "a job line of migrate": (STATES["old_state"], b"migrate office\n", STATE_OF_ONE),
 })
 def test_job_line_that_stores(before, text, wanted):
@@ -77,9 +71,7 @@ def test_a_file_from_standard_input():
 
 @each("before, words, text, wanted", {
     "take of standard input": (STATES["no_files"], "take office stdin", FILE, STATE_OF_ONE),
-    "merge of standard input": (
-        STATE_OF_ONE, "merge office stdin", STATES["state_of_revised"], STATE_OF_BOTH,
-    ),
+    "merge of standard input": (STATE_OF_ONE, "merge office stdin", STATES["state_of_revised"], STATE_OF_BOTH),
 })
 def test_stores_from_standard_input(before, words, text, wanted):
     give(before, "office")
@@ -117,8 +109,7 @@ def test_a_compressed_file():
 
 @pytest.fixture
 def full_pipe():
-    """The end of a pipe to which a program may write. The pipe is full, and a write doesn't wait
-    for room."""
+    """The end of a pipe to which a program may write. The pipe is full, and a write doesn't wait for room."""
     reading, writing = os.pipe()
     os.set_blocking(writing, False)
     try:
@@ -252,8 +243,7 @@ def test_a_full_standard_error():
 
 
 def test_an_output_that_is_taken_in_part():
-    """A file may grow to 1,024 bytes, so only the first 24 bytes of the docker fit. The write of
-    the rest fails."""
+    """A file may grow to 1,024 bytes, so only the first 24 bytes of the docker fit. The write of the rest fails."""
     give(bytes(1000), "grown")
     with open("grown", "ab") as output:
         words = ("day", "one", "ASHFELD", "2024-06-10")

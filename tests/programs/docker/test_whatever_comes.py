@@ -35,15 +35,13 @@ SUBJECTS = {
     "new where nothing is": subject("new office", ANEW, NOTHING),
     "new by a link to nothing": NEW_BY_LINK._replace(texts=NOTHING),
     "new by a link to nothing that changes": NEW_BY_LINK._replace(texts=NOTHING, at="leading"),
-    "new by two links to nothing": subject(
-        "new first", ANEW, NOTHING, links={"first": "leading"} | LINK,
-    ),
+    "new by two links to nothing": subject("new first", ANEW, NOTHING, links={"first": "leading"} | LINK),
 }
 
 
 @pytest.mark.usefixtures("given")
 @each("act", TO_STATE | TO_DRAFT)
 @each("subject", SUBJECTS)
-def test_another_program_comes(meeting, subject, act):
+def test_another_program_comes(device, subject, act):
     make_room()
-    Coming(meeting, subject, act).is_as_promised()
+    Coming(device, subject, act).is_as_promised()

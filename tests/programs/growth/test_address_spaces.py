@@ -1,6 +1,5 @@
-"""The commands that read a file or a state, in address spaces of 4 MB and more, an eighth of a
-megabyte apart. A run has to give the whole answer. Otherwise memory has to run out, and the run
-prints nothing and leaves STATE unchanged."""
+"""The commands that read a file or a state, in address spaces of 4 MB and more, an eighth of a megabyte apart. A run has to give the whole answer. Otherwise
+memory has to run out, and the run prints nothing and leaves STATE unchanged."""
 import pytest
 from checks import named
 from given import many_trips
@@ -14,8 +13,7 @@ SCHEDULES = 4000
 FIRST, STEP = 4096, 128
 # The runs end after this many in a row that have given the whole answer.
 ENOUGH = 8
-# Commands that need no more memory than the first address space has. `check` keeps nothing of a
-# file, and this ledger is short.
+# Commands that need no more memory than the first address space has. `check` keeps nothing of a file, and this ledger is short.
 SMALL = "check", "files"
 
 

@@ -1,21 +1,18 @@
 """Calls of the crates, with one memory growth after another refused.
 
-Some rows of crates/hostile_tests/stdin begin with the word `growth`, and make a call in which a
-growth can be refused. Each of them is run with the first growth of its call refused, then the
-second, and so on, until a run has no growth to refuse. A refused run has to print that it is out of
-memory, and then what its call promises for this. After that it makes the call again, and prints
-the answer that crates/hostile_tests/stdout has for the row. A call may also manage with less memory
-and print that answer at once. But in each row, at least one growth has to make the call fail."""
+Some rows of crates/hostile_tests/stdin begin with the word `growth`, and make a call in which a growth can be refused. Each of them is run with the first
+growth of its call refused, then the second, and so on, until a run has no growth to refuse. A refused run has to print that it is out of memory, and then
+what its call promises for this. After that it makes the call again, and prints the answer that crates/hostile_tests/stdout has for the row. A call may also
+manage with less memory and print that answer at once. But in each row, at least one growth has to make the call fail."""
 import fcntl
 import os
-import pathlib
 import re
 import subprocess
 import textwrap
 
 import pytest
 from checks import holds, same
-from programs import CALLS, ROOT, preloading, run
+from programs import CALLS, ROOT, in_turn, preloading, run
 from tables import each
 
 CRATE = ROOT / "crates" / "hostile_tests"
@@ -49,11 +46,7 @@ PROMISES = {
     "job_line": ["status 3"],
     "prepare": ["status 3\nthe job of these words"],
     "emit": ["status 3\nnothing is written"],
-    "run": [
-        "before the first event",
-        "one reply wants memory\n"
-        "offices, messages and dockers are those that the replies leave",
-    ],
+    "run": ["before the first event", "one reply wants memory\noffices, messages and dockers are those that the replies leave"],
 }
 
 
@@ -92,8 +85,7 @@ def is_old():
 
 @pytest.fixture(scope="session")
 def calls(work):
-    """The program that makes the calls. It is built if needed, unless HOSTILE_TESTS names another
-    program. One process builds it, while others wait."""
+    """The program that makes the calls. It is built if needed, unless HOSTILE_TESTS names another program. One process builds it, while others wait."""
     if not os.environ.get("HOSTILE_TESTS"):
         with open(CRATE / "stdin", "rb") as locked, open(work / "build", "wb") as log:
             fcntl.flock(locked, fcntl.LOCK_EX)
@@ -108,15 +100,13 @@ def calls(work):
 def refused_in_turn(calls, library, row):
     """What is printed for a row if the first growth of its call is refused, then if the second is,
     and so on. The last text is from a run that had no growth to refuse."""
-    refused, texts = pathlib.Path("refused").absolute(), []
-    while True:
-        refused.unlink(missing_ok=True)
-        refusing = preloading(library, CALL=1, GROWTH=len(texts) + 1, REFUSED=refused)
+    def trial(growth):
+        refusing = preloading(library, CALL=1, GROWTH=growth, REFUSED=os.path.abspath("refused"))
         ended = run([*refusing, calls], f"{row}\n".encode(), cwd=CRATE / "data")
-        same(f"the status at growth {len(texts) + 1}", ended.status, 0)
-        texts.append(ended.output.decode())
-        if not refused.exists():
-            return texts
+        same(f"the status at growth {growth}", ended.status, 0)
+        return ended.output.decode()
+
+    return [text for _, text, _ in in_turn(trial, "refused")]
 
 
 @each("row", rows())
@@ -132,8 +122,7 @@ def test_each_growth_of_a_call_is_refused_in_turn(calls, refusing, row):
 
 
 def records_of(calls, library, call):
-    """For each row of a call without the call, the growths at which a record was named, each with
-    this record."""
+    """For each row of a call without the call, the growths at which a record was named, each with this record."""
     found = {}
     for row in rows().values():
         if call_of(row) == call:

@@ -1,13 +1,11 @@
-"""Each command is run with its first memory growth refused, then with its second, and so on, until
-a run has no growth to refuse. After each of these runs, the command is run with enough memory, and
-has to give the whole answer."""
-import pathlib
+"""Each command is run with its first memory growth refused, then with its second, and so on, until a run has no growth to refuse. After each of these runs,
+the command is run with enough memory, and has to give the whole answer."""
 import shutil
 
 import pytest
 from checks import named, same
 from outcomes import holds_only, ran_out, takes
-from programs import ROOT, docker, give, held, preloading
+from programs import ROOT, docker, give, held, in_turn, preloading
 from states import older
 from tables import each
 
@@ -23,12 +21,6 @@ def states(folder):
     takes("other.state", "monday.cif", "tuesday.cif")
 
 
-def command(state, words, given, **options):
-    """Runs a command over this text of STATE."""
-    give(state)
-    return docker(*words, given=given, **options)
-
-
 @each("state, line, job", {
     "new": ("empty", "new STATE", ""),
     "check": ("empty", "check full.cif", ""),
@@ -42,22 +34,21 @@ def command(state, words, given, **options):
     "a job line": ("full", "", "print stdin ASHFELD 2024-06-12\n"),
 })
 def test_each_growth_of_a_command_is_refused_in_turn(refusing, state, line, job):
-    words, before, refused = line.split(), held(f"{state}.state"), pathlib.Path("refused")
+    words, before = line.split(), held(f"{state}.state")
     given = job.encode() + before if job else b""
-    whole = command(before, words, given)
-    stored, growth = held(), 1
+
+    def runs(**options):
+        give(before)
+        return docker(*words, given=given, **options)
+
+    whole, stored = runs(), held()
     assert (whole.status, whole.errors) == (0, b"")
-    while True:
-        refused.unlink(missing_ok=True)
-        library = preloading(refusing, GROWTH=growth, REFUSED=refused.absolute())
-        ended = command(before, words, given, before=library)
-        if not refused.exists():
-            break
+    for growth, ended, told in in_turn(lambda number: runs(before=preloading(refusing, GROWTH=number, REFUSED="refused")), "refused"):
         with named(f"growth {growth}"):
-            ran_out(ended, before, whole, stored)
-            same("the end afterwards", command(before, words, given), whole)
-            holds_only("STATE", stored)
-        growth += 1
-    assert not ran_out(ended, before, whole, stored)
+            is_out = ran_out(ended, before, whole, stored)
+            if told is not None:
+                same("the end afterwards", runs(), whole)
+                holds_only("STATE", stored)
+    assert not is_out
     assert growth > 1, "no growth was refused"
     print(f"{growth - 1} growths were refused")

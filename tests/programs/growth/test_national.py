@@ -1,9 +1,7 @@
-"""An extract of national size: 500,000 schedules with eight million calls. Each command and a desk
-have to give the right answer. A program fails here if it limits the number of rows, or requests
-more memory than the rows need.
+"""An extract of national size: 500,000 schedules with eight million calls. Each command and a desk have to give the right answer. A program fails here if it
+limits the number of rows, or requests more memory than the rows need.
 
-The files need 4 GB. They are in memory (/dev/shm) if there is room and no TMPDIR, and otherwise in
-a temporary folder."""
+The files need 4 GB. They are in memory (/dev/shm) if there is room and no TMPDIR, and otherwise in a temporary folder."""
 import contextlib
 import filecmp
 import os
@@ -72,10 +70,7 @@ def room_in_memory():
 @pytest.fixture(scope="module")
 def national():
     """A folder with two extracts, the states that take them, and the state that knows both."""
-    with (
-        pytest.MonkeyPatch.context() as patch,
-        tempfile.TemporaryDirectory(dir=room_in_memory()) as made,
-    ):
+    with (pytest.MonkeyPatch.context() as patch, tempfile.TemporaryDirectory(dir=room_in_memory()) as made):
         # A command may take six times as long as in other tests.
         patch.setattr(checks, "PATIENCE", 120)
         folder = pathlib.Path(made)

@@ -1,11 +1,9 @@
-"""More things than 16 bits can number or a fixed buffer can hold. There are 70,000 schedules and as
-many associations, each at a place of its own. There are also a schedule of 200 lines, and 1,100
-files in each of two states.
+"""More things than 16 bits can number or a fixed buffer can hold. There are 70,000 schedules and as many associations, each at a place of its own. There are
+also a schedule of 200 lines, and 1,100 files in each of two states.
 
-Each answer has to be right, so memory may run out only if a growth was refused. Then a growth in
-the middle of a `take` and of a `merge` is refused, and each of the last two. If one of the last two
-is refused, the program has to report that it is out of memory. If the one in the middle is refused,
-it may also manage with less memory, and give the whole answer."""
+Each answer has to be right, so memory may run out only if a growth was refused. Then a growth in the middle of a `take` and of a `merge` is refused, and
+each of the last two. If one of the last two is refused, the program has to report that it is out of memory. If the one in the middle is refused, it may also
+manage with less memory, and give the whole answer."""
 import pathlib
 import typing
 
@@ -14,9 +12,7 @@ from checks import holds, named
 from docker_lines import event, works_on
 from outcomes import DONE, accepted, done, holds_only, prints, ran_out
 from programs import docker, give, held, preloading
-from records import (
-    ALWAYS, NO_END, association, basic, extract, header, intermediate, origin, terminus,
-)
+from records import ALWAYS, NO_END, association, basic, extract, header, intermediate, origin, terminus
 from states import File, older, state
 from tables import each
 
@@ -52,8 +48,7 @@ def schedule(uid, *journey):
 
 
 def units(half):
-    """Each schedule begins at a place of its own, and has an association there with the next
-    schedule. One more schedule has 200 lines."""
+    """Each schedule begins at a place of its own, and has an association there with the next schedule. One more schedule has 200 lines."""
     for row in range(ROWS):
         uid, other = (f"{half.uid}{it:05}" for it in (row, (row + 1) % ROWS))
         place = f"{half.place}{row:06}"
@@ -71,8 +66,7 @@ def ledger(half):
 
 @pytest.fixture(scope="module")
 def large(work):
-    """A folder with the two extracts, the states before and after they are taken, and the state
-    that joins the two states."""
+    """A folder with the two extracts, the states before and after they are taken, and the state that joins the two states."""
     folder = work / "sizes"
     folder.mkdir()
     for name, half in HALVES.items():
@@ -88,10 +82,7 @@ def large(work):
 def last_docker(half):
     """The docker of the last place, where the last schedule leaves and works on."""
     uid, place = f"{half.uid}{ROWS - 1:05}", half.last_place()
-    return prints(
-        place, DAY, works_on("0900", uid, f"{half.uid}00000"),
-        event("0900", "D", uid, place, "MEETING", "0900"),
-    )
+    return prints(place, DAY, works_on("0900", uid, f"{half.uid}00000"), event("0900", "D", uid, place, "MEETING", "0900"))
 
 
 def test_check(large):
@@ -125,10 +116,7 @@ def test_merge(large):
 @each("place, wanted", {
     "the last place of the first file": (FIRST.last_place(), last_docker(FIRST)),
     "the last place of the second file": (SECOND.last_place(), last_docker(SECOND)),
-    "a place in the schedule of 200 lines": (
-        "L000198",
-        prints("L000198", DAY, event("1010", "P", "Z00000", "BEYOND", "MEETING")),
-    ),
+    "a place in the schedule of 200 lines": ("L000198", prints("L000198", DAY, event("1010", "P", "Z00000", "BEYOND", "MEETING"))),
 })
 def test_print_from_the_joined_state(large, place, wanted):
     assert docker("print", large / "joined.state", place, DAY) == wanted

@@ -1,9 +1,7 @@
-"""Files and states of hostile shapes, all of which are valid. Each answer has to be right, and has
-to take less than a second of processor time.
+"""Files and states of hostile shapes, all of which are valid. Each answer has to be right, and has to take less than a second of processor time.
 
-An answer takes some hundredths of a second if the work grows in proportion to the input. It would
-take many seconds if the work grew with the square of the input. `bench/run-growth` has more shapes,
-and all commands."""
+An answer takes some hundredths of a second if the work grows in proportion to the input. It would take many seconds if the work grew with the square of the
+input. `bench/run-growth` has more shapes, and all commands."""
 import signal
 
 import pytest
@@ -18,16 +16,14 @@ from tables import by_itself, each
 
 pytestmark = [by_itself, pytest.mark.timeout(60)]
 
-# This many schedules or associations have 4,667 first days, and up to three STP indicators for each
-# of these days.
+# This many schedules or associations have 4,667 first days, and up to three STP indicators for each of these days.
 ROWS = 14_000
 FILES = 100_000
 DAY = "2024-06-12"
 
 
 def first_day(number):
-    """One of 4,704 days from 2010 to 2023, with 28 days in each month. They all come before the
-    day of the dockers."""
+    """One of 4,704 days from 2010 to 2023, with 28 days in each month. They all come before the day of the dockers."""
     return f"{10 + number // 336 % 14}{1 + number // 28 % 12:02}{1 + number % 28:02}"
 
 
@@ -53,9 +49,8 @@ def uids(letter):
 
 
 def of_one_uid():
-    """Schedules of one UID. Of those that run on the docker's day, the one whose STP indicator is
-    first in the alphabet is chosen. If several have this indicator, the one with the latest first
-    day is chosen."""
+    """Schedules of one UID. Of those that run on the docker's day, the one whose STP indicator is first in the alphabet is chosen. If several have this
+    indicator, the one with the latest first day is chosen."""
     return [leaves("A00001", row // 3, stp_of(row)) for row in range(ROWS)]
 
 
@@ -116,22 +111,14 @@ def answers(wanted, *words):
     "schedules of one UID": (of_one_uid, "MEETING", dockers(leaves_meeting("A00001", "N"))),
     "associations of one group": (
         of_one_group, "MEETING",
-        dockers(
-            works_on("0900", "A00001", "B00001", stp="N"),
-            leaves_meeting("A00001"), leaves_meeting("B00001"),
-        ),
+        dockers(works_on("0900", "A00001", "B00001", stp="N"), leaves_meeting("A00001"), leaves_meeting("B00001")),
     ),
-    "bases of one partner of as many schedules": (
-        of_one_partner, "MEETING",
-        dockers(*COMES, *WORKS_ON, leaves_meeting("B00001", "N")),
-    ),
+    "bases of one partner of as many schedules": (of_one_partner, "MEETING", dockers(*COMES, *WORKS_ON, leaves_meeting("B00001", "N"))),
     "partners of a base whose call comes after as many lines": (
         after_many_lines, "MEETING",
         dockers(event("0830", "A", "A00001", "BEFORE", "MEETING", "0830"), *UNKNOWN),
     ),
-    "TIPLOCs renamed in a ring": (
-        in_a_ring, "P000000", prints("P000000", DAY, name="A PLACE"),
-    ),
+    "TIPLOCs renamed in a ring": (in_a_ring, "P000000", prints("P000000", DAY, name="A PLACE")),
 })
 def test_day_of_a_hostile_file(units, place, wanted):
     give(extract(header("240609", indicator="F"), *units()).encode(), "hostile")

@@ -1,9 +1,8 @@
-"""What another program may do to STATE, or to the name of a draft, just before one of a program's
-calls of the file system (meetings.py). Each of these acts is tried at each call.
+"""What another program may do to STATE, or to the name of a draft, just before one of a program's calls of the file system (meetings.py). Each of these acts is
+tried at each call.
 
-What the other program does before the program's first look is what the program finds. What it does
-after this look, and before the program's draft is in place, refuses the program. What it does later
-stays. So no text is lost that the other program stores after the look."""
+What the other program does before the program's first look is what the program finds. What it does after this look, and before the program's draft is in
+place, refuses the program. What it does later stays. So no text is lost that the other program stores after the look."""
 import collections
 import contextlib
 import fcntl
@@ -12,17 +11,15 @@ import pathlib
 import signal
 import typing
 
-from given import (
-    ENTRY, FIRST, ONE, REVISION, SECOND, STATE_OF_BOTH, STATE_OF_ONE, STATE_OF_REVISED,
-)
+from checks import named
+from given import ENTRY, FIRST, ONE, REVISION, SECOND, STATE_OF_BOTH, STATE_OF_ONE, STATE_OF_REVISED
 from meetings import all_that_is_there, calls_of, met
 from outcomes import DEVICE, DONE
 from programs import DOCKER, Ended, give, held, run
 from records import extract, header, place
 from states import File, description, state, tiploc
 
-# What doesn't hold, and why. There are no other exceptions. *When other programs write STATE* in
-# docs/PROOF.md lists them for users.
+# What doesn't hold, and why. There are no other exceptions. *When other programs write STATE* in docs/PROOF.md lists them for users.
 EXCEPTIONS = {
     "an unseen text": "it comes after the last look at STATE, and before the rename over STATE. The"
     " system can't rename a file over another one only if that one is still the same",
@@ -33,8 +30,7 @@ EXCEPTIONS = {
     "a pipe to read": "the pipe comes before STATE is read. The program waits until another program"
     " writes to the pipe, as it does if STATE was a pipe from the beginning",
 }
-# The texts of STATE before, of the state with which the other program comes, and of a state
-# elsewhere. The first two have the same length.
+# The texts of STATE before, of the state with which the other program comes, and of a state elsewhere. The first two have the same length.
 TEXTS = (STATE_OF_ONE, STATE_OF_REVISED, STATE_OF_BOTH)
 # A file that names a place, and the states that know this file too.
 THIRD = File("2024-06-11", "DFROC1C", last="DFROC1B")
@@ -51,16 +47,13 @@ THEN = 1718010000_500000000
 
 
 class Act(typing.NamedTuple):
-    """What another program does: a line of the shell, and what the line changes. In the line, `at`
-    is a name of STATE, and `draft` is the name of the draft."""
+    """What another program does: a line of the shell, and what the line changes. In the line, `at` is a name of STATE, and `draft` is the name of the draft."""
 
     line: str
     changes: str = "STATE"
 
 
-TWO_COMMANDS = Act(
-    f'({DOCKER} new "$at" && {DOCKER} take "$at" ../one) </dev/null >/dev/null'
-)
+TWO_COMMANDS = Act(f'({DOCKER} new "$at" && {DOCKER} take "$at" ../one) </dev/null >/dev/null')
 TO_STATE = {
     "mv": Act('mv -f came "$at"'),
     "cp": Act('cp came "$at"'),
@@ -73,16 +66,9 @@ TO_STATE = {
     "a pipe": Act('mv -f pipe "$at"', "a pipe"),
 }
 TO_DRAFT = {
-    "a lock on the draft": Act(
-        'exec 9<"$draft" && flock -n 9 || exit 1;'
-        " sleep 60 </dev/null >/dev/null & echo $! >../holder", "the lock",
-    ),
-    "a pipe for the draft": Act(
-        'rm -f "$draft"; mkfifo "$draft" && chmod 1644 "$draft"', "the draft",
-    ),
-    "a folder for the draft": Act(
-        'rm -f "$draft"; mkdir "$draft" && chmod 1755 "$draft"', "the draft",
-    ),
+    "a lock on the draft": Act('exec 9<"$draft" && flock -n 9 || exit 1; sleep 60 </dev/null >/dev/null & echo $! >../holder', "the lock"),
+    "a pipe for the draft": Act('rm -f "$draft"; mkfifo "$draft" && chmod 1644 "$draft"', "the draft"),
+    "a folder for the draft": Act('rm -f "$draft"; mkdir "$draft" && chmod 1755 "$draft"', "the draft"),
     "a text for the draft": Act('mv -f came "$draft"', "the draft"),
     "a link for the draft": Act('ln -fs elsewhere "$draft"', "the draft"),
 }
@@ -91,12 +77,10 @@ TO_DRAFT = {
 class Subject(typing.NamedTuple):
     """A program that stores a text in STATE, and what it finds.
 
-    `name` is the name that the program gets for STATE, `file` is where this name leads by these
-    links, and the acts are done to `at`. `texts` are the text of STATE, or None, the text with which
-    the other program comes, and the text elsewhere. `stores` has the text that the program stores,
-    by the text that it finds. A desk may read STATE a second time. Then `renews` has the text that
-    it stores, by the text that it finds at the second reading. `leaves` says whether a killed
-    command has left a draft. `told` is the part of an end that is compared."""
+    `name` is the name that the program gets for STATE, `file` is where this name leads by these links, and the acts are done to `at`. `texts` are the text
+    of STATE, or None, the text with which the other program comes, and the text elsewhere. `stores` has the text that the program stores, by the text that
+    it finds. A desk may read STATE a second time. Then `renews` has the text that it stores, by the text that it finds at the second reading. `leaves` says
+    whether a killed command has left a draft. `told` is the part of an end that is compared."""
 
     command: list
     texts: tuple
@@ -147,8 +131,7 @@ class Subject(typing.NamedTuple):
         return {name: what for name, what in there.items() if what != LEFT_OVER}
 
     def left_by(self, act, text):
-        """The content of the folder if only the act is done, the name to which STATE's name then
-        leads, and whether that is still the same file."""
+        """The content of the folder if only the act is done, the name to which STATE's name then leads, and whether that is still the same file."""
         self.make(text)
         before = number_of(self.name)
         os.system(self.line(act))
@@ -157,8 +140,7 @@ class Subject(typing.NamedTuple):
 
 
 def make_room():
-    """Makes an empty folder and goes there. The files that the programs take are in the folder
-    around it."""
+    """Makes an empty folder and goes there. The files that the programs take are in the folder around it."""
     give(ONE.encode(), "one")
     give(extract(header("240611", "DFROC1C", last="DFROC1B"), NAMED).encode(), "third")
     give(state([THIRD], [PLACED]), "state_of_third")
@@ -200,14 +182,14 @@ class Coming:
     """One act of another program, done to one subject. `alone` is the content of the folder if only
     the act is done, and `last` is the content if the act comes after the program."""
 
-    def __init__(self, meeting, subject, act):
-        self.meeting, self.subject, self.act = meeting, subject, act
+    def __init__(self, device, subject, act):
+        self.device, self.subject, self.act = device, subject, act
         self.stored = subject.stores[subject.texts[0]]
         self.alone, self.leads_to, self.is_in_place = subject.left_by(act, subject.texts[0])
         self.last, _, _ = subject.left_by(act, self.stored)
         subject.make(subject.texts[0])
         self.undisturbed = subject.there() | {subject.file: self.stored}
-        self.calls = calls_of(meeting, subject.command, subject.given)
+        self.calls = calls_of(device, subject.command, subject.given)
         assert subject.there() == self.undisturbed
 
     def numbers(self):
@@ -219,20 +201,18 @@ class Coming:
         return range(max(read, default=0) + 1, len(self.calls) + 1)
 
     def at(self, number):
-        """Runs the program, and does the act at this call. Returns which rule the outcome follows,
-        or which exception."""
+        """Runs the program, and does the act at this call. Returns which rule the outcome follows, or which exception."""
         self.subject.make(self.subject.texts[0])
         line = self.subject.line(self.act)
         with open_pipe() as pipe:
             try:
-                found = met(self.meeting, number, line, self.subject.command, self.subject.given)
+                found = met(self.device, number, line, self.subject.command, self.subject.given)
             finally:
                 release()
             self.is_in_pipe = taken_from(pipe)
         assert found is not None, "there is no such call"
         return {
-            "STATE": self.state_changed, "a pipe": self.state_changed,
-            "the lock": self.draft_locked, "the draft": self.draft_changed,
+            "STATE": self.state_changed, "a pipe": self.state_changed, "the lock": self.draft_locked, "the draft": self.draft_changed,
         }[self.act.changes](found)
 
     def ends(self, found, ended, there, rule, in_pipe=b""):
@@ -264,8 +244,7 @@ class Coming:
         return self.came_after_reading(found)
 
     def has_read(self, found):
-        """Whether the program has read what was there before. Once it has opened a file, it reads
-        only that file, even if another file takes its place."""
+        """Whether the program has read what was there before. Once it has opened a file, it reads only that file, even if another file takes its place."""
         opening = f"open {self.subject.name}"
         if opening not in found.before:
             return False
@@ -292,8 +271,7 @@ class Coming:
         return self.ends(found, found.ended if is_bad else subject.refused, self.alone, "refused")
 
     def came_where_nothing_was(self, found):
-        """The draft gets the name to which STATE's name leads, if nothing has this name. A link
-        that comes or changes later isn't followed."""
+        """The draft gets the name to which STATE's name leads, if nothing has this name. A link that comes or changes later isn't followed."""
         links = [call for call in found.before + found.after if call.startswith("link ")]
         to = links[-1].split()[-1] if links else None
         is_late = found.after[0].startswith("link ")
@@ -365,14 +343,11 @@ class Coming:
         return {}
 
     def outcomes(self):
-        """Does the act at each call. Returns how many of the outcomes follow each rule or
-        exception."""
+        """Does the act at each call. Returns how many of the outcomes follow each rule or exception."""
         found = []
         for number in self.numbers():
-            try:
+            with named(f"at call {number}"):
                 found.append(self.at(number))
-            except AssertionError as wrong:
-                raise AssertionError(f"at call {number}: {wrong}") from wrong
         return collections.Counter(found)
 
     def is_as_promised(self):

@@ -58,8 +58,7 @@ def answers_in(output):
 
 
 def docker(*words):
-    """The answer that a command of `docker` amounts to: its output, or its fault's line if it
-    fails."""
+    """The answer that a command of `docker` amounts to: its output, or its fault's line if it fails."""
     ended = run([DOCKER, *words], stdin=subprocess.DEVNULL)
     return Answer(ended.status, ended.errors if ended.status else ended.output)
 
@@ -117,9 +116,21 @@ class Desk:
         self.say(line.encode() + b"\n")
         return self.answer()
 
+    def gives(self, wanted, *lines):
+        """Asks these lines. Each has to get this answer."""
+        for line in lines:
+            same(f"the answer to {line}", self.ask(line), wanted)
+
+    def does(self, *lines):
+        self.gives(DONE, *lines)
+
+    def loses_its_reader(self):
+        """The only reader of the desk's answers goes away."""
+        self.process.stdout.close()
+        self.process.stdout = None
+
     def ended(self):
-        """How the desk ends by itself, and what it wrote after its last answer. Its input stays
-        open."""
+        """How the desk ends by itself, and what it wrote after its last answer. Its input stays open."""
         source, self.process.stdin = self.process.stdin, None
         try:
             output, errors = self.process.communicate(timeout=checks.PATIENCE)

@@ -1,8 +1,7 @@
-"""The answers to `places` and `known`, by an independent reading of extracts. They have the timing
-points with the number of schedules that call at each, and the counts of everything that is live.
+"""The answers to `places`, `known` and `train`, by an independent reading of extracts. They have the timing points with the number of schedules that call at each.
+They also have the counts of everything that is live, and the schedule of a UID that runs on a day.
 
-It follows docs/FORMATS.md and shares nothing with the program. Files are a tuple of their texts,
-and a horizon is a date."""
+It follows docs/FORMATS.md and shares nothing with the program. Files are a tuple of their texts, and a horizon is a date."""
 import datetime
 import functools
 import typing
@@ -94,8 +93,9 @@ def end_of(key, lines):
     return None if field == NO_END else day_of(field)
 
 
-def live_of(files, horizon=FIRST_DAY):
-    """Each live key with its lines, for these files and this horizon."""
+@functools.cache
+def latest_of(files):
+    """The greatest put under each key. Files before the newest full extract don't count."""
     floor, latest = newest_full(files), {}
     for text in files:
         for key, put in puts_of(text):
@@ -103,12 +103,13 @@ def live_of(files, horizon=FIRST_DAY):
                 break
             if key not in latest or latest[key][:2] < put[:2]:
                 latest[key] = put
-    live = {}
-    for key, put in latest.items():
-        end = end_of(key, put.lines) if put.lines else None
-        if put.lines and not (end and end < horizon):
-            live[key] = put.lines
-    return live
+    return latest
+
+
+def live_of(files, horizon=FIRST_DAY):
+    """Each live key with its lines, for these files and this horizon."""
+    ends = {key: end_of(key, put.lines) for key, put in latest_of(files).items() if put.lines}
+    return {key: latest_of(files)[key].lines for key, end in ends.items() if not end or end >= horizon}
 
 
 def counts_of(live):
@@ -146,3 +147,27 @@ def known_text(files, horizon=FIRST_DAY):
     for name, kind in (("SCHEDULES", "3"), ("ASSOCIATIONS", "2"), ("PLACES", "1")):
         rows.append((name, str(sum(key[0] == kind for key in live))))
     return "".join(f"{name:12} {value}\n" for name, value in rows).encode()
+
+
+def runs(key, put, day):
+    last = end_of(key, put.lines) or day
+    return key[2] <= day <= last and put.lines[0][21 + day.weekday()] == "1"
+
+
+@functools.cache
+def chosen(files, uid, day):
+    """The key and the put of the schedule that is chosen for the UID on the day; None if there is none."""
+    found = [(key, put) for key, put in latest_of(files).items() if key[:2] == ("3", uid) and put.lines and runs(key, put, day)]
+    return min(found, key=lambda it: (it[0][3], -it[0][2].toordinal()), default=None)
+
+
+def train_text(files, uid, date):
+    """The answer to `train` for a UID and a date YYYY-MM-DD, as in *The schedule of a UID on a day* of docs/FORMATS.md."""
+    found = chosen(tuple(sorted(files)), uid, datetime.date.fromisoformat(date))
+    head, lines = f"{'TRAIN':7}{uid:8}{date:10}   NONE", ()
+    if found:
+        (_, _, _, stp), (stamp, number, (basic, *rest)) = found
+        what = "CANCELLED" if stp == "C" else "RUNS"
+        head = f"{'TRAIN':7}{uid:8}{date:10} {stp} {what:10}{stamp.day.isoformat():11}{stamp.minute:5}{stamp.reference:8}{number:10}"
+        lines = ["BSN" + basic[3:], *rest]
+    return "".join(f"{line:80}\n" for line in [head, *lines, "END"]).encode()

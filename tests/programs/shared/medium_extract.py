@@ -1,12 +1,8 @@
-"""An extract of medium size: 150 trains between twelve timing points, many of them past midnight.
-Some have an overlay that calls elsewhere, a cancellation, or an association with a train that may
-or may not run. An update deletes some of these and changes others."""
+"""An extract of medium size: 150 trains between twelve timing points, many of them past midnight. Some have an overlay that calls elsewhere, a cancellation,
+or an association with a train that may or may not run. An update deletes some of these and changes others."""
 from records import basic, extract, header, place, record
 
-PLACES = (
-    "ASHFELD", "BRAYTON", "COLWELL", "DUNMERE", "ELM", "FARLEY", "GORSTON", "HEXLEY", "IPSDEN",
-    "JESMOND", "KELLING", "LISTON",
-)
+PLACES = ("ASHFELD", "BRAYTON", "COLWELL", "DUNMERE", "ELM", "FARLEY", "GORSTON", "HEXLEY", "IPSDEN", "JESMOND", "KELLING", "LISTON")
 # From one call to the next, a train moves on by one of these numbers of places in `PLACES`, which
 # begins again after its end. The train's number modulo four selects the number.
 STEPS = (1, 5, 7, 11)
@@ -81,8 +77,7 @@ def deletion(train, first, stp):
 
 
 def association(transaction, train):
-    """An association of a train with another train, which may not run, at a place where one of them
-    begins or ends."""
+    """An association of a train with another train, which may not run, at a place where one of them begins or ends."""
     other = (train * 29 + 5) % 150 + 1
     at = place_of(train, 0 if train % 2 else legs(train))
     if train % 3 == 0:
@@ -151,20 +146,13 @@ def ended_early(transaction, train):
 
 
 def first_change(train):
-    """The first of two changes to a permanent schedule: it ends early, runs in another way, is
-    deleted, or is as in the extract."""
-    return (
-        ended_early("N", train), permanent_again(train, "N"), deletion(train, "240601", "P"),
-        permanent(train),
-    )[train % 4]
+    """The first of two changes to a permanent schedule: it ends early, runs in another way, is deleted, or is as in the extract."""
+    return (ended_early("N", train), permanent_again(train, "N"), deletion(train, "240601", "P"), permanent(train))[train % 4]
 
 
 def second_change(train):
     """The second of these two changes. Each pair of changes occurs for some train."""
-    return (
-        permanent(train), deletion(train, "240601", "P"), ended_early("R", train),
-        permanent_again(train, "R"),
-    )[train // 4 % 4]
+    return (permanent(train), deletion(train, "240601", "P"), ended_early("R", train), permanent_again(train, "R"))[train // 4 % 4]
 
 
 def other_overlay(train):
@@ -179,13 +167,9 @@ def overlay_again(train):
 
 
 def changed_twice(apart):
-    """An extract that changes each key twice: the second change follows at once, or after all first
-    changes if `apart`."""
+    """An extract that changes each key twice: the second change follows at once, or after all first changes if `apart`."""
     old = [place("TI", code, "OLD NAME") for code in PLACES[::2]]
-    new = [
-        place("TA", code, f"{code} JUNCTION") if code < "H" else place("TD", code)
-        for code in PLACES[::2]
-    ]
+    new = [place("TA", code, f"{code} JUNCTION") if code < "H" else place("TD", code) for code in PLACES[::2]]
     for train in TRAINS:
         if train % 2:
             old.append(association("D" if train % 5 else "N", train))

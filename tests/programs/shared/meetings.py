@@ -1,4 +1,4 @@
-"""Runs something else just before one of a program's calls of the file system (meet.c).
+"""Runs something else just before one of a program's calls of the file system (tests/device).
 
 So the work of another program is tried between any two calls, and doesn't depend on luck."""
 import fcntl
@@ -6,12 +6,12 @@ import itertools
 import os
 import typing
 
+from checks import named
 from programs import Ended, give, held, preloading, run
 
 
 class Met(typing.NamedTuple):
-    """How a program ended, its calls before and after the meeting, and the status of the line that
-    ran."""
+    """How a program ended, its calls before and after the meeting, and the status of the line that ran."""
 
     ended: Ended
     before: list
@@ -23,15 +23,13 @@ class Met(typing.NamedTuple):
         return self.before.count(f"statx {name}")
 
     def has_placed(self, draft):
-        """Whether the program had put its draft in place before the meeting: by a rename, or by a
-        hard link if no file was there."""
+        """Whether the program had put its draft in place before the meeting: by a rename, or by a hard link if no file was there."""
         ways = (f"rename {draft} ", f"link {draft} ")
         return any(call.startswith(ways) for call in self.before)
 
 
 def met(library, number, line, command, given=b""):
-    """Runs a program, and this line of the shell just before its call with this number. Returns
-    None if the program makes fewer calls."""
+    """Runs a program, and this line of the shell just before its call with this number. Returns None if the program makes fewer calls."""
     settings = {"CALLS": "calls", "MEET_AT": number, "MEET": line}
     ended = run(["timeout", "10", *preloading(library, **settings), *command], given)
     # The program names some files by their absolute paths.
@@ -50,14 +48,11 @@ def calls_of(library, command, given=b""):
 
 
 def at_each_call(trial):
-    """Calls `trial` with 1, 2, 3 and so on, until it returns None. Returns all that it returned
-    before."""
+    """Calls `trial` with 1, 2, 3 and so on, until it returns None. Returns all that it returned before."""
     found = []
     for number in itertools.count(1):
-        try:
+        with named(f"at call {number}"):
             outcome = trial(number)
-        except AssertionError as wrong:
-            raise AssertionError(f"at call {number}: {wrong}") from wrong
         if outcome is None:
             return found
         found.append(outcome)
@@ -83,8 +78,7 @@ BECOMES_PIPE = {
 
 
 class Names(typing.NamedTuple):
-    """The texts of the state `office`, to which the link `leading` leads, and of the state
-    `elsewhere`. A pipe is there too."""
+    """The texts of the state `office`, to which the link `leading` leads, and of the state `elsewhere`. A pipe is there too."""
 
     office: bytes
     elsewhere: bytes
@@ -120,8 +114,7 @@ def all_that_is_there():
 
 
 class Losing(typing.NamedTuple):
-    """A program whose STATE goes away or becomes something else. It has to end with `wanted`, and
-    to write nothing."""
+    """A program whose STATE goes away or becomes something else. It has to end with `wanted`, and to write nothing."""
 
     library: str
     names: Names
@@ -138,9 +131,8 @@ class Losing(typing.NamedTuple):
         return range(calls.index(first) + 2, last + 2)
 
     def at(self, number, line):
-        """STATE goes away or becomes something else at this call. If a pipe is there, the program
-        may not write to it. The test holds both ends of the pipe, so that no program waits for
-        it."""
+        """STATE goes away or becomes something else at this call. If a pipe is there, the program may not write to it. The test holds both ends of the pipe,
+        so that no program waits for it."""
         wanted = self.names.left_by(line)
         self.names.make()
         pipe = os.open("pipe", os.O_RDWR | os.O_NONBLOCK)
@@ -156,10 +148,8 @@ class Losing(typing.NamedTuple):
         numbers = self.numbers(name, first)
         assert len(numbers) > 3
         for number in numbers:
-            try:
+            with named(f"at call {number}"):
                 self.at(number, line)
-            except AssertionError as wrong:
-                raise AssertionError(f"at call {number}: {wrong}") from wrong
 
 
 def is_empty(pipe):
@@ -171,8 +161,7 @@ def is_empty(pipe):
     return False
 
 
-# Files that may have the name of a draft: whether a running command has locked the file, and its
-# mode. A draft has a mark until it is in place.
+# Files that may have the name of a draft: whether a running command has locked the file, and its mode. A draft has a mark until it is in place.
 DRAFTS = {
     "a draft of a command at work": (True, 0o1640),
     "a draft that is left over": (False, 0o1640),

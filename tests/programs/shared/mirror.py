@@ -1,4 +1,5 @@
 """The answers that a desk has to give, worked out by commands of `docker` on state files."""
+import contextlib
 import datetime
 import functools
 import pathlib
@@ -6,7 +7,7 @@ import pathlib
 import desk_extracts as extracts
 import lists
 from checks import same
-from desks import DAY_REFUSED, DEVICE, DONE, NOT_SAVED, NOTHING, Answer, docker
+from desks import DAY_REFUSED, DEVICE, DONE, NOT_SAVED, NOTHING, Answer, Desk, docker, ends_well
 from programs import give
 from records import extract, header
 
@@ -31,8 +32,7 @@ def given(name):
 
 
 def ran(text, command, *words):
-    """Runs a command of `docker` on a state of this text. Returns its answer, and the state's text
-    after it."""
+    """Runs a command of `docker` on a state of this text. Returns its answer, and the state's text after it."""
     state = CHANGED / "held"
     state.write_bytes(text)
     answer = docker(command, str(state), *words)
@@ -41,8 +41,7 @@ def ran(text, command, *words):
 
 @functools.cache
 def by_docker(text, command, *words):
-    """Like `ran`, but remembers the result. So the words may only name files that no command
-    changes."""
+    """Like `ran`, but remembers the result. So the words may only name files that no command changes."""
     return ran(text, command, *words)
 
 
@@ -87,19 +86,21 @@ def bad_states():
     }
 
 
-BAD_STATES = (
-    "an extract", "nothing", "a cut state", "half a state", "a byte more", "the older format",
-    "a horizon too high", "a tag that isn't one",
-)
+BAD_STATES = ("an extract", "nothing", "a cut state", "half a state", "a byte more", "the older format", "a horizon too high", "a tag that isn't one")
+
+
+def give_taken(*texts, state="STATE", file="{state}{number}"):
+    """Makes files with these texts, and a state that takes them."""
+    give(state_of(), state)
+    for number, text in enumerate(texts):
+        name = file.format(state=state, number=number)
+        give(text.encode(), name)
+        assert docker("take", state, name) == DONE
 
 
 def give_large(count):
     """Makes a file with this number of schedules, and a STATE that knows it."""
-    trips = "".join(extracts.trip(f"L{n:05}", "1L00") for n in range(count))
-    text = extract(header("240612"), trips)
-    pathlib.Path("large").write_text(text, encoding="ascii")
-    give(state_of())
-    assert docker("take", "STATE", "large") == DONE
+    give_taken(extract(header("240612"), *(extracts.trip(f"L{n:05}", "1L00") for n in range(count))), file="large")
 
 
 class Mirror:
@@ -115,8 +116,7 @@ class Mirror:
         self.past = [(self.stored, self.stored_known)]
 
     def answer(self, verb, *words):
-        """Does a request, and returns its answer. The verb `nothing` stands for a line that isn't a
-        request."""
+        """Does a request, and returns its answer. The verb `nothing` stands for a line that isn't a request."""
         if verb == "nothing" or (verb in WRITING and not self.may_write):
             return NOTHING
         match verb:
@@ -133,12 +133,17 @@ class Mirror:
             case "save":
                 return self.save()
 
+    def agrees(self, asked, *lines):
+        """Asks a desk these lines, and compares its answers."""
+        for line in lines:
+            same(f"the answer to {line}", asked.ask(line), self.answer(*line.split()))
+
     def train(self, uid, date):
         names, horizon = self.known
         if date < horizon:
             return DAY_REFUSED
         files = tuple(sorted(extracts.GOOD[name] for name in names))
-        return Answer(0, extracts.train_text(files, uid, date))
+        return Answer(0, lists.train_text(files, uid, date))
 
     def listed(self, verb):
         names, horizon = self.known
@@ -198,3 +203,34 @@ def learned(verb, word):
         case "merge":
             return STATES[word]
     return [], word
+
+
+# Desks over a STATE that knows these good files and this horizon.
+
+
+@contextlib.contextmanager
+def reading(*names, horizon=""):
+    """A desk that only reads. It has to end well."""
+    give(state_of(*names, horizon=horizon))
+    with Desk("STATE") as asked:
+        yield asked
+        ends_well(asked)
+
+
+@contextlib.contextmanager
+def writing(*names, horizon="", **options):
+    """A desk that may write. It has to end well, with nothing unsaved."""
+    give(state_of(*names, horizon=horizon))
+    with Desk("--write", "STATE", **options) as asked:
+        yield asked
+        ends_well(asked)
+
+
+@contextlib.contextmanager
+def mirrored(*names, horizon="", **options):
+    """A desk that may write, and its mirror. It has to end as the mirror does."""
+    mirror = Mirror(*names, horizon=horizon)
+    give(mirror.stored)
+    with Desk("--write", "STATE", **options) as asked:
+        yield asked, mirror
+        ends_well(asked, *mirror.end())

@@ -45,8 +45,7 @@ def prints(place, date, *lines, name=""):
 
 def holds_only(name, text):
     """Checks that a file has this text, and that no draft is beside it."""
-    # If a comparison failed, pytest would show both texts, which takes minutes for states of a
-    # megabyte.
+    # If a comparison failed, pytest would show both texts, which takes minutes for states of a megabyte.
     is_held = held(name) == text
     assert is_held, f"{name} has another text"
     assert not os.path.lexists(f"{name}.new"), "a draft is left"
@@ -66,9 +65,8 @@ def keeps(outcome, *words, state="office", **options):
 
 
 def ran_out(ended, before, whole, stored):
-    """Whether memory ran out in a command. If it did, the command printed nothing, and STATE still
-    has the text that it had before. Otherwise the command printed the whole answer, and stored this
-    text in STATE."""
+    """Whether memory ran out in a command. If it did, the command printed nothing, and STATE still has the text that it had before. Otherwise the command
+    printed the whole answer, and stored this text in STATE."""
     is_out = ended.status == MEMORY.status
     same("the end", ended, MEMORY if is_out else whole)
     holds_only("STATE", before if is_out else stored)

@@ -1,4 +1,5 @@
 """Runs the two programs: with limits, on given streams, and with a preloaded library."""
+import itertools
 import os
 import pathlib
 import subprocess
@@ -77,8 +78,7 @@ def preloading(library, **settings):
 
 
 def as_nobody():
-    """The words that run the program as a user that may not write anywhere, if this user may do
-    so."""
+    """The words that run the program as a user that may not write anywhere, if this user may do so."""
     if os.getuid():
         return ()
     return ("setpriv", "--reuid=65534", "--regid=65534", "--clear-groups")
@@ -91,6 +91,19 @@ def build_library(source, target):
     return str(target)
 
 
+def in_turn(trial, told="met"):
+    """Calls `trial` with 1, 2, 3 and so on, the number of the call or the growth that a preloaded library meets. Yields the number, what `trial` returns, and the text
+    of the file in which the library says what it met. The last text is None, because that run ended before the library met anything."""
+    for number in itertools.count(1):
+        pathlib.Path(told).unlink(missing_ok=True)
+        found, met = trial(number), None
+        if os.path.exists(told):
+            met = held(told).decode()
+        yield number, found, met
+        if met is None:
+            return
+
+
 def names_in(kind, path):
     """The names that a program imports, or that a library defines."""
     listed = subprocess.run(["nm", "-D", f"--{kind}-only", path], check=True, capture_output=True)
@@ -98,8 +111,7 @@ def names_in(kind, path):
 
 
 def untried(program, library):
-    """The calls that a program imports, and that the library neither wraps nor lists as left
-    out."""
+    """The calls that a program imports, and that the library neither wraps nor lists as left out."""
     lines = (ROOT / "tests/device/untried").read_text(encoding="ascii").splitlines()
     known = {line.split()[0] for line in lines if not line.startswith("#")}
     return sorted(names_in("undefined", program) - names_in("defined", library) - known)

@@ -1,5 +1,4 @@
-"""Makes records as in docs/FORMATS.md: each has 80 characters and a line feed. Dates are YYMMDD;
-times are HHMM, with an H for half a minute."""
+"""Makes records as in docs/FORMATS.md: each has 80 characters and a line feed. Dates are YYMMDD; times are HHMM, with an H for half a minute."""
 
 
 def record(text, last=""):
@@ -55,9 +54,7 @@ def place(identity, code, description="", new=""):
     return record(f"{text:72}{new:7}")
 
 
-def association(
-    base, other, first, last, at, category="NP", date="S", suffix="", days="1111111", stp="P"
-):
+def association(base, other, first, last, at, category="NP", date="S", suffix="", days="1111111", stp="P"):
     """An association of two trains, with its date indicator and the base train's suffix."""
     return record(f"AAN{base}{other}{first}{last}{days}{category:2}{date}{at:7}{suffix:1} TP", stp)
 

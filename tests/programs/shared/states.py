@@ -1,5 +1,4 @@
-"""Makes the text of a state part by part, as in docs/FORMATS.md. It shares nothing with the
-program."""
+"""Makes the text of a state part by part, as in docs/FORMATS.md. It shares nothing with the program."""
 import datetime
 
 FIRST_DAY = datetime.date(1960, 1, 1)

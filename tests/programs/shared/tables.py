@@ -11,6 +11,5 @@ def each(names, table):
 
 # Marks cases that use signals, locks, clocks or mounts. One process runs all of them.
 alone = pytest.mark.xdist_group("alone")
-# Marks cases that measure processor time or take much memory. They run one after another, once all
-# other cases have ended.
+# Marks cases that measure processor time or take much memory. They run one after another, once all other cases have ended.
 by_itself = pytest.mark.by_itself
