@@ -15,6 +15,7 @@ mod HelpLemmas
 mod ServeLemmas
 mod LookLemmas
 mod ReplacingLemmas
+mod UnsavedLemmas
 mod HeardLemmas
 mod GainLemmas
 mod WitnessLemmas
