@@ -37,3 +37,7 @@ pub mod NoLinesElsewhere
 pub mod Sublists
 pub mod CountedRows
 pub mod PermanentDocker
+pub mod OneOrigin
+pub mod LapsedOrigins
+pub mod TextsOfFiles
+pub mod DetailedDocker

@@ -142,7 +142,8 @@ module _ (horizon : ℕ) (bound : horizon ≤ no_end_number) (live : Table) wher
     bounded : (indicator start : ℕ) → horizon + 1 ≤ start → (n : ℕ) → partner_start indicator start ≡ Some n → horizon ≤ n
     bounded indicator start after n is = let most = partner_after indicator start n is in omega arith
 
-    over : CarriesOver live (lapse_table horizon live) day
+    -- the lapsed table has the trains, associations and identities of the table
+    pub over : CarriesOver live (lapse_table horizon live) day
     over = record {
       trains =
           λ uid start key lines runs event today.
@@ -158,7 +159,8 @@ module _ (horizon : ℕ) (bound : horizon ≤ no_end_number) (live : Table) wher
           );
     }
 
-    back : CarriesOver (lapse_table horizon live) live day
+    -- the table has the trains, associations and identities of the lapsed table
+    pub back : CarriesOver (lapse_table horizon live) live day
     back = record {
       trains =
           λ uid start key lines runs event today.
@@ -215,7 +217,7 @@ module _ (horizon : ℕ) (bound : horizon ≤ no_end_number) (live : Table) wher
     )
 
     -- lapsing leaves the description of a place unchanged, since TIPLOCs don't lapse
-    description_stays : description_in (lapse_table horizon live (tiploc_key place)) ≡ description_in (live (tiploc_key place))
+    pub description_stays : description_in (lapse_table horizon live (tiploc_key place)) ≡ description_in (live (tiploc_key place))
     description_stays = by (live (tiploc_key place))
       where
         none_or : (b : Bool) (body : Body) → description_in (Some body) ≡ description_in None → description_in (cond b None (Some body)) ≡ description_in
