@@ -44,7 +44,7 @@ def part(heading):
 
 def rows_of(source):
     """The rows of a table in the code, such as `Row::of("day", &["FILE", "TIPLOC", "DATE"], ..)`: the words of each row, and its last column."""
-    rows = re.findall(r'=> \w*Row::of\(\s*"([a-z]+)",\s*&\[([^]]*)\],(?:\s*\w+,)*\s*(\w+),?\s*\)', read(source))
+    rows = re.findall(r'=> \w*Row::of\(\s*"([a-z-]+)",\s*&\[([^]]*)\],(?:\s*\w+,)*\s*(\w+),?\s*\)', read(source))
     return [(" ".join([name, *re.findall(r'"([A-Z]+)"', ids)]), last) for name, ids, last in rows]
 
 

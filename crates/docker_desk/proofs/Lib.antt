@@ -18,3 +18,4 @@ mod HeardLemmas
 mod GainLemmas
 mod WitnessLemmas
 mod PermanentLemmas
+mod DetailLemmas
