@@ -276,7 +276,14 @@ def train_output():
     text = lines_of("OUTPUT in the page of `docker` has what `print` and `files` write.") + ".SS What \\fBtrain\\fR writes\n" + lines_of(paragraphs(train)[0])
     for line, columns in table(train, "Line", "Columns"):
         text += f".PP\n{line[0].upper()}{line[1:]}:\n.RS 2\n{listed(columns_of(columns))}.RE\n"
-    return text + prose(*paragraphs(train)[1:])
+    return text + prose(*paragraphs(train)[1:]) + detail_output()
+
+
+def detail_output():
+    """The output of `detail` and `permanent-detail`, column by column."""
+    detail = section(FORMATS, "What `detail` and `permanent-detail` write")
+    text = ".SS What \\fBdetail\\fR and \\fBpermanent\\-detail\\fR write\n" + lines_of(paragraphs(detail)[0])
+    return text + ".RS 2\n" + listed(table(detail, "Columns", "")) + ".RE\n" + prose(*paragraphs(detail)[1:])
 
 
 def desk_answers():

@@ -41,3 +41,4 @@ pub mod OneOrigin
 pub mod LapsedOrigins
 pub mod TextsOfFiles
 pub mod DetailedDocker
+pub mod WideParts

@@ -1,5 +1,5 @@
--- The detailed dockers of a summary are fixed by the summary's files, and are those of the files'
--- plain table. The same is true of detailed dockers without the short-term plan.
+-- The detailed dockers of a summary are fixed by the summary's files, and are the detailed dockers of
+-- the files' plain table. The same is true of detailed dockers without the short-term plan.
 use Rattle.std.proofs.Common.{◌≡◌, ℕ, List, sym, subst}
 use Rattle.std.specs.Prelude.{◌↔◌}
 use Rattle.docker_model.specs.records.Date.{IsDay}

@@ -24,6 +24,7 @@ detailed_with place day lines description =
 pub origin_over : (one other : Table) (place : List ℕ) (day : ℕ) → CarriesOver one other day → (line : DockerLine) (origin : List ℕ)
     → IsOrigin one place day line origin
     → IsOrigin other place day line origin
+unfolding event_line_over association_line_over
 origin_over one other place day carries line origin (inl event) =
     inl (record { line_is = event_line_over one other place day carries line event.line_is; origin_is = event.origin_is })
 origin_over one other place day carries line origin (inr association) =

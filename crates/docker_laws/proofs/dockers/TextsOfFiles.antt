@@ -1,6 +1,6 @@
 -- Texts that a table determines, and that don't change when its rows lapse. If two states are
 -- summaries of the same files, their texts of this kind are equal. If these files have distinct
--- moments, the texts are those of the files' plain table.
+-- moments, the texts are also the texts of the files' plain table.
 use Rattle.std.proofs.Common.{◌≡◌, ℕ, ◌+◌, ◌≤◌, List, ap, sym, ◌∙◌, subst, Bool, true, false, refl, arith}
 use Rattle.std.specs.Prelude.{◌↔◌, max, nat_lt}
 use Rattle.std.proofs.Math.Nat.{le-max_left, le-max_right}

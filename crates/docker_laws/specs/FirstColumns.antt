@@ -1,0 +1,16 @@
+-- The first columns of each line of a text, as the program `cut` prints them.
+use Rattle.std.specs.Prelude.{ℕ, ◌+◌, ◌==◌, nat_lt, if◌then◌else◌, List, [], ◌∷◌}
+
+-- the first `count` columns of each line of a text, each with the line's line feed. The text begins
+-- within a line, after this number of columns of the line
+pub columns_from : ℕ → ℕ → List ℕ → List ℕ
+columns_from count column [] = []
+columns_from count column (byte ∷ bytes) =
+    if byte == 10 then 10 ∷ columns_from count 0 bytes
+    else (if nat_lt column count then byte ∷ columns_from count (column + 1) bytes else columns_from count (column + 1) bytes)
+
+-- the first `count` columns of each line of a text, each with the line's line feed. For example, the
+-- first 2 columns of the lines `one` and `two` are the lines `on` and `tw`. The command
+-- `cut -c1-2` prints them
+abbrev pub first_columns : ℕ → List ℕ → List ℕ
+first_columns count text = columns_from count 0 text
