@@ -42,3 +42,4 @@ pub mod LapsedOrigins
 pub mod TextsOfFiles
 pub mod DetailedDocker
 pub mod WideParts
+pub mod WideDocker
