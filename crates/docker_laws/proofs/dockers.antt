@@ -43,3 +43,4 @@ pub mod TextsOfFiles
 pub mod DetailedDocker
 pub mod WideParts
 pub mod WideDocker
+pub mod DetailedColumns

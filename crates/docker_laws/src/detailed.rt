@@ -1,15 +1,20 @@
 //! Laws of detailed dockers, whose lines show what each docker line was made from. A law is a
 //! function with an empty body. Its contract states a fact, which holds for all values of the
 //! variables.
-ghost use Rattle.std.specs.Prelude.{◌≡◌, ℕ, List, ◌↔◌};
+ghost use Rattle.std.specs.Prelude.{◌≡◌, ◌<◌, ◌^◌, ℕ, List, ◌↔◌};
+ghost use Rattle.docker_model.specs.records.Field.{IsTiploc};
 ghost use Rattle.docker_model.specs.records.Date.{IsDay};
 ghost use Rattle.docker_model.specs.state.Lapse.{IsDayRefused};
-ghost use Rattle.docker_model.specs.state.State.{State, live_table};
+ghost use Rattle.docker_model.specs.state.State.{HasGoodBodies, State, live_table};
 ghost use Rattle.docker_model.specs.state.Summary.{IsSummary};
 ghost use Rattle.docker_model.specs.state.Table.{Table, IsPlainTable};
 ghost use Rattle.docker_model.specs.docker.DetailedText.{IsDetailedText};
+ghost use Rattle.docker_model.specs.docker.DockerLine.{DockerLine};
+ghost use Rattle.docker_model.specs.docker.DockerText.{IsDockerText};
 ghost use Rattle.docker_model.specs.docker.Permanent.{permanent_table};
 ghost use Rattle.docker_model.specs.run.Knowledge.{AreFiles, HaveSameFiles};
+ghost use Rattle.docker_laws.specs.FirstColumns.{HasWidth, first_columns};
+ghost use Rattle.docker_laws.specs.Gathering.{IsDockerLine};
 
 /// A table has at most one detailed docker for a place and a day.
 pub fn one_detailed_docker()
@@ -52,4 +57,17 @@ pub fn detailed_docker_is_plain()
         → ¬ IsDayRefused horizon day
         → IsDetailedText (permanent_table (live_table state)) place day text
         ↔ IsDetailedText (permanent_table table) place day text }
+{}
+
+/// The first 56 columns of each line of a detailed docker are the docker. `cut -c1-56` prints them.
+/// A line ends at its line feed, because no record has a line feed. The table may be that of a valid
+/// state, whose records are well formed.
+pub fn detailed_docker_has_docker()
+    ensures columns { (live : Table) (place : List ℕ) (day : ℕ) (text : List ℕ)
+        → HasGoodBodies live → IsTiploc place → IsDetailedText live place day text
+        → IsDockerText live place day (first_columns 56 text) }
+    ensures width { (live : Table) (place : List ℕ) (day : ℕ) (text : List ℕ)
+        → HasGoodBodies live → IsTiploc place → IsDetailedText live place day text
+        → ((line : DockerLine) → IsDockerLine live place day line → line.number < 10 ^ 10)
+        → HasWidth 483 text }
 {}

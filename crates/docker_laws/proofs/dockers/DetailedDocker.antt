@@ -3,7 +3,7 @@
 use Rattle.std.proofs.Common.{◌≡◌, ℕ, List, sym, subst}
 use Rattle.std.specs.Prelude.{◌↔◌}
 use Rattle.docker_model.specs.records.Date.{IsDay}
-use Rattle.docker_model.specs.state.Lapse.{IsDayRefused, lapse_table}
+use Rattle.docker_model.specs.state.Lapse.{IsDayRefused}
 use Rattle.docker_model.specs.state.State.{State, live_table}
 use Rattle.docker_model.specs.state.Summary.{IsSummary}
 use Rattle.docker_model.specs.state.Table.{Table, IsPlainTable}

@@ -1,20 +1,18 @@
 -- Each line of a detailed docker has the width of its docker line in front, and no line feed. So the
 -- first 56 columns of the lines are the docker.
-use Rattle.std.proofs.Common.{◌≡◌, ℕ, zero, suc, ◌+◌, ◌-◌, ◌<◌, ◌≤◌, List, [], ◌∷◌, ◌++◌, length, length-append, All, Contains, refl, ap, sym, ◌∙◌, subst, inl, inr, ◌⊎◌, true, false, true≢false, Some, None, append-nil, arith}
-use Rattle.std.specs.Prelude.{Option, codes, find, filter, take, unwrap_or, ◌^◌}
-use Rattle.std.specs.List.{last_or, flat_map}
+use Rattle.std.proofs.Common.{◌≡◌, ℕ, ◌≤◌, List, [], ◌∷◌, ◌++◌, Contains, refl, ap, sym, ◌∙◌, subst, inl, inr, ◌⊎◌, true, false, true≢false, Some, None, append-nil, arith}
+use Rattle.std.specs.Prelude.{Option, codes, find, filter, take, unwrap_or}
+use Rattle.std.specs.List.{last_or}
 use Rattle.std.proofs.lemmas.List.Elements.{All-contains, All-from_recursion, All-take, Contains-append_right}
 use Rattle.docker_model.specs.records.Record.{Kind, columns, column, kind_of, is_printable, IsRecord, HasKind}
 use Rattle.docker_model.specs.records.Record.{basic_schedule, extra_details, origin_location, intermediate_location, terminating_location}
-use Rattle.docker_model.specs.records.PrintedTime.{spaces}
-use Rattle.docker_model.specs.file.File.{IsSchedule, IsJourney, AreExtraDetails, MayLackJourney, first_record}
-use Rattle.docker_model.specs.file.Change.{Key, tiploc_key, association_key, schedule_key, ScheduleKey, AssociationKey, association_body, schedule_body}
+use Rattle.docker_model.specs.file.File.{IsJourney, AreExtraDetails, MayLackJourney, first_record}
+use Rattle.docker_model.specs.file.Change.{Key, tiploc_key, association_key, schedule_key, ScheduleKey, association_body, schedule_body}
 use Rattle.docker_model.specs.state.State.{HasGoodBodies, IsScheduleOf, IsAssociationOf}
 use Rattle.docker_model.specs.state.Table.{Table}
 use Rattle.docker_model.specs.docker.Event.{Event, events_of, event_line, event_identity, changed_identity, has_identity}
-use Rattle.docker_model.specs.docker.DockerLine.{DockerLine, line_of_event, line_of_association, tiploc_of_first, ends, partner}
-use Rattle.docker_model.specs.docker.DockerList.{IsEventLine}
-use Rattle.docker_model.specs.docker.Association.{IsAssociationLine, IsIdentityOn, IsPartnerIdentity, partner_start}
+use Rattle.docker_model.specs.docker.DockerLine.{DockerLine, line_of_event, tiploc_of_first}
+use Rattle.docker_model.specs.docker.Association.{IsIdentityOn, IsPartnerIdentity, partner_start}
 use Rattle.cif_laws.proofs.lists.Membership.{Contains-cons, Contains-single, cons-Contains, cons-Contains-first, nil-Contains}
 use Rattle.cif_laws.proofs.lists.FilteredMembers.{filter_back, find_some, find_none}
 use Rattle.cif_laws.proofs.lists.BoolsAndOptions.{none_some}
@@ -51,7 +49,7 @@ last_holds {A} P o (y ∷ ys) first rest x is =
     last_holds P (Some y) ys (λ z same. let e : y ≡ z = cc in subst P e (rest y (cons-Contains-first y ys))) (λ z among. rest z (cons-Contains y ys z among)) x is
 
 module _ (key : ScheduleKey) (lines : List (List ℕ)) (of : IsScheduleOf key lines) where
-  each_record : (line : List ℕ) → Contains lines line → IsRecord line
+  pub each_record : (line : List ℕ) → Contains lines line → IsRecord line
   each_record line among = All-contains IsRecord lines line of.schedule.records among
 
   first_is : first_record lines ≡ of.schedule.basic
@@ -62,7 +60,7 @@ module _ (key : ScheduleKey) (lines : List (List ℕ)) (of : IsScheduleOf key li
       subst (λ ls. Contains ls (first_record ls)) (sym of.schedule.whole)
       (cons-Contains-first of.schedule.basic (of.schedule.extra ++ of.schedule.journey))
 
-  first_good : IsRecord (first_record lines)
+  pub first_good : IsRecord (first_record lines)
   first_good = each_record (first_record lines) first_among
 
   uid_wide : IsWide 6 key.uid
@@ -73,7 +71,7 @@ module _ (key : ScheduleKey) (lines : List (List ℕ)) (of : IsScheduleOf key li
 
   -- ---- the change en route that is in force at an event
 
-  change_good : (event : Event) (line : List ℕ) → last_or None (filter (λ l. has_identity (codes "CR") l) (take event.place lines)) ≡ Some line → IsRecord line
+  pub change_good : (event : Event) (line : List ℕ) → last_or None (filter (λ l. has_identity (codes "CR") l) (take event.place lines)) ≡ Some line → IsRecord line
   change_good event line is =
       last_holds IsRecord None (filter (λ l. has_identity (codes "CR") l) (take event.place lines)) (λ x same. none_some x same)
       (λ x among. All-contains IsRecord (take event.place lines) x (All-take IsRecord event.place lines of.schedule.records)
