@@ -1,5 +1,6 @@
 -- Dockers: events, the choice of schedules and associations, lines, lists and printed texts. The
--- module `Permanent` is for dockers without the short-term plan.
+-- module `Permanent` is for dockers without the short-term plan, and `DetailedText` for dockers with
+-- the records of each line.
 
 pub mod Event
 pub mod Choice
