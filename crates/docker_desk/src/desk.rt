@@ -9,7 +9,7 @@ ghost use Rattle.docker_desk.specs.Doing.{desk_by};
 ghost use Rattle.docker_desk.specs.Replies.{answer_meant, done_with, refused_for};
 ghost use Rattle.docker_model.specs.state.Table.{Table};
 ghost use Rattle.docker_day.specs.Dockers.{IsDockerOf};
-ghost use Rattle.docker_detail.specs.DetailedDockers.{IsDetailedOf};
+ghost use Rattle.docker_detail.specs.DetailedValue.{IsDetailedOf};
 ghost use Rattle.docker_model.specs.lists.KnownText.{IsKnownText};
 ghost use Rattle.docker_office.specs.declared.fault.OfficeFault.TheVariants as office;
 
