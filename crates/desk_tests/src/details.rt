@@ -80,7 +80,7 @@ const DETAILED_PERMANENT: Parts = &[
 ];
 
 /// The detailed docker shows the records of the overlay, and the permanent detailed docker shows
-/// those of the schedule that the overlay replaces. Both are refused for the same days as a docker.
+/// the records of the schedule that the overlay replaces. Both are refused for the same days as a docker.
 #[test]
 fn answers_with_details(rt: HostRuntime) {
     let alloc = rt.alloc();

@@ -198,11 +198,11 @@ pub fn known_files_fix_permanent_answers()
         → (plain : Table) × IsPlainTable known.files plain × KeepsAs state plain }
 {}
 
-/// Two desks that know the same files, even with different horizons, give the same answer to
-/// `detail` for each timing point and each day that isn't refused under either desk's horizon. Their
-/// answers to `permanent-detail` are also the same. The law is also true if an office of a run takes
-/// the place of one desk. If no two of the files have the same moment, these answers are the
-/// detailed dockers of the plain table.
+/// Two desks that know the same files, even with different horizons, print the same detailed docker
+/// for each timing point and each day that isn't refused under either desk's horizon. Their
+/// permanent detailed dockers are also the same. The law is also true if an office of a run takes
+/// the place of one desk. If no two of the files have the same moment, these are the detailed
+/// dockers of the plain table.
 pub fn known_files_fix_detail_answers()
     ensures docker { (first second : Known) (one two : State) → IsKnown first one
         → IsKnown second two → HaveSameFiles first.files second.files → (place : List ℕ) (day : ℕ)

@@ -60,8 +60,8 @@ pub fn detailed_docker_is_plain()
 {}
 
 /// The first 56 columns of each line of a detailed docker are the docker. `cut -c1-56` prints them.
-/// A line ends at its line feed, because no record has a line feed. The table may be that of a valid
-/// state, whose records are well formed.
+/// A line ends at its line feed, because no record has a line feed. The bodies of the table have to
+/// be well formed, as in the live table of each valid state.
 pub fn detailed_docker_has_docker()
     ensures columns { (live : Table) (place : List ℕ) (day : ℕ) (text : List ℕ)
         → HasGoodBodies live → IsTiploc place → IsDetailedText live place day text

@@ -132,7 +132,7 @@ TOLD = {
 
 
 @each(("request", "wanted"), TOLD)
-def test_a_day_to_the_letter(request, wanted):
+def test_details_to_the_letter(request, wanted):
     state_of(WORKED)
     with Desk("STATE") as desk:
         got = desk.ask(request)
@@ -140,7 +140,7 @@ def test_a_day_to_the_letter(request, wanted):
     assert got == Answer(0, wanted)
 
 
-def test_days_that_are_refused():
+def test_days_whose_details_are_refused():
     state_of(WORKED)
     with Desk("--write", "STATE") as desk:
         assert desk.ask("horizon 2024-06-11") == DONE
@@ -151,7 +151,7 @@ def test_days_that_are_refused():
             assert desk.ask(f"{detailed} BRAYTON 2024-06-14") == Answer(0, wanted)
 
 
-def test_every_place_of_a_medium_extract():
+def test_details_at_every_place_of_a_medium_extract():
     files = medium_extract.before(), medium_extract.update()
     state_of(*files)
     places = [f"{code:7}" for code in (*medium_extract.PLACES, "NOWHERE")]
@@ -221,7 +221,7 @@ class Plan(random.Random):
 
 
 @each("start", {f"plans from {start} on": start for start in range(0, 30, 10)})
-def test_random_extracts(start):
+def test_details_of_random_extracts(start):
     lines = []
     for seed in range(start, start + 10):
         plan = Plan(f"detail {seed}")
@@ -235,7 +235,7 @@ def test_random_extracts(start):
         assert 100 < found < len(lines), "lines with the record, and lines without it"
 
 
-def test_a_change_shows_at_once():
+def test_a_change_shows_at_once_in_details():
     state_of(WORKED)
     update = records.extract(
         records.header("240610", "DFROC1B"),

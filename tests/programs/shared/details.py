@@ -148,7 +148,7 @@ def front(time, kind, identity, uid, stp, at):
 
 
 def origin(start, event, lines, association):
-    """The columns of a line after those of the docker: what the line came from."""
+    """The columns of a line after the docker's own: what the line came from."""
     records = (
         lines[0], first_of(lines, "BX"), last_change(lines, event) or BLANK, lines[event.at],
         association or BLANK,
