@@ -103,7 +103,8 @@ no_detail rest none (horizon_request day) same has = cc
 no_detail rest none save_request same has = cc
 
 -- if the rest of a line isn't a timing point and a day, it doesn't fit `permanent-detail`
-pub no_permanent_detail : (rest : List ℕ) → ((place : List ℕ) (day : ℕ) → ¬ OfTwo (ArePlaceAndDay place day) (words_in rest)) → FitsRest verb.PermanentDetail rest None
+pub no_permanent_detail : (rest : List ℕ) → ((place : List ℕ) (day : ℕ) → ¬ OfTwo (ArePlaceAndDay place day) (words_in rest))
+    → FitsRest verb.PermanentDetail rest None
 no_permanent_detail rest none (print_request place day) same has = cc
 no_permanent_detail rest none (permanent_request place day) same has = cc
 no_permanent_detail rest none (detail_request place day) same has = cc

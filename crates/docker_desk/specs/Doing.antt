@@ -11,7 +11,8 @@ use Rattle.docker_desk.specs.Requests.{AsksFor, RequestView, print_request, perm
 use Rattle.docker_desk.specs.Requests.{detail_request, permanent_detail_request}
 use Rattle.docker_desk.specs.Requests.{known_request, renew_request, take_request, merge_request, horizon_request, save_request}
 use Rattle.docker_desk.specs.Desk.{DeskView, EndsReceiving, EndsRenewing, EndsSaving, EndsTaking, IsDetailAnswer, IsDockerAnswer, IsFilesAnswer}
-use Rattle.docker_desk.specs.Desk.{IsKnownAnswer, IsPermanentAnswer, IsPermanentDetailAnswer, IsPlacesAnswer, IsTrainAnswer, IsTrainsAnswer, look_by, unsaved_by}
+use Rattle.docker_desk.specs.Desk.{IsKnownAnswer, IsPermanentAnswer, IsPermanentDetailAnswer, IsPlacesAnswer, IsTrainAnswer, IsTrainsAnswer, look_by}
+use Rattle.docker_desk.specs.Desk.{unsaved_by}
 use Rattle.docker_desk.specs.Reading.{LooksAndOpens, OpensOnce, Reading, StopsInFile, StopsInState}
 use Rattle.docker_desk.specs.declared.compared.Compared.{Compared}
 use Rattle.docker_desk.specs.Replies.{AnswerView, done_with, no_request, refused_for, answer_status}

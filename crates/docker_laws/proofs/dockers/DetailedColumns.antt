@@ -1,5 +1,6 @@
 -- The first 56 columns of the lines of a detailed docker are the lines of the docker.
-use Rattle.std.proofs.Common.{◌≡◌, ℕ, suc, ◌+◌, ◌-◌, ◌*◌, ◌%◌, ◌<◌, ◌≤◌, List, [], ◌∷◌, ◌++◌, length, length-append, length-drop, length-take-le, append-nil, append_assoc, Contains, refl, ap, sym, ◌∙◌, subst, inl, inr, Bool, true, false, cond, Some, None, arith}
+use Rattle.std.proofs.Common.{◌≡◌, ℕ, suc, ◌+◌, ◌-◌, ◌*◌, ◌%◌, ◌<◌, ◌≤◌, List, [], ◌∷◌, ◌++◌, length, length-append, length-drop, length-take-le}
+use Rattle.std.proofs.Common.{append-nil, append_assoc, Contains, refl, ap, sym, ◌∙◌, subst, inl, inr, Bool, true, false, cond, Some, None, arith}
 use Rattle.std.specs.Prelude.{Option, codes, decimal, drop, map, nat_lt, ◌==◌, ◌^◌}
 use Rattle.std.specs.List.{AllByRecursion, AllZip, flat_map, zip}
 use Rattle.std.proofs.lemmas.Bool.{eqb-true, ltb-true, ltb-false}
@@ -55,7 +56,8 @@ kept count column (b ∷ text) rest plain fits =
     low : 32 ≤ b
     low = plain_first b text plain
 
-    by : columns_from count (column + 1) (text ++ rest) ≡ text ++ columns_from count (column + suc (length text)) rest → (t u : Bool) → (b == 10) ≡ t → nat_lt column count ≡ u
+    by : columns_from count (column + 1) (text ++ rest) ≡ text ++ columns_from count (column + suc (length text)) rest → (t u : Bool)
+        → (b == 10) ≡ t → nat_lt column count ≡ u
         → cond t (10 ∷ columns_from count 0 (text ++ rest))
         (cond u (b ∷ columns_from count (column + 1) (text ++ rest)) (columns_from count (column + 1) (text ++ rest)))
         ≡ b ∷ (text ++ columns_from count (column + suc (length text)) rest)
@@ -75,7 +77,8 @@ dropped count column (b ∷ text) rest plain past =
     low : 32 ≤ b
     low = plain_first b text plain
 
-    by : columns_from count (column + 1) (text ++ rest) ≡ columns_from count (column + suc (length text)) rest → (t u : Bool) → (b == 10) ≡ t → nat_lt column count ≡ u
+    by : columns_from count (column + 1) (text ++ rest) ≡ columns_from count (column + suc (length text)) rest → (t u : Bool)
+        → (b == 10) ≡ t → nat_lt column count ≡ u
         → cond t (10 ∷ columns_from count 0 (text ++ rest))
         (cond u (b ∷ columns_from count (column + 1) (text ++ rest)) (columns_from count (column + 1) (text ++ rest)))
         ≡ columns_from count (column + suc (length text)) rest

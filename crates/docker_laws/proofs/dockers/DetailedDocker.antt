@@ -65,8 +65,8 @@ pub detailed_of_files : (files others : List (List (List ℕ))) (horizon theirs 
     → (place : List ℕ) (day : ℕ) → ¬ IsDayRefused horizon day → ¬ IsDayRefused theirs day → (text other : List ℕ)
     → IsDetailedText (live_table one) place day text → IsDetailedText (live_table two) place day other → text ≡ other
 detailed_of_files files others horizon theirs one two are also same is_day day_too is that place =
-    text_of_files (λ live d t. IsDetailedText live place d t) (detailed_lapses place) (one_detailed place) files others horizon theirs one two are also same is_day
-    day_too is that
+    text_of_files (λ live d t. IsDetailedText live place d t) (detailed_lapses place) (one_detailed place) files others horizon theirs one two are also same
+    is_day day_too is that
 
 -- two summaries of the same files have the same permanent detailed docker for each place and each
 -- day, unless the program refuses the docker because of a horizon
@@ -75,5 +75,5 @@ pub permanent_detailed_of_files : (files others : List (List (List ℕ))) (horiz
     → (place : List ℕ) (day : ℕ) → ¬ IsDayRefused horizon day → ¬ IsDayRefused theirs day → (text other : List ℕ)
     → IsDetailedText (permanent_table (live_table one)) place day text → IsDetailedText (permanent_table (live_table two)) place day other → text ≡ other
 permanent_detailed_of_files files others horizon theirs one two are also same is_day day_too is that place =
-    text_of_files (λ live d t. IsDetailedText (permanent_table live) place d t) (permanent_lapses place) (one_permanent place) files others horizon theirs one two
-    are also same is_day day_too is that
+    text_of_files (λ live d t. IsDetailedText (permanent_table live) place d t) (permanent_lapses place) (one_permanent place) files others horizon theirs
+    one two are also same is_day day_too is that

@@ -60,8 +60,8 @@ pub record CarriesOver (one other : Table) (day : ℕ) : Type 0 where
       → IsPartnerIdentity other key.associated (partner_start indicator start) identity)
 
 -- each event line in the docker of `one` is also in the docker of `other`
-unfoldable pub event_line_over : (one other : Table) (place : List ℕ) (day : ℕ) → CarriesOver one other day → (line : DockerLine) → IsEventLine one place day line
-    → IsEventLine other place day line
+unfoldable pub event_line_over : (one other : Table) (place : List ℕ) (day : ℕ) → CarriesOver one other day → (line : DockerLine)
+    → IsEventLine one place day line → IsEventLine other place day line
 event_line_over one other place day carries line is = record {
   start = is.start;
   key = is.key;

@@ -73,7 +73,8 @@ module _ (Tells : Table → ℕ → List ℕ → Type 0) (lapses : StaysLapsed T
       let day_is : IsDay greater = max_most horizon theirs _ is_day day_too in
       let printed = greater_prints horizon theirs day prints prints_too in
       let states = summary_unique files others same greater (lapse_state greater one) (lapse_state greater two)
-      (lapsed_summary files horizon greater one (le-max_left horizon theirs) is) (lapsed_summary others theirs greater two (le-max_right horizon theirs) that) in
+      (lapsed_summary files horizon greater one (le-max_left horizon theirs) is)
+      (lapsed_summary others theirs greater two (le-max_right horizon theirs) that) in
       one_text (live_table (lapse_state greater two)) day text other
       (subst (λ (s : State). Tells (live_table s) day text) states
       (stays greater one day text day_is (summary_is_valid files horizon one is_day are.0 are.1 is) printed told))

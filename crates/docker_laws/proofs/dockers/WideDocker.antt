@@ -1,6 +1,7 @@
 -- Each line of a detailed docker has the width of its docker line in front, and no line feed. So the
 -- first 56 columns of the lines are the docker.
-use Rattle.std.proofs.Common.{◌≡◌, ℕ, ◌≤◌, List, [], ◌∷◌, ◌++◌, Contains, refl, ap, sym, ◌∙◌, subst, inl, inr, ◌⊎◌, true, false, true≢false, Some, None, append-nil, arith}
+use Rattle.std.proofs.Common.{◌≡◌, ℕ, ◌≤◌, List, [], ◌∷◌, ◌++◌, Contains, refl, ap, sym, ◌∙◌, subst, inl, inr, ◌⊎◌, true, false, true≢false, Some}
+use Rattle.std.proofs.Common.{None, append-nil, arith}
 use Rattle.std.specs.Prelude.{Option, codes, find, filter, take, unwrap_or}
 use Rattle.std.specs.List.{last_or}
 use Rattle.std.proofs.lemmas.List.Elements.{All-contains, All-from_recursion, All-take, Contains-append_right}
@@ -21,7 +22,8 @@ use Rattle.cif_laws.proofs.records.RecordIdentity.{has_identity_is}
 use Rattle.docker_laws.specs.Gathering.{IsDockerLine}
 use Rattle.docker_laws.proofs.dockers.Events.{at_a_line, timed_there}
 use Rattle.docker_laws.proofs.dockers.OneDockerLine.{first_event_is}
-use Rattle.docker_laws.proofs.dockers.WideParts.{IsWide, HasWideFields, wide_append, wide_text, wide_spaces, wide_columns, low_column, wide_platform, wide_track, wide_path, wide_public}
+use Rattle.docker_laws.proofs.dockers.WideParts.{IsWide, HasWideFields, wide_append, wide_text, wide_spaces, wide_columns, low_column, wide_platform}
+use Rattle.docker_laws.proofs.dockers.WideParts.{wide_track, wide_path, wide_public}
 
 -- ---- the records of a schedule
 
@@ -46,7 +48,8 @@ last_holds : {A : Type 0} (P : A → Type 0) (o : Option A) (xs : List A) → ((
     → last_or o xs ≡ Some x → P x
 last_holds P o [] first rest x is = first x is
 last_holds {A} P o (y ∷ ys) first rest x is =
-    last_holds P (Some y) ys (λ z same. let e : y ≡ z = cc in subst P e (rest y (cons-Contains-first y ys))) (λ z among. rest z (cons-Contains y ys z among)) x is
+    last_holds P (Some y) ys (λ z same. let e : y ≡ z = cc in subst P e (rest y (cons-Contains-first y ys)))
+    (λ z among. rest z (cons-Contains y ys z among)) x is
 
 module _ (key : ScheduleKey) (lines : List (List ℕ)) (of : IsScheduleOf key lines) where
   pub each_record : (line : List ℕ) → Contains lines line → IsRecord line
@@ -71,7 +74,8 @@ module _ (key : ScheduleKey) (lines : List (List ℕ)) (of : IsScheduleOf key li
 
   -- ---- the change en route that is in force at an event
 
-  pub change_good : (event : Event) (line : List ℕ) → last_or None (filter (λ l. has_identity (codes "CR") l) (take event.place lines)) ≡ Some line → IsRecord line
+  pub change_good : (event : Event) (line : List ℕ)
+      → last_or None (filter (λ l. has_identity (codes "CR") l) (take event.place lines)) ≡ Some line → IsRecord line
   change_good event line is =
       last_holds IsRecord None (filter (λ l. has_identity (codes "CR") l) (take event.place lines)) (λ x same. none_some x same)
       (λ x among. All-contains IsRecord (take event.place lines) x (All-take IsRecord event.place lines of.schedule.records)
@@ -91,7 +95,9 @@ module _ (key : ScheduleKey) (lines : List (List ℕ)) (of : IsScheduleOf key li
   tiploc_wide identity line among test = by (find (λ l. has_identity identity l) lines) refl
     where
       by : (found : Option (List ℕ)) → find (λ l. has_identity identity l) lines ≡ found → IsWide 7 (columns 3 9 (unwrap_or found []))
-      by None h = let fails : has_identity identity line ≡ false = find_none (λ l. has_identity identity l) lines line h among in absurd (true≢false (sym test ∙ fails))
+      by None h =
+          let fails : has_identity identity line ≡ false = find_none (λ l. has_identity identity l) lines line h among in
+          absurd (true≢false (sym test ∙ fails))
       by (Some there) h =
           wide_columns there 3 9 (each_record there (find_some (λ l. has_identity identity l) lines there h).0) (omega arith) (omega arith)
 
@@ -146,7 +152,8 @@ module _ (key : ScheduleKey) (lines : List (List ℕ)) (of : IsScheduleOf key li
     in_journey : (line : List ℕ) → Contains of.schedule.journey line → Contains lines line
     in_journey line inside =
         subst (λ ls. Contains ls line) (sym of.schedule.whole)
-        (cons-Contains of.schedule.basic (of.schedule.extra ++ of.schedule.journey) line (Contains-append_right of.schedule.extra of.schedule.journey line inside))
+        (cons-Contains of.schedule.basic (of.schedule.extra ++ of.schedule.journey) line
+        (Contains-append_right of.schedule.extra of.schedule.journey line inside))
 
     origin_wide : IsWide 7 (tiploc_of_first (codes "LO") lines)
     origin_wide =
@@ -195,7 +202,8 @@ wide_partner live good uid identity None is = subst (IsWide 4) (sym is) wide_unk
 wide_partner live good uid identity (Some day) is = wide_partner_on live good uid identity day is
 
 -- each docker line has its widths
-pub wide_docker_line : (live : Table) (place : List ℕ) (day : ℕ) (line : DockerLine) → HasGoodBodies live → IsDockerLine live place day line → HasWideFields line
+pub wide_docker_line : (live : Table) (place : List ℕ) (day : ℕ) (line : DockerLine) → HasGoodBodies live
+    → IsDockerLine live place day line → HasWideFields line
 wide_docker_line live place day line good (inl is) =
     let of : IsScheduleOf is.key is.schedule = good (schedule_key is.key) (schedule_body is.schedule) is.train_runs.chosen.running.is_live in
     subst HasWideFields (sym is.is) (wide_event_line is.key is.schedule of is.event is.among is.start)

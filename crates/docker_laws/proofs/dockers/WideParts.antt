@@ -1,12 +1,14 @@
 -- The widths of the printed parts of a docker. Each byte of a part is at least 32, so no part has a
 -- line feed.
-use Rattle.std.proofs.Common.{◌≡◌, ℕ, zero, suc, ◌+◌, ◌-◌, ◌/◌, ◌%◌, ◌<◌, ◌≤◌, List, [], ◌∷◌, ◌++◌, length, All, refl, ap, ◌∙◌, Bool, true, false, cond, Some, None, arith, length-append}
+use Rattle.std.proofs.Common.{◌≡◌, ℕ, zero, suc, ◌+◌, ◌-◌, ◌/◌, ◌%◌, ◌<◌, ◌≤◌, List, [], ◌∷◌, ◌++◌, length, All, refl, ap, ◌∙◌, Bool, true, false}
+use Rattle.std.proofs.Common.{cond, Some, None, arith, length-append}
 use Rattle.std.specs.Prelude.{Option, codes, nat_le, ◌==◌}
 use Rattle.std.proofs.lemmas.Bool.{leb-true}
 use Rattle.std.specs.Str.{bytes_eq}
 use Rattle.std.proofs.lemmas.List.Elements.{All-append, All-nil, All-weaker, All-from_recursion}
 use Rattle.docker_model.specs.records.Record.{Kind, columns, column, IsRecord, IsTextOfLength, is_printable}
-use Rattle.docker_model.specs.records.Record.{header, tiploc_insert, tiploc_amend, tiploc_delete, association, basic_schedule, extra_details, origin_location, intermediate_location, terminating_location, change_en_route, trailer}
+use Rattle.docker_model.specs.records.Record.{header, tiploc_insert, tiploc_amend, tiploc_delete, association, basic_schedule, extra_details}
+use Rattle.docker_model.specs.records.Record.{origin_location, intermediate_location, terminating_location, change_en_route, trailer}
 use Rattle.docker_model.specs.records.PrintedTime.{spaces, two_digit_text, time_text, day_text, date_text, shown_public}
 use Rattle.docker_model.specs.file.Journey.{Occasion, arrival, pass, joining, dividing, next_working, departure}
 use Rattle.docker_model.specs.docker.DockerLine.{DockerLine, platform_by_kind, track_by_kind, path_by_kind, public_by_kind}
