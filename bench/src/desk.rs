@@ -198,6 +198,7 @@ pub fn tables(programs: &Programs, extract: &str, update: &str, folder: &str, da
         size(&files.other)?
     );
     first_answers(programs, &files, &subjects)?;
+    details(programs, &files, &subjects)?;
     random_answers(programs, &files, &subjects, seed)?;
     takes(programs, &files)
 }
@@ -250,6 +251,43 @@ fn first_answers(programs: &Programs, files: &Files, subjects: &Subjects) -> Res
     row("library: reading the whole state", &reading);
     row("desk: from its start to the end of its first answer, the same docker", &first);
     row(&format!("desk: then the dockers of the {} busiest places, {lines} lines", places.len().min(PLACES)), &busiest);
+    Ok(())
+}
+
+/// The first 56 columns of each line of a detailed docker: the docker.
+fn docker_of(detailed: &[u8]) -> Vec<u8> {
+    let lines = detailed.split(|&byte| byte == b'\n').filter(|line| !line.is_empty());
+    lines.flat_map(|line| line.iter().take(56).copied().chain([b'\n'])).collect()
+}
+
+/// Measures the detailed docker of each of the busiest places beside its docker, in turn. Both have
+/// to have the same docker.
+fn details(programs: &Programs, files: &Files, subjects: &Subjects) -> Result<()> {
+    let Subjects { places, day, .. } = subjects;
+    let mut desk = Desk::start(&[programs.desk, &files.state])?;
+    let mut columns = [Vec::new(), Vec::new(), Vec::new()];
+    for place in places.iter().take(PLACES) {
+        let mut least = [f64::INFINITY; 2];
+        for _ in 0..ROUNDS {
+            let plain = desk.ask_done(&format!("print {place} {day}"))?;
+            let detailed = desk.ask_done(&format!("detail {place} {day}"))?;
+            if docker_of(&detailed.text) != plain.text {
+                return Err(Error::other(format!("{place}: the detailed docker has another docker")));
+            }
+            least = [least[0].min(plain.seconds), least[1].min(detailed.seconds)];
+        }
+        columns[0].push(least[0] * 1e3);
+        columns[1].push(least[1] * 1e3);
+        columns[2].push(least[1] / least[0]);
+    }
+    desk.end()?;
+    println!("\nThe {} busiest places, the least of {ROUNDS} requests in turn for each\n", columns[0].len());
+    println!("| What | Median | 99 of 100 |\n|---|---|---|");
+    for (what, times) in ["`print`, ms", "`detail`, ms", "`detail` × `print` of the same place"].iter().zip(&mut columns) {
+        times.sort_by(f64::total_cmp);
+        let part = |hundredths: usize| times[(times.len() - 1) * hundredths / 100];
+        println!("| {what} | {:.3} | {:.3} |", part(50), part(99));
+    }
     Ok(())
 }
 

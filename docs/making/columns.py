@@ -10,6 +10,7 @@ from making.markdown import section, table, text
 
 FORMATS = "docs/FORMATS.md"
 DEFINED = "crates/docker_model/specs/docker/DockerText.antt"
+DETAILED = "crates/docker_model/specs/docker/DetailedText.antt"
 SCREEN = "office/screen/lines.py"
 READER = "office/dockers.py"
 NAMES = "office/screen/names.py"
@@ -21,15 +22,19 @@ PIECES = {
     "line.public_time": "public time", "origin": "origin TIPLOC", "destination": "destination TIPLOC", "uid": "associated UID",
     "identity": "its train identity", "day_text item.stamp.moment.day": "date of extract", "minute_text item.stamp.moment.minute": "time of extract",
     "item.stamp.reference": "current file reference", "item.indicator": "update indicator", "item.last_reference": "last file reference",
+    "day_text start": "start day of the train", "number_text event.number": "number of the event in the journey", "first_record lines": "basic schedule",
+    "record_text (extra_record lines)": "extra details", "record_text (change_at lines event)": "change en route", "event_line lines event": "location",
+    "record_text association": "association",
 }
-# Each definition, with the kind of line in FORMATS.md that it describes, and its first and last column.
+# Each definition, with the kind of line in FORMATS.md that it describes, its first and last column, and its file.
 DEFINITIONS = (
-    ("heading live place day", "heading", 1, 56),
-    ("line_text line", "event, association", 1, 41),
-    ("detail_text (ends origin destination)", "event", 42, 56),
-    ("detail_text (partner uid identity)", "association", 42, 56),
-    ("last_line", "last", 1, 56),
-    ("file_text item", "file", 1, 33),
+    ("heading live place day", "heading", 1, 56, DEFINED),
+    ("line_text line", "event, association", 1, 41, DEFINED),
+    ("detail_text (ends origin destination)", "event", 42, 56, DEFINED),
+    ("detail_text (partner uid identity)", "association", 42, 56, DEFINED),
+    ("last_line", "last", 1, 56, DEFINED),
+    ("file_text item", "file", 1, 33, DEFINED),
+    ("origin_text start lines event association", "detail", 57, 483, DETAILED),
 )
 # The tables in the screen and in the reader of dockers, each with the kind of line that it describes.
 TABLES = {
@@ -49,22 +54,22 @@ def columns_of(cell):
 def tables():
     """The columns of each kind of line, from the tables in FORMATS.md."""
     found = {kind: columns_of(columns) for kind, columns in table(section(FORMATS, "A docker"), "Line", "Columns")}
-    for kind, heading in (("file", "What `files` writes"), ("place", "What `places` writes")):
+    for kind, heading in (("file", "What `files` writes"), ("place", "What `places` writes"), ("detail", "What `detail` and `permanent-detail` write")):
         rows = table(section(FORMATS, heading), "Columns", "")
         found[kind] = {re.split(r",| have ", what)[0]: tuple(int(it) for it in (place.split("-") * 2)[:2]) for place, what in rows}
     return found
 
 
-def pieces_of(definition):
-    """The pieces that a definition joins. The part before a `∷` is a piece of one byte."""
-    found = re.search(rf"^{re.escape(definition)} =\s+(.*?)(?=\n\n|\n\S|\Z)", text(DEFINED), re.M | re.S)
+def pieces_of(definition, defined):
+    """The pieces that a definition in this file joins. The part before a `∷` is a piece of one byte."""
+    found = re.search(rf"^{re.escape(definition)} =\s+(.*?)(?=\n\n|\n\S|\Z)", text(defined), re.M | re.S)
     return [" ".join(piece.split()) for piece in re.split(r"\+\+|∷", found[1])] if found else []
 
 
-def unlike_definition(definition, columns, first, last):
+def unlike_definition(definition, columns, first, last, defined):
     """Where a definition doesn't put its pieces into these columns, or leaves a piece out."""
     at, left = first, dict(columns)
-    for piece in pieces_of(definition):
+    for piece in pieces_of(definition, defined):
         if blank := re.fullmatch(r"spaces (\d+)", piece):
             at += int(blank[1])
             continue
@@ -97,5 +102,5 @@ def unlike_readers(found):
 def unlike():
     """Where the definitions, the screen or the reader of dockers differ from FORMATS.md."""
     found = tables()
-    yield from (line for definition, kind, first, last in DEFINITIONS for line in unlike_definition(definition, found[kind], first, last))
+    yield from (line for definition, kind, *rest in DEFINITIONS for line in unlike_definition(definition, found[kind], *rest))
     yield from unlike_readers(found)

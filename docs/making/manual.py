@@ -44,7 +44,7 @@ def part(heading):
 
 def rows_of(source):
     """The rows of a table in the code, such as `Row::of("day", &["FILE", "TIPLOC", "DATE"], ..)`: the words of each row, and its last column."""
-    rows = re.findall(r'=> \w*Row::of\(\s*"([a-z]+)",\s*&\[([^]]*)\],(?:\s*\w+,)*\s*(\w+),?\s*\)', read(source))
+    rows = re.findall(r'=> \w*Row::of\(\s*"([a-z-]+)",\s*&\[([^]]*)\],(?:\s*\w+,)*\s*(\w+),?\s*\)', read(source))
     return [(" ".join([name, *re.findall(r'"([A-Z]+)"', ids)]), last) for name, ids, last in rows]
 
 
@@ -278,7 +278,14 @@ def train_output():
     text = lines_of("OUTPUT in the page of `docker` has what `print` and `files` write.") + ".SS What \\fBtrain\\fR writes\n" + lines_of(paragraphs(train)[0])
     for line, columns in table(train, "Line", "Columns"):
         text += f".PP\n{line[0].upper()}{line[1:]}:\n.RS 2\n{listed(columns_of(columns))}.RE\n"
-    return text + prose(*paragraphs(train)[1:])
+    return text + prose(*paragraphs(train)[1:]) + detail_output()
+
+
+def detail_output():
+    """The output of `detail` and `permanent-detail`, column by column."""
+    detail = section(FORMATS, "What `detail` and `permanent-detail` write")
+    text = ".SS What \\fBdetail\\fR and \\fBpermanent\\-detail\\fR write\n" + lines_of(paragraphs(detail)[0])
+    return text + ".RS 2\n" + listed(table(detail, "Columns", "")) + ".RE\n" + prose(*paragraphs(detail)[1:])
 
 
 def desk_answers():

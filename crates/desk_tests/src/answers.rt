@@ -11,9 +11,11 @@ use docker_desk::{Answer, Page, write_answer, write_reply};
 use docker_office::{StateCause, StateFault};
 use std::alloc::Global;
 use std::process::Abort;
+use test_records::states::Parts;
+use test_records::text;
 
 /// More bytes than any answer in these tests has.
-const ROOM: usize = 1000;
+const ROOM: usize = 2000;
 
 /// A row: a status, a text, and the bytes of the answer.
 type Row = (u8, &'static str, &'static str);
@@ -63,6 +65,13 @@ fn bytes_of(rt: &impl Abort, alloc: Global, answer: &Answer) -> Kept {
 pub(crate) fn answers(rt: &impl Abort, alloc: Global, answer: &Answer, lines: &[&[u8]]) {
     let kept = bytes_of(rt, alloc, answer);
     let wanted = lines_text(rt, alloc, lines);
+    same(rt, kept.bytes(), wanted.as_slice());
+}
+
+/// Asserts that the bytes of an answer are these parts, one after another.
+pub(crate) fn answers_whole(rt: &impl Abort, alloc: Global, answer: &Answer, parts: Parts) {
+    let kept = bytes_of(rt, alloc, answer);
+    let wanted = text(alloc, parts, b"").expect(rt, "room");
     same(rt, kept.bytes(), wanted.as_slice());
 }
 

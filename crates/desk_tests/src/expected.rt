@@ -7,11 +7,12 @@ use test_records::dockers::{
 };
 use test_records::ledgers::{UPDATE_9A, UPDATE_10B};
 
-/// The usage line: 240 bytes with its line feed.
+/// The usage line: 292 bytes with its line feed.
 const USAGE_LINE: &[u8] = b"\
 desk: usage: [--write] STATE, and then a line for each request: print TIPLOC DATE \
-| permanent TIPLOC DATE | train UID DATE | trains IDENTITY DATE | files | places | known \
-| renew | with --write take FILE | merge OTHER | horizon DATE | save";
+| permanent TIPLOC DATE | detail TIPLOC DATE | permanent-detail TIPLOC DATE | train UID DATE \
+| trains IDENTITY DATE | files | places | known | renew | with --write take FILE | merge OTHER \
+| horizon DATE | save";
 
 /// What `--help` prints: 257 bytes with the line feeds.
 pub(crate) const HELP: Lines = &[
@@ -43,7 +44,7 @@ const UNSAVED_LINE: &[u8] = b"desk: changes not saved";
 pub(crate) const NO_MARK_LINE: &[u8] = b"docker: state refused: offset 0: Mark";
 
 /// The answer to a line that isn't a request.
-pub(crate) const USAGE: Lines = &[b"2 1 240", USAGE_LINE];
+pub(crate) const USAGE: Lines = &[b"2 1 292", USAGE_LINE];
 
 /// The answer with the docker of Ashfeld on 10 June, from a desk that knows the file with the
 /// morning train.

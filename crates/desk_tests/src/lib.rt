@@ -11,6 +11,8 @@ mod compare;
 #[cfg(test)]
 mod desks;
 #[cfg(test)]
+mod details;
+#[cfg(test)]
 mod end_recorder;
 #[cfg(test)]
 mod expected;

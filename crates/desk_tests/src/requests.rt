@@ -29,6 +29,10 @@ fn add_dated(rt: &impl Abort, text: &mut Vec<u8>, request: &Request<'_>) {
         Request::Permanent { place, day } => {
             add_place_and_day(rt, text, b"permanent", place, day);
         }
+        Request::Detail { place, day } => add_place_and_day(rt, text, b"detail", place, day),
+        Request::PermanentDetail { place, day } => {
+            add_place_and_day(rt, text, b"permanent-detail", place, day);
+        }
         Request::Train { uid, day } => {
             text.extend_from_slice(b"train").expect(rt, "room");
             add(rt, text, uid.bytes());
@@ -108,6 +112,16 @@ const READING: &[Row] = &[
         "permanent ASHFELD 2024-06-10",
     ),
     (" permanent ELM 1960-01-01", "permanent ELM     1960-01-01"),
+    ("detail ASHFELD 2024-06-10", "detail ASHFELD 2024-06-10"),
+    ("detail  ELM 2059-12-31 ", "detail ELM     2059-12-31"),
+    (
+        "permanent-detail ASHFELD 2024-06-10",
+        "permanent-detail ASHFELD 2024-06-10",
+    ),
+    (
+        " permanent-detail ELM 1960-01-01",
+        "permanent-detail ELM     1960-01-01",
+    ),
     ("train C10001 2024-02-29", "train C10001 2024-02-29"),
     ("train -10001 2024-06-10", "train -10001 2024-06-10"),
     ("trains 1A10 2024-02-29", "trains 1A10 2024-02-29"),
@@ -162,6 +176,15 @@ const NOTHING: &[&str] = &[
     "permanent ASHFELD 2024-06-10 twice",
     "permanent -SHFELD 2024-06-10",
     "permanent ASHFELD 2024-02-30",
+    "detail",
+    "detail ASHFELD",
+    "detail ASHFELD 2024-06-10 twice",
+    "detail -SHFELD 2024-06-10",
+    "details ASHFELD 2024-06-10",
+    "permanent-detail",
+    "permanent-detail ASHFELD 2024-06",
+    "permanent detail ASHFELD 2024-06-10",
+    "permanent-details ASHFELD 2024-06-10",
     "print 2024-06-10",
     "print 2024-06-10 ASHFELD",
     "print ASHFELD 2024-06-10 twice",

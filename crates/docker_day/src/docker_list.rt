@@ -78,4 +78,11 @@ impl<'a> Docker<'a> {
     {
         self.lines.as_slice()
     }
+
+    /// Gives up the lines, in order.
+    pub fn into_lines(self) -> Vec<DockerLine<'a>>
+        ensures { result.items ≡ self.entry.lines }
+    {
+        self.lines
+    }
 }

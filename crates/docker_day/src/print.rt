@@ -55,7 +55,7 @@ fn write_lines<K: Sink>(sink: &mut K, lines: &[DockerLine<'_>]) -> Result<(), Fa
 
 /// The text of the heading, with a line feed.
 #[tactic(auto, unfolding(crate::specs::DockerValue::head))]
-fn heading(place: &Tiploc, day: Day, description: &[u8; 26]) -> [u8; WIDTH]
+pub fn heading(place: &Tiploc, day: Day, description: &[u8; 26]) -> [u8; WIDTH]
     ensures { result ≡ ended (head place.now day description.now) }
 {
     let mut text = ArrayVec::new();
@@ -71,7 +71,7 @@ fn heading(place: &Tiploc, day: Day, description: &[u8; 26]) -> [u8; WIDTH]
 }
 
 /// The text of the last line, with a line feed.
-fn last_line() -> [u8; WIDTH]
+pub fn last_line() -> [u8; WIDTH]
     ensures { result ≡ ended last_line }
 {
     let mut text = ArrayVec::new();
@@ -82,7 +82,7 @@ fn last_line() -> [u8; WIDTH]
 }
 
 /// The text of a docker line, with a line feed.
-fn text_of_line(line: &DockerLine<'_>) -> [u8; WIDTH]
+pub fn text_of_line(line: &DockerLine<'_>) -> [u8; WIDTH]
     ensures { result ≡ ended (line_text line.now) }
 {
     let mut text = ArrayVec::new();

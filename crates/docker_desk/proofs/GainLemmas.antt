@@ -18,6 +18,7 @@ use Rattle.docker_desk.specs.SessionViews.{SessionView, Setting, Step}
 use Rattle.docker_desk.specs.Reading.{Reading, StopsInFile, StopsInState, events_of, opening_of}
 use Rattle.docker_desk.specs.Replies.{AnswerView, done_with, no_request, refused_for}
 use Rattle.docker_desk.specs.Requests.{RequestView, print_request, permanent_request, train_request, trains_request, files_request, places_request}
+use Rattle.docker_desk.specs.Requests.{detail_request, permanent_detail_request}
 use Rattle.docker_desk.specs.Requests.{known_request, renew_request, take_request, merge_request, horizon_request, save_request}
 use Rattle.docker_desk.specs.Serving.{BeginsAt}
 use Rattle.docker_desk.specs.declared.compared.Compared.{Compared}
@@ -101,6 +102,8 @@ module _ (earlier : List (List ℕ)) where
         → AreGained earlier gains before.desk.state after.desk.state
     gained_done (print_request place day) text gains days does gained = gained_none gains _ _ gained (ap (λ (m : SessionView). m.desk.state) does.1)
     gained_done (permanent_request place day) text gains days does gained = gained_none gains _ _ gained (ap (λ (m : SessionView). m.desk.state) does.1)
+    gained_done (detail_request place day) text gains days does gained = gained_none gains _ _ gained (ap (λ (m : SessionView). m.desk.state) does.1)
+    gained_done (permanent_detail_request place day) text gains days does gained = gained_none gains _ _ gained (ap (λ (m : SessionView). m.desk.state) does.1)
     gained_done (train_request uid day) text gains days does gained = gained_none gains _ _ gained (ap (λ (m : SessionView). m.desk.state) does.1)
     gained_done (trains_request identity day) text gains days does gained = gained_none gains _ _ gained (ap (λ (m : SessionView). m.desk.state) does.1)
     gained_done files_request text gains days does gained = gained_none gains _ _ gained (ap (λ (m : SessionView). m.desk.state) does.1)

@@ -13,6 +13,7 @@ use Rattle.docker_desk.specs.Desk.{EndsReceiving, EndsRenewing, EndsSaving, Ends
 use Rattle.docker_desk.specs.Reading.{Reading, StopsInFile, StopsInState, events_of, opening_of}
 use Rattle.docker_desk.specs.declared.compared.Compared.{Compared}
 use Rattle.docker_desk.specs.Requests.{RequestView, print_request, permanent_request, train_request, trains_request, files_request, places_request}
+use Rattle.docker_desk.specs.Requests.{detail_request, permanent_detail_request}
 use Rattle.docker_desk.specs.Requests.{known_request, renew_request, take_request, merge_request, horizon_request, save_request}
 use Rattle.docker_desk.specs.Replies.{AnswerView, done_with, no_request, refused_for}
 use Rattle.docker_desk.specs.SessionViews.{SessionView, Setting, Step}
@@ -155,6 +156,8 @@ module _ (setting : Setting) where
       → ReceivesKnown setting request before after → (heard : Known) × Hears setting request before after heard
   hears_some (print_request place day) text before after does received = (nothing, refl)
   hears_some (permanent_request place day) text before after does received = (nothing, refl)
+  hears_some (detail_request place day) text before after does received = (nothing, refl)
+  hears_some (permanent_detail_request place day) text before after does received = (nothing, refl)
   hears_some (train_request uid day) text before after does received = (nothing, refl)
   hears_some (trains_request identity day) text before after does received = (nothing, refl)
   hears_some files_request text before after does received = (nothing, refl)

@@ -21,6 +21,7 @@ use Rattle.docker_office.specs.declared.fault.OfficeFault.{OfficeFault}
 use Rattle.docker_desk.specs.Lines.{LineView, whole_line, bad_line, cut_line}
 use Rattle.docker_cmd.specs.JobLine.{words_in}
 use Rattle.docker_desk.specs.Requests.{RequestView, after_word, print_request, permanent_request, train_request, trains_request, files_request, places_request}
+use Rattle.docker_desk.specs.Requests.{detail_request, permanent_detail_request}
 use Rattle.docker_desk.specs.Requests.{known_request, renew_request, take_request, merge_request, horizon_request, save_request}
 use Rattle.docker_desk.specs.Desk.{DeskView, EndsReceiving, EndsRenewing, EndsTaking}
 use Rattle.docker_desk.specs.Reading.{Reading, events_of}
@@ -128,6 +129,10 @@ module _ (setting : Setting) (before after : SessionView) where
       nothing_heard old heard _ _ hears (ap (λ (m : SessionView). m.desk.state) does.1) is
   known_done (permanent_request place day) text old heard days does hears is =
       nothing_heard old heard _ _ hears (ap (λ (m : SessionView). m.desk.state) does.1) is
+  known_done (detail_request place day) text old heard days does hears is =
+      nothing_heard old heard _ _ hears (ap (λ (m : SessionView). m.desk.state) does.1) is
+  known_done (permanent_detail_request place day) text old heard days does hears is =
+      nothing_heard old heard _ _ hears (ap (λ (m : SessionView). m.desk.state) does.1) is
   known_done (train_request uid day) text old heard days does hears is =
       nothing_heard old heard _ _ hears (ap (λ (m : SessionView). m.desk.state) does.1) is
   known_done (trains_request identity day) text old heard days does hears is =
@@ -148,6 +153,8 @@ module _ (setting : Setting) (before after : SessionView) where
       → after.desk.state ≡ before.desk.state
   same_refused (print_request place day) fault does = ap (λ (m : SessionView). m.desk.state) does.1
   same_refused (permanent_request place day) fault does = ap (λ (m : SessionView). m.desk.state) does.1
+  same_refused (detail_request place day) fault does = ap (λ (m : SessionView). m.desk.state) does.1
+  same_refused (permanent_detail_request place day) fault does = ap (λ (m : SessionView). m.desk.state) does.1
   same_refused (train_request uid day) fault does = ap (λ (m : SessionView). m.desk.state) does.1
   same_refused (trains_request identity day) fault does = ap (λ (m : SessionView). m.desk.state) does.1
   same_refused files_request fault does = ap (λ (m : SessionView). m.desk.state) does.1
@@ -163,6 +170,8 @@ module _ (setting : Setting) (before after : SessionView) where
   pub never_unasked : (request : RequestView) → ¬ DoesRequest setting request before no_request after
   never_unasked (print_request place day) does = does.0
   never_unasked (permanent_request place day) does = does.0
+  never_unasked (detail_request place day) does = does.0
+  never_unasked (permanent_detail_request place day) does = does.0
   never_unasked (train_request uid day) does = does.0
   never_unasked (trains_request identity day) does = does.0
   never_unasked files_request does = does.0

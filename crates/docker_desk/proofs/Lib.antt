@@ -20,3 +20,4 @@ mod HeardLemmas
 mod GainLemmas
 mod WitnessLemmas
 mod PermanentLemmas
+mod DetailLemmas

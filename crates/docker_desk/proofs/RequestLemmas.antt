@@ -7,6 +7,7 @@ use Rattle.docker_cmd.specs.Words.{NamesDay, OfTwo, Text}
 use Rattle.docker_cmd.specs.JobLine.{words_in}
 use Rattle.docker_desk.specs.Requests.{ArePlaceAndDay, AsksFor, HasRest, IsRequestOf, RequestView, after_word, first_word, is_writing, name_of}
 use Rattle.docker_desk.specs.Requests.{verb_named, verb_of, verbs, FitsRest, NamesIdentity, NamesTrain, print_request, permanent_request, train_request}
+use Rattle.docker_desk.specs.Requests.{detail_request, permanent_detail_request}
 use Rattle.docker_desk.specs.Requests.{trains_request, files_request, places_request, known_request}
 use Rattle.docker_desk.specs.Requests.{renew_request, take_request, merge_request, horizon_request, save_request}
 use Rattle.docker_desk.specs.declared.requests.Verb.{Verb}
@@ -19,6 +20,8 @@ no_train rest word date two none (train_request uid day) same has =
     let both = subst (OfTwo (λ word date. NamesTrain word uid × NamesDay date day)) two has in none uid day both.0 both.1
 no_train rest word date two none (print_request place day) same has = cc
 no_train rest word date two none (permanent_request place day) same has = cc
+no_train rest word date two none (detail_request place day) same has = cc
+no_train rest word date two none (permanent_detail_request place day) same has = cc
 no_train rest word date two none (trains_request identity day) same has = cc
 no_train rest word date two none files_request same has = cc
 no_train rest word date two none places_request same has = cc
@@ -36,6 +39,8 @@ no_trains rest word date two none (trains_request identity day) same has =
     let both = subst (OfTwo (λ word date. NamesIdentity word identity × NamesDay date day)) two has in none identity day both.0 both.1
 no_trains rest word date two none (print_request place day) same has = cc
 no_trains rest word date two none (permanent_request place day) same has = cc
+no_trains rest word date two none (detail_request place day) same has = cc
+no_trains rest word date two none (permanent_detail_request place day) same has = cc
 no_trains rest word date two none (train_request uid day) same has = cc
 no_trains rest word date two none files_request same has = cc
 no_trains rest word date two none places_request same has = cc
@@ -50,6 +55,8 @@ no_trains rest word date two none save_request same has = cc
 pub no_docker : (rest : List ℕ) → ((place : List ℕ) (day : ℕ) → ¬ OfTwo (ArePlaceAndDay place day) (words_in rest)) → FitsRest verb.Print rest None
 no_docker rest none (print_request place day) same has = none place day has
 no_docker rest none (permanent_request place day) same has = cc
+no_docker rest none (detail_request place day) same has = cc
+no_docker rest none (permanent_detail_request place day) same has = cc
 no_docker rest none (train_request uid day) same has = cc
 no_docker rest none (trains_request identity day) same has = cc
 no_docker rest none files_request same has = cc
@@ -65,6 +72,8 @@ no_docker rest none save_request same has = cc
 pub no_permanent : (rest : List ℕ) → ((place : List ℕ) (day : ℕ) → ¬ OfTwo (ArePlaceAndDay place day) (words_in rest)) → FitsRest verb.Permanent rest None
 no_permanent rest none (print_request place day) same has = cc
 no_permanent rest none (permanent_request place day) same has = none place day has
+no_permanent rest none (detail_request place day) same has = cc
+no_permanent rest none (permanent_detail_request place day) same has = cc
 no_permanent rest none (train_request uid day) same has = cc
 no_permanent rest none (trains_request identity day) same has = cc
 no_permanent rest none files_request same has = cc
@@ -76,6 +85,41 @@ no_permanent rest none (merge_request other) same has = cc
 no_permanent rest none (horizon_request day) same has = cc
 no_permanent rest none save_request same has = cc
 
+-- if the rest of a line isn't a timing point and a day, it doesn't fit `detail`
+pub no_detail : (rest : List ℕ) → ((place : List ℕ) (day : ℕ) → ¬ OfTwo (ArePlaceAndDay place day) (words_in rest)) → FitsRest verb.Detail rest None
+no_detail rest none (print_request place day) same has = cc
+no_detail rest none (permanent_request place day) same has = cc
+no_detail rest none (detail_request place day) same has = none place day has
+no_detail rest none (permanent_detail_request place day) same has = cc
+no_detail rest none (train_request uid day) same has = cc
+no_detail rest none (trains_request identity day) same has = cc
+no_detail rest none files_request same has = cc
+no_detail rest none places_request same has = cc
+no_detail rest none known_request same has = cc
+no_detail rest none renew_request same has = cc
+no_detail rest none (take_request file) same has = cc
+no_detail rest none (merge_request other) same has = cc
+no_detail rest none (horizon_request day) same has = cc
+no_detail rest none save_request same has = cc
+
+-- if the rest of a line isn't a timing point and a day, it doesn't fit `permanent-detail`
+pub no_permanent_detail : (rest : List ℕ) → ((place : List ℕ) (day : ℕ) → ¬ OfTwo (ArePlaceAndDay place day) (words_in rest))
+    → FitsRest verb.PermanentDetail rest None
+no_permanent_detail rest none (print_request place day) same has = cc
+no_permanent_detail rest none (permanent_request place day) same has = cc
+no_permanent_detail rest none (detail_request place day) same has = cc
+no_permanent_detail rest none (permanent_detail_request place day) same has = none place day has
+no_permanent_detail rest none (train_request uid day) same has = cc
+no_permanent_detail rest none (trains_request identity day) same has = cc
+no_permanent_detail rest none files_request same has = cc
+no_permanent_detail rest none places_request same has = cc
+no_permanent_detail rest none known_request same has = cc
+no_permanent_detail rest none renew_request same has = cc
+no_permanent_detail rest none (take_request file) same has = cc
+no_permanent_detail rest none (merge_request other) same has = cc
+no_permanent_detail rest none (horizon_request day) same has = cc
+no_permanent_detail rest none save_request same has = cc
+
 -- ---- looking up a verb by its name
 
 -- if a verb's name is looked up, the result is this verb
@@ -83,6 +127,8 @@ named_back : (v : Verb) → verb_named (name_of v) ≡ Some v
 unfolding verb_named
 named_back verb.Print = refl
 named_back verb.Permanent = refl
+named_back verb.Detail = refl
+named_back verb.PermanentDetail = refl
 named_back verb.Train = refl
 named_back verb.Trains = refl
 named_back verb.Files = refl

@@ -16,6 +16,7 @@ use Rattle.docker_host.specs.Host.{HostView}
 use Rattle.docker_host.specs.Shelf.{IsShelfHistory}
 use Rattle.docker_desk.specs.Lines.{AreLines, LineView, whole_line}
 use Rattle.docker_desk.specs.Requests.{AsksFor, IsRequestOf, RequestView, print_request, permanent_request, train_request, trains_request, files_request}
+use Rattle.docker_desk.specs.Requests.{detail_request, permanent_detail_request}
 use Rattle.docker_desk.specs.Requests.{places_request, known_request, renew_request, take_request, merge_request, horizon_request, save_request}
 use Rattle.docker_desk.specs.Desk.{IsFilesAnswer}
 use Rattle.docker_desk.specs.Replies.{AnswerView, answer_bytes, done_with, memory_answer, no_request, refused_for}
@@ -84,6 +85,8 @@ asked_files : (may_write : Bool) (request : Option RequestView) → AsksFor may_
 asked_files may_write None asks = absurd (asks files_request (asks_files may_write))
 asked_files may_write (Some (print_request place day)) asks = let first = heads 102 112 _ _ asks.name in absurd (omega (arith, first))
 asked_files may_write (Some (permanent_request place day)) asks = let first = heads 102 112 _ _ asks.name in absurd (omega (arith, first))
+asked_files may_write (Some (detail_request place day)) asks = let first = heads 102 100 _ _ asks.name in absurd (omega (arith, first))
+asked_files may_write (Some (permanent_detail_request place day)) asks = let first = heads 102 112 _ _ asks.name in absurd (omega (arith, first))
 asked_files may_write (Some (train_request uid day)) asks = let first = heads 102 116 _ _ asks.name in absurd (omega (arith, first))
 asked_files may_write (Some (trains_request identity day)) asks = let first = heads 102 116 _ _ asks.name in absurd (omega (arith, first))
 asked_files may_write (Some files_request) asks = refl

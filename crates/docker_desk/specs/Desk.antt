@@ -4,6 +4,7 @@ use Rattle.docker_model.specs.file.File.{most_records}
 use Rattle.docker_model.specs.state.State.{State, live_table}
 use Rattle.docker_model.specs.state.StateText.{dks_2, state_text}
 use Rattle.docker_model.specs.state.Lapse.{IsDayRefused}
+use Rattle.docker_model.specs.docker.DetailedText.{IsDetailedText}
 use Rattle.docker_model.specs.docker.Permanent.{permanent_table}
 use Rattle.docker_model.specs.state.Table.{Table}
 use Rattle.docker_model.specs.docker.DockerText.{IsDockerText, files_text}
@@ -61,6 +62,28 @@ IsPermanentAnswer state place day (done_with text) =
     IsDockerText (permanent_table (live_table state)) place day text × (¬ IsDayRefused state.horizon day)
 IsPermanentAnswer state place day (refused_for fault) = IsDockerRefused state day fault
 IsPermanentAnswer state place day no_request = ⊥
+
+-- this is an answer to `detail`, the request for a docker whose lines show what they were made from.
+-- The request is refused for the same faults as `print`
+abbrev pub IsDetailAnswer : State → List ℕ → ℕ → AnswerView → Type 0
+IsDetailAnswer state place day (done_with text) =
+    IsDetailedText (live_table state) place day text × (¬ IsDayRefused state.horizon day)
+IsDetailAnswer state place day (refused_for fault) = IsDockerRefused state day fault
+IsDetailAnswer state place day no_request = ⊥
+
+-- the answer has the detailed docker of this table as its text, or says that memory ran out
+abbrev pub TellsDetails : Table → List ℕ → ℕ → AnswerView → Type 0
+TellsDetails live place day (done_with text) = IsDetailedText live place day text
+TellsDetails live place day (refused_for fault) = fault ≡ office.Memory
+TellsDetails live place day no_request = ⊥
+
+-- this is an answer to `permanent-detail`, the request for a detailed docker without the short-term
+-- plan. The request is refused for the same faults as `print`
+abbrev pub IsPermanentDetailAnswer : State → List ℕ → ℕ → AnswerView → Type 0
+IsPermanentDetailAnswer state place day (done_with text) =
+    IsDetailedText (permanent_table (live_table state)) place day text × (¬ IsDayRefused state.horizon day)
+IsPermanentDetailAnswer state place day (refused_for fault) = IsDockerRefused state day fault
+IsPermanentDetailAnswer state place day no_request = ⊥
 
 -- this fault is why `train` or `trains` is refused: `Lapsed` if the day is before the horizon,
 -- otherwise `Memory`

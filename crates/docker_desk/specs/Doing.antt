@@ -8,9 +8,11 @@ use Rattle.docker_host.specs.History.{Text}
 use Rattle.docker_office.specs.declared.fault.OfficeFault.{OfficeFault}
 use Rattle.docker_desk.specs.Lines.{LineView, whole_line, bad_line, cut_line}
 use Rattle.docker_desk.specs.Requests.{AsksFor, RequestView, print_request, permanent_request, train_request, trains_request, files_request, places_request}
+use Rattle.docker_desk.specs.Requests.{detail_request, permanent_detail_request}
 use Rattle.docker_desk.specs.Requests.{known_request, renew_request, take_request, merge_request, horizon_request, save_request}
-use Rattle.docker_desk.specs.Desk.{DeskView, EndsReceiving, EndsRenewing, EndsSaving, EndsTaking, IsDockerAnswer, IsFilesAnswer}
-use Rattle.docker_desk.specs.Desk.{IsKnownAnswer, IsPermanentAnswer, IsPlacesAnswer, IsTrainAnswer, IsTrainsAnswer, look_by, unsaved_by}
+use Rattle.docker_desk.specs.Desk.{DeskView, EndsReceiving, EndsRenewing, EndsSaving, EndsTaking, IsDetailAnswer, IsDockerAnswer, IsFilesAnswer}
+use Rattle.docker_desk.specs.Desk.{IsKnownAnswer, IsPermanentAnswer, IsPermanentDetailAnswer, IsPlacesAnswer, IsTrainAnswer, IsTrainsAnswer, look_by}
+use Rattle.docker_desk.specs.Desk.{unsaved_by}
 use Rattle.docker_desk.specs.Reading.{LooksAndOpens, OpensOnce, Reading, StopsInFile, StopsInState}
 use Rattle.docker_desk.specs.declared.compared.Compared.{Compared}
 use Rattle.docker_desk.specs.Replies.{AnswerView, done_with, no_request, refused_for, answer_status}
@@ -75,6 +77,10 @@ DoesRequest setting (print_request place day) before answer after =
     IsDockerAnswer before.desk.state place day answer × (after ≡ before)
 DoesRequest setting (permanent_request place day) before answer after =
     IsPermanentAnswer before.desk.state place day answer × (after ≡ before)
+DoesRequest setting (detail_request place day) before answer after =
+    IsDetailAnswer before.desk.state place day answer × (after ≡ before)
+DoesRequest setting (permanent_detail_request place day) before answer after =
+    IsPermanentDetailAnswer before.desk.state place day answer × (after ≡ before)
 DoesRequest setting (train_request uid day) before answer after =
     IsTrainAnswer before.desk.state uid day answer × (after ≡ before)
 DoesRequest setting (trains_request identity day) before answer after =

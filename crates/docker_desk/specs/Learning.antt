@@ -8,6 +8,7 @@ use Rattle.docker_model.specs.state.StateText.{dks_2}
 use Rattle.docker_model.specs.state.Table.{Table, IsPlainTable}
 use Rattle.docker_model.specs.docker.Choice.{IsChosenOn}
 use Rattle.docker_model.specs.docker.DockerText.{IsDockerText}
+use Rattle.docker_model.specs.docker.DetailedText.{IsDetailedText}
 use Rattle.docker_model.specs.docker.Permanent.{permanent_table}
 use Rattle.docker_model.specs.run.Run.{IsMessageOf, IsStateOf, Known, nothing, united}
 use Rattle.docker_model.specs.run.Knowledge.{IsGoodKnown}
@@ -23,6 +24,7 @@ use Rattle.docker_office.specs.Office.{HoldsState, TakesFile}
 use Rattle.docker_office.specs.declared.fault.OfficeFault.{OfficeFault}
 use Rattle.docker_office.specs.declared.fault.OfficeFault.TheVariants.{Sink}
 use Rattle.docker_desk.specs.Requests.{RequestView, print_request, permanent_request, train_request, trains_request, files_request, places_request}
+use Rattle.docker_desk.specs.Requests.{detail_request, permanent_detail_request}
 use Rattle.docker_desk.specs.Requests.{known_request, renew_request, take_request, merge_request, horizon_request, save_request}
 use Rattle.docker_desk.specs.Replies.{AnswerView, done_with, no_request, refused_for}
 use Rattle.docker_desk.specs.SessionViews.{SessionView, Setting, Step}
@@ -39,6 +41,13 @@ pub record IsKnown (known : Known) (state : State) : Type 0 where
 abbrev pub KeepsAs : State → Table → Type 0
 KeepsAs state table = (place : List ℕ) (day : ℕ) (text : List ℕ) → ¬ IsDayRefused state.horizon day
     → IsDockerText (permanent_table (live_table state)) place day text ↔ IsDockerText (permanent_table table) place day text
+
+-- for each day that isn't refused under the state's horizon, the detailed docker made from the state
+-- is the detailed docker made from this table. The same is true of the permanent detailed docker
+abbrev pub DetailsAs : State → Table → Type 0
+DetailsAs state table = (place : List ℕ) (day : ℕ) (text : List ℕ) → ¬ IsDayRefused state.horizon day
+    → (IsDetailedText (live_table state) place day text ↔ IsDetailedText table place day text)
+    × (IsDetailedText (permanent_table (live_table state)) place day text ↔ IsDetailedText (permanent_table table) place day text)
 
 -- for each day that isn't before the state's horizon, the list of the trains that have an identity,
 -- made from the state, is the list made from this table
@@ -73,6 +82,8 @@ renewing name read = looked name ∷ events_of name read
 abbrev pub Hears : Setting → RequestView → SessionView → SessionView → Known → Type 0
 Hears setting (print_request place day) before after heard = heard ≡ nothing
 Hears setting (permanent_request place day) before after heard = heard ≡ nothing
+Hears setting (detail_request place day) before after heard = heard ≡ nothing
+Hears setting (permanent_detail_request place day) before after heard = heard ≡ nothing
 Hears setting (train_request uid day) before after heard = heard ≡ nothing
 Hears setting (trains_request identity day) before after heard = heard ≡ nothing
 Hears setting files_request before after heard = heard ≡ nothing
@@ -118,6 +129,8 @@ pub record HoldsKnown (events : Reading → List Event) (before after : SessionV
 abbrev pub ReceivesKnown : Setting → RequestView → SessionView → SessionView → Type 0
 ReceivesKnown setting (print_request place day) before after = ⊤
 ReceivesKnown setting (permanent_request place day) before after = ⊤
+ReceivesKnown setting (detail_request place day) before after = ⊤
+ReceivesKnown setting (permanent_detail_request place day) before after = ⊤
 ReceivesKnown setting (train_request uid day) before after = ⊤
 ReceivesKnown setting (trains_request identity day) before after = ⊤
 ReceivesKnown setting files_request before after = ⊤
@@ -194,6 +207,8 @@ pub record GainsVersion (events : Reading → List Event) (earlier : List Text) 
 abbrev pub GainsDone : Setting → List Text → RequestView → SessionView → SessionView → List Gain → Type 0
 GainsDone setting earlier (print_request place day) before after gains = gains ≡ []
 GainsDone setting earlier (permanent_request place day) before after gains = gains ≡ []
+GainsDone setting earlier (detail_request place day) before after gains = gains ≡ []
+GainsDone setting earlier (permanent_detail_request place day) before after gains = gains ≡ []
 GainsDone setting earlier (train_request uid day) before after gains = gains ≡ []
 GainsDone setting earlier (trains_request identity day) before after gains = gains ≡ []
 GainsDone setting earlier files_request before after gains = gains ≡ []

@@ -16,6 +16,8 @@ use Rattle.docker_desk.specs.declared.requests.Request.TheVariants as code
 pub data RequestView : Type 0 where
   print_request : (place : List ℕ) (day : ℕ) → RequestView
   permanent_request : (place : List ℕ) (day : ℕ) → RequestView
+  detail_request : (place : List ℕ) (day : ℕ) → RequestView
+  permanent_detail_request : (place : List ℕ) (day : ℕ) → RequestView
   train_request : (uid : List ℕ) (day : ℕ) → RequestView
   trains_request : (identity : List ℕ) (day : ℕ) → RequestView
   files_request : RequestView
@@ -31,6 +33,8 @@ pub data RequestView : Type 0 where
 abbrev pub request_meant : Request → RequestView
 request_meant (code.Print place day) = print_request place day
 request_meant (code.Permanent place day) = permanent_request place day
+request_meant (code.Detail place day) = detail_request place day
+request_meant (code.PermanentDetail place day) = permanent_detail_request place day
 request_meant (code.Train uid day) = train_request uid day
 request_meant (code.Trains identity day) = trains_request identity day
 request_meant code.Files = files_request
@@ -46,6 +50,8 @@ request_meant code.Save = save_request
 abbrev pub verb_of : RequestView → Verb
 verb_of (print_request place day) = verb.Print
 verb_of (permanent_request place day) = verb.Permanent
+verb_of (detail_request place day) = verb.Detail
+verb_of (permanent_detail_request place day) = verb.PermanentDetail
 verb_of (train_request uid day) = verb.Train
 verb_of (trains_request identity day) = verb.Trains
 verb_of files_request = verb.Files
@@ -76,6 +82,8 @@ row_meant it = row it.name.now (map (λ id. id.now) it.ids.now) it.writes
 abbrev pub row_of : Verb → RequestRow
 row_of verb.Print = row (codes "print") (codes "TIPLOC" ∷ codes "DATE" ∷ []) false
 row_of verb.Permanent = row (codes "permanent") (codes "TIPLOC" ∷ codes "DATE" ∷ []) false
+row_of verb.Detail = row (codes "detail") (codes "TIPLOC" ∷ codes "DATE" ∷ []) false
+row_of verb.PermanentDetail = row (codes "permanent-detail") (codes "TIPLOC" ∷ codes "DATE" ∷ []) false
 row_of verb.Train = row (codes "train") (codes "UID" ∷ codes "DATE" ∷ []) false
 row_of verb.Trains = row (codes "trains") (codes "IDENTITY" ∷ codes "DATE" ∷ []) false
 row_of verb.Files = row (codes "files") [] false
@@ -90,8 +98,8 @@ row_of verb.Save = row (codes "save") [] true
 -- all verbs, in the order of the usage line
 abbrev pub verbs : List Verb
 verbs =
-    verb.Print ∷ verb.Permanent ∷ verb.Train ∷ verb.Trains ∷ verb.Files ∷ verb.Places ∷ verb.Known ∷ verb.Renew ∷ verb.Take ∷ verb.Merge
-    ∷ verb.Horizon ∷ verb.Save ∷ []
+    verb.Print ∷ verb.Permanent ∷ verb.Detail ∷ verb.PermanentDetail ∷ verb.Train ∷ verb.Trains ∷ verb.Files ∷ verb.Places ∷ verb.Known ∷ verb.Renew
+    ∷ verb.Take ∷ verb.Merge ∷ verb.Horizon ∷ verb.Save ∷ []
 
 -- the name of a verb, as bytes
 abbrev pub name_of : Verb → Text
@@ -156,6 +164,8 @@ pub record ArePlaceAndDay (place : List ℕ) (day : ℕ) (tiploc date : Text) : 
 abbrev pub HasRest : RequestView → List ℕ → Type 0
 HasRest (print_request place day) rest = OfTwo (ArePlaceAndDay place day) (words_in rest)
 HasRest (permanent_request place day) rest = OfTwo (ArePlaceAndDay place day) (words_in rest)
+HasRest (detail_request place day) rest = OfTwo (ArePlaceAndDay place day) (words_in rest)
+HasRest (permanent_detail_request place day) rest = OfTwo (ArePlaceAndDay place day) (words_in rest)
 HasRest (train_request uid day) rest =
     OfTwo (λ word date. NamesTrain word uid × NamesDay date day) (words_in rest)
 HasRest (trains_request identity day) rest =

@@ -52,6 +52,8 @@ fn answer_request<D: Folder>(
     match request {
         Request::Print { place, day } => session.desk.print(&place, day),
         Request::Permanent { place, day } => session.desk.permanent(&place, day),
+        Request::Detail { place, day } => session.desk.detail(&place, day),
+        Request::PermanentDetail { place, day } => session.desk.permanent_detail(&place, day),
         Request::Train { uid, day } => session.desk.train(&uid, day),
         Request::Trains { identity, day } => session.desk.trains(&identity, day),
         Request::Files => session.desk.files(),

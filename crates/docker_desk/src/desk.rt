@@ -3,12 +3,13 @@ ghost use Rattle.std.specs.Prelude.{◌≡◌, ℕ, List, ◌+◌, ◌-◌, ◌^
 ghost use Rattle.docker_model.specs.state.State.{raise_horizon};
 ghost use Rattle.docker_model.specs.state.StateText.{dks_2, state_text};
 ghost use Rattle.docker_cmd.specs.FaultLine.{IsCounted, result_status};
-ghost use Rattle.docker_desk.specs.Desk.{EndsReceiving, EndsRenewing, EndsSaving, EndsTaking, IsDockerAnswer, IsFilesAnswer, IsKnownAnswer, IsPermanentAnswer, IsPlacesAnswer, IsTrainAnswer, IsTrainsAnswer, TellsDocker, look_by, unsaved_by};
+ghost use Rattle.docker_desk.specs.Desk.{EndsReceiving, EndsRenewing, EndsSaving, EndsTaking, IsDetailAnswer, IsDockerAnswer, IsFilesAnswer, IsKnownAnswer, IsPermanentAnswer, IsPermanentDetailAnswer, IsPlacesAnswer, IsTrainAnswer, IsTrainsAnswer, TellsDetails, TellsDocker, look_by, unsaved_by};
 ghost use Rattle.docker_desk.specs.Reading.{LooksAndOpens, OpensOnce, StopsInFile, StopsInState};
 ghost use Rattle.docker_desk.specs.Doing.{desk_by};
 ghost use Rattle.docker_desk.specs.Replies.{answer_meant, done_with, refused_for};
 ghost use Rattle.docker_model.specs.state.Table.{Table};
 ghost use Rattle.docker_day.specs.Dockers.{IsDockerOf};
+ghost use Rattle.docker_detail.specs.DetailedValue.{IsDetailedOf};
 ghost use Rattle.docker_model.specs.lists.KnownText.{IsKnownText};
 ghost use Rattle.docker_office.specs.declared.fault.OfficeFault.TheVariants as office;
 
@@ -19,6 +20,7 @@ use crate::reply::Answer;
 use crate::saving::store_office;
 use cif_line::{Day, Failed, Tiploc, Uid, write_all};
 use docker_cmd::{Office, OfficeFault};
+use docker_detail::{DetailedDocker, detailed_docker, permanent_detailed_docker, write_detailed};
 use docker_host::Folder;
 use docker_train::{
     Docker, DockerFault, TrainFault, permanent_docker, print_train, print_trains, write_docker,
@@ -92,6 +94,31 @@ impl Desk {
     {
         match permanent_docker(self.alloc, self.office.state(), place, day) {
             Ok(docker) => answer_with(self.alloc, &docker),
+            Err(DockerFault::Lapsed) => Answer::Refused(OfficeFault::Lapsed),
+            Err(DockerFault::Memory) => Answer::Refused(OfficeFault::Memory),
+        }
+    }
+
+    /// Returns the text of the detailed docker of a timing point on a day: a docker whose lines show
+    /// what they were made from. The answer is a refusal for the same reasons as in `print`.
+    pub fn detail(&self, place: &Tiploc, day: Day) -> Answer
+        ensures { IsDetailAnswer self.now.state place.now day (answer_meant result) }
+    {
+        match detailed_docker(self.alloc, self.office.state(), place, day) {
+            Ok(docker) => detailed_answer(self.alloc, &docker),
+            Err(DockerFault::Lapsed) => Answer::Refused(OfficeFault::Lapsed),
+            Err(DockerFault::Memory) => Answer::Refused(OfficeFault::Memory),
+        }
+    }
+
+    /// Returns the text of the detailed docker that `permanent-detail` prints for a timing point on
+    /// a day: a detailed docker without the short-term plan. The answer is a refusal for the same
+    /// reasons as in `print`.
+    pub fn permanent_detail(&self, place: &Tiploc, day: Day) -> Answer
+        ensures { IsPermanentDetailAnswer self.now.state place.now day (answer_meant result) }
+    {
+        match permanent_detailed_docker(self.alloc, self.office.state(), place, day) {
+            Ok(docker) => detailed_answer(self.alloc, &docker),
             Err(DockerFault::Lapsed) => Answer::Refused(OfficeFault::Lapsed),
             Err(DockerFault::Memory) => Answer::Refused(OfficeFault::Memory),
         }
@@ -316,6 +343,19 @@ fn answer_with(alloc: Global, docker: &Docker<'_>) -> Answer
 {
     let mut page = Page::new(alloc);
     match write_docker(docker, &mut page) {
+        Ok(()) => Answer::Text(page),
+        Err(_) => Answer::Refused(OfficeFault::Memory),
+    }
+}
+
+/// Returns the answer that has the text of a detailed docker, or a refusal if there is no memory for
+/// the text.
+fn detailed_answer(alloc: Global, docker: &DetailedDocker<'_>) -> Answer
+    ensures { (live : Table) (place : List ℕ) (day : ℕ) → IsDetailedOf live place day docker.now
+        → TellsDetails live place day (answer_meant result) }
+{
+    let mut page = Page::new(alloc);
+    match write_detailed(docker, &mut page) {
         Ok(()) => Answer::Text(page),
         Err(_) => Answer::Refused(OfficeFault::Memory),
     }

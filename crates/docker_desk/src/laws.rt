@@ -7,6 +7,7 @@ ghost use Rattle.docker_model.specs.state.StateText.{dks_2, state_text};
 ghost use Rattle.docker_model.specs.state.Summary.{HaveDistinctMoments};
 ghost use Rattle.docker_model.specs.state.Table.{Table, IsPlainTable};
 ghost use Rattle.docker_model.specs.docker.DockerText.{IsDockerText};
+ghost use Rattle.docker_model.specs.docker.DetailedText.{IsDetailedText};
 ghost use Rattle.docker_model.specs.docker.Permanent.{permanent_table};
 ghost use Rattle.docker_model.specs.run.Run.{Known};
 ghost use Rattle.docker_model.specs.run.Knowledge.{AreOneKnowledge, HaveSameFiles};
@@ -25,7 +26,7 @@ ghost use Rattle.docker_office.specs.declared.fault.OfficeFault.{OfficeFault};
 ghost use Rattle.docker_office.specs.RunEnds.{EndsWith, PrintsAs};
 ghost use Rattle.docker_desk.specs.Answering.{EndsSession, answers_of, lines_of};
 ghost use Rattle.docker_desk.specs.Doing.{AreSteps, DoesRequest};
-ghost use Rattle.docker_desk.specs.Learning.{AllHearKnown, AreLearned, GainedBy, HearsState, HoldsKnown, IsKnown, IsPlaced, IsTrainOf, IsUnsaved, KeepsAs, KnowsAt, ListsTrainsAs, MayBePlaced, MayPlaceKnown, PlacesKnown, renewing};
+ghost use Rattle.docker_desk.specs.Learning.{AllHearKnown, AreLearned, DetailsAs, GainedBy, HearsState, HoldsKnown, IsKnown, IsPlaced, IsTrainOf, IsUnsaved, KeepsAs, KnowsAt, ListsTrainsAs, MayBePlaced, MayPlaceKnown, PlacesKnown, renewing};
 ghost use Rattle.docker_desk.specs.SessionViews.{SessionView, Setting, Step};
 ghost use Rattle.docker_desk.specs.Reading.{events_of};
 ghost use Rattle.docker_desk.specs.Replies.{done_with, refused_for};
@@ -216,6 +217,27 @@ pub fn known_files_fix_permanent_answers()
     ensures plain { (known : Known) (state : State) → IsKnown known state
         → HaveDistinctMoments known.files
         → (plain : Table) × IsPlainTable known.files plain × KeepsAs state plain }
+{}
+
+/// Two desks that know the same files, even with different horizons, print the same detailed docker
+/// for each timing point and each day that isn't refused under either desk's horizon. Their
+/// permanent detailed dockers are also the same. The law is also true if an office of a run takes
+/// the place of one desk. If no two of the files have the same moment, these are the detailed
+/// dockers of the plain table.
+pub fn known_files_fix_detail_answers()
+    ensures docker { (first second : Known) (one two : State) → IsKnown first one
+        → IsKnown second two → HaveSameFiles first.files second.files → (place : List ℕ) (day : ℕ)
+        → ¬ IsDayRefused one.horizon day → ¬ IsDayRefused two.horizon day → (text other : List ℕ)
+        → IsDetailedText (live_table one) place day text
+        → IsDetailedText (live_table two) place day other → text ≡ other }
+    ensures permanent { (first second : Known) (one two : State) → IsKnown first one
+        → IsKnown second two → HaveSameFiles first.files second.files → (place : List ℕ) (day : ℕ)
+        → ¬ IsDayRefused one.horizon day → ¬ IsDayRefused two.horizon day → (text other : List ℕ)
+        → IsDetailedText (permanent_table (live_table one)) place day text
+        → IsDetailedText (permanent_table (live_table two)) place day other → text ≡ other }
+    ensures plain { (known : Known) (state : State) → IsKnown known state
+        → HaveDistinctMoments known.files
+        → (plain : Table) × IsPlainTable known.files plain × DetailsAs state plain }
 {}
 
 /// Each schedule that `train` shows came from a known file. If no two known files have the same

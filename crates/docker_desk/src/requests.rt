@@ -18,6 +18,10 @@ pub enum Verb {
     Print,
     /// Prints the permanent docker of a timing point on a day.
     Permanent,
+    /// Prints the detailed docker of a timing point on a day.
+    Detail,
+    /// Prints the permanent detailed docker of a timing point on a day.
+    PermanentDetail,
     /// Shows the schedule that is chosen for a train on a day.
     Train,
     /// Lists the trains that have a train identity and start on a day.
@@ -71,6 +75,8 @@ impl Verb {
         &[
             Verb::Print,
             Verb::Permanent,
+            Verb::Detail,
+            Verb::PermanentDetail,
             Verb::Train,
             Verb::Trains,
             Verb::Files,
@@ -91,6 +97,8 @@ impl Verb {
         match self {
             Verb::Print => RequestRow::of("print", &["TIPLOC", "DATE"], false),
             Verb::Permanent => RequestRow::of("permanent", &["TIPLOC", "DATE"], false),
+            Verb::Detail => RequestRow::of("detail", &["TIPLOC", "DATE"], false),
+            Verb::PermanentDetail => RequestRow::of("permanent-detail", &["TIPLOC", "DATE"], false),
             Verb::Train => RequestRow::of("train", &["UID", "DATE"], false),
             Verb::Trains => RequestRow::of("trains", &["IDENTITY", "DATE"], false),
             Verb::Files => RequestRow::of("files", &[], false),
@@ -139,7 +147,7 @@ impl Verb {
 pub(crate) fn usage<'a>() -> &'a [u8]
     ensures { result.now ≡ usage_line }
 {
-    b"desk: usage: [--write] STATE, and then a line for each request: print TIPLOC DATE | permanent TIPLOC DATE | train UID DATE | trains IDENTITY DATE | files | places | known | renew | with --write take FILE | merge OTHER | horizon DATE | save\n"
+    b"desk: usage: [--write] STATE, and then a line for each request: print TIPLOC DATE | permanent TIPLOC DATE | detail TIPLOC DATE | permanent-detail TIPLOC DATE | train UID DATE | trains IDENTITY DATE | files | places | known | renew | with --write take FILE | merge OTHER | horizon DATE | save\n"
 }
 
 /// Returns the first of these verbs that has this name.
@@ -162,6 +170,20 @@ pub enum Request<'a> {
     },
     /// `permanent`: prints the permanent docker of a timing point on a day.
     Permanent {
+        /// The timing point.
+        place: Tiploc,
+        /// The day.
+        day: Day,
+    },
+    /// `detail`: prints the detailed docker of a timing point on a day.
+    Detail {
+        /// The timing point.
+        place: Tiploc,
+        /// The day.
+        day: Day,
+    },
+    /// `permanent-detail`: prints the permanent detailed docker of a timing point on a day.
+    PermanentDetail {
         /// The timing point.
         place: Tiploc,
         /// The day.
@@ -223,6 +245,8 @@ fn request_of(verb: Verb, rest: &str) -> Option<Request<'_>>
     match verb {
         Verb::Print => print_request(rest),
         Verb::Permanent => permanent_request(rest),
+        Verb::Detail => detail_request(rest),
+        Verb::PermanentDetail => permanent_detail_request(rest),
         Verb::Train => train_request(rest),
         Verb::Trains => trains_request(rest),
         Verb::Files => {
@@ -265,6 +289,22 @@ fn permanent_request(rest: &str) -> Option<Request<'_>>
 {
     let (place, day) = place_and_day(rest)?;
     Some(Request::Permanent { place, day })
+}
+
+/// Returns the `detail` request if this rest of the line fits `detail`.
+fn detail_request(rest: &str) -> Option<Request<'_>>
+    ensures { FitsRest verb.Detail rest.now (option_map request_meant result) }
+{
+    let (place, day) = place_and_day(rest)?;
+    Some(Request::Detail { place, day })
+}
+
+/// Returns the `permanent-detail` request if this rest of the line fits `permanent-detail`.
+fn permanent_detail_request(rest: &str) -> Option<Request<'_>>
+    ensures { FitsRest verb.PermanentDetail rest.now (option_map request_meant result) }
+{
+    let (place, day) = place_and_day(rest)?;
+    Some(Request::PermanentDetail { place, day })
 }
 
 /// Returns the timing point and the day that the rest of the line names, or `None` if the rest

@@ -37,3 +37,10 @@ pub mod NoLinesElsewhere
 pub mod Sublists
 pub mod CountedRows
 pub mod PermanentDocker
+pub mod OneOrigin
+pub mod LapsedOrigins
+pub mod TextsOfFiles
+pub mod DetailedDocker
+pub mod WideParts
+pub mod WideDocker
+pub mod DetailedColumns

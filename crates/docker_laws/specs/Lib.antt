@@ -12,3 +12,4 @@ pub mod NearDay
 pub mod StandIn
 pub mod Thinning
 pub mod CountedRows
+pub mod FirstColumns

@@ -1,11 +1,12 @@
 //! The associations that are chosen at a place on a start day.
-ghost use Rattle.std.specs.Prelude.{◌≡◌, List, None, IfOk, OnOk};
+ghost use Rattle.std.specs.Prelude.{◌≡◌, List, None, IfOk, OnOk, option_map};
 ghost use Rattle.std.specs.BTreeMap.{get};
+ghost use Rattle.std.specs.Option.{option_copied};
 ghost use Rattle.cif_change.specs.Meaning.{key_meant, body_meant};
 ghost use Rattle.docker_model.specs.docker.Choice.{Group, group_of};
 ghost use Rattle.docker_laws.specs.ChoiceWalk.{next_link};
 ghost use Rattle.docker_laws.specs.Gathering.{counts_as};
-ghost use Rattle.docker_laws.specs.LiveRows.{link_in};
+ghost use Rattle.docker_laws.specs.LiveRows.{Link, link_in};
 ghost use Rattle.docker_model.specs.state.Row.{Row, AreRowsOf};
 ghost use Rattle.docker_model.specs.state.State.{IsBodyOf};
 ghost use Rattle.train_choice.specs.Along.{link_along, AreGoodRows};
@@ -19,7 +20,7 @@ use crate::ranked::is_better;
 use crate::rows::association_of;
 use crate::walks::associations_at;
 use cif_change::{AssocKey, Body, Key};
-use cif_line::{Day, Memory, Tiploc};
+use cif_line::{Day, Line, Memory, Tiploc, Uid};
 use docker_state::{Timetable, TimetableRows};
 use std::alloc::Global;
 use std::collections::BTreeMap;
@@ -84,6 +85,24 @@ impl<'a> DayLinks<'a> {
         match self.best.get(&LinkGroup::of(key)) {
             Some(link) => link.key().cmp(key).is_eq(),
             None => false,
+        }
+    }
+
+    /// The record of the association that is chosen for a base train, an associated train and a
+    /// suffix at the place. Returns `None` if no association is chosen for them.
+    pub fn record(&self, base: &Uid, associated: &Uid, suffix: u8) -> Option<&'a Line>
+        ensures { (rows : List Row) → AreRowsOf (live_in self.now.timetable) rows
+            → option_copied result ≡ option_map (λ (link : Link). link.line) (link_in rows (record {
+              base = base.now;
+              associated = associated.now;
+              location = self.now.place;
+              suffix = suffix;
+            }) self.now.day) }
+    {
+        let group = LinkGroup::at(base, associated, &self.place, suffix);
+        match self.best.get(&group) {
+            Some(link) => Some(link.line()),
+            None => None,
         }
     }
 }

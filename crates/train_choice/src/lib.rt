@@ -37,5 +37,6 @@ pub use occasion::Occasion;
 pub use recent_runs::{RecentRuns, day_back};
 pub use rows::{association_of, schedule_of};
 pub use schedule_view::ScheduleView;
+pub use times::event_count;
 pub use walk::Occurrence;
 pub use walks::{associations_at, schedules_at};

@@ -49,4 +49,21 @@ impl LinkGroup {
             suffix: key.suffix,
         }
     }
+
+    /// The group of these two trains at a place and a suffix.
+    pub(crate) fn at(base: &Uid, associated: &Uid, location: &Tiploc, suffix: u8) -> LinkGroup
+        ensures { result ≡ record {
+          base = base.now;
+          associated = associated.now;
+          location = location.now;
+          suffix = suffix;
+        } }
+    {
+        LinkGroup {
+            base: *base,
+            associated: *associated,
+            location: *location,
+            suffix,
+        }
+    }
 }

@@ -56,7 +56,7 @@ impl<'a> LinkView<'a> {
     }
 
     /// The association's record.
-    fn line(&self) -> &'a Line
+    pub(crate) fn line(&self) -> &'a Line
         ensures line { result.now ≡ self.now.line }
         ensures kind { HasKind association result.now }
         ensures good { HasGoodFields result.now }

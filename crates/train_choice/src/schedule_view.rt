@@ -73,6 +73,8 @@ impl<'a> ScheduleView<'a> {
     pub fn lines(&self) -> &'a [Line]
         ensures lines { result.now ≡ self.now.lines }
         ensures kept { IsScheduleOf self.now.key self.now.lines }
+        ensures good { All HasGoodFields self.now.lines }
+        ensures few { length self.now.lines < 2 ^ 32 }
     {
         self.lines.as_slice()
     }

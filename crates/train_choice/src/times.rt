@@ -4,11 +4,12 @@ ghost use Rattle.cif_line.specs.Kind.{meaning};
 ghost use Rattle.std.specs.Iterator.{YieldsFirstBy, item_count};
 ghost use Rattle.docker_model.specs.records.Record.{HasKind, kind_of, origin_location, intermediate_location, terminating_location};
 ghost use Rattle.docker_model.specs.records.Field.{HasGoodFields};
-ghost use Rattle.docker_model.specs.file.Journey.{times_of};
+ghost use Rattle.docker_model.specs.file.Journey.{timed, times_of};
+ghost use Rattle.docker_model.specs.file.Journey as journey;
 ghost use Rattle.train_choice.specs.Meaning.{occasion_meant, times_meant};
 
 use crate::occasion::Occasion;
-use cif_line::{Kind, Line, Time};
+use cif_line::{Kind, Line, Time, kind};
 
 /// The times in a line, in order: an arrival, a pass and a departure. Each time may be absent.
 #[derive(Clone, Copy, Debug)]
@@ -43,6 +44,27 @@ impl EventTimes {
             Some(Kind::TerminatingLocation) => terminus_times(line),
             _ => EventTimes::none(),
         }
+    }
+}
+
+/// How many events a line has. It has one event for each of its scheduled times.
+pub fn event_count(line: &Line) -> u64
+    requires good { HasGoodFields line.now }
+    ensures count { result ≡ length (times_of line.now) }
+    ensures few { result ≤ 3 }
+{
+    let times = EventTimes::of(kind(line), line);
+    one_if(times.arrival) + one_if(times.pass) + one_if(times.departure)
+}
+
+/// Returns 1 if there is a time, and otherwise 0.
+fn one_if(time: Option<Time>) -> u64
+    ensures count { (occasion : journey.Occasion) → result ≡ length (timed occasion time) }
+    ensures few { result ≤ 1 }
+{
+    match time {
+        Some(_) => 1,
+        None => 0,
     }
 }
 

@@ -6,7 +6,8 @@ import signal
 
 import pytest
 from checks import same
-from desks import Answer
+from desks import Answer, answers_in
+from details import docker_part
 from docker_lines import event, works_on
 from outcomes import DONE, done, holds_only, prints
 from programs import DESK, Ended, docker, give, in_seconds, run
@@ -132,6 +133,40 @@ def test_trains_of_one_uid_with_many_schedules():
     same("the taken file", docker("take", "STATE", "hostile"), DONE)
     ended = run([*in_seconds(1), DESK, "STATE"], f"trains 1A10 {DAY}\n".encode())
     same("the answer", ended, Ended(0, Answer(0, f"A00001 {DAY} N\n".encode()).written(), b""))
+
+
+def calls_often():
+    """A train that calls at Meeting this often, with an arrival and a departure at each call."""
+    calls = (ROWS // 2) * record("LIMEETING 0900 0900      00000000")
+    return [schedule("A00001", 0, "P", origin("BEFORE", "0800"), calls, terminus("BEYOND", "0930"))]
+
+
+@each("units", {
+    "schedules of one UID": of_one_uid,
+    "associations of one group": of_one_group,
+    "bases of one partner of as many schedules": of_one_partner,
+    "partners of a base whose call comes after as many lines": after_many_lines,
+    "a train that calls often": calls_often,
+})
+def test_details_of_a_hostile_file(units):
+    """The detailed docker has the same lines as the docker. Each has the records of its own train, and
+    its own association."""
+    give(extract(header("240609", indicator="F"), *units()).encode(), "hostile")
+    same("the new state", docker("new", "STATE"), DONE)
+    same("the taken file", docker("take", "STATE", "hostile"), DONE)
+    requests = f"print MEETING {DAY}\ndetail MEETING {DAY}\n"
+    ended = run([*in_seconds(2), DESK, "STATE"], requests.encode())
+    plain, detailed = answers_in(ended.output)
+    same("the end", ended[::2], (0, b""))
+    assert docker_part(detailed.text) == plain.text
+    numbers = set()
+    for line in detailed.text.decode().split("\n")[1:-2]:
+        kind, uid, at = line[6], line[13:19], line[322:402]
+        numbers.add((uid, int(line[68:78]), kind))
+        assert line[82:88] == uid and at[2:9] == "MEETING", line
+        assert line[403:].strip() == "" if kind in "AD" else line[406:418] == uid + line[41:47], line
+    events = [it for it in numbers if it[2] in "AD"]
+    assert len(events) == sum(line[6:7] in (b"A", b"D") for line in plain.text.split(b"\n")[1:-2])
 
 
 def ledger(numbers):

@@ -12,8 +12,9 @@ from programs import DAY_LINE, DESK, DEVICE_LINE, DOCKER, MEMORY_LINE, Ended, ru
 # Lines from docs/FORMATS.md.
 USAGE = (
     b"desk: usage: [--write] STATE, and then a line for each request: print TIPLOC DATE"
-    b" | permanent TIPLOC DATE | train UID DATE | trains IDENTITY DATE | files | places | known"
-    b" | renew | with --write take FILE | merge OTHER | horizon DATE | save\n"
+    b" | permanent TIPLOC DATE | detail TIPLOC DATE | permanent-detail TIPLOC DATE | train UID DATE"
+    b" | trains IDENTITY DATE | files | places | known | renew | with --write take FILE"
+    b" | merge OTHER | horizon DATE | save\n"
 )
 HELP = b"""\
 desk: usage: [--write] STATE, and then a line for each request:

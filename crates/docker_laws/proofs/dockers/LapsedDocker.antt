@@ -60,8 +60,8 @@ pub record CarriesOver (one other : Table) (day : ℕ) : Type 0 where
       → IsPartnerIdentity other key.associated (partner_start indicator start) identity)
 
 -- each event line in the docker of `one` is also in the docker of `other`
-pub event_line_over : (one other : Table) (place : List ℕ) (day : ℕ) → CarriesOver one other day → (line : DockerLine) → IsEventLine one place day line
-    → IsEventLine other place day line
+unfoldable pub event_line_over : (one other : Table) (place : List ℕ) (day : ℕ) → CarriesOver one other day → (line : DockerLine)
+    → IsEventLine one place day line → IsEventLine other place day line
 event_line_over one other place day carries line is = record {
   start = is.start;
   key = is.key;
@@ -75,7 +75,7 @@ event_line_over one other place day carries line is = record {
 }
 
 -- each association line in the docker of `one` is also in the docker of `other`
-pub association_line_over : (one other : Table) (place : List ℕ) (day : ℕ) → CarriesOver one other day → (line : DockerLine)
+unfoldable pub association_line_over : (one other : Table) (place : List ℕ) (day : ℕ) → CarriesOver one other day → (line : DockerLine)
     → IsAssociationLine one place day line → IsAssociationLine other place day line
 association_line_over one other place day carries line is =
     let link =
@@ -142,7 +142,8 @@ module _ (horizon : ℕ) (bound : horizon ≤ no_end_number) (live : Table) wher
     bounded : (indicator start : ℕ) → horizon + 1 ≤ start → (n : ℕ) → partner_start indicator start ≡ Some n → horizon ≤ n
     bounded indicator start after n is = let most = partner_after indicator start n is in omega arith
 
-    over : CarriesOver live (lapse_table horizon live) day
+    -- the lapsed table has the trains, associations and identities of the table
+    pub over : CarriesOver live (lapse_table horizon live) day
     over = record {
       trains =
           λ uid start key lines runs event today.
@@ -158,7 +159,8 @@ module _ (horizon : ℕ) (bound : horizon ≤ no_end_number) (live : Table) wher
           );
     }
 
-    back : CarriesOver (lapse_table horizon live) live day
+    -- the table has the trains, associations and identities of the lapsed table
+    pub back : CarriesOver (lapse_table horizon live) live day
     back = record {
       trains =
           λ uid start key lines runs event today.
@@ -215,7 +217,7 @@ module _ (horizon : ℕ) (bound : horizon ≤ no_end_number) (live : Table) wher
     )
 
     -- lapsing leaves the description of a place unchanged, since TIPLOCs don't lapse
-    description_stays : description_in (lapse_table horizon live (tiploc_key place)) ≡ description_in (live (tiploc_key place))
+    pub description_stays : description_in (lapse_table horizon live (tiploc_key place)) ≡ description_in (live (tiploc_key place))
     description_stays = by (live (tiploc_key place))
       where
         none_or : (b : Bool) (body : Body) → description_in (Some body) ≡ description_in None → description_in (cond b None (Some body)) ≡ description_in

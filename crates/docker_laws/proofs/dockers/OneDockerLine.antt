@@ -52,14 +52,16 @@ tied_lines_agree a b e =
 
 -- ---- two lines of events that tie are equal
 
--- the two lines are equal, and belong to one schedule and one start day
+-- the two lines are equal, and belong to one schedule, one start day and one event
 pub record AreOneEvent (live : Table) (place : List ℕ) (day : ℕ) (a b : DockerLine) (one : IsEventLine live place day a)
     (two : IsEventLine live place day b) : Type 0 where
   pub keys : one.key ≡ two.key
   pub starts : one.start ≡ two.start
+  pub schedules : one.schedule ≡ two.schedule
+  pub events : one.event ≡ two.event
   pub lines : a ≡ b
 
--- two event lines that tie belong to one schedule and one start day
+-- two event lines that tie belong to one schedule, one start day and one event
 pub same_event_line : (live : Table) (place : List ℕ) (day : ℕ) (a b : DockerLine) (one : IsEventLine live place day a) (two : IsEventLine live place day b)
     → docker_line_cmp a b ≡ Equal → AreOneEvent live place day a b one two
 same_event_line live place day a b one two e =
@@ -81,7 +83,13 @@ same_event_line live place day a b one two e =
         let same = one_train live one.key.uid one.start one.key two.key one.schedule two.schedule one.train_runs runs in
         let in_one : Contains (events_of one.schedule) two.event = subst (λ ls. Contains (events_of ls) two.event) (sym same.1) two.among in
         let events = one_event one.schedule one.event two.event one.among in_one numbers in
-        record { keys = same.0; starts = starts; lines = one.is ∙ (λ i. line_of_event (same.0 i) (starts i) (same.1 i) (events i)) ∙ sym two.is }
+        record {
+          keys = same.0;
+          starts = starts;
+          schedules = same.1;
+          events = events;
+          lines = one.is ∙ (λ i. line_of_event (same.0 i) (starts i) (same.1 i) (events i)) ∙ sym two.is;
+        }
 
 -- ---- a line of an event and a line of an association never tie
 
@@ -141,11 +149,15 @@ pub one_identity : (live : Table) (uid : List ℕ) (day : Option ℕ) (x y : Lis
 one_identity live uid None x y one two = one ∙ sym two
 one_identity live uid (Some day) x y one two = one_identity_on live uid day x y one two
 
--- the two lines are equal, and belong to one association and one start day
+-- the two lines are equal, and belong to one association and one start day. They also belong to one
+-- schedule and one event of the base train
 pub record AreOneAssociation (live : Table) (place : List ℕ) (day : ℕ) (a b : DockerLine) (one : IsAssociationLine live place day a)
     (two : IsAssociationLine live place day b) : Type 0 where
   pub keys : one.key ≡ two.key
   pub starts : one.start ≡ two.start
+  pub bases : one.base ≡ two.base
+  pub events : one.event ≡ two.event
+  pub associations : one.association ≡ two.association
   pub lines : a ≡ b
 
 -- the first event with a TIPLOC and a suffix is an event of the schedule, and its record has this
@@ -201,6 +213,9 @@ same_association_line live place day a b one two e =
         record {
           keys = links.0;
           starts = starts;
+          bases = trains.1;
+          events = events;
+          associations = links.1;
           lines = one.is
               ∙ (λ i. line_of_association (occasions i) (links.0 i).indicator (trains.0 i) (starts i) (trains.1 i) (events i) (links.0 i).associated
               (identities i))

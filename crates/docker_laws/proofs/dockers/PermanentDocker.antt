@@ -99,7 +99,7 @@ permanent_line live place day line (inr association) =
 -- ---- lapsing commutes with leaving out the short-term plan
 
 -- lapsing commutes with leaving out the short-term plan
-lapses_alike : (horizon : ℕ) (live : Table) → permanent_table (lapse_table horizon live) ≡ lapse_table horizon (permanent_table live)
+pub lapses_alike : (horizon : ℕ) (live : Table) → permanent_table (lapse_table horizon live) ≡ lapse_table horizon (permanent_table live)
 lapses_alike horizon live = λ i key. by (is_permanent key) (live key) i
   where
     by : (b : Bool) (found : Option Body) → cond b (option_and_then (unlapsed horizon) found) None ≡ option_and_then (unlapsed horizon) (cond b found None)

@@ -1,0 +1,68 @@
+-- The known files determine the detailed dockers.
+use Rattle.std.proofs.Common.{◌≡◌, ℕ, List, subst, sym}
+use Rattle.docker_model.specs.docker.DetailedText.{IsDetailedText}
+use Rattle.docker_model.specs.docker.Permanent.{permanent_table}
+use Rattle.docker_model.specs.run.Run.{Known}
+use Rattle.docker_model.specs.run.Knowledge.{HaveSameFiles}
+use Rattle.docker_model.specs.state.Lapse.{IsDayRefused}
+use Rattle.docker_model.specs.state.State.{State, live_table}
+use Rattle.docker_model.specs.state.Summary.{HaveDistinctMoments}
+use Rattle.docker_model.specs.state.Table.{Table, IsPlainTable}
+use Rattle.docker_laws.proofs.dockers.DetailedDocker.{detailed_is_plain, detailed_of_files, permanent_detailed_is_plain, permanent_detailed_of_files}
+use Rattle.state_laws.proofs.states.OnePlainTable.{some_plain_table}
+use Rattle.docker_desk.specs.Desk.{IsDetailAnswer, IsDockerRefused, IsPermanentDetailAnswer, TellsDetails}
+use Rattle.docker_desk.specs.Replies.{AnswerView, done_with, no_request, refused_for}
+use Rattle.docker_desk.specs.Learning.{DetailsAs, IsKnown}
+
+-- suppose that a day isn't refused. If an answer has the detailed docker for this day, or reports
+-- that memory ran out, it is an answer to `detail`
+pub told_detail : (state : State) (place : List ℕ) (day : ℕ) (answer : AnswerView) → ¬ IsDayRefused state.horizon day
+    → TellsDetails (live_table state) place day answer → IsDetailAnswer state place day answer
+told_detail state place day (done_with text) allowed told = (told, allowed)
+told_detail state place day (refused_for fault) allowed same = subst (IsDockerRefused state day) (sym same) allowed
+told_detail state place day no_request allowed never = never
+
+-- suppose that a day isn't refused. If an answer has the permanent detailed docker for this day, or
+-- reports that memory ran out, it is an answer to `permanent-detail`
+pub told_permanent_detail : (state : State) (place : List ℕ) (day : ℕ) (answer : AnswerView) → ¬ IsDayRefused state.horizon day
+    → TellsDetails (permanent_table (live_table state)) place day answer → IsPermanentDetailAnswer state place day answer
+told_permanent_detail state place day (done_with text) allowed told = (told, allowed)
+told_permanent_detail state place day (refused_for fault) allowed same = subst (IsDockerRefused state day) (sym same) allowed
+told_permanent_detail state place day no_request allowed never = never
+
+-- suppose that two states know the same files. Then the detailed dockers made from the two states
+-- are equal, for each place and for each day that isn't refused under either state's horizon
+pub one_detail : (first second : Known) (one two : State) → IsKnown first one → IsKnown second two → HaveSameFiles first.files second.files
+    → (place : List ℕ) (day : ℕ) → ¬ IsDayRefused one.horizon day → ¬ IsDayRefused two.horizon day → (text other : List ℕ)
+    → IsDetailedText (live_table one) place day text → IsDetailedText (live_table two) place day other → text ≡ other
+one_detail first second one two left right same place day prints prints_too =
+    detailed_of_files first.files second.files first.horizon second.horizon one two left.good.0 right.good.0 same left.good.1 right.good.1
+    left.is right.is place day (subst (λ h. ¬ IsDayRefused h day) left.is.horizon_is prints)
+    (subst (λ h. ¬ IsDayRefused h day) right.is.horizon_is prints_too)
+
+-- suppose that two states know the same files. Then the permanent detailed dockers made from the two
+-- states are equal, for each place and for each day that isn't refused under either state's horizon
+pub one_permanent_detail : (first second : Known) (one two : State) → IsKnown first one → IsKnown second two → HaveSameFiles first.files second.files
+    → (place : List ℕ) (day : ℕ) → ¬ IsDayRefused one.horizon day → ¬ IsDayRefused two.horizon day → (text other : List ℕ)
+    → IsDetailedText (permanent_table (live_table one)) place day text → IsDetailedText (permanent_table (live_table two)) place day other → text ≡ other
+one_permanent_detail first second one two left right same place day prints prints_too =
+    permanent_detailed_of_files first.files second.files first.horizon second.horizon one two left.good.0 right.good.0 same left.good.1 right.good.1
+    left.is right.is place day (subst (λ h. ¬ IsDayRefused h day) left.is.horizon_is prints)
+    (subst (λ h. ¬ IsDayRefused h day) right.is.horizon_is prints_too)
+
+-- if no two known files have the same moment, each detailed docker of the state is the detailed
+-- docker of the plain table. The same is true of each permanent detailed docker
+pub plain_detail : (known : Known) (state : State) → IsKnown known state → HaveDistinctMoments known.files
+    → (plain : Table) × (IsPlainTable known.files plain × DetailsAs state plain)
+plain_detail known state is distinct =
+    let plain = some_plain_table known.files distinct in (
+      plain.0,
+      (
+        plain.1,
+        λ place day text prints.
+            let printed = subst (λ h. ¬ IsDayRefused h day) is.is.horizon_is prints in (
+              detailed_is_plain known.files known.horizon state plain.0 place day text is.good.0 is.good.1 is.is plain.1 printed,
+              permanent_detailed_is_plain known.files known.horizon state plain.0 place day text is.good.0 is.good.1 is.is plain.1 printed,
+            ),
+      ),
+    )

@@ -1,0 +1,4 @@
+pub mod DetailedValue
+pub mod Records
+pub mod OriginText
+pub mod Finding

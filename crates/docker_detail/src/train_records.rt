@@ -1,0 +1,81 @@
+//! The records of the schedules according to which trains run. The train that was looked up last is
+//! remembered.
+ghost use Rattle.std.specs.Prelude.{◌≡◌, ◌≤◌, ℕ, List, IfSome};
+ghost use Rattle.docker_model.specs.state.Row.{Row, AreRowsOf};
+ghost use Rattle.docker_laws.specs.LiveRows.{train_in};
+ghost use Rattle.docker_state.specs.Timetables.{live_in};
+ghost use Rattle.docker_detail.specs.Finding.{IsKnownTrain, lines_of};
+ghost use Rattle.docker_detail.specs.Records.{records_meant, records_of};
+
+use crate::event_records::EventRecords;
+use crate::known_train::KnownTrain;
+use cif_line::{Day, Uid};
+use docker_state::Timetable;
+use std::marker::Model;
+
+/// The records of the schedules according to which trains run in a timetable. The train that was
+/// looked up last is remembered, with a walk over its records. So if the events of each train are
+/// asked for one after the other, in ascending order of their numbers, each train is looked up only
+/// once, and its records are read only once.
+#[derive(Debug, Drop)]
+pub(crate) struct TrainRecords<'a> {
+    timetable: Timetable<'a>,
+    known: Option<KnownTrain<'a>>,
+}
+
+impl<'a> Model for TrainRecords<'a> {
+    ghost use Rattle.docker_state.specs.Timetables as timetables;
+    ghost use Rattle.docker_state.specs.Timetables.{live_in};
+    ghost use Rattle.docker_detail.specs.Finding.{MayBeKnownTrain};
+
+    ghost Value = { timetables.Timetable };
+
+    ghost view = { λ records. records.timetable };
+
+    ghost invariant = { λ records. MayBeKnownTrain (live_in records.timetable) records.known };
+}
+
+impl<'a> TrainRecords<'a> {
+    /// The records of a timetable's trains. No train has been looked up yet.
+    pub(crate) fn of(timetable: &Timetable<'a>) -> TrainRecords<'a>
+        ensures { result ≡ timetable.entry.now }
+    {
+        TrainRecords {
+            timetable: timetable.again(),
+            known: None,
+        }
+    }
+
+    /// The records that belong to an event, of the train of a UID that starts on a day. If the train
+    /// doesn't run, there are no records.
+    pub(crate) fn of_event(&mut self, uid: &Uid, start: Day, number: u64) -> EventRecords<'a>
+        ensures same { self.new ≡ self.old }
+        ensures records { (rows : List Row) → AreRowsOf (live_in self.old) rows
+            → records_meant result ≡ records_of (lines_of (train_in rows uid.now start)) number }
+    {
+        let mut known = self.train(uid, start, number);
+        let records = known.records(number);
+        self.known = Some(known);
+        records
+    }
+
+    /// The train of a UID that starts on a day, with a walk that can find the event with this
+    /// number.
+    fn train(&self, uid: &Uid, start: Day, number: u64) -> KnownTrain<'a>
+        ensures known { IsKnownTrain (live_in self.now) result }
+        ensures uid { result.uid ≡ uid.now }
+        ensures start { result.start ≡ start }
+        ensures least { result.least ≤ number }
+    {
+        match self.known {
+            Some(known) => {
+                if known.finds(uid, start, number) {
+                    known
+                } else {
+                    KnownTrain::of(&self.timetable, uid, start)
+                }
+            }
+            None => KnownTrain::of(&self.timetable, uid, start),
+        }
+    }
+}

@@ -1,0 +1,364 @@
+-- The first 56 columns of the lines of a detailed docker are the lines of the docker.
+use Rattle.std.proofs.Common.{◌≡◌, ℕ, suc, ◌+◌, ◌-◌, ◌*◌, ◌%◌, ◌<◌, ◌≤◌, List, [], ◌∷◌, ◌++◌, length, length-append, length-drop, length-take-le}
+use Rattle.std.proofs.Common.{append-nil, append_assoc, Contains, refl, ap, sym, ◌∙◌, subst, inl, inr, Bool, true, false, cond, Some, None, arith}
+use Rattle.std.specs.Prelude.{Option, codes, decimal, drop, map, nat_lt, ◌==◌, ◌^◌}
+use Rattle.std.specs.List.{AllByRecursion, AllZip, flat_map, zip}
+use Rattle.std.proofs.lemmas.Bool.{eqb-true, ltb-true, ltb-false}
+use Rattle.std.proofs.lemmas.Fmt.{decimal_by_steps_wide, length-decimal-le_wide}
+use Rattle.std.proofs.lemmas.List.{length-map}
+use Rattle.std.proofs.lemmas.List.Concat.{flat_map-append}
+use Rattle.std.proofs.lemmas.List.Elements.{All-append, All-contains, All-drop, All-from_recursion, All-take}
+use Rattle.docker_model.specs.records.Record.{Kind, columns, kind_of, is_printable, IsRecord, IsTextOfLength}
+use Rattle.docker_model.specs.records.Record.{header, tiploc_insert, tiploc_amend, tiploc_delete, association, basic_schedule, extra_details}
+use Rattle.docker_model.specs.records.Record.{origin_location, intermediate_location, terminating_location, change_en_route, trailer}
+use Rattle.docker_model.specs.records.Field.{IsTiploc}
+use Rattle.docker_model.specs.records.PrintedNumber.{number_text}
+use Rattle.docker_model.specs.records.PrintedTime.{spaces}
+use Rattle.docker_model.specs.file.File.{first_record}
+use Rattle.docker_model.specs.file.Change.{Body, tiploc_key, association_key, schedule_key, ScheduleKey, tiploc_body, association_body, schedule_body}
+use Rattle.docker_model.specs.records.Clock.{scheduled_time}
+use Rattle.docker_model.specs.file.Journey.{Occasion, arrival, departure, pass, timed, times_of, times_by_kind}
+use Rattle.docker_model.specs.state.State.{HasGoodBodies, IsScheduleOf, IsAssociationOf}
+use Rattle.docker_model.specs.state.Table.{Table}
+use Rattle.docker_model.specs.docker.Event.{Event, events_of, event_line, has_identity}
+use Rattle.docker_model.specs.docker.DockerLine.{DockerLine}
+use Rattle.docker_model.specs.docker.DockerText.{description_in, ended, heading, IsDockerText, last_line, line_text}
+use Rattle.docker_model.specs.docker.DetailedText.{change_at, detailed_line, extra_record, IsDetailedText, IsOrigin, origin_text, padded, record_text}
+use Rattle.cif_laws.proofs.lists.BoolsAndOptions.{none_some}
+use Rattle.cif_laws.proofs.lists.FilteredMembers.{find_some}
+use Rattle.cif_laws.proofs.lists.Membership.{all_members, cons-Contains, cons-Contains-first}
+use Rattle.cif_laws.proofs.lists.AllOf.{all_append, all_weaker}
+use Rattle.docker_laws.specs.FirstColumns.{HasWidth, columns_from, first_columns}
+use Rattle.docker_laws.specs.Gathering.{IsDockerLine}
+use Rattle.docker_laws.proofs.dockers.Events.{at_a_line}
+use Rattle.docker_laws.proofs.dockers.EventWalk.{number_there}
+use Rattle.docker_laws.proofs.dockers.OneDockerLine.{first_event_is}
+use Rattle.docker_laws.proofs.dockers.WideParts.{IsPlain, IsWide, wide_append, wide_byte, wide_day, wide_line, wide_spaces, wide_text}
+use Rattle.docker_laws.proofs.dockers.WideDocker.{change_good, each_record, first_good, wide_docker_line}
+
+-- ---- the first columns of one line
+
+plain_first : (b : ℕ) (text : List ℕ) → IsPlain (b ∷ text) → 32 ≤ b
+plain_first b text plain = All-contains (λ c. 32 ≤ c) (b ∷ text) b plain (cons-Contains-first b text)
+
+plain_rest : (b : ℕ) (text : List ℕ) → IsPlain (b ∷ text) → IsPlain text
+plain_rest b text plain = all_members (λ c. 32 ≤ c) text (λ c among. All-contains (λ d. 32 ≤ d) (b ∷ text) c plain (cons-Contains b text c among))
+
+-- a text within the kept columns is kept
+kept : (count column : ℕ) (text rest : List ℕ) → IsPlain text → column + length text ≤ count
+    → columns_from count column (text ++ rest) ≡ text ++ columns_from count (column + length text) rest
+kept count column [] rest plain fits = let same : column ≡ column + 0 = omega arith in ap (λ c. columns_from count c rest) same
+kept count column (b ∷ text) rest plain fits =
+    by (kept count (column + 1) text rest (plain_rest b text plain) (omega arith)
+    ∙ ap (λ c. text ++ columns_from count c rest) (let same : (column + 1) + length text ≡ column + suc (length text) = omega arith in same))
+    (b == 10) (nat_lt column count) refl refl
+  where
+    low : 32 ≤ b
+    low = plain_first b text plain
+
+    by : columns_from count (column + 1) (text ++ rest) ≡ text ++ columns_from count (column + suc (length text)) rest → (t u : Bool)
+        → (b == 10) ≡ t → nat_lt column count ≡ u
+        → cond t (10 ∷ columns_from count 0 (text ++ rest))
+        (cond u (b ∷ columns_from count (column + 1) (text ++ rest)) (columns_from count (column + 1) (text ++ rest)))
+        ≡ b ∷ (text ++ columns_from count (column + suc (length text)) rest)
+    by next true u feed within = let is : b ≡ 10 = eqb-true b 10 feed in let least = low in absurd (omega arith)
+    by next false true feed within = ap (λ bytes. b ∷ bytes) next
+    by next false false feed outside = let past = ltb-false column count outside in absurd (omega arith)
+
+-- a text after the kept columns is dropped
+dropped : (count column : ℕ) (text rest : List ℕ) → IsPlain text → count ≤ column
+    → columns_from count column (text ++ rest) ≡ columns_from count (column + length text) rest
+dropped count column [] rest plain past = let same : column ≡ column + 0 = omega arith in ap (λ c. columns_from count c rest) same
+dropped count column (b ∷ text) rest plain past =
+    by (dropped count (column + 1) text rest (plain_rest b text plain) (omega arith)
+    ∙ ap (λ c. columns_from count c rest) (let same : (column + 1) + length text ≡ column + suc (length text) = omega arith in same))
+    (b == 10) (nat_lt column count) refl refl
+  where
+    low : 32 ≤ b
+    low = plain_first b text plain
+
+    by : columns_from count (column + 1) (text ++ rest) ≡ columns_from count (column + suc (length text)) rest → (t u : Bool)
+        → (b == 10) ≡ t → nat_lt column count ≡ u
+        → cond t (10 ∷ columns_from count 0 (text ++ rest))
+        (cond u (b ∷ columns_from count (column + 1) (text ++ rest)) (columns_from count (column + 1) (text ++ rest)))
+        ≡ columns_from count (column + suc (length text)) rest
+    by next true u feed within = let is : b ≡ 10 = eqb-true b 10 feed in let least = low in absurd (omega arith)
+    by next false true feed within = let before = ltb-true column count within in absurd (omega arith)
+    by next false false feed outside = next
+
+-- the first columns of a line, and of the lines after it
+line_cut : (count : ℕ) (front back rest : List ℕ) → IsWide count front → IsPlain back
+    → first_columns count (ended (front ++ back) ++ rest) ≡ ended front ++ first_columns count rest
+line_cut count front back rest wide plain =
+    ap (first_columns count) (append_assoc (front ++ back) (10 ∷ []) rest ∙ append_assoc front back (10 ∷ rest))
+    ∙ kept count 0 front (back ++ 10 ∷ rest) wide.plain (let long = wide.long in omega arith)
+    ∙ ap (λ bytes. front ++ bytes) (dropped count (0 + length front) back (10 ∷ rest) plain (let long = wide.long in omega arith))
+    ∙ sym (append_assoc front (10 ∷ []) (first_columns count rest))
+
+-- ---- the parts of a detailed line
+
+-- a record has 80 columns
+wide_record : (line : List ℕ) → IsRecord line → IsWide 80 line
+wide_record line is = wide_text 80 line is
+
+-- the columns of a record, or spaces
+wide_found : (found : Option (List ℕ)) → ((line : List ℕ) → found ≡ Some line → IsRecord line) → IsWide 80 (record_text found)
+wide_found None is = wide_spaces 80
+wide_found (Some line) is = wide_record line (is line refl)
+
+plain_decimal : (n : ℕ) → n < 10 ^ 64 → IsPlain (decimal n)
+plain_decimal n small =
+    decimal_by_steps_wide (λ m ds. IsPlain ds) (λ m low. (wide_byte (48 + m) (omega arith)).plain)
+    (λ m ds low is. All-append (λ b. 32 ≤ b) ds ((48 + m % 10) ∷ []) is (wide_byte (48 + m % 10) (omega arith)).plain) n small
+
+-- a number has at least the width of its column
+plain_number : (n : ℕ) → n < 10 ^ 64 → IsWide (length (number_text n)) (number_text n)
+plain_number n small = record {
+  long = refl;
+  plain = All-append (λ b. 32 ≤ b) (spaces (10 - length (decimal n))) (decimal n) (wide_spaces (10 - length (decimal n))).plain (plain_decimal n small);
+}
+
+-- a number of at most ten digits has the width of its column
+wide_number : (n : ℕ) → n < 10 ^ 10 → IsWide 10 (number_text n)
+wide_number n fits = record {
+  long =
+      let blank = (wide_spaces (10 - length (decimal n))).long in
+      let most = length-decimal-le_wide 10 n (omega arith) fits (omega arith) in
+      let both = length-append (spaces (10 - length (decimal n))) (decimal n) in
+      omega arith;
+  plain = (plain_number n (omega arith)).plain;
+}
+
+-- ---- the number of an event
+
+timed_once : (occasion : Occasion) (time : Option ℕ) → length (timed occasion time) ≤ 1
+timed_once occasion None = omega arith
+timed_once occasion (Some time) = omega arith
+
+few_times : (line : List ℕ) → length (times_of line) ≤ 3
+few_times line = by (kind_of line)
+  where
+    three : (a b c : List (Occasion × ℕ)) → length a ≤ 1 → length b ≤ 1 → length c ≤ 1 → length ((a ++ b) ++ c) ≤ 3
+    three a b c one two last = let whole = length-append (a ++ b) c in let front = length-append a b in omega arith
+
+    by : (kind : Option Kind) → length (times_by_kind kind line) ≤ 3
+    by None = omega arith
+    by (Some header) = omega arith
+    by (Some tiploc_insert) = omega arith
+    by (Some tiploc_amend) = omega arith
+    by (Some tiploc_delete) = omega arith
+    by (Some association) = omega arith
+    by (Some basic_schedule) = omega arith
+    by (Some extra_details) = omega arith
+    by (Some change_en_route) = omega arith
+    by (Some trailer) = omega arith
+    by (Some origin_location) = let once = timed_once departure (scheduled_time (columns 11 15 line)) in omega arith
+    by (Some terminating_location) = let once = timed_once arrival (scheduled_time (columns 11 15 line)) in omega arith
+    by (Some intermediate_location) =
+        three (timed arrival (scheduled_time (columns 11 15 line))) (timed pass (scheduled_time (columns 21 25 line)))
+        (timed departure (scheduled_time (columns 16 20 line))) (timed_once arrival (scheduled_time (columns 11 15 line)))
+        (timed_once pass (scheduled_time (columns 21 25 line))) (timed_once departure (scheduled_time (columns 16 20 line)))
+
+times_long : (lines : List (List ℕ)) → length (flat_map times_of lines) ≤ 3 * length lines
+times_long [] = omega arith
+times_long (line ∷ lines) =
+    let here = few_times line in
+    let rest = times_long lines in
+    let both = length-append (times_of line) (flat_map times_of lines) in
+    omega arith
+
+number_small : (key : ScheduleKey) (lines : List (List ℕ)) → IsScheduleOf key lines → (event : Event) → Contains (events_of lines) event
+    → event.number < 10 ^ 64
+number_small key lines of event among =
+    let most = ((number_there lines event.number).0 (event, among, refl)).1 in
+    let long = length-map (flat_map times_of lines) (λ (time : Occasion × ℕ). time.1) in
+    let few = times_long lines in
+    let bound = of.few in
+    omega arith
+
+-- ---- where a line comes from
+
+module _ (key : ScheduleKey) (lines : List (List ℕ)) (of : IsScheduleOf key lines) (event : Event) (among : Contains (events_of lines) event) where
+  extra_good : (line : List ℕ) → extra_record lines ≡ Some line → IsRecord line
+  extra_good line is = each_record key lines of line (find_some (λ l. has_identity (codes "BX") l) lines line is).0
+
+  -- the columns of an origin, if the number of its event has this width
+  wide_origin : (start width : ℕ) (link : Option (List ℕ)) → ((line : List ℕ) → link ≡ Some line → IsRecord line) → IsWide width (number_text event.number)
+      → IsWide (((((((((((1 + 10) + 1) + width) + 1) + 80) + 1) + 80) + 1) + 80) + 1) + 80 + 1 + 80) (origin_text start lines event link)
+  unfolding origin_text
+  wide_origin start width link good number =
+      let space = wide_spaces 1 in
+      let at = wide_record (event_line lines event) (each_record key lines of (event_line lines event) (at_a_line lines event among).among) in
+      let front = wide_append (wide_append (wide_append (wide_append (wide_append space (wide_day start)) space) number) space)
+      (wide_record (first_record lines) (first_good key lines of)) in
+      let extra = wide_append (wide_append front space) (wide_found (extra_record lines) extra_good) in
+      let changed = wide_append (wide_append extra space) (wide_found (change_at lines event) (change_good key lines of event)) in
+      wide_append (wide_append (wide_append (wide_append changed space) at) space) (wide_found link good)
+
+-- no origin has a line feed
+pub plain_origin : (live : Table) (place : List ℕ) (day : ℕ) (line : DockerLine) (origin : List ℕ) → HasGoodBodies live
+    → IsOrigin live place day line origin → IsPlain origin
+plain_origin live place day line origin good (inl from) =
+    let is = from.line_is in
+    let of : IsScheduleOf is.key is.schedule = good (schedule_key is.key) (schedule_body is.schedule) is.train_runs.chosen.running.is_live in
+    subst IsPlain (sym from.origin_is) (wide_origin is.key is.schedule of is.event is.among is.start (length (number_text is.event.number)) None
+    (λ l same. none_some l same) (plain_number is.event.number (number_small is.key is.schedule of is.event is.among))).plain
+plain_origin live place day line origin good (inr from) =
+    let is = from.line_is in
+    let of : IsScheduleOf is.base_key is.base = good (schedule_key is.base_key) (schedule_body is.base) is.base_runs.chosen.running.is_live in
+    let link : IsAssociationOf is.key is.association = good (association_key is.key) (association_body is.association) is.chosen.associated.is_live in
+    let among = (first_event_is is.base is.key.location is.key.suffix is.event is.first_there).0 in
+    subst IsPlain (sym from.origin_is) (wide_origin is.base_key is.base of is.event among is.start (length (number_text is.event.number))
+    (Some is.association) (λ l same. let e : is.association ≡ l = cc in subst IsRecord e link.is_record)
+    (plain_number is.event.number (number_small is.base_key is.base of is.event among))).plain
+
+-- an origin has 427 columns if the number of the line's event has at most ten digits
+pub wide_origin_of : (live : Table) (place : List ℕ) (day : ℕ) (line : DockerLine) (origin : List ℕ) → HasGoodBodies live
+    → IsOrigin live place day line origin → line.number < 10 ^ 10 → IsWide 427 origin
+wide_origin_of live place day line origin good (inl from) fits =
+    let is = from.line_is in
+    let of : IsScheduleOf is.key is.schedule = good (schedule_key is.key) (schedule_body is.schedule) is.train_runs.chosen.running.is_live in
+    let number : line.number ≡ is.event.number = ap (λ (l : DockerLine). l.number) is.is in
+    subst (IsWide 427) (sym from.origin_is) (wide_origin is.key is.schedule of is.event is.among is.start 10 None
+    (λ l same. none_some l same) (wide_number is.event.number (subst (λ n. n < 10 ^ 10) number fits)))
+wide_origin_of live place day line origin good (inr from) fits =
+    let is = from.line_is in
+    let of : IsScheduleOf is.base_key is.base = good (schedule_key is.base_key) (schedule_body is.base) is.base_runs.chosen.running.is_live in
+    let link : IsAssociationOf is.key is.association = good (association_key is.key) (association_body is.association) is.chosen.associated.is_live in
+    let among = (first_event_is is.base is.key.location is.key.suffix is.event is.first_there).0 in
+    let number : line.number ≡ is.event.number = ap (λ (l : DockerLine). l.number) is.is in
+    subst (IsWide 427) (sym from.origin_is) (wide_origin is.base_key is.base of is.event among is.start 10
+    (Some is.association) (λ l same. let e : is.association ≡ l = cc in subst IsRecord e link.is_record)
+    (wide_number is.event.number (subst (λ n. n < 10 ^ 10) number fits)))
+
+-- a line that comes from somewhere is a line of the docker
+pub from_docker : (live : Table) (place : List ℕ) (day : ℕ) (line : DockerLine) (origin : List ℕ) → IsOrigin live place day line origin
+    → IsDockerLine live place day line
+from_docker live place day line origin (inl from) = inl from.line_is
+from_docker live place day line origin (inr from) = inr from.line_is
+
+-- ---- the heading and the last line
+
+wide_described : (live : Table) (place : List ℕ) → HasGoodBodies live → IsWide 26 (description_in (live (tiploc_key place)))
+wide_described live place good = by (live (tiploc_key place)) refl
+  where
+    part : (bytes : List ℕ) → IsTextOfLength 63 bytes → IsWide 26 (columns 10 35 bytes)
+    part bytes is = wide_text 26 (columns 10 35 bytes) (
+      (let long = is.0 in let behind = length-drop 9 bytes in length-take-le 26 (drop 9 bytes) (omega arith)),
+      All-take (λ b. is_printable b ≡ true) 26 (drop 9 bytes) (All-drop (λ b. is_printable b ≡ true) 9 bytes is.1),
+    )
+
+    by : (found : Option Body) → live (tiploc_key place) ≡ found → IsWide 26 (description_in found)
+    by None h = wide_spaces 26
+    by (Some (tiploc_body bytes)) h = part bytes (good (tiploc_key place) (tiploc_body bytes) h)
+    by (Some (association_body line)) h = wide_spaces 26
+    by (Some (schedule_body lines)) h = wide_spaces 26
+
+wide_word : IsWide 7 (codes "DOCKER ")
+wide_word = wide_text 7 (codes "DOCKER ")
+    (refl, All-from_recursion (λ b. is_printable b ≡ true) (codes "DOCKER ") (refl, (refl, (refl, (refl, (refl, (refl, (refl, tt))))))))
+
+wide_heading : (live : Table) (place : List ℕ) (day : ℕ) → HasGoodBodies live → IsTiploc place → IsWide 56 (heading live place day)
+wide_heading live place day good tiploc =
+    let space = wide_spaces 1 in
+    wide_append (wide_append (wide_append (wide_append (wide_append (wide_append wide_word (wide_text 7 place tiploc.0)) space) (wide_day day)) space)
+    (wide_described live place good)) (wide_spaces 4)
+
+wide_last : IsWide 56 last_line
+wide_last = wide_append (wide_text 3 (codes "END") (refl, All-from_recursion (λ b. is_printable b ≡ true) (codes "END") (refl, (refl, (refl, tt)))))
+    (wide_spaces 53)
+
+-- ---- the first columns of a detailed docker
+
+module _ (live : Table) (place : List ℕ) (day : ℕ) (good : HasGoodBodies live) where
+  lines_cut : (lines : List DockerLine) (origins : List (List ℕ)) → AllZip (IsOrigin live place day) lines origins → (rest : List ℕ)
+      → first_columns 56 (flat_map (λ (line : DockerLine × List ℕ). ended (detailed_line line)) (zip lines origins) ++ rest)
+      ≡ flat_map (λ line. ended (line_text line)) lines ++ first_columns 56 rest
+  lines_cut [] [] come rest = refl
+  lines_cut [] (origin ∷ origins) come rest = absurd come
+  lines_cut (line ∷ lines) [] come rest = absurd come
+  lines_cut (line ∷ lines) (origin ∷ origins) come rest =
+      ap (first_columns 56) (append_assoc (ended (line_text line ++ origin)) more rest)
+      ∙ line_cut 56 (line_text line) origin (more ++ rest)
+      (wide_line line (wide_docker_line live place day line good (from_docker live place day line origin come.0)))
+      (plain_origin live place day line origin good come.0)
+      ∙ ap (λ bytes. ended (line_text line) ++ bytes) (lines_cut lines origins come.1 rest)
+      ∙ sym (append_assoc (ended (line_text line)) (flat_map (λ it. ended (line_text it)) lines) (first_columns 56 rest))
+    where
+      more : List ℕ
+      more = flat_map (λ (it : DockerLine × List ℕ). ended (detailed_line it)) (zip lines origins)
+
+  -- the first 56 columns of a detailed docker are the docker
+  pub docker_in_details : (text : List ℕ) → IsTiploc place → IsDetailedText live place day text → IsDockerText live place day (first_columns 56 text)
+  docker_in_details text tiploc is =
+      (is.lines, is.docker, ap (first_columns 56) is.text_is ∙ whole (heading live place day) (wide_heading live place day good tiploc))
+    where
+      middle : List ℕ
+      middle = flat_map (λ (it : DockerLine × List ℕ). ended (detailed_line it)) (zip is.lines is.origins)
+
+      whole : (front : List ℕ) → IsWide 56 front
+          → first_columns 56 ((ended (padded front) ++ middle) ++ ended (padded last_line))
+          ≡ (ended front ++ flat_map (λ line. ended (line_text line)) is.lines) ++ ended last_line
+      whole front wide =
+          ap (first_columns 56) (append_assoc (ended (padded front)) middle (ended (padded last_line)))
+          ∙ line_cut 56 front (spaces 427) (middle ++ ended (padded last_line)) wide (wide_spaces 427).plain
+          ∙ ap (λ bytes. ended front ++ bytes) (lines_cut is.lines is.origins is.come_from (ended (padded last_line))
+          ∙ ap (λ bytes. flat_map (λ line. ended (line_text line)) is.lines ++ bytes) end)
+          ∙ sym (append_assoc (ended front) (flat_map (λ line. ended (line_text line)) is.lines) (ended last_line))
+        where
+          end : first_columns 56 (ended (padded last_line)) ≡ ended last_line
+          end =
+              ap (first_columns 56) (sym (append-nil (ended (padded last_line))))
+              ∙ line_cut 56 last_line (spaces 427) [] wide_last (wide_spaces 427).plain
+              ∙ append-nil (ended last_line)
+
+  -- ---- the width of a detailed docker
+
+  module _ (fits : (line : DockerLine) → IsDockerLine live place day line → line.number < 10 ^ 10) where
+    -- each detailed line has 483 columns
+    wide_detailed : (lines : List DockerLine) (origins : List (List ℕ)) → AllZip (IsOrigin live place day) lines origins
+        → AllByRecursion (IsWide 483) (map (λ (line : DockerLine × List ℕ). detailed_line line) (zip lines origins))
+    wide_detailed [] [] come = tt
+    wide_detailed [] (origin ∷ origins) come = absurd come
+    wide_detailed (line ∷ lines) [] come = absurd come
+    wide_detailed (line ∷ lines) (origin ∷ origins) come =
+        let is = from_docker live place day line origin come.0 in (
+          wide_append (wide_line line (wide_docker_line live place day line good is)) (wide_origin_of live place day line origin good come.0 (fits line is)),
+          wide_detailed lines origins come.1,
+        )
+
+    -- each line of a detailed docker has 483 columns
+    pub width_of_details : (text : List ℕ) → IsTiploc place → IsDetailedText live place day text → HasWidth 483 text
+    width_of_details text tiploc is = record {
+      lines = every;
+      wide = All-from_recursion (λ l. length l ≡ 483) every (all_weaker (IsWide 483) (λ l. length l ≡ 483) (λ l w. w.long) every wide);
+      plain = All-from_recursion IsPlain every (all_weaker (IsWide 483) IsPlain (λ l w. w.plain) every wide);
+      text_is = is.text_is ∙ whole (padded (heading live place day)) (zip is.lines is.origins);
+    }
+      where
+        middle : List (List ℕ)
+        middle = map (λ (line : DockerLine × List ℕ). detailed_line line) (zip is.lines is.origins)
+
+        every : List (List ℕ)
+        every = (padded (heading live place day) ∷ middle) ++ padded last_line ∷ []
+
+        wide : AllByRecursion (IsWide 483) every
+        wide =
+            all_append (IsWide 483) (padded (heading live place day) ∷ middle) (padded last_line ∷ [])
+            (wide_append (wide_heading live place day good tiploc) (wide_spaces 427), wide_detailed is.lines is.origins is.come_from)
+            (wide_append wide_last (wide_spaces 427), tt)
+
+        inner : (pairs : List (DockerLine × List ℕ))
+            → flat_map (λ (line : DockerLine × List ℕ). ended (detailed_line line)) pairs
+            ≡ flat_map ended (map (λ (line : DockerLine × List ℕ). detailed_line line) pairs)
+        inner [] = refl
+        inner (pair ∷ pairs) = ap (λ bytes. ended (detailed_line pair) ++ bytes) (inner pairs)
+
+        whole : (front : List ℕ) (pairs : List (DockerLine × List ℕ))
+            → (ended front ++ flat_map (λ (line : DockerLine × List ℕ). ended (detailed_line line)) pairs) ++ ended (padded last_line)
+            ≡ flat_map ended ((front ∷ map (λ (line : DockerLine × List ℕ). detailed_line line) pairs) ++ padded last_line ∷ [])
+        whole front pairs =
+            (λ i. (ended front ++ inner pairs i) ++ ended (padded last_line))
+            ∙ ap (λ bytes. (ended front ++ flat_map ended (map (λ (line : DockerLine × List ℕ). detailed_line line) pairs)) ++ bytes)
+            (sym (append-nil (ended (padded last_line))))
+            ∙ sym (flat_map-append ended (front ∷ map (λ (line : DockerLine × List ℕ). detailed_line line) pairs) (padded last_line ∷ []))

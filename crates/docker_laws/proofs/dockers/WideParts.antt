@@ -1,0 +1,254 @@
+-- The widths of the printed parts of a docker. Each byte of a part is at least 32, so no part has a
+-- line feed.
+use Rattle.std.proofs.Common.{◌≡◌, ℕ, zero, suc, ◌+◌, ◌-◌, ◌/◌, ◌%◌, ◌<◌, ◌≤◌, List, [], ◌∷◌, ◌++◌, length, All, refl, ap, ◌∙◌, Bool, true, false}
+use Rattle.std.proofs.Common.{cond, Some, None, arith, length-append}
+use Rattle.std.specs.Prelude.{Option, codes, nat_le, ◌==◌}
+use Rattle.std.proofs.lemmas.Bool.{leb-true}
+use Rattle.std.specs.Str.{bytes_eq}
+use Rattle.std.proofs.lemmas.List.Elements.{All-append, All-nil, All-weaker, All-from_recursion}
+use Rattle.docker_model.specs.records.Record.{Kind, columns, column, IsRecord, IsTextOfLength, is_printable}
+use Rattle.docker_model.specs.records.Record.{header, tiploc_insert, tiploc_amend, tiploc_delete, association, basic_schedule, extra_details}
+use Rattle.docker_model.specs.records.Record.{origin_location, intermediate_location, terminating_location, change_en_route, trailer}
+use Rattle.docker_model.specs.records.PrintedTime.{spaces, two_digit_text, time_text, day_text, date_text, shown_public}
+use Rattle.docker_model.specs.file.Journey.{Occasion, arrival, pass, joining, dividing, next_working, departure}
+use Rattle.docker_model.specs.docker.DockerLine.{DockerLine, platform_by_kind, track_by_kind, path_by_kind, public_by_kind}
+use Rattle.docker_model.specs.docker.DockerText.{line_text, occasion_text, detail_text}
+use Rattle.cif_laws.proofs.lists.BoolsAndOptions.{both}
+use Rattle.cif_laws.proofs.records.Columns.{text_in, printable_column}
+
+-- each byte of the text is at least 32
+abbrev pub IsPlain : List ℕ → Type 0
+IsPlain text = All (λ b. 32 ≤ b) text
+
+-- the text has this length, and each of its bytes is at least 32
+pub record IsWide (width : ℕ) (text : List ℕ) : Type 0 where
+  pub long : length text ≡ width
+  pub plain : IsPlain text
+
+-- ---- small texts
+
+-- two texts, one after the other
+pub wide_append : {m n : ℕ} {a b : List ℕ} → IsWide m a → IsWide n b → IsWide (m + n) (a ++ b)
+wide_append {m} {n} {a} {b} one two = record {
+  long = length-append a b ∙ (λ i. one.long i + two.long i);
+  plain = All-append (λ c. 32 ≤ c) a b one.plain two.plain;
+}
+
+-- a text of one byte
+pub wide_byte : (b : ℕ) → 32 ≤ b → IsWide 1 (b ∷ [])
+wide_byte b low = record { long = refl; plain = All-from_recursion (λ c. 32 ≤ c) (b ∷ []) (low, tt) }
+
+-- spaces
+pub wide_spaces : (n : ℕ) → IsWide n (spaces n)
+wide_spaces zero = record { long = refl; plain = All-nil (λ c. 32 ≤ c) }
+wide_spaces (suc n) = record {
+  long = ap suc (wide_spaces n).long;
+  plain = All-append (λ c. 32 ≤ c) (32 ∷ []) (spaces n) (wide_byte 32 (omega arith)).plain (wide_spaces n).plain;
+}
+
+-- a printable byte is at least 32
+printable_low : (b : ℕ) → is_printable b ≡ true → 32 ≤ b
+printable_low b is = leb-true 32 b (both (nat_le 32 b) (nat_le b 126) is).0
+
+-- a text of printable bytes
+pub wide_text : (n : ℕ) (text : List ℕ) → IsTextOfLength n text → IsWide n text
+wide_text n text is = record { long = is.0; plain = All-weaker (λ b. is_printable b ≡ true) (λ b. 32 ≤ b) printable_low text is.1 }
+
+-- columns of a record
+pub wide_columns : (line : List ℕ) (first last : ℕ) → IsRecord line → first - 1 ≤ last → last ≤ 80 → IsWide (last - (first - 1)) (columns first last line)
+wide_columns line first last is from to = wide_text (last - (first - 1)) (columns first last line) (text_in line first last is from to)
+
+-- a column of a record
+pub low_column : (line : List ℕ) (n : ℕ) → IsRecord line → n - 1 < 80 → 32 ≤ column n line
+low_column line n is within = printable_low (column n line) (printable_column line n is within)
+
+-- ---- numbers, times and days
+
+wide_two : (n : ℕ) → IsWide 2 (two_digit_text n)
+wide_two n = wide_append (wide_byte (48 + n / 10) (omega arith)) (wide_byte (48 + n % 10) (omega arith))
+
+wide_date : (year month day : ℕ) → IsWide 10 (date_text year month day)
+wide_date year month day =
+    wide_append (wide_append (wide_append (wide_append (wide_append (wide_two (year / 100)) (wide_two (year % 100))) (wide_byte 45 (omega arith)))
+    (wide_two month)) (wide_byte 45 (omega arith))) (wide_two day)
+
+-- the date of a day
+pub wide_day : (day : ℕ) → IsWide 10 (day_text day)
+wide_day day = wide_date _ _ _
+
+half_mark : (b : Bool) → IsWide 1 (cond b (codes "H") (codes " "))
+half_mark true = wide_byte 72 (omega arith)
+half_mark false = wide_byte 32 (omega arith)
+
+wide_time : (time : ℕ) → IsWide 5 (time_text time)
+wide_time time = wide_append (wide_append (wide_two (time / 2 / 60)) (wide_two (time / 2 % 60))) (half_mark (time % 2 == 1))
+
+wide_occasion : (occasion : Occasion) → IsWide 1 (occasion_text occasion)
+wide_occasion arrival = wide_byte 65 (omega arith)
+wide_occasion pass = wide_byte 80 (omega arith)
+wide_occasion joining = wide_byte 74 (omega arith)
+wide_occasion dividing = wide_byte 86 (omega arith)
+wide_occasion next_working = wide_byte 78 (omega arith)
+wide_occasion departure = wide_byte 68 (omega arith)
+
+-- ---- the fields of a docker line
+
+-- each field of a docker line has its width
+pub record HasWideFields (line : DockerLine) : Type 0 where
+  pub identity : IsWide 4 line.identity
+  pub uid : IsWide 6 line.uid
+  pub indicator : 32 ≤ line.indicator
+  pub suffix : 32 ≤ line.suffix
+  pub platform : IsWide 3 line.platform
+  pub track : IsWide 3 line.track
+  pub path : IsWide 3 line.path
+  pub public_time : IsWide 4 line.public_time
+  pub detail : IsWide 15 (detail_text line.detail)
+
+-- the text of a docker line has 56 columns
+pub wide_line : (line : DockerLine) → HasWideFields line → IsWide 56 (line_text line)
+wide_line line has =
+    let space = wide_spaces 1 in
+    let indicator = wide_append (wide_byte line.indicator has.indicator) space in
+    let suffix = wide_append (wide_byte line.suffix has.suffix) space in
+    let front = wide_append (wide_append (wide_append (wide_time line.time) space) (wide_occasion line.occasion)) space in
+    let named = wide_append (wide_append (wide_append (wide_append front has.identity) space) has.uid) space in
+    let placed = wide_append (wide_append (wide_append (wide_append named indicator) suffix) has.platform) space in
+    let tracked = wide_append (wide_append (wide_append (wide_append placed has.track) space) has.path) space in
+    wide_append (wide_append (wide_append tracked has.public_time) space) has.detail
+
+wide_shown : (field : List ℕ) → IsWide 4 field → IsWide 4 (shown_public field)
+wide_shown field is = by (bytes_eq field (codes "0000"))
+  where
+    by : (b : Bool) → IsWide 4 (cond b (spaces 4) field)
+    by true = wide_spaces 4
+    by false = is
+
+-- the platform at a record
+pub wide_platform : (kind : Option Kind) (line : List ℕ) → IsRecord line → IsWide 3 (platform_by_kind kind line)
+wide_platform None line is = wide_columns line 20 22 is (omega arith) (omega arith)
+wide_platform (Some header) line is = wide_columns line 20 22 is (omega arith) (omega arith)
+wide_platform (Some tiploc_insert) line is = wide_columns line 20 22 is (omega arith) (omega arith)
+wide_platform (Some tiploc_amend) line is = wide_columns line 20 22 is (omega arith) (omega arith)
+wide_platform (Some tiploc_delete) line is = wide_columns line 20 22 is (omega arith) (omega arith)
+wide_platform (Some association) line is = wide_columns line 20 22 is (omega arith) (omega arith)
+wide_platform (Some basic_schedule) line is = wide_columns line 20 22 is (omega arith) (omega arith)
+wide_platform (Some extra_details) line is = wide_columns line 20 22 is (omega arith) (omega arith)
+wide_platform (Some origin_location) line is = wide_columns line 20 22 is (omega arith) (omega arith)
+wide_platform (Some intermediate_location) line is = wide_columns line 34 36 is (omega arith) (omega arith)
+wide_platform (Some terminating_location) line is = wide_columns line 20 22 is (omega arith) (omega arith)
+wide_platform (Some change_en_route) line is = wide_columns line 20 22 is (omega arith) (omega arith)
+wide_platform (Some trailer) line is = wide_columns line 20 22 is (omega arith) (omega arith)
+
+-- the line at a record
+pub wide_track : (kind : Option Kind) (line : List ℕ) → IsRecord line → IsWide 3 (track_by_kind kind line)
+wide_track None line is = wide_spaces 3
+wide_track (Some header) line is = wide_spaces 3
+wide_track (Some tiploc_insert) line is = wide_spaces 3
+wide_track (Some tiploc_amend) line is = wide_spaces 3
+wide_track (Some tiploc_delete) line is = wide_spaces 3
+wide_track (Some association) line is = wide_spaces 3
+wide_track (Some basic_schedule) line is = wide_spaces 3
+wide_track (Some extra_details) line is = wide_spaces 3
+wide_track (Some origin_location) line is = wide_columns line 23 25 is (omega arith) (omega arith)
+wide_track (Some intermediate_location) line is = wide_columns line 37 39 is (omega arith) (omega arith)
+wide_track (Some terminating_location) line is = wide_spaces 3
+wide_track (Some change_en_route) line is = wide_spaces 3
+wide_track (Some trailer) line is = wide_spaces 3
+
+-- the path at a record
+pub wide_path : (kind : Option Kind) (line : List ℕ) → IsRecord line → IsWide 3 (path_by_kind kind line)
+wide_path None line is = wide_spaces 3
+wide_path (Some header) line is = wide_spaces 3
+wide_path (Some tiploc_insert) line is = wide_spaces 3
+wide_path (Some tiploc_amend) line is = wide_spaces 3
+wide_path (Some tiploc_delete) line is = wide_spaces 3
+wide_path (Some association) line is = wide_spaces 3
+wide_path (Some basic_schedule) line is = wide_spaces 3
+wide_path (Some extra_details) line is = wide_spaces 3
+wide_path (Some origin_location) line is = wide_spaces 3
+wide_path (Some intermediate_location) line is = wide_columns line 40 42 is (omega arith) (omega arith)
+wide_path (Some terminating_location) line is = wide_columns line 23 25 is (omega arith) (omega arith)
+wide_path (Some change_en_route) line is = wide_spaces 3
+wide_path (Some trailer) line is = wide_spaces 3
+
+-- the public time of an event at a record
+pub wide_public : (kind : Option Kind) (occasion : Occasion) (line : List ℕ) → IsRecord line → IsWide 4 (public_by_kind kind occasion line)
+wide_public None arrival line is = wide_spaces 4
+wide_public None pass line is = wide_spaces 4
+wide_public None joining line is = wide_spaces 4
+wide_public None dividing line is = wide_spaces 4
+wide_public None next_working line is = wide_spaces 4
+wide_public None departure line is = wide_spaces 4
+wide_public (Some header) arrival line is = wide_spaces 4
+wide_public (Some header) pass line is = wide_spaces 4
+wide_public (Some header) joining line is = wide_spaces 4
+wide_public (Some header) dividing line is = wide_spaces 4
+wide_public (Some header) next_working line is = wide_spaces 4
+wide_public (Some header) departure line is = wide_spaces 4
+wide_public (Some tiploc_insert) arrival line is = wide_spaces 4
+wide_public (Some tiploc_insert) pass line is = wide_spaces 4
+wide_public (Some tiploc_insert) joining line is = wide_spaces 4
+wide_public (Some tiploc_insert) dividing line is = wide_spaces 4
+wide_public (Some tiploc_insert) next_working line is = wide_spaces 4
+wide_public (Some tiploc_insert) departure line is = wide_spaces 4
+wide_public (Some tiploc_amend) arrival line is = wide_spaces 4
+wide_public (Some tiploc_amend) pass line is = wide_spaces 4
+wide_public (Some tiploc_amend) joining line is = wide_spaces 4
+wide_public (Some tiploc_amend) dividing line is = wide_spaces 4
+wide_public (Some tiploc_amend) next_working line is = wide_spaces 4
+wide_public (Some tiploc_amend) departure line is = wide_spaces 4
+wide_public (Some tiploc_delete) arrival line is = wide_spaces 4
+wide_public (Some tiploc_delete) pass line is = wide_spaces 4
+wide_public (Some tiploc_delete) joining line is = wide_spaces 4
+wide_public (Some tiploc_delete) dividing line is = wide_spaces 4
+wide_public (Some tiploc_delete) next_working line is = wide_spaces 4
+wide_public (Some tiploc_delete) departure line is = wide_spaces 4
+wide_public (Some association) arrival line is = wide_spaces 4
+wide_public (Some association) pass line is = wide_spaces 4
+wide_public (Some association) joining line is = wide_spaces 4
+wide_public (Some association) dividing line is = wide_spaces 4
+wide_public (Some association) next_working line is = wide_spaces 4
+wide_public (Some association) departure line is = wide_spaces 4
+wide_public (Some basic_schedule) arrival line is = wide_spaces 4
+wide_public (Some basic_schedule) pass line is = wide_spaces 4
+wide_public (Some basic_schedule) joining line is = wide_spaces 4
+wide_public (Some basic_schedule) dividing line is = wide_spaces 4
+wide_public (Some basic_schedule) next_working line is = wide_spaces 4
+wide_public (Some basic_schedule) departure line is = wide_spaces 4
+wide_public (Some extra_details) arrival line is = wide_spaces 4
+wide_public (Some extra_details) pass line is = wide_spaces 4
+wide_public (Some extra_details) joining line is = wide_spaces 4
+wide_public (Some extra_details) dividing line is = wide_spaces 4
+wide_public (Some extra_details) next_working line is = wide_spaces 4
+wide_public (Some extra_details) departure line is = wide_spaces 4
+wide_public (Some origin_location) arrival line is = wide_spaces 4
+wide_public (Some origin_location) pass line is = wide_spaces 4
+wide_public (Some origin_location) joining line is = wide_spaces 4
+wide_public (Some origin_location) dividing line is = wide_spaces 4
+wide_public (Some origin_location) next_working line is = wide_spaces 4
+wide_public (Some origin_location) departure line is = wide_shown (columns 16 19 line) (wide_columns line 16 19 is (omega arith) (omega arith))
+wide_public (Some intermediate_location) arrival line is = wide_shown (columns 26 29 line) (wide_columns line 26 29 is (omega arith) (omega arith))
+wide_public (Some intermediate_location) pass line is = wide_spaces 4
+wide_public (Some intermediate_location) joining line is = wide_spaces 4
+wide_public (Some intermediate_location) dividing line is = wide_spaces 4
+wide_public (Some intermediate_location) next_working line is = wide_spaces 4
+wide_public (Some intermediate_location) departure line is = wide_shown (columns 30 33 line) (wide_columns line 30 33 is (omega arith) (omega arith))
+wide_public (Some terminating_location) arrival line is = wide_shown (columns 16 19 line) (wide_columns line 16 19 is (omega arith) (omega arith))
+wide_public (Some terminating_location) pass line is = wide_spaces 4
+wide_public (Some terminating_location) joining line is = wide_spaces 4
+wide_public (Some terminating_location) dividing line is = wide_spaces 4
+wide_public (Some terminating_location) next_working line is = wide_spaces 4
+wide_public (Some terminating_location) departure line is = wide_spaces 4
+wide_public (Some change_en_route) arrival line is = wide_spaces 4
+wide_public (Some change_en_route) pass line is = wide_spaces 4
+wide_public (Some change_en_route) joining line is = wide_spaces 4
+wide_public (Some change_en_route) dividing line is = wide_spaces 4
+wide_public (Some change_en_route) next_working line is = wide_spaces 4
+wide_public (Some change_en_route) departure line is = wide_spaces 4
+wide_public (Some trailer) arrival line is = wide_spaces 4
+wide_public (Some trailer) pass line is = wide_spaces 4
+wide_public (Some trailer) joining line is = wide_spaces 4
+wide_public (Some trailer) dividing line is = wide_spaces 4
+wide_public (Some trailer) next_working line is = wide_spaces 4
+wide_public (Some trailer) departure line is = wide_spaces 4
