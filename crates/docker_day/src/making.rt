@@ -6,7 +6,7 @@ ghost use Rattle.docker_model.specs.records.Record.{columns};
 ghost use Rattle.docker_model.specs.file.Change.{tiploc_key};
 ghost use Rattle.docker_model.specs.state.State.{live_table};
 ghost use Rattle.docker_model.specs.docker.Permanent.{permanent_table};
-ghost use Rattle.docker_laws.specs.CountedRows.{IsOfGoodRows};
+ghost use Rattle.state_laws.specs.CountedRows.{IsOfGoodRows};
 ghost use Rattle.docker_model.specs.state.Lapse.{IsDayRefused};
 ghost use Rattle.docker_model.specs.docker.DockerText.{description_in};
 ghost use Rattle.docker_day.specs.Dockers.{HasGathered, IsDockerOf};
@@ -37,7 +37,7 @@ pub fn docker<'a>(
     ensures ok { IfOk result (IsDockerOf (live_table state.now) tiploc.now day) }
     ensures lapsed { (result ≡ Err DockerFault.Lapsed) ↔ IsDayRefused state.now.horizon day }
 {
-    docker_of(alloc, &Timetable::of(state), tiploc, day)
+    docker_in(alloc, &Timetable::of(state), tiploc, day)
 }
 
 /// Like `docker`, without the short-term plan: only schedules and associations with the STP
@@ -53,11 +53,11 @@ pub fn permanent_docker<'a>(
     ensures ok { IfOk result (IsDockerOf (permanent_table (live_table state.now)) tiploc.now day) }
     ensures lapsed { (result ≡ Err DockerFault.Lapsed) ↔ IsDayRefused state.now.horizon day }
 {
-    docker_of(alloc, &Timetable::permanent(state), tiploc, day)
+    docker_in(alloc, &Timetable::permanent(state), tiploc, day)
 }
 
-/// Makes the docker of a timing point and a day from a timetable.
-fn docker_of<'a>(
+/// Like `docker`, for the entries that count in a timetable.
+pub fn docker_in<'a>(
     alloc: Global,
     timetable: &Timetable<'a>,
     tiploc: &Tiploc,

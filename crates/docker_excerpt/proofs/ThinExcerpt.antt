@@ -12,13 +12,14 @@ use Rattle.docker_model.specs.docker.DockerText.{description_in}
 use Rattle.docker_laws.specs.FileSummary.{latest_entries, summary_of}
 use Rattle.docker_laws.specs.Thinning.{may_matter, thin_body, thinned, IsThinning, IsStateOfChanges}
 use Rattle.docker_laws.proofs.dockers.FileSummary.{summary_is, summary_valid}
-use Rattle.docker_laws.proofs.dockers.GoodBodies.{good_bodies}
+use Rattle.state_laws.proofs.states.GoodBodies.{good_bodies}
 use Rattle.docker_laws.proofs.dockers.ThinDocker.{thinned_stands}
 use Rattle.docker_laws.proofs.dockers.ThinState.{live_of_summary, thin_live, thin_state_list}
 use Rattle.cif_file.specs.FileRead.{FileRead, IsOfRecords}
 use Rattle.docker_excerpt.specs.Values.{with_entries, state_of_read, StandsAt}
 
-first_is : (lines : List (List ℕ)) → slice_index_or lines 0 [] ≡ first_record lines
+-- the line at index 0 is the first line
+pub first_is : (lines : List (List ℕ)) → slice_index_or lines 0 [] ≡ first_record lines
 first_is [] = refl
 first_is (line ∷ lines) = refl
 

@@ -11,4 +11,3 @@ pub mod ExcerptWalk
 pub mod NearDay
 pub mod StandIn
 pub mod Thinning
-pub mod CountedRows

@@ -1,0 +1,123 @@
+-- A restricted table has only the keys that pass a test. Its rows are the rows of the whole table
+-- whose keys pass the test.
+use Rattle.std.proofs.Common.{◌≡◌, ℕ, List, refl, ap, sym, ◌∙◌, Bool, true, false, cond, Some, None}
+use Rattle.std.specs.Ordering.{on}
+use Rattle.docker_model.specs.file.Change.{Key, association_key, schedule_key, Body, association_body, schedule_body}
+use Rattle.docker_model.specs.state.Op.{key_cmp}
+use Rattle.docker_model.specs.state.Order.{IsBelow}
+use Rattle.docker_model.specs.state.State.{HasGoodBodies}
+use Rattle.docker_model.specs.state.Table.{Table}
+use Rattle.state_laws.specs.Index.{AreCalling, AreLinked, AreOfUid}
+use Rattle.docker_model.specs.state.Row.{Row, AreInKeyOrder, AreRowsOf}
+use Rattle.cif_laws.proofs.lists.FilteredMembers.{filter_back, filter_forth}
+use Rattle.cif_laws.proofs.lists.Later.{later_filter}
+use Rattle.cif_laws.proofs.orders.Ascending.{later_of, ascending_of}
+use Rattle.state_laws.specs.CountedRows.{counted_table, counted_rows, IsOfGoodRows}
+
+module _ (counts : Key → Bool) where
+  abbrev row_counts : Row → Bool
+  row_counts row = counts row.0
+
+  -- if rows are in key order, the rows that pass the test are in key order
+  counted_ascend : (rows : List Row) → AreInKeyOrder rows → AreInKeyOrder (counted_rows counts rows)
+  counted_ascend rows up =
+      ascending_of (on (λ (row : Row). row.0) key_cmp) (counted_rows counts rows)
+      (later_filter (IsBelow (on (λ (row : Row). row.0) key_cmp)) row_counts rows (later_of (on (λ (row : Row). row.0) key_cmp) rows up))
+
+  -- if the restricted table has a body at a key, the whole table has the same body at this key, and
+  -- the key passes the test
+  pub was_counted : (live : Table) (key : Key) (body : Body) → counted_table counts live key ≡ Some body → (counts key ≡ true) × (live key ≡ Some body)
+  was_counted live key body is = by (counts key) refl is
+    where
+      by : (b : Bool) → counts key ≡ b → cond b (live key) None ≡ Some body → (counts key ≡ true) × (live key ≡ Some body)
+      by true h told = (h, told)
+      by false h none = absurd (let bad : None ≡ Some body = none in cc)
+
+  -- if the whole table has a body at a key, and the key passes the test, the restricted table has
+  -- the same body at this key
+  stays_counted : (live : Table) (key : Key) (body : Body) → counts key ≡ true → live key ≡ Some body → counted_table counts live key ≡ Some body
+  stays_counted live key body passes is = (λ i. cond (passes i) (live key) None) ∙ is
+
+  pub counted_calling : (live : Table) (place : List ℕ) (rows : List Row) → AreCalling live place rows
+      → AreCalling (counted_table counts live) place (counted_rows counts rows)
+  counted_calling live place rows are = record {
+    ascending = counted_ascend rows are.ascending;
+    members = λ key body. (
+      λ among.
+          let found = filter_back row_counts rows (key, body) among in
+          let told = (are.members key body).0 found.0 in (
+            told.0,
+            told.1,
+            told.2,
+            told.3,
+            record {
+              is_live = stays_counted live (schedule_key told.0) (schedule_body told.1) (ap counts (sym told.2) ∙ found.1) told.4.is_live;
+              calls = told.4.calls;
+            },
+          ),
+      λ told.
+          let was = was_counted live (schedule_key told.0) (schedule_body told.1) told.4.is_live in
+          filter_forth row_counts rows (key, body)
+          ((are.members key body).1 (told.0, told.1, told.2, told.3, record { is_live = was.1; calls = told.4.calls })) (ap counts told.2 ∙ was.0),
+    );
+  }
+
+  pub counted_linked : (live : Table) (place : List ℕ) (rows : List Row) → AreLinked live place rows
+      → AreLinked (counted_table counts live) place (counted_rows counts rows)
+  counted_linked live place rows are = record {
+    ascending = counted_ascend rows are.ascending;
+    members = λ key body. (
+      λ among.
+          let found = filter_back row_counts rows (key, body) among in
+          let told = (are.members key body).0 found.0 in (
+            told.0,
+            told.1,
+            told.2,
+            told.3,
+            record {
+              is_live = stays_counted live (association_key told.0) (association_body told.1) (ap counts (sym told.2) ∙ found.1) told.4.is_live;
+              here = told.4.here;
+            },
+          ),
+      λ told.
+          let was = was_counted live (association_key told.0) (association_body told.1) told.4.is_live in
+          filter_forth row_counts rows (key, body)
+          ((are.members key body).1 (told.0, told.1, told.2, told.3, record { is_live = was.1; here = told.4.here })) (ap counts told.2 ∙ was.0),
+    );
+  }
+
+  pub counted_of_uid : (live : Table) (uid : List ℕ) (rows : List Row) → AreOfUid live uid rows
+      → AreOfUid (counted_table counts live) uid (counted_rows counts rows)
+  counted_of_uid live uid rows are = record {
+    ascending = counted_ascend rows are.ascending;
+    members = λ key body. (
+      λ among.
+          let found = filter_back row_counts rows (key, body) among in
+          let told = (are.members key body).0 found.0 in
+          (told.0, told.1, told.2, told.3, stays_counted live key body found.1 told.4, told.5),
+      λ told.
+          let was = was_counted live key body told.4 in
+          filter_forth row_counts rows (key, body) ((are.members key body).1 (told.0, told.1, told.2, told.3, was.1, told.5)) was.0,
+    );
+  }
+
+  counted_are : (live : Table) (rows : List Row) → AreRowsOf live rows → AreRowsOf (counted_table counts live) (counted_rows counts rows)
+  counted_are live rows are = record {
+    ascending = counted_ascend rows are.ascending;
+    members = λ key body. (
+      λ among. let found = filter_back row_counts rows (key, body) among in stays_counted live key body found.1 ((are.members key body).0 found.0),
+      λ is. let was = was_counted live key body is in filter_forth row_counts rows (key, body) ((are.members key body).1 was.1) was.0,
+    );
+  }
+
+  -- if the bodies of the whole table are well formed, so are the bodies of the restricted table
+  pub counted_bodies : (live : Table) → HasGoodBodies live → HasGoodBodies (counted_table counts live)
+  counted_bodies live good key body is = good key body (was_counted live key body is).1
+
+  -- if the whole table satisfies `IsOfGoodRows`, so does the restricted table
+  pub counted_good : (live : Table) → IsOfGoodRows live → IsOfGoodRows (counted_table counts live)
+  counted_good live good = record {
+    rows = counted_rows counts good.rows;
+    are = counted_are live good.rows good.are;
+    bodies = counted_bodies live good.bodies;
+  }
