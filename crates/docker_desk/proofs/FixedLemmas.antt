@@ -18,7 +18,7 @@ use Rattle.docker_laws.proofs.runs.RunEnd.{docker_of_files}
 use Rattle.state_laws.proofs.states.OnePlainTable.{some_plain_table}
 use Rattle.state_laws.proofs.states.PlainLive.{live_is_lapsed_plain}
 use Rattle.state_laws.proofs.states.SummaryLaws.{summary_unique}
-use Rattle.state_lists.specs.Places.{IsPlacesText}
+use Rattle.docker_model.specs.lists.PlacesText.{IsPlacesText}
 use Rattle.docker_office.specs.RunEnds.{EndsWith, PrintsAs}
 use Rattle.docker_desk.specs.Answering.{answers_of, lines_of}
 use Rattle.docker_desk.specs.Learning.{IsKnown}

@@ -10,8 +10,8 @@ use Rattle.docker_model.specs.state.Summary.{HaveDistinctMoments, IsSummary}
 use Rattle.docker_model.specs.state.Table.{IsPlainTable, Table}
 use Rattle.state_laws.proofs.states.OnePlainTable.{some_plain_table}
 use Rattle.docker_train.specs.Origin.{CameFrom}
-use Rattle.docker_train.specs.TrainList.{IsTrainsText}
-use Rattle.docker_train.specs.TrainText.{IsFoundFor, IsTrainText, Stamped}
+use Rattle.docker_model.specs.lists.TrainsText.{IsTrainsText}
+use Rattle.docker_model.specs.lists.TrainText.{IsFoundFor, IsTrainText, Stamped}
 use Rattle.docker_desk.specs.Learning.{IsKnown, IsTrainOf, ListsTrainsAs}
 
 -- each schedule that is found in a summary came from one of the summary's files

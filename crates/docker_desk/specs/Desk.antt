@@ -8,10 +8,10 @@ use Rattle.docker_model.specs.docker.Permanent.{permanent_table}
 use Rattle.docker_model.specs.state.Table.{Table}
 use Rattle.docker_model.specs.docker.DockerText.{IsDockerText, files_text}
 use Rattle.cif_file.specs.SourceRead.{RefusesText}
-use Rattle.docker_train.specs.TrainText.{IsTrainText}
-use Rattle.docker_train.specs.TrainList.{IsTrainsText}
-use Rattle.state_lists.specs.Known.{IsKnownText}
-use Rattle.state_lists.specs.Places.{IsPlacesText}
+use Rattle.docker_model.specs.lists.TrainText.{IsTrainText}
+use Rattle.docker_model.specs.lists.TrainsText.{IsTrainsText}
+use Rattle.docker_model.specs.lists.KnownText.{IsKnownText}
+use Rattle.docker_model.specs.lists.PlacesText.{IsPlacesText}
 use Rattle.docker_cmd.specs.Prepared.{WantsForState, most_bytes}
 use Rattle.cif_device.specs.Device.{IsEnd}
 use Rattle.docker_host.specs.History.{Bytes, Event, IsText, Text, drafted, looked, named_if, placed}

@@ -11,8 +11,8 @@ use Rattle.docker_model.specs.docker.DockerText.{IsDockerText}
 use Rattle.docker_model.specs.docker.Permanent.{permanent_table}
 use Rattle.docker_model.specs.run.Run.{IsMessageOf, IsStateOf, Known, nothing, united}
 use Rattle.docker_model.specs.run.Knowledge.{IsGoodKnown}
-use Rattle.docker_train.specs.TrainText.{Stamped, train_text}
-use Rattle.docker_train.specs.TrainList.{IsTrainsText}
+use Rattle.docker_model.specs.lists.TrainText.{Stamped, train_text}
+use Rattle.docker_model.specs.lists.TrainsText.{IsTrainsText}
 use Rattle.docker_train.specs.Origin.{CameFrom}
 use Rattle.docker_cmd.specs.Saved.{Gain, HoldsFile, HoldsVersion, IsSaved, file_gained, horizon_gained, version_gained}
 use Rattle.docker_cmd.specs.Prepared.{most_bytes}

@@ -9,7 +9,7 @@ ghost use Rattle.docker_desk.specs.Doing.{desk_by};
 ghost use Rattle.docker_desk.specs.Replies.{answer_meant, done_with, refused_for};
 ghost use Rattle.docker_model.specs.state.Table.{Table};
 ghost use Rattle.docker_day.specs.Dockers.{IsDockerOf};
-ghost use Rattle.state_lists.specs.Known.{IsKnownText};
+ghost use Rattle.docker_model.specs.lists.KnownText.{IsKnownText};
 ghost use Rattle.docker_office.specs.declared.fault.OfficeFault.TheVariants as office;
 
 use crate::compared::Compared;
@@ -40,7 +40,7 @@ pub struct Desk {
 
 impl Model for Desk {
     ghost use Rattle.std.specs.Prelude.{IfSome};
-    ghost use Rattle.state_lists.specs.Known.{IsKnownText};
+    ghost use Rattle.docker_model.specs.lists.KnownText.{IsKnownText};
     ghost use Rattle.docker_desk.specs.Desk.{DeskView};
 
     ghost Value = { DeskView };

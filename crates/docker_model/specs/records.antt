@@ -5,3 +5,4 @@ pub mod Date
 pub mod Clock
 pub mod Field
 pub mod PrintedTime
+pub mod PrintedNumber

@@ -11,7 +11,7 @@ use Rattle.cif_laws.proofs.lists.BoolsAndOptions.{none_some}
 use Rattle.cif_laws.proofs.lists.Membership.{Contains-map}
 use Rattle.state_laws.proofs.joins.StagedEntry.{entry_at_iff}
 use Rattle.train_choice.specs.Along.{IsLiveTrain}
-use Rattle.docker_train.specs.TrainText.{IsStampOf}
+use Rattle.docker_model.specs.lists.TrainText.{IsStampOf}
 
 -- an op with a body is the op `put_with` of this body
 put_of : (op : Op) (body : Body) → body_of op ≡ Some body → op ≡ put_with body

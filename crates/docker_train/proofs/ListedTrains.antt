@@ -40,7 +40,7 @@ use Rattle.docker_laws.proofs.dockers.LapsedChoice.{train_iff}
 use Rattle.docker_laws.proofs.dockers.OneChoice.{one_schedule, one_train}
 use Rattle.docker_laws.proofs.dockers.PrintedDocker.{day_bound}
 use Rattle.docker_laws.proofs.dockers.TrainOfRows.{one_train_answer, trains_tell}
-use Rattle.docker_train.specs.TrainList.{AreListed, IsListed, IsTrainsText, is_identified, train_columns, trains_text}
+use Rattle.docker_model.specs.lists.TrainsText.{AreListed, IsListed, IsTrainsText, is_identified, train_columns, trains_text}
 use Rattle.docker_train.specs.TrainRows.{is_listed, row_line, schedule_line}
 
 -- if a row has a schedule, the row's key and body are the key and body of this schedule

@@ -28,9 +28,9 @@ use Rattle.docker_laws.proofs.dockers.PrintedDocker.{day_bound}
 use Rattle.state_laws.proofs.states.GoodBodies.{good_bodies}
 use Rattle.docker_laws.proofs.dockers.NearStarts.{event_near, association_near}
 use Rattle.train_choice.specs.Along.{IsLiveTrain}
-use Rattle.docker_train.specs.TrainText.{Stamped, IsFoundFor, IsStampOf, IsTrainText, train_text}
+use Rattle.docker_model.specs.lists.TrainText.{Stamped, IsFoundFor, IsStampOf, IsTrainText, train_text}
 use Rattle.docker_train.specs.Origin.{CameFrom, IsFoundToRun, change_of}
-use Rattle.docker_train.specs.TrainList.{IsListed}
+use Rattle.docker_model.specs.lists.TrainsText.{IsListed}
 use Rattle.docker_train.proofs.Found.{stamp_is, entry_there}
 
 -- ---- at most one schedule is found

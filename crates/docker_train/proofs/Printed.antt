@@ -3,7 +3,7 @@ use Rattle.std.proofs.Common.{◌≡◌, ℕ, List, ◌∙◌}
 use Rattle.std.specs.Prelude.{Option}
 use Rattle.docker_model.specs.docker.DockerText.{ended}
 use Rattle.docker_model.specs.state.State.{State}
-use Rattle.docker_train.specs.TrainText.{IsTrainText, Stamped, found_text, heading, heading_with, train_text}
+use Rattle.docker_model.specs.lists.TrainText.{IsTrainText, Stamped, found_text, heading, heading_with, train_text}
 use Rattle.docker_train.specs.Answer.{Answer, IsAnswerOf, text_of}
 
 -- for a UID and a day, the text that is written for the schedule found in a state is the state's

@@ -13,7 +13,8 @@ use Rattle.cif_laws.proofs.lists.Membership.{cons-Contains, cons-Contains-first}
 use Rattle.docker_day.proofs.Written.{Leads, both_taken, part_of_back, part_of_front}
 use Rattle.docker_state.specs.Timetables.{live_in}
 use Rattle.train_choice.specs.Along.{AreGoodRows, AreLive}
-use Rattle.docker_train.specs.TrainList.{ListsPart, ListsTrains, train_columns}
+use Rattle.docker_train.specs.TrainsListed.{ListsPart, ListsTrains}
+use Rattle.docker_model.specs.lists.TrainsText.{train_columns}
 use Rattle.docker_train.specs.TrainRows.{Listing, is_listed, row_line, schedule_line}
 use Rattle.docker_train.proofs.ListedTrains.{is_trains_text}
 

@@ -3,7 +3,7 @@
 use Rattle.std.specs.Prelude.{◌≡◌, ℕ, List, Option}
 use Rattle.cif_device.specs.Device.{Takes, TakesPart}
 use Rattle.docker_model.specs.state.State.{State}
-use Rattle.docker_train.specs.TrainText.{Stamped, IsFoundFor, IsTrainText, train_text}
+use Rattle.docker_model.specs.lists.TrainText.{Stamped, IsFoundFor, IsTrainText, train_text}
 
 -- a UID, a day, and the schedule found for them with its stamp. The schedule is `None` if no
 -- schedule runs

@@ -1,5 +1,4 @@
-pub mod TrainText
 pub mod Answer
 pub mod Origin
-pub mod TrainList
+pub mod TrainsListed
 pub mod TrainRows

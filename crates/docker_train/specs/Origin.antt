@@ -4,7 +4,7 @@ use Rattle.docker_model.specs.file.Change.{Change, changes, schedule_key, schedu
 use Rattle.docker_model.specs.state.Stamp.{Stamp, file_stamp_of}
 use Rattle.docker_model.specs.state.State.{State}
 use Rattle.docker_model.specs.docker.Choice.{IsCancellation, Train}
-use Rattle.docker_train.specs.TrainText.{Stamped, IsFoundFor}
+use Rattle.docker_model.specs.lists.TrainText.{Stamped, IsFoundFor}
 
 -- the change that this schedule comes from. The stamp has the record number of the change
 abbrev pub change_of : Stamped → Change

@@ -7,7 +7,7 @@ use Rattle.docker_model.specs.docker.DockerText.{ended}
 use Rattle.docker_laws.specs.Gathering.{runs_by}
 use Rattle.docker_laws.specs.LiveRows.{schedule_of, train_in}
 use Rattle.docker_state.specs.Timetables.{Timetable}
-use Rattle.docker_train.specs.TrainList.{is_identified, train_columns}
+use Rattle.docker_model.specs.lists.TrainsText.{is_identified, train_columns}
 
 -- what is listed: the trains of a timetable that have the identity and start on the day
 pub record Listing : Type 0 where

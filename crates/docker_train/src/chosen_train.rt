@@ -2,8 +2,8 @@
 ghost use Rattle.std.specs.Prelude.{◌≡◌};
 ghost use Rattle.std.specs.Option.{option_copied, option_map};
 ghost use Rattle.docker_join.specs.Meaning.{stamp_meant};
-ghost use Rattle.docker_train.specs.TrainText.{lines_of};
-ghost use Rattle.docker_train.specs.TrainText as text;
+ghost use Rattle.docker_model.specs.lists.TrainText.{lines_of};
+ghost use Rattle.docker_model.specs.lists.TrainText as text;
 
 use crate::stamped::Stamped;
 use cif_line::{Day, Line, Uid};

@@ -3,7 +3,7 @@ ghost use Rattle.std.specs.Prelude.{◌≡◌, ◌<◌, ◌↔◌, IfOk, IfErr, 
 ghost use Rattle.docker_model.specs.state.State.{live_table};
 ghost use Rattle.train_choice.specs.Along.{IsLiveTrain};
 ghost use Rattle.docker_train.specs.Answer.{IsAnswerOf};
-ghost use Rattle.docker_train.specs.TrainText.{IsStampOf};
+ghost use Rattle.docker_model.specs.lists.TrainText.{IsStampOf};
 
 use crate::chosen_train::ChosenTrain;
 use crate::stamped::Stamped;

@@ -12,9 +12,9 @@ ghost use Rattle.docker_model.specs.docker.Association.{IsAssociationLine};
 ghost use Rattle.docker_model.specs.docker.DockerLine.{DockerLine};
 ghost use Rattle.docker_model.specs.docker.DockerList.{IsEventLine};
 ghost use Rattle.docker_model.specs.docker.Choice.{IsChosenOn, Train};
-ghost use Rattle.docker_train.specs.TrainText.{IsFoundFor, IsTrainText, Stamped};
+ghost use Rattle.docker_model.specs.lists.TrainText.{IsFoundFor, IsTrainText, Stamped};
 ghost use Rattle.docker_train.specs.Origin.{CameFrom, IsFoundToRun};
-ghost use Rattle.docker_train.specs.TrainList.{IsListed, IsTrainsText};
+ghost use Rattle.docker_model.specs.lists.TrainsText.{IsListed, IsTrainsText};
 
 /// A state has at most one train text for a UID and a day.
 pub fn one_train_text()

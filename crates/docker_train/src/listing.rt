@@ -4,7 +4,7 @@ ghost use Rattle.docker_model.specs.records.Record.{kind_of};
 ghost use Rattle.docker_model.specs.state.Row.{Row, AreRowsOf};
 ghost use Rattle.docker_state.specs.Timetables.{live_in};
 ghost use Rattle.train_choice.specs.Along.{IsLiveTrain};
-ghost use Rattle.docker_train.specs.TrainList.{gives_identity, is_identified};
+ghost use Rattle.docker_model.specs.lists.TrainsText.{gives_identity, is_identified};
 ghost use Rattle.docker_train.specs.TrainRows.{is_listed};
 
 use cif_line::{Day, Kind, Line, kind};

@@ -9,7 +9,8 @@ ghost use Rattle.docker_model.specs.docker.DockerText.{ended};
 ghost use Rattle.docker_model.specs.state.State as states;
 ghost use Rattle.cif_line.specs.Letter.{stp_letter};
 ghost use Rattle.docker_train.specs.Answer.{IsAnswerOf, PrintsPart, PrintsTrain, text_of};
-ghost use Rattle.docker_train.specs.TrainText.{IsTrainText, found_text, heading_with, last_line, number_text, running_text, stamp_text};
+ghost use Rattle.docker_model.specs.records.PrintedNumber.{number_text};
+ghost use Rattle.docker_model.specs.lists.TrainText.{IsTrainText, found_text, heading_with, last_line, running_text, stamp_text};
 
 use crate::chosen_train::ChosenTrain;
 use crate::fault::TrainFault;
@@ -85,7 +86,7 @@ fn write_lines<K: Sink>(sink: &mut K, lines: &[Line]) -> Result<(), Failed>
 }
 
 /// The text of the heading, with a line feed.
-#[tactic(auto, unfolding(crate::specs::TrainText::heading_with))]
+#[tactic(auto, unfolding(docker_model::specs::lists::TrainText::heading_with))]
 fn heading(uid: &Uid, day: Day, found: &[u8; 46]) -> [u8; WIDTH]
     ensures { result ≡ ended (heading_with uid.now day found.now) }
 {
@@ -103,7 +104,7 @@ fn heading(uid: &Uid, day: Day, found: &[u8; 46]) -> [u8; WIDTH]
 
 /// Columns 27 to 72 of the heading. They describe the schedule found, or say `NONE` if no schedule
 /// runs.
-#[tactic(auto, unfolding(crate::specs::TrainText::found_text))]
+#[tactic(auto, unfolding(docker_model::specs::lists::TrainText::found_text))]
 fn text_of_found(found: Option<&Stamped<'_>>) -> [u8; 46]
     ensures { result ≡ found_text (option_copied found.entry) }
 {
@@ -115,7 +116,7 @@ fn text_of_found(found: Option<&Stamped<'_>>) -> [u8; 46]
 
 /// Columns 27 to 72 of the heading for a schedule: its STP indicator, whether its train runs, and
 /// its stamp.
-#[tactic(auto, unfolding(crate::specs::TrainText::found_text))]
+#[tactic(auto, unfolding(docker_model::specs::lists::TrainText::found_text))]
 fn text_of_stamped(stamped: &Stamped<'_>) -> [u8; 46]
     ensures { result ≡ found_text (Some stamped.now) }
 {
@@ -140,7 +141,7 @@ fn running(stp: Stp) -> &'static [u8; 9]
 
 /// The 34 columns of a stamp: the date and the time of the extract, its current file reference, and
 /// the record number.
-#[tactic(auto, unfolding(crate::specs::TrainText::stamp_text))]
+#[tactic(auto, unfolding(docker_model::specs::lists::TrainText::stamp_text))]
 fn text_of_stamp(stamp: &Stamp) -> [u8; 34]
     requires { stamp.now.file.minute < 1440 }
     ensures { result ≡ stamp_text (stamp_meant stamp.now) }

@@ -16,7 +16,7 @@ pub(crate) struct Stamped<'a> {
 impl<'a> Model for Stamped<'a> {
     ghost use Rattle.std.specs.Prelude.{◌<◌};
     ghost use Rattle.docker_join.specs.Meaning.{stamp_meant};
-    ghost use Rattle.docker_train.specs.TrainText as text;
+    ghost use Rattle.docker_model.specs.lists.TrainText as text;
 
     ghost Value = { text.Stamped };
 

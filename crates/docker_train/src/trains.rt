@@ -8,7 +8,8 @@ ghost use Rattle.docker_model.specs.state.State.{IsBodyOf, live_table};
 ghost use Rattle.docker_state.specs.Timetables.{live_in};
 ghost use Rattle.train_choice.specs.Along.{IsLiveTrain};
 ghost use Rattle.train_choice.specs.Keys.{schedule_key_meant};
-ghost use Rattle.docker_train.specs.TrainList.{ListsPart, ListsTrains, train_columns};
+ghost use Rattle.docker_train.specs.TrainsListed.{ListsPart, ListsTrains};
+ghost use Rattle.docker_model.specs.lists.TrainsText.{train_columns};
 ghost use Rattle.docker_train.specs.TrainRows.{row_line, schedule_line};
 
 use crate::fault::TrainFault;
@@ -130,7 +131,7 @@ fn write_schedule<'a, K: Sink>(
 }
 
 /// The line of a train that starts on this day, with a line feed.
-#[tactic(auto, unfolding(crate::specs::TrainList::train_columns))]
+#[tactic(auto, unfolding(docker_model::specs::lists::TrainsText::train_columns))]
 fn text_of_train(key: &ScheduleKey, day: Day) -> [u8; WIDTH]
     ensures { result ≡ ended (train_columns day (schedule_key_meant key.now)) }
 {

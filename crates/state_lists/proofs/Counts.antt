@@ -1,14 +1,15 @@
 -- The number of schedules that call at a place equals the number of live rows that pass the test
--- `calls_at` for that place.
+-- `is_call_at` for that place.
 use Rattle.std.proofs.Common.{◌≡◌, ℕ, List, [], ◌∷◌, length, refl, ap, sym, ◌∙◌, subst, inl, inr, ◌⊎◌, Bool, true, false, Contains, Some}
-use Rattle.std.specs.Prelude.{filter, ◌||◌}
+use Rattle.std.specs.Prelude.{filter, map, ◌&&◌, ◌||◌, if◌then◌else◌}
 use Rattle.std.specs.List.{list_any}
 use Rattle.std.specs.Str.{bytes_eq}
 use Rattle.std.specs.Ordering.{on}
 use Rattle.std.specs.Cmp.{IsTotalOrder, on_total}
 use Rattle.std.proofs.lemmas.Map.Views.{Contains-from_any}
 use Rattle.std.proofs.lemmas.Slice.Eq.{bytes_eq-Decides}
-use Rattle.docker_model.specs.file.Change.{Key, Body, schedule_body}
+use Rattle.docker_model.specs.records.Record.{columns, is_location, kind_of}
+use Rattle.docker_model.specs.file.Change.{Key, association_key, schedule_key, tiploc_key, Body, association_body, schedule_body, tiploc_body}
 use Rattle.docker_model.specs.state.Op.{key_cmp, put_with}
 use Rattle.docker_model.specs.state.Order.{IsBelow}
 use Rattle.docker_model.specs.state.State.{State, IsValid, live_table}
@@ -25,7 +26,11 @@ use Rattle.state_index.specs.Counts.{IsCallingCount}
 use Rattle.state_index.proofs.RowPlaces.{Calls, call_back, call_forth}
 use Rattle.docker_state.specs.Live.{live_rows}
 use Rattle.docker_state.proofs.LiveTable.{live_walks, live_ascends}
-use Rattle.state_lists.specs.Places.{calls_at, count_at}
+use Rattle.docker_model.specs.lists.PlacesText.{count_at, is_call_at}
+
+-- whether the index names this place for a live row of a schedule
+names : List ℕ → Row → Bool
+names place row = list_any (bytes_eq place) (call_places row.0 (put_with row.1))
 
 rows_total : IsTotalOrder (on (λ (row : Row). row.0) key_cmp)
 rows_total = on_total (λ (row : Row). row.0) key_total
@@ -53,8 +58,8 @@ has_place place (other ∷ places) among = by (has_place place places) (Contains
     by rest (inl same) = ap (λ b. b || list_any (bytes_eq place) places) ((bytes_eq-Decides place other).1 (sym same))
     by rest (inr inside) = ap (λ b. bytes_eq place other || b) (rest inside) ∙ either (bytes_eq place other)
 
--- each live row that passes the test `calls_at place` is a schedule that calls at the place
-passes_back : (place : List ℕ) (key : Key) (body : Body) → calls_at place (key, body) ≡ true → Calls key (put_with body) place
+-- each live row that passes the test `names place` is a schedule that calls at the place
+passes_back : (place : List ℕ) (key : Key) (body : Body) → names place (key, body) ≡ true → Calls key (put_with body) place
 passes_back place key body passes =
     call_back key (put_with body) place
     (Contains-from_any {eq = bytes_eq} (λ x y same. (bytes_eq-Decides x y).0 same) place (call_places key (put_with body)) passes)
@@ -63,28 +68,28 @@ put_is : (body other : Body) → put_with body ≡ put_with other → body ≡ o
 put_is body other same = cc
 
 module _ (live : Table) (rows : List Row) (are : AreRowsOf live rows) (place : List ℕ) where
-  passing_ascend : AreInKeyOrder (filter (calls_at place) rows)
+  passing_ascend : AreInKeyOrder (filter (names place) rows)
   passing_ascend =
-      ascending_of (on (λ (row : Row). row.0) key_cmp) (filter (calls_at place) rows)
-      (later_filter (IsBelow (on (λ (row : Row). row.0) key_cmp)) (calls_at place) rows
+      ascending_of (on (λ (row : Row). row.0) key_cmp) (filter (names place) rows)
+      (later_filter (IsBelow (on (λ (row : Row). row.0) key_cmp)) (names place) rows
       (later_of (on (λ (row : Row). row.0) key_cmp) rows are.ascending))
 
-  -- the schedules that call at the place are exactly the live rows that pass the test `calls_at place`
-  calling_are : (calling : List Row) → AreCalling live place calling → calling ≡ filter (calls_at place) rows
-  calling_are calling is = same_list rows_total calling (filter (calls_at place) rows) is.ascending passing_ascend (λ row. (forth row, back row))
+  -- the schedules that call at the place are exactly the live rows that pass the test `names place`
+  calling_are : (calling : List Row) → AreCalling live place calling → calling ≡ filter (names place) rows
+  calling_are calling is = same_list rows_total calling (filter (names place) rows) is.ascending passing_ascend (λ row. (forth row, back row))
     where
-      forth : (row : Row) → Contains calling row → Contains (filter (calls_at place) rows) row
+      forth : (row : Row) → Contains calling row → Contains (filter (names place) rows) row
       forth row among =
           let told = (is.members row.0 row.1).0 among in
-          filter_forth (calls_at place) rows row
+          filter_forth (names place) rows row
           ((are.members row.0 row.1).1 (ap live told.2 ∙ told.4.is_live ∙ sym (ap Some told.3)))
           (has_place place (call_places row.0 (put_with row.1))
           (subst (λ (it : Row). Contains (call_places it.0 (put_with it.1)) place) (λ i. (sym told.2 i, sym told.3 i))
           (call_forth told.0 told.1 place told.4.calls)))
 
-      back : (row : Row) → Contains (filter (calls_at place) rows) row → Contains calling row
+      back : (row : Row) → Contains (filter (names place) rows) row → Contains calling row
       back row among =
-          let passed = filter_back (calls_at place) rows row among in
+          let passed = filter_back (names place) rows row among in
           let calls = passes_back place row.0 row.1 passed.1 in
           let body_is = put_is row.1 (schedule_body calls.1) calls.3 in
           (is.members row.0 row.1).1 (
@@ -105,8 +110,48 @@ rows_are state valid = record {
   members = live_walks state valid (live_rows state.entries) refl;
 }
 
--- the number of schedules that call at a place equals the number of live rows that pass the test `calls_at place`
+-- a test of the kept and converted elements is a test of the elements
+any_kept : {A B : Type 0} (p : A → Bool) (f : A → B) (q r : B → Bool) → ((y : B) → q y ≡ r y) → (xs : List A)
+    → list_any q (map f (filter p xs)) ≡ list_any (λ x. p x && r (f x)) xs
+any_kept p f q r same [] = refl
+any_kept p f q r same (x ∷ xs) = by (p x)
+  where
+    rest : list_any q (map f (filter p xs)) ≡ list_any (λ x. p x && r (f x)) xs
+    rest = any_kept p f q r same xs
+
+    by : (b : Bool) → list_any q (map f (if b then x ∷ filter p xs else filter p xs)) ≡ (b && r (f x)) || list_any (λ x. p x && r (f x)) xs
+    by true = ap (λ c. c || list_any q (map f (filter p xs))) (same (f x)) ∙ ap (λ c. r (f x) || c) rest
+    by false = rest
+
+-- the order of the texts that are compared doesn't matter
+either_way : (a b : List ℕ) → bytes_eq a b ≡ bytes_eq b a
+either_way a b = by (bytes_eq a b) (bytes_eq b a) refl refl
+  where
+    by : (one two : Bool) → bytes_eq a b ≡ one → bytes_eq b a ≡ two → one ≡ two
+    by true true _ _ = refl
+    by false false _ _ = refl
+    by true false is not = sym not ∙ (bytes_eq-Decides b a).1 (sym ((bytes_eq-Decides a b).0 is))
+    by false true not is = sym (sym is ∙ sym (sym not ∙ (bytes_eq-Decides a b).1 (sym ((bytes_eq-Decides b a).0 is))))
+
+-- the index names a place for a row exactly if the row is a schedule that calls there
+named_is_call : (place : List ℕ) (key : Key) (body : Body) → names place (key, body) ≡ is_call_at place key body
+named_is_call place (tiploc_key code) body = refl
+named_is_call place (association_key key) body = refl
+named_is_call place (schedule_key key) (tiploc_body bytes) = refl
+named_is_call place (schedule_key key) (association_body line) = refl
+named_is_call place (schedule_key key) (schedule_body lines) =
+    any_kept (λ line. is_location (kind_of line)) (columns 3 9) (bytes_eq place) (λ code. bytes_eq code place) (either_way place) lines
+
+-- two tests with the same results keep the same rows
+kept_same : (p q : Row → Bool) → ((row : Row) → p row ≡ q row) → (rows : List Row) → filter p rows ≡ filter q rows
+kept_same p q same [] = refl
+kept_same p q same (row ∷ rows) =
+    ap (λ b. if b then row ∷ filter p rows else filter p rows) (same row)
+    ∙ ap (λ kept. if q row then row ∷ kept else kept) (kept_same p q same rows)
+
+-- the number of schedules that call at a place equals the number of live rows that pass the test `is_call_at`
 pub count_is : (state : State) → IsValid state → (place : List ℕ) (count : ℕ) → IsCallingCount (live_table state) place count
     → count ≡ count_at place (live_rows state.entries)
 count_is state valid place count counted =
     sym counted.2 ∙ ap length (calling_are (live_table state) (live_rows state.entries) (rows_are state valid) place counted.0 counted.1)
+    ∙ ap length (kept_same (names place) (λ (row : Row). is_call_at place row.0 row.1) (λ row. named_is_call place row.0 row.1) (live_rows state.entries))

@@ -9,7 +9,7 @@ use Rattle.docker_model.specs.state.State.{State, IsGoodItem, IsValid}
 use Rattle.docker_join.specs.declared.stamp.FileStamp as stamps
 use Rattle.docker_join.specs.Meaning.{file_stamp_meant}
 use Rattle.docker_state.specs.Live.{live_rows}
-use Rattle.state_lists.specs.Known.{IsKnownText, count_line, full_line, horizon_line, last_line}
+use Rattle.docker_model.specs.lists.KnownText.{IsKnownText, count_line, full_line, horizon_line, last_line}
 use Rattle.state_lists.specs.Tallies.{IsTallyOf, known_lines}
 use Rattle.state_lists.specs.declared.tally.Tally.{Tally}
 use Rattle.state_lists.proofs.Counts.{rows_are}

@@ -15,7 +15,7 @@ use Rattle.state_index.specs.Counts.{IsCallingCount}
 use Rattle.docker_model.specs.state.Row.{Row}
 use Rattle.docker_state.specs.Live.{put_before, live_rows}
 use Rattle.state_lists.specs.Gained.{Gains, GainsPart}
-use Rattle.state_lists.specs.Places.{IsPlacesText, place_line, place_text, places_text}
+use Rattle.docker_model.specs.lists.PlacesText.{IsPlacesText, place_line, place_text, places_text}
 use Rattle.state_lists.specs.RowLines.{line_by, row_line}
 use Rattle.state_lists.proofs.Counts.{count_is, rows_are}
 

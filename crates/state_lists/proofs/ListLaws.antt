@@ -6,8 +6,8 @@ use Rattle.docker_model.specs.state.Table.{Table}
 use Rattle.cif_laws.proofs.lists.Membership.{nil-Contains}
 use Rattle.state_laws.proofs.states.OneJoin.{floor_unique}
 use Rattle.docker_model.specs.state.Row.{Row}
-use Rattle.state_lists.specs.Known.{IsGreatest, IsKnownText, ends_of, known_text}
-use Rattle.state_lists.specs.Places.{IsPlacesText, places_text}
+use Rattle.docker_model.specs.lists.KnownText.{IsGreatest, IsKnownText, ends_of, known_text}
+use Rattle.docker_model.specs.lists.PlacesText.{IsPlacesText, places_text}
 use Rattle.state_lists.proofs.Counts.{one_rows}
 
 pub one_places : (live : Table) (text other : List ℕ) → IsPlacesText live text → IsPlacesText live other → text ≡ other

@@ -16,7 +16,7 @@ use Rattle.docker_join.specs.declared.entry.Entry.{Entry as Held}
 use Rattle.docker_join.specs.Meaning.{op_meant, row_meant}
 use Rattle.docker_model.specs.state.Row.{Row}
 use Rattle.docker_state.specs.Live.{put_before, live_rows}
-use Rattle.state_lists.specs.Known.{IsGreatest, count_of, day_in, end_of, ends_of}
+use Rattle.docker_model.specs.lists.KnownText.{IsGreatest, count_of, day_in, end_of, ends_of}
 use Rattle.state_lists.specs.Tallies.{AreFew, IsTallyOf, with_day}
 use Rattle.state_lists.specs.declared.tally.Tally.{Tally}
 

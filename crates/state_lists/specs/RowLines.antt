@@ -3,7 +3,7 @@ use Rattle.std.specs.Prelude.{ℕ, List, []}
 use Rattle.docker_model.specs.file.Change.{Key}
 use Rattle.docker_model.specs.state.Op.{Op, deleted, lapsed, put_with, Entry}
 use Rattle.docker_model.specs.state.Row.{Row}
-use Rattle.state_lists.specs.Places.{place_line}
+use Rattle.docker_model.specs.lists.PlacesText.{place_line}
 
 -- the line of a key with this op. Only a live timing point has a line. `rows` are all live rows
 abbrev pub line_by : List Row → Key → Op → List ℕ

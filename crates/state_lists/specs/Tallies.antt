@@ -2,7 +2,7 @@
 use Rattle.std.specs.Prelude.{◌≡◌, ℕ, ◌<◌, ◌^◌, List, [], ◌∷◌, ◌++◌, codes, Option, Some, None}
 use Rattle.docker_model.specs.state.Stamp.{FileStamp}
 use Rattle.docker_model.specs.state.Row.{Row}
-use Rattle.state_lists.specs.Known.{IsGreatest, count_line, count_of, ends_of, full_line, horizon_line, last_line}
+use Rattle.docker_model.specs.lists.KnownText.{IsGreatest, count_line, count_of, ends_of, full_line, horizon_line, last_line}
 use Rattle.state_lists.specs.declared.tally.Tally.{Tally}
 
 -- says that the tally is correct for these live rows

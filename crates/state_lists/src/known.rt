@@ -3,7 +3,7 @@
 ghost use Rattle.std.specs.Prelude.{◌≡◌, ◌<◌, IfSome, option_map};
 ghost use Rattle.docker_model.specs.records.Date.{IsDay};
 ghost use Rattle.docker_join.specs.Meaning.{file_stamp_meant};
-ghost use Rattle.state_lists.specs.Known.{IsKnownText, count_line, full_line, horizon_line, horizon_text, last_line};
+ghost use Rattle.docker_model.specs.lists.KnownText.{IsKnownText, count_line, full_line, horizon_line, horizon_text, last_line};
 ghost use Rattle.state_lists.specs.Tallies.{known_lines};
 
 use crate::tally::{Tally, tally_of};
@@ -56,7 +56,7 @@ fn lines_of(horizon: u16, full: Option<FileStamp>, tally: &Tally) -> KnownText
 }
 
 /// The line of the horizon, with a line feed.
-#[tactic(auto, unfolding(crate::specs::Known::horizon_line))]
+#[tactic(auto, unfolding(docker_model::specs::lists::KnownText::horizon_line))]
 fn horizon_line(horizon: u16) -> ArrayVec<u8, 24>
     requires { IsDay horizon }
     ensures { result.items ≡ horizon_line horizon }
@@ -95,7 +95,7 @@ fn day_of(number: u16) -> Day
 
 /// The line of the newest full extract, with a line feed: date, time and reference. There is no
 /// line if there is no full extract.
-#[tactic(auto, unfolding(crate::specs::Known::full_line))]
+#[tactic(auto, unfolding(docker_model::specs::lists::KnownText::full_line))]
 fn full_line(full: Option<FileStamp>) -> ArrayVec<u8, 37>
     requires { IfSome full (λ stamp. stamp.minute < 1440) }
     ensures { result.items ≡ full_line (option_map file_stamp_meant full) }
@@ -115,7 +115,7 @@ fn full_line(full: Option<FileStamp>) -> ArrayVec<u8, 37>
 
 /// The line for the latest day on which a schedule ends, with a line feed. There is no line if no
 /// schedule has a last day.
-#[tactic(auto, unfolding(crate::specs::Known::last_line))]
+#[tactic(auto, unfolding(docker_model::specs::lists::KnownText::last_line))]
 fn last_line(last: Option<Day>) -> ArrayVec<u8, 24>
     ensures { result.items ≡ last_line last }
 {
@@ -129,7 +129,7 @@ fn last_line(last: Option<Day>) -> ArrayVec<u8, 24>
 }
 
 /// The line of a count, with a line feed.
-#[tactic(auto, unfolding(crate::specs::Known::count_line))]
+#[tactic(auto, unfolding(docker_model::specs::lists::KnownText::count_line))]
 fn count_line(name: &[u8; 12], count: usize) -> ArrayVec<u8, 34>
     ensures { result.items ≡ count_line name.now count }
 {

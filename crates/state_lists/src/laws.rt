@@ -3,8 +3,8 @@
 ghost use Rattle.std.specs.Prelude.{◌≡◌, ℕ, List};
 ghost use Rattle.docker_model.specs.state.State.{State};
 ghost use Rattle.docker_model.specs.state.Table.{Table};
-ghost use Rattle.state_lists.specs.Known.{IsKnownText};
-ghost use Rattle.state_lists.specs.Places.{IsPlacesText};
+ghost use Rattle.docker_model.specs.lists.KnownText.{IsKnownText};
+ghost use Rattle.docker_model.specs.lists.PlacesText.{IsPlacesText};
 
 /// A live table has only one list of timing points.
 pub fn one_places_text()

@@ -7,7 +7,8 @@ ghost use Rattle.cif_change.specs.Meaning.{body_meant, key_meant};
 ghost use Rattle.docker_join.specs.Meaning.{row_meant};
 ghost use Rattle.docker_state.specs.Live.{live_rows};
 ghost use Rattle.state_lists.specs.Gained.{Gains, GainsPart};
-ghost use Rattle.state_lists.specs.Places.{IsPlacesText, number_text, place_line, place_text};
+ghost use Rattle.docker_model.specs.records.PrintedNumber.{number_text};
+ghost use Rattle.docker_model.specs.lists.PlacesText.{IsPlacesText, place_line, place_text};
 ghost use Rattle.state_lists.specs.RowLines.{row_line};
 
 use arrayvec::ArrayVec;
@@ -80,7 +81,7 @@ fn write_live<K: Sink>(state: &State, key: &Key, body: &Body, sink: &mut K) -> R
 }
 
 /// The line of a timing point, with a line feed. `details` are columns 10 to 72 of its record.
-#[tactic(auto, unfolding(crate::specs::Places::place_text))]
+#[tactic(auto, unfolding(docker_model::specs::lists::PlacesText::place_text))]
 fn line_of(code: &Tiploc, details: &[u8; 63], count: usize) -> PlaceLine
     ensures { result.items ≡ ended (place_text code.now details.now count) }
 {

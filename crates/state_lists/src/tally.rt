@@ -5,7 +5,7 @@ ghost use Rattle.cif_change.specs.Meaning.{body_meant, key_meant};
 ghost use Rattle.docker_join.specs.Meaning.{row_meant};
 ghost use Rattle.docker_state.specs.Live.{live_rows};
 ghost use Rattle.docker_model.specs.state.Row.{Row};
-ghost use Rattle.state_lists.specs.Known.{IsGreatest, day_in};
+ghost use Rattle.docker_model.specs.lists.KnownText.{IsGreatest, day_in};
 ghost use Rattle.state_lists.specs.Tallies.{AreFew, IsTallyOf, with_day};
 
 use cif_change::{Body, Key};

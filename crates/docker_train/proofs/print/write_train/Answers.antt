@@ -3,7 +3,7 @@ use Rattle.std.specs.List.{flat_map}
 use Rattle.std.proofs.lemmas.Result.{on_ok_weaker, on_err_weaker}
 use Rattle.docker_model.specs.docker.DockerText.{ended}
 use Rattle.docker_day.proofs.Written.{as_often, last_failed, on_any_err, one_failed, all_taken, part_of_first, part_of_second, part_of_third}
-use Rattle.docker_train.specs.TrainText.{found_text, heading, last_line, lines_of}
+use Rattle.docker_model.specs.lists.TrainText.{found_text, heading, last_line, lines_of}
 use Rattle.docker_train.proofs.Printed.{heading_is, printed}
 use Rattle.docker_train.proofs.print.write_train.Goals as goal
 

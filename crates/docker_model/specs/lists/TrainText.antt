@@ -1,7 +1,8 @@
 -- Which schedule is chosen for a UID on a day, which extract it came from, and the text that is
 -- printed for it. Days are numbered from 1960-01-01, which is 0, to 2059-12-31, which is 36524.
-use Rattle.std.specs.Prelude.{◌≡◌, ℕ, ◌-◌, if◌then◌else◌, List, [], ◌∷◌, ◌++◌, length, codes, decimal, Option, Some, None}
+use Rattle.std.specs.Prelude.{◌≡◌, ℕ, ◌==◌, if◌then◌else◌, List, [], ◌∷◌, ◌++◌, codes, Option, Some, None}
 use Rattle.std.specs.List.{flat_map}
+use Rattle.docker_model.specs.records.PrintedNumber.{number_text}
 use Rattle.docker_model.specs.records.PrintedTime.{spaces, day_text, minute_text}
 use Rattle.docker_model.specs.file.Change.{schedule_key, schedule_body}
 use Rattle.docker_model.specs.state.Stamp.{Stamp}
@@ -9,7 +10,6 @@ use Rattle.docker_model.specs.state.Op.{put_with}
 use Rattle.docker_model.specs.state.State.{State, entry_at, live_table}
 use Rattle.docker_model.specs.docker.Choice.{Train, IsChosenOn}
 use Rattle.docker_model.specs.docker.DockerText.{ended}
-use Rattle.train_choice.specs.Ranked.{is_cancellation}
 
 -- a schedule with the stamp of the change that it comes from. The stamp has the extract's date,
 -- time and reference, and the number of the schedule's record in the extract
@@ -29,10 +29,6 @@ IsFoundFor state uid day None = IsChosenOn (live_table state) uid day None
 IsFoundFor state uid day (Some found) =
     IsChosenOn (live_table state) uid day (Some found.schedule) × IsStampOf state found.schedule found.stamp
 
--- a number below 10,000,000,000 in ten columns, padded with spaces on the left
-abbrev pub number_text : ℕ → List ℕ
-number_text number = spaces (10 - length (decimal number)) ++ decimal number
-
 -- the 34 columns of a stamp: the date and the time of the extract, its current file reference, and
 -- the record number
 unfoldable pub stamp_text : Stamp → List ℕ
@@ -40,9 +36,9 @@ stamp_text stamp =
     day_text stamp.file.moment.day ++ spaces 1 ++ minute_text stamp.file.moment.minute ++ spaces 1 ++ stamp.file.reference ++ spaces 1
     ++ number_text stamp.number
 
--- nine columns: `RUNS` padded with spaces, or `CANCELLED` if the STP indicator is `C`
+-- nine columns: `RUNS` padded with spaces, or `CANCELLED` if the STP indicator is `C`, which is 67
 abbrev pub running_text : ℕ → List ℕ
-running_text indicator = if is_cancellation indicator then codes "CANCELLED" else codes "RUNS     "
+running_text indicator = if indicator == 67 then codes "CANCELLED" else codes "RUNS     "
 
 -- columns 27 to 72 of the heading: the STP indicator, whether the train runs, and the stamp. If no
 -- schedule runs, these columns are `NONE` and spaces

@@ -5,7 +5,6 @@ use Rattle.std.specs.Prelude.{◌≡◌, ℕ, ◌↔◌, Bool, false, IsTrue, Li
 use Rattle.std.specs.List.{flat_map, list_any}
 use Rattle.std.specs.Ordering.{on}
 use Rattle.std.specs.Str.{bytes_eq}
-use Rattle.cif_device.specs.Device.{Takes, TakesPart}
 use Rattle.docker_model.specs.records.PrintedTime.{spaces, day_text}
 use Rattle.docker_model.specs.records.Record.{Kind, basic_schedule, change_en_route, columns, kind_of}
 use Rattle.docker_model.specs.file.Change.{ScheduleKey}
@@ -51,16 +50,3 @@ pub record IsTrainsText (live : Table) (identity : List ℕ) (day : ℕ) (text :
   pub trains : List Train
   pub are : AreListed live identity day trains
   pub text_is : text ≡ trains_text day trains
-
--- says that the sink gained the list of the trains that have the identity and start on the day
-pub record ListsTrains (live : Table) (identity : List ℕ) (day : ℕ) (old new : Option (List ℕ)) : Type 0 where
-  pub text : List ℕ
-  pub is : IsTrainsText live identity day text
-  pub gained : Takes old text new
-
--- says that the sink gained a proper prefix of the list of the trains that have the identity and
--- start on the day
-pub record ListsPart (live : Table) (identity : List ℕ) (day : ℕ) (old new : Option (List ℕ)) : Type 0 where
-  pub text : List ℕ
-  pub is : IsTrainsText live identity day text
-  pub gained : TakesPart old text new

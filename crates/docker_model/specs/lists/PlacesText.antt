@@ -1,28 +1,23 @@
 -- The list of the live timing points, each with the number of live schedules that call there.
-use Rattle.std.specs.Prelude.{◌≡◌, ℕ, ◌-◌, Bool, List, [], ◌++◌, length, filter, decimal}
-use Rattle.std.specs.List.{flat_map, list_any}
-use Rattle.std.specs.Str.{bytes_eq}
+use Rattle.std.specs.Prelude.{◌≡◌, ℕ, Bool, false, List, [], ◌++◌, length, filter}
+use Rattle.std.specs.List.{flat_map}
 use Rattle.docker_model.specs.records.Record.{columns}
+use Rattle.docker_model.specs.records.PrintedNumber.{number_text}
 use Rattle.docker_model.specs.records.PrintedTime.{spaces}
-use Rattle.docker_model.specs.file.Change.{Key, tiploc_key, Body, tiploc_body}
-use Rattle.docker_model.specs.state.Op.{put_with}
+use Rattle.docker_model.specs.file.Change.{Key, schedule_key, tiploc_key, Body, schedule_body, tiploc_body}
+use Rattle.docker_model.specs.file.Journey.{calls_at}
 use Rattle.docker_model.specs.state.Table.{Table}
-use Rattle.docker_model.specs.docker.DockerText.{ended}
-use Rattle.state_index.specs.NamedPlaces.{call_places}
 use Rattle.docker_model.specs.state.Row.{Row, AreRowsOf}
+use Rattle.docker_model.specs.docker.DockerText.{ended}
 
--- whether a live row is a schedule that has a location record at the place
-abbrev pub calls_at : List ℕ → Row → Bool
-calls_at place row = list_any (bytes_eq place) (call_places row.0 (put_with row.1))
+-- whether the row with this key and body is a schedule that calls at the place
+abbrev pub is_call_at : List ℕ → Key → Body → Bool
+is_call_at place (schedule_key key) (schedule_body lines) = calls_at place lines
+is_call_at place _ _ = false
 
--- the number of these live rows that are schedules with a location record at the place
+-- the number of these live rows that are schedules that call at the place
 abbrev pub count_at : List ℕ → List Row → ℕ
-count_at place rows = length (filter (calls_at place) rows)
-
--- a number in ten columns, padded with spaces on the left. A number with more than ten digits has
--- as many columns as digits
-abbrev pub number_text : ℕ → List ℕ
-number_text number = spaces (10 - length (decimal number)) ++ decimal number
+count_at place rows = length (filter (λ (row : Row). is_call_at place row.0 row.1) rows)
 
 -- the 55 columns of a timing point's line: TIPLOC, CRS, STANOX, TPS description and count. The body
 -- `bytes` is columns 10 to 72 of the TIPLOC record. In that record, CRS is in columns 54 to 56,
