@@ -2,6 +2,7 @@ pub mod Events
 pub mod EventWalk
 pub mod FewMidnights
 pub mod StartDays
+pub mod GoodBodies
 pub mod KeptSchedules
 pub mod OneChoice
 pub mod OneDockerLine
@@ -34,4 +35,5 @@ pub mod ThinState
 pub mod FileSummary
 pub mod NoLinesElsewhere
 pub mod Sublists
+pub mod CountedRows
 pub mod PermanentDocker

@@ -15,5 +15,3 @@ pub mod TableLapsed
 pub mod LapsedPlainTable
 pub mod ExactEntries
 pub mod PlainLive
-pub mod GoodBodies
-pub mod CountedRows
