@@ -29,8 +29,9 @@ pub(crate) fn may_matter(place: &Tiploc, key: &Key) -> bool
     ensures { result ≡ may_matter place.now (key_meant key.now) }
 {
     match key {
+        Key::Tiploc(_) => is_here(place, key),
+        Key::Assoc(_) => is_here(place, key),
         Key::Schedule(_) => true,
-        _ => is_here(place, key),
     }
 }
 
