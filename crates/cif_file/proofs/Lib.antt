@@ -6,6 +6,3 @@ pub mod PiecesLemmas
 pub mod ReadLemmas
 pub mod AnswerLemmas
 pub mod EndedLemmas
-pub mod ScheduleFields
-pub mod ThinLemmas
-pub mod ThinEnds

@@ -5,11 +5,9 @@ use Rattle.cif_file.specs.declared.ended.Ended.{Ended}
 use Rattle.cif_file.specs.declared.kept.FileSoFar.{FileSoFar}
 use Rattle.cif_file.specs.declared.parts.FileParts.{FileParts}
 use Rattle.cif_file.specs.declared.tally.Tally.{Tally}
-use Rattle.cif_file.specs.declared.thin_kept.ThinSoFar.{ThinSoFar}
 use Rattle.cif_file.specs.KeeperRead.{Keeps}
 use Rattle.cif_file.specs.MadeChanges.{file_of_parts}
 use Rattle.cif_file.specs.FileRead.{FileRead, FileCounted}
-use Rattle.cif_file.specs.ThinRead.{ThinRead, thin_of_parts}
 
 -- Says that the header and the number of records in the result are correct for these records, and
 -- that the keeper has received all their changes.
@@ -29,20 +27,6 @@ parts_ended ended = record {
 -- converts the `Ended` of a keeper that keeps all changes to the file that was read
 abbrev pub file_ended : Ended FileSoFar → FileRead
 file_ended ended = file_of_parts (parts_ended ended)
-
--- converts the `Ended` of a keeper that keeps only what the docker of a place on a day needs. The
--- result has the parts of the thin file
-abbrev pub thin_parts_ended : {P : Type 0} → Ended (ThinSoFar P) → FileParts
-thin_parts_ended ended = record {
-  header = ended.header;
-  records = ended.records;
-  changes = ended.keeper.thinned.made;
-}
-
--- converts the `Ended` of a keeper that keeps only what the docker of a place on a day needs. The
--- result is the thin file
-abbrev pub thin_ended : {P : Type 0} → Ended (ThinSoFar P) → ThinRead
-thin_ended ended = thin_of_parts ended.keeper.thinned.place ended.keeper.thinned.day ended.keeper.so_far.changes (thin_parts_ended ended)
 
 -- converts the `Ended` of a keeper that only counts changes to the counts of the file
 abbrev pub count_ended : Ended Tally → FileCounted

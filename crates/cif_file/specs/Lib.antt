@@ -1,10 +1,8 @@
 pub mod FileRead
 pub mod MadeChanges
 pub mod SingleChanges
-pub mod ThinRead
 pub mod UnitRead
 pub mod KeeperRead
-pub mod ThinKept
 pub mod EndedRead
 pub mod RecordsRead
 pub mod ParserRead

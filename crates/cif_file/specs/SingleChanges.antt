@@ -1,7 +1,6 @@
 -- The changes of a record that is a unit by itself: a TIPLOC record or an association.
-use Rattle.std.specs.Prelude.{◌≡◌, ℕ, List, [], ◌∷◌, Option, Some, None, IfSome}
-use Rattle.docker_model.specs.file.Change.{Change}
-use Rattle.docker_laws.specs.Thinning.{thin_act}
+use Rattle.std.specs.Prelude.{◌≡◌, Bool, true, false, List, [], ◌∷◌, Option, Some, None, IfSome}
+use Rattle.docker_model.specs.file.Change.{Change, Act, put, schedule_body}
 use Rattle.cif_change.specs.declared.change.Change as code
 use Rattle.cif_change.specs.Meaning.{change_meant}
 use Rattle.cif_file.specs.declared.single.SingleChanges.{SingleChanges}
@@ -15,10 +14,15 @@ listed_after (Some first) last = change_meant first ∷ last ∷ []
 abbrev pub listed : SingleChanges → List Change
 listed changes = listed_after changes.first (change_meant changes.last)
 
--- Says that thinning never alters what a change does, for any place and any day.
-abbrev pub IsNeverThin : Change → Type 0
-IsNeverThin change = (place : List ℕ) (day : ℕ) → thin_act place day change.act ≡ change.act
+-- whether an act puts the lines of a schedule
+abbrev pub puts_schedule : Act → Bool
+puts_schedule (put (schedule_body lines)) = true
+puts_schedule _ = false
 
--- Says that thinning never alters what either change does.
-abbrev pub AreNeverThin : SingleChanges → Type 0
-AreNeverThin changes = IfSome changes.first (λ first. IsNeverThin (change_meant first)) × IsNeverThin (change_meant changes.last)
+-- Says that a change puts no schedule.
+abbrev pub PutsNoSchedule : Change → Type 0
+PutsNoSchedule change = puts_schedule change.act ≡ false
+
+-- Says that neither change puts a schedule.
+abbrev pub PutNoSchedules : SingleChanges → Type 0
+PutNoSchedules changes = IfSome changes.first (λ first. PutsNoSchedule (change_meant first)) × PutsNoSchedule (change_meant changes.last)

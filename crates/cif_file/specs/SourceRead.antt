@@ -10,7 +10,6 @@ use Rattle.cif_file.specs.declared.fault.FileFault.{FileFault}
 use Rattle.cif_change.specs.Cause.{cause_meant}
 use Rattle.cif_file.specs.FileRead.{FileRead, FileCounted}
 use Rattle.cif_file.specs.KeeperRead.{Keeps}
-use Rattle.cif_file.specs.ThinRead.{ThinRead}
 use Rattle.cif_file.specs.ParserRead.{IsOfFileText, IsCountOfFileText, IsEndedText, WantsMemoryAt}
 
 -- Says that a source held this text. If contracts can't refer to the bytes of the source, for
@@ -24,13 +23,6 @@ pub record ReadsText (limit : ℕ) (left : Option (List ℕ)) (file : FileRead) 
   pub text : List ℕ
   pub held : Held left text
   pub of_text : IsOfFileText file limit text
-
--- Says that the source held the text of a file within the limit on records, and that this is the
--- file's thin file for the place and the day.
-pub record ReadsThin (place : List ℕ) (day limit : ℕ) (left : Option (List ℕ)) (thin : ThinRead) : Type 0 where
-  pub reads : ReadsText limit left thin.file
-  pub place_is : thin.place ≡ place
-  pub day_is : thin.day ≡ day
 
 -- Says that the source held the text of a file within the limit on records, and that these are its
 -- counts.

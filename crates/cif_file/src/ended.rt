@@ -1,27 +1,25 @@
 //! A CIF file that was read to its trailer.
 ghost use Rattle.cif_file.specs.FileRead.{IsCounted};
 ghost use Rattle.cif_file.specs.MadeChanges.{ArePartsOfFile};
-ghost use Rattle.cif_file.specs.EndedRead.{file_ended, parts_ended, thin_parts_ended, thin_ended, count_ended};
-ghost use Rattle.cif_file.specs.ThinRead.{AreThinParts};
+ghost use Rattle.cif_file.specs.EndedRead.{file_ended, parts_ended, count_ended};
 
 use crate::count::FileCount;
 use crate::file::CifFile;
 use crate::header_line::HeaderLine;
 use crate::kept::FileSoFar;
 use crate::parts::FileParts;
-use crate::place::PlaceDay;
 use crate::tally::Tally;
-use crate::thin_file::ThinFile;
-use crate::thin_kept::ThinSoFar;
-use crate::thinned::Thinned;
 
 /// A CIF file that was read to its trailer: its header, how many records it has, and what the
 /// keeper kept of these records.
 #[derive(Debug, Drop)]
-pub(crate) struct Ended<K> {
-    pub(crate) header: HeaderLine,
-    pub(crate) records: u32,
-    pub(crate) keeper: K,
+pub struct Ended<K> {
+    /// The line of the file's header.
+    pub header: HeaderLine,
+    /// How many records the file has, including the header and the trailer.
+    pub records: u32,
+    /// The keeper, which has received all records that make changes.
+    pub keeper: K,
 }
 
 impl Ended<FileSoFar> {
@@ -44,36 +42,6 @@ impl Ended<FileSoFar> {
             changes: made,
         }
         .into_file()
-    }
-}
-
-impl<P: PlaceDay> Ended<ThinSoFar<P>> {
-    ghost use Rattle.std.specs.Prelude.{◌≡◌};
-
-    /// Makes a thin file from what the keeper kept.
-    pub(crate) fn into_thin(self) -> ThinFile
-        requires { AreThinParts self.keeper.thinned.place self.keeper.thinned.day
-            self.keeper.so_far.changes (thin_parts_ended self) }
-        ensures { result ≡ thin_ended self }
-    {
-        let Ended {
-            header,
-            records,
-            keeper,
-        } = self;
-        let (thinned, so_far) = keeper.into_kept();
-        let Thinned {
-            place,
-            day,
-            made,
-            ..
-        } = thinned;
-        let parts = FileParts {
-            header,
-            records,
-            changes: made,
-        };
-        ThinFile::of(place, day, parts, so_far)
     }
 }
 

@@ -6,7 +6,7 @@ use std::marker::Model;
 
 /// The line of a header whose checked fields are good.
 #[derive(Debug, Drop)]
-pub(crate) struct HeaderLine {
+pub struct HeaderLine {
     line: Line,
 }
 
@@ -31,7 +31,7 @@ impl HeaderLine {
     }
 
     /// A view of the header.
-    pub(crate) fn view(&self) -> Header<'_>
+    pub fn view(&self) -> Header<'_>
         ensures { result ≡ self.now }
     {
         Header::of(&self.line)

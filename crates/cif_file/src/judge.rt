@@ -5,7 +5,7 @@ ghost use Rattle.cif_file.specs.SourceRead.{CountsText, WantsAtStart};
 
 use crate::count::FileCount;
 use crate::fault::ReadFault;
-use crate::read::read_source;
+use crate::read::read_kept;
 use crate::records::MOST_RECORDS;
 use crate::tally::Tally;
 use cif_line::Source;
@@ -24,7 +24,7 @@ pub fn judge_file<S: Source>(
     ensures { EndsReadingFile WantsAtStart S.left S.failures limit
         (CountsText limit (S.left source.old)) source.old source.new result }
 {
-    match read_source(alloc, source, Tally::new(), limit) {
+    match read_kept(alloc, source, Tally::new(), limit) {
         Ok(ended) => Ok(ended.into_count()),
         Err(fault) => Err(fault),
     }

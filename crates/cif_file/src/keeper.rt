@@ -12,7 +12,8 @@ use std::alloc::AllocError;
 
 /// A keeper, which decides what a reader keeps of a file's records, besides the header and the
 /// number of records. A keeper receives every record that makes changes, in the order of the file.
-pub(crate) trait Keeper: Drop + Sized {
+/// [`read_kept`](crate::read_kept) reads a source with any keeper.
+pub trait Keeper: Drop + Sized {
     // Says that the keeper holds these lines of the schedule that is being read, and these changes.
     ghost keeps: { Self → List (List ℕ) → List Change → Type 0 };
 

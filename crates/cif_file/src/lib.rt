@@ -4,7 +4,6 @@
 #![tactic(auto)]
 
 mod calling;
-mod changes_so_far;
 mod count;
 mod ended;
 mod fault;
@@ -19,29 +18,26 @@ mod opened;
 mod parser;
 mod parts;
 mod pieces;
-mod place;
 mod read;
 mod records;
 mod single;
-mod start_days;
 mod tally;
 mod text;
-mod thin_file;
-mod thin_kept;
-mod thinned;
 mod unit;
 
 pub use calling::calls_at;
 pub use cif_change::{Act, AssocKey, Body, Change, FileCause, Journey, Key, Lines, ScheduleKey};
 pub use count::FileCount;
+pub use ended::Ended;
 pub use fault::{FileFault, ReadFault};
 pub use file::CifFile;
+pub use header_line::HeaderLine;
 pub use judge::judge_file;
+pub use keeper::Keeper;
+pub use opened::{Opened, body_of};
 pub use parser::FileParser;
 pub use parts::FileParts;
 pub use pieces::read_pieces;
-pub use place::PlaceDay;
-pub use read::{read_file, read_thin};
+pub use read::{read_file, read_kept};
 pub use records::MOST_RECORDS;
-pub use start_days::runs_near;
-pub use thin_file::ThinFile;
+pub use single::{Single, SingleChanges, changes_of};

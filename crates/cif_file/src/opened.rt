@@ -16,9 +16,12 @@ use std::alloc::{AllocError, Global};
 /// A schedule whose lines are being read: the record number of its basic schedule, its key, and the
 /// progress of its reader.
 #[derive(Clone, Copy, PartialEq, Eq, Debug)]
-pub(crate) struct Opened {
+pub struct Opened {
+    /// The number of the basic schedule in the file.
     pub number: u32,
+    /// The key of the schedule.
     pub key: ScheduleKey,
+    /// How far the schedule's lines were read, and whether its basic schedule deletes it.
     pub progress: Progress,
 }
 
@@ -75,7 +78,7 @@ impl Opened {
 
 /// Copies the lines, and allocates only the memory that they need. Returns an error if the
 /// allocator refuses memory.
-pub(crate) fn body_of(alloc: Global, lines: &[Line]) -> Result<Lines, AllocError>
+pub fn body_of(alloc: Global, lines: &[Line]) -> Result<Lines, AllocError>
     ensures { IfOk result (λ body. body ≡ lines.now) }
 {
     let mut body = Vec::with_capacity(alloc, lines.len())?;

@@ -5,8 +5,10 @@ use cif_change::Change;
 /// The parts of a CIF file: its header, the number of its records, and its changes.
 #[derive(Debug, Drop)]
 pub struct FileParts {
-    pub(crate) header: HeaderLine,
-    pub(crate) records: u32,
+    /// The line of the header.
+    pub header: HeaderLine,
+    /// How many records the file has, including the header and the trailer.
+    pub records: u32,
     /// The changes that the records make, in the order of the records.
     pub changes: Vec<Change>,
 }

@@ -3,7 +3,7 @@ ghost use Rattle.std.specs.Prelude.{◌≡◌, ◌≢◌, ℕ, ◌-◌, ◌^◌,
 ghost use Rattle.docker_model.specs.file.Text.{lines_of};
 ghost use Rattle.cif_file.specs.FileEnds.{EndsReadingFile};
 ghost use Rattle.cif_file.specs.ParserRead.{IsReading, WantsMemoryAt, EndsBy};
-ghost use Rattle.cif_file.specs.SourceRead.{IsFaultOf, ReadsEnded, ReadsText, ReadsThin, WantsMemory, WantsMemoryBy};
+ghost use Rattle.cif_file.specs.SourceRead.{IsFaultOf, ReadsEnded, ReadsText, WantsMemory, WantsMemoryBy};
 
 use crate::ended::Ended;
 use crate::fault::{FileFault, ReadFault};
@@ -11,14 +11,10 @@ use crate::file::CifFile;
 use crate::keeper::Keeper;
 use crate::kept::FileSoFar;
 use crate::parser::FileReading;
-use crate::place::PlaceDay;
 use crate::records::MOST_RECORDS;
-use crate::thin_file::ThinFile;
-use crate::thin_kept::ThinSoFar;
 use cif_change::FileCause;
-use cif_line::{Day, FeedFault, Source, Taker, Tiploc, feed_all};
+use cif_line::{FeedFault, Source, Taker, feed_all};
 use std::alloc::Global;
-use std::marker::Brand;
 
 /// Reads a source to its end, and returns its text as a CIF file of at most `limit` records. Stops
 /// after the piece in which the first fault is found, and returns the fault. A piece has at most
@@ -30,47 +26,8 @@ pub fn read_file<S: Source>(alloc: Global, source: &mut S, limit: u32) -> Result
     ensures { EndsReadingFile WantsMemory S.left S.failures limit
         (ReadsText limit (S.left source.old)) source.old source.new result }
 {
-    match read_source(alloc, source, FileSoFar::new(alloc), limit) {
+    match read_kept(alloc, source, FileSoFar::new(alloc), limit) {
         Ok(ended) => Ok(ended.into_file()),
-        Err(fault) => Err(fault),
-    }
-}
-
-/// Reads a source to its end, like `read_file`, but keeps only what the docker of this place on
-/// this day needs. Every record is checked, whether it is kept or not.
-pub fn read_thin<S: Source>(
-    alloc: Global,
-    source: &mut S,
-    place: Tiploc,
-    day: Day,
-    limit: u32,
-) -> Result<ThinFile, ReadFault>
-    requires failures { S.failures source.old < 2 ^ 64 - 1 }
-    requires limit { limit ≤ MOST_RECORDS }
-    ensures { EndsReadingFile WantsMemory S.left S.failures limit
-        (ReadsThin place day limit (S.left source.old)) source.old source.new result }
-{
-    thin_at::<Brand, S>(alloc, source, place, day, limit)
-}
-
-/// Implements `read_thin`. For proofs, the type `P` gives the place and the day.
-fn thin_at<P: PlaceDay, S: Source>(
-    alloc: Global,
-    source: &mut S,
-    place: Tiploc,
-    day: Day,
-    limit: u32,
-) -> Result<ThinFile, ReadFault>
-    requires failures { S.failures source.old < 2 ^ 64 - 1 }
-    requires limit { limit ≤ MOST_RECORDS }
-    requires place { place ≡ P.place }
-    requires day { day ≡ P.day }
-    ensures { EndsReadingFile WantsMemory S.left S.failures limit
-        (ReadsThin place day limit (S.left source.old)) source.old source.new result }
-{
-    let keeper: ThinSoFar<P> = ThinSoFar::new(alloc, place, day);
-    match read_source(alloc, source, keeper, limit) {
-        Ok(ended) => Ok(ended.into_thin()),
         Err(fault) => Err(fault),
     }
 }
@@ -94,9 +51,9 @@ impl<K: Keeper> Taker for FileReading<K> {
     ghost bounded = { taken_is_bounded K.keeps };
 }
 
-/// Reads a source to its end, or to the piece in which the first fault is found. Returns what the
-/// keeper kept of the source's file.
-pub(crate) fn read_source<S: Source, K: Keeper>(
+/// Reads a source to its end, as [`read_file`] does, and returns what this keeper kept of the
+/// source's file. Every record is checked, whether the keeper keeps it or not.
+pub fn read_kept<S: Source, K: Keeper>(
     alloc: Global,
     source: &mut S,
     keeper: K,

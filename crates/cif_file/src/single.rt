@@ -6,7 +6,7 @@ ghost use Rattle.docker_model.specs.records.Field.{is_deletion, as_new};
 ghost use Rattle.docker_model.specs.file.Change.{changes_of_record, keeps_code, tiploc_key, association_named};
 ghost use Rattle.docker_model.specs.file.Change.{tiploc_named, tiploc_details, association_body, delete, put};
 ghost use Rattle.cif_change.specs.Meaning.{change_meant, key_meant};
-ghost use Rattle.cif_file.specs.SingleChanges.{AreNeverThin, IsNeverThin, listed};
+ghost use Rattle.cif_file.specs.SingleChanges.{PutNoSchedules, PutsNoSchedule, listed};
 ghost use Rattle.cif_file.specs.UnitRead.{kind_of_single, line_of_single};
 
 use cif_change::{Act, AssocKey, Body, Change, Key};
@@ -14,7 +14,7 @@ use cif_line::{Assoc, Tiploc, TiplocRecord, Transaction};
 
 /// A record that is a unit by itself and whose checked fields are good.
 #[derive(Debug, Drop)]
-pub(crate) enum Single<'a> {
+pub enum Single<'a> {
     /// A TIPLOC insert (TI).
     TiplocInsert(TiplocRecord<'a>),
     /// A TIPLOC amendment (TA).
@@ -27,7 +27,7 @@ pub(crate) enum Single<'a> {
 
 /// The one or two changes of a record that is a unit by itself.
 #[derive(Debug, Drop)]
-pub(crate) struct SingleChanges {
+pub struct SingleChanges {
     /// The deletion of a TIPLOC's old code, if an amendment gives it another code.
     pub first: Option<Change>,
     /// The change that every TIPLOC record and every association makes. If `first` has a change
@@ -35,12 +35,11 @@ pub(crate) struct SingleChanges {
     pub last: Change,
 }
 
-/// The changes that the record makes. A thin file keeps each of them unchanged, or doesn't keep it
-/// at all.
-pub(crate) fn changes_of(number: u32, single: &Single<'_>) -> SingleChanges
+/// The changes that the record makes. None of them puts a schedule.
+pub fn changes_of(number: u32, single: &Single<'_>) -> SingleChanges
     requires { HasKind (kind_of_single single.now) (line_of_single single.now) }
     ensures changes { listed result ≡ changes_of_record number (line_of_single single.now) [] }
-    ensures never_thin { AreNeverThin result }
+    ensures no_schedule { PutNoSchedules result }
 {
     match single {
         Single::TiplocInsert(view) => by_itself(tiploc_put(number, view.code(), view)),
@@ -65,7 +64,7 @@ fn by_itself(change: Change) -> SingleChanges
 fn changes_amended(number: u32, view: &TiplocRecord<'_>) -> SingleChanges
     requires { HasKind tiploc_amend view.now }
     ensures changes { listed result ≡ changes_of_record number view.now [] }
-    ensures never_thin { AreNeverThin result }
+    ensures no_schedule { PutNoSchedules result }
 {
     match other_code(view) {
         None => by_itself(tiploc_put(number, view.code(), view)),
@@ -119,7 +118,7 @@ fn other_code(view: &TiplocRecord<'_>) -> Option<Tiploc>
 fn tiploc_deleted(number: u32, view: &TiplocRecord<'_>) -> Change
     ensures change { change_meant result ≡
         record { number = number; key = tiploc_named view.now; act = delete } }
-    ensures never_thin { IsNeverThin (change_meant result) }
+    ensures no_schedule { PutsNoSchedule (change_meant result) }
 {
     Change {
         number,
@@ -135,7 +134,7 @@ fn tiploc_put(number: u32, code: Tiploc, view: &TiplocRecord<'_>) -> Change
       key = tiploc_key code;
       act = put (tiploc_details view.now);
     } }
-    ensures never_thin { IsNeverThin (change_meant result) }
+    ensures no_schedule { PutsNoSchedule (change_meant result) }
 {
     Change {
         number,
@@ -151,7 +150,7 @@ fn association_change(number: u32, view: &Assoc<'_>) -> Change
       key = association_named view.now;
       act = if is_deletion view.now then delete else put (association_body (as_new view.now));
     } }
-    ensures never_thin { IsNeverThin (change_meant result) }
+    ensures no_schedule { PutsNoSchedule (change_meant result) }
 {
     let act = match view.transaction() {
         Transaction::Delete => Act::Delete,

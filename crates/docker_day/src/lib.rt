@@ -28,6 +28,6 @@ pub use docker_line::DockerLine;
 pub use docker_list::Docker;
 pub use docker_state::{LedgerItem, Merge, State};
 pub use fault::DockerFault;
-pub use making::{docker, permanent_docker};
+pub use making::{docker, docker_in, permanent_docker};
 pub use print::{heading, last_line, text_of_line, write_docker};
 pub use train_choice::{Occasion, ScheduleView, chosen, falls, runs};

@@ -37,7 +37,7 @@ pub fn docker<'a>(
     ensures ok { IfOk result (IsDockerOf (live_table state.now) tiploc.now day) }
     ensures lapsed { (result ≡ Err DockerFault.Lapsed) ↔ IsDayRefused state.now.horizon day }
 {
-    docker_of(alloc, &Timetable::of(state), tiploc, day)
+    docker_in(alloc, &Timetable::of(state), tiploc, day)
 }
 
 /// Like `docker`, without the short-term plan: only schedules and associations with the STP
@@ -53,11 +53,11 @@ pub fn permanent_docker<'a>(
     ensures ok { IfOk result (IsDockerOf (permanent_table (live_table state.now)) tiploc.now day) }
     ensures lapsed { (result ≡ Err DockerFault.Lapsed) ↔ IsDayRefused state.now.horizon day }
 {
-    docker_of(alloc, &Timetable::permanent(state), tiploc, day)
+    docker_in(alloc, &Timetable::permanent(state), tiploc, day)
 }
 
-/// Makes the docker of a timing point and a day from a timetable.
-fn docker_of<'a>(
+/// Like `docker`, for the entries that count in a timetable.
+pub fn docker_in<'a>(
     alloc: Global,
     timetable: &Timetable<'a>,
     tiploc: &Tiploc,

@@ -5,4 +5,8 @@ pub mod GivenEntries
 pub mod NearFields
 pub mod NearWalk
 pub mod FinishedExcerpt
+pub mod ScheduleFields
+pub mod ThinLemmas
+pub mod ThinEnds
 pub mod ThinExcerpt
+pub mod ThinParts

@@ -18,7 +18,8 @@ use Rattle.docker_laws.proofs.dockers.ThinState.{live_of_summary, thin_live, thi
 use Rattle.cif_file.specs.FileRead.{FileRead, IsOfRecords}
 use Rattle.docker_excerpt.specs.Values.{with_entries, state_of_read, StandsAt}
 
-first_is : (lines : List (List ℕ)) → slice_index_or lines 0 [] ≡ first_record lines
+-- the line at index 0 is the first line
+pub first_is : (lines : List (List ℕ)) → slice_index_or lines 0 [] ≡ first_record lines
 first_is [] = refl
 first_is (line ∷ lines) = refl
 

@@ -3,3 +3,6 @@ pub mod ExcerptWalk
 pub mod DayWalk
 pub mod Values
 pub mod Ledger
+pub mod ThinRead
+pub mod ThinKept
+pub mod ThinEnded

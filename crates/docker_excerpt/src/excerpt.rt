@@ -1,12 +1,13 @@
 //! An excerpt of a state for a place and a day.
-ghost use Rattle.std.specs.Prelude.{◌≡◌, ℕ, List, IfOk};
+ghost use Rattle.std.specs.Prelude.{◌≡◌, ℕ, List, IfOk, false};
 ghost use Rattle.docker_laws.specs.FileSummary.{summary_of};
 ghost use Rattle.cif_file.specs.FileRead.{IsOfRecords};
 ghost use Rattle.docker_excerpt.specs.Values.{with_entries, StandsAt};
 
 use crate::given_file::given_of;
-use cif_file::ThinFile;
+use crate::thin_file::ThinFile;
 use cif_line::{Day, Memory, Tiploc};
+use docker_state::Timetable;
 use state_text::{Given, State};
 use std::alloc::Global;
 use std::fmt;
@@ -84,7 +85,8 @@ impl Excerpt {
         // instead of all changes of the file.
         let _header = file.header();
         let given = given_of(&file);
-        let part = State::of_thin(alloc, file)?;
+        let parts = file.into_parts();
+        let part = State::of_parts(alloc, parts)?;
         Ok(Excerpt::of(place, day, part, given))
     }
 
@@ -102,12 +104,14 @@ impl Excerpt {
         self.day
     }
 
-    /// The kept part of the state. The docker of the place and the day is made from it. It has the
-    /// state's horizon.
-    pub fn part(&self) -> &State
-        ensures stands { StandsAt self.now.place self.now.day self.now.state result.now }
-        ensures horizon { result.now.horizon ≡ self.now.state.horizon }
+    /// The timetable of the kept part of the state, which has the state's horizon. The docker of the
+    /// place and the day is made from it. A timetable can only be searched, so the part is never
+    /// taken for the whole state: no call joins, writes or sends it.
+    pub fn timetable(&self) -> Timetable<'_>
+        ensures stands { StandsAt self.now.place self.now.day self.now.state result.state }
+        ensures horizon { result.state.horizon ≡ self.now.state.horizon }
+        ensures all { result.permanent ≡ false }
     {
-        &self.part
+        Timetable::of(&self.part)
     }
 }

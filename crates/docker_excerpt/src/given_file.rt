@@ -3,7 +3,7 @@
 ghost use Rattle.std.specs.Prelude.{◌≡◌};
 ghost use Rattle.docker_excerpt.specs.Values.{state_of_read};
 
-use cif_file::ThinFile;
+use crate::thin_file::ThinFile;
 use state_text::Given;
 
 /// All entries of the state of a whole file, although `_file` has kept only some of the file's

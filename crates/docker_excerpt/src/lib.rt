@@ -2,6 +2,7 @@
 //! To list a state's files, a reader keeps only the ledger.
 #![tactic(auto)]
 
+mod changes_so_far;
 mod day_walk;
 mod excerpt;
 mod excerpting;
@@ -11,11 +12,20 @@ mod ledger;
 mod near;
 mod needs;
 mod place;
+mod place_day;
+mod reading;
+mod start_days;
+mod thin_file;
+mod thin_kept;
+mod thin_lines;
+mod thinned;
 mod walk;
 
-pub use cif_file::PlaceDay;
 pub use excerpt::Excerpt;
 pub use excerpting::Excerpting;
 pub use kept_ledger::KeptLedger;
 pub use ledger::Ledger;
 pub use place::ExcerptingAt;
+pub use place_day::PlaceDay;
+pub use reading::read_thin;
+pub use thin_file::ThinFile;

@@ -5,8 +5,8 @@ ghost use Rattle.docker_laws.specs.NearDay.{may_count};
 ghost use Rattle.cif_change.specs.Meaning.{key_meant};
 ghost use Rattle.docker_join.specs.Meaning.{op_meant};
 
+use crate::start_days::runs_near;
 use cif_change::{Body, Key};
-use cif_file::runs_near;
 use cif_line::Day;
 use state_text::Op;
 

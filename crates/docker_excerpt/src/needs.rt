@@ -3,6 +3,7 @@ ghost use Rattle.std.specs.Prelude.{◌≡◌, ◌||◌, ◌↔◌, map, true, C
 ghost use Rattle.std.specs.List.Sorted.{IsSorted};
 ghost use Rattle.docker_model.specs.state.Order.{bytes_cmp};
 ghost use Rattle.docker_laws.specs.ExcerptWalk.{is_here, name_in, is_call, goes_on};
+ghost use Rattle.docker_laws.specs.Thinning.{may_matter};
 ghost use Rattle.cif_change.specs.Meaning.{key_meant};
 ghost use Rattle.docker_join.specs.Meaning.{op_meant, row_meant};
 
@@ -19,6 +20,18 @@ pub(crate) fn is_here(place: &Tiploc, key: &Key) -> bool
         Key::Tiploc(code) => *code == *place,
         Key::Assoc(assoc) => assoc.location == *place,
         Key::Schedule(_) => false,
+    }
+}
+
+/// Whether the docker of a place may depend on the body under this key. It may if the key is the
+/// place's TIPLOC, the key of an association at the place, or the key of any schedule.
+pub(crate) fn may_matter(place: &Tiploc, key: &Key) -> bool
+    ensures { result ≡ may_matter place.now (key_meant key.now) }
+{
+    match key {
+        Key::Tiploc(_) => is_here(place, key),
+        Key::Assoc(_) => is_here(place, key),
+        Key::Schedule(_) => true,
     }
 }
 

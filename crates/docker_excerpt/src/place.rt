@@ -4,8 +4,8 @@ ghost use Rattle.std.specs.Prelude.{◌≡◌, []};
 
 use crate::excerpt::Excerpt;
 use crate::excerpting::Excerpting;
+use crate::place_day::PlaceDay;
 use cif_change::Key;
-use cif_file::PlaceDay;
 use cif_line::{Day, Memory, Tiploc};
 use state_text::{Entry, Keeper, LedgerItem, Maker};
 use std::alloc::Global;

@@ -5,7 +5,7 @@ ghost use Rattle.docker_model.specs.state.State.{live_table};
 ghost use Rattle.docker_day.specs.Dockers.{IsDockerOf};
 
 use docker_bytes::Excerpt;
-use docker_day::{Docker, DockerFault, docker};
+use docker_day::{Docker, DockerFault, docker_in};
 use std::alloc::Global;
 
 /// Makes the docker of the excerpt's place and day. Returns `Lapsed` if the state has a horizon and
@@ -17,5 +17,5 @@ pub(crate) fn docker_of(alloc: Global, excerpt: &Excerpt) -> Result<Docker<'_>, 
     ensures lapsed { (result ≡ Err DockerFault.Lapsed)
         ↔ IsDayRefused excerpt.now.state.horizon excerpt.now.day }
 {
-    docker(alloc, excerpt.part(), excerpt.place(), excerpt.day())
+    docker_in(alloc, &excerpt.timetable(), excerpt.place(), excerpt.day())
 }

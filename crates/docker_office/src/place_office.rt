@@ -12,10 +12,11 @@ ghost use Rattle.docker_office.specs.OfficeReads.{EndsReadingState, EndsTakingFi
 
 use crate::excerpt_docker::docker_of;
 use crate::fault::OfficeFault;
-use cif_file::{MOST_RECORDS, read_thin};
+use cif_file::MOST_RECORDS;
 use cif_line::{Day, Sink, Source, Tiploc};
 use docker_bytes::{Excerpt, read_excerpt};
 use docker_day::write_docker;
+use docker_excerpt::read_thin;
 use std::alloc::Global;
 use std::marker::Model;
 

@@ -20,7 +20,6 @@ use Rattle.cif_laws.proofs.files.FileChanges.{file_change}
 use Rattle.state_laws.proofs.states.SummaryValid.{summary_is_valid}
 use Rattle.state_laws.proofs.joins.RaisedHorizon.{plain_summary}
 use Rattle.cif_file.specs.FileRead.{FileRead}
-use Rattle.cif_file.specs.ThinRead.{ThinRead, thin_of_parts}
 use Rattle.cif_change.specs.Meaning.{change_meant}
 use Rattle.cif_change.specs.declared.key.Key.{Key}
 use Rattle.cif_file.specs.declared.parts.FileParts.{FileParts}
@@ -35,8 +34,6 @@ use Rattle.docker_state.specs.Meaning.{item_meant, state_meant}
 use Rattle.state_index.specs.Rooms.{Item, changed_items}
 use Rattle.docker_state.specs.Rows.{made_by}
 use Rattle.docker_state.specs.MadeState.{HaveRecords, IsMadeState, MakeValid}
-use Rattle.docker_laws.specs.Thinning.{IsThinning, IsStateOfChanges}
-use Rattle.docker_laws.proofs.dockers.ThinState.{kept_good, thin_valid}
 use Rattle.docker_join.proofs.MeantOrder.{ascending_meant}
 use Rattle.docker_state.proofs.StateJoin.{op_records}
 
@@ -91,14 +88,6 @@ made_records all have stamp made made_is = all_members (λ (row : Key × Entry).
 -- the bodies put by a file's changes consist of records
 pub file_records : (file : List (List ℕ)) → IsFile file → length file ≤ most_records → HaveRecords (changes file)
 file_records file is_file few change among = op_records change.key (op_of change.act) (file_change file is_file few change among).good.1
-
--- if changes are a thinning of a file's changes, the bodies that the thinning's changes put consist
--- of records
-pub thin_records : (place : List ℕ) (day : ℕ) (file : List (List ℕ)) → IsFile file → length file ≤ most_records → (all kept : List model.Change)
-    → all ≡ changes file → IsThinning place day all kept → HaveRecords kept
-thin_records place day file is_file few all kept all_are thinning change among =
-    op_records change.key (op_of change.act)
-    (kept_good place day file is_file few kept (subst (λ (a : List model.Change). IsThinning place day a kept) all_are thinning) change among).0.1
 
 -- an empty ledger with one item appended is the ledger of just this item
 pub one_item : (item : LedgerItem) (before ledger : List LedgerItem) → before ≡ [] → ledger ≡ before ++ item ∷ [] → map item_meant ledger ≡ item_meant item ∷ []
@@ -207,21 +196,6 @@ valid_of_made item all lines item_is all_is is_file few state is =
     (subst (λ (i : stamps.LedgerItem). IsMadeState i (changes lines) state) item_is (subst (λ (a : List model.Change). IsMadeState item a state) all_is is))
     is_file few
 
--- the state made from a file's ledger item and the kept changes of the file satisfies `IsStateOfChanges`, as the contract of `State::of_thin` states
-pub kept_state : (item : stamps.LedgerItem) (kept : List model.Change) (lines : List (List ℕ)) (state : State) → item ≡ ledger_item_of lines
-    → IsMadeState item kept state → IsStateOfChanges lines kept state
-kept_state item kept lines state item_is is =
-    let of = subst (λ (i : stamps.LedgerItem). IsMadeState i kept state) item_is is in
-    record { horizon = of.horizon; ledger = of.ledger; ascending = of.ascending; entries = of.entries }
-
--- if the kept changes of a file are a thinning for a place and a day, the state that they make is
--- valid
-pub valid_of_kept : (place : List ℕ) (day : ℕ) (item : stamps.LedgerItem) (all kept : List model.Change) (lines : List (List ℕ))
-    → item ≡ ledger_item_of lines → IsFile lines → length lines ≤ most_records → all ≡ changes lines → IsThinning place day all kept → MakeValid item kept
-valid_of_kept place day item all kept lines item_is is_file few all_are thinning state is =
-    thin_valid place day lines is_file few kept (subst (λ (a : List model.Change). IsThinning place day a kept) all_are thinning) state
-    (kept_state item kept lines state item_is is)
-
 -- suppose that rows have, for each key, the greatest of the entries that changes make. Then each of the rows is a row that some change makes
 pub rows_made_by : (file : FileStamp) (all : List model.Change) (made rows : List (Key × Entry)) → map row_meant made ≡ map (made_by file) all
     → ((key : model.Key) (entry : ops.Entry) → Contains (map row_meant rows) (key, entry) ↔ IsGreatestAmong (map row_meant made) key entry)
@@ -236,8 +210,3 @@ rows_made_by file all made rows made_is in_rows row among =
 -- if a file was read into `parts`, the changes in `parts` are the changes that the file makes
 pub changes_are : (file : FileRead) (parts : FileParts) → file_of_parts parts ≡ file → map change_meant parts.changes.items ≡ file.changes_made
 changes_are file parts same = ap (λ (f : FileRead). f.changes_made) same
-
--- if a file was read into `parts` for the docker of one place and day, the changes in `parts` are the thin changes that were kept
-pub kept_are : (file : ThinRead) (parts : FileParts) → thin_of_parts file.place file.day file.file.changes_made parts ≡ file
-    → map change_meant parts.changes.items ≡ file.kept
-kept_are file parts same = ap (λ (f : ThinRead). f.kept) same

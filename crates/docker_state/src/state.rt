@@ -10,7 +10,7 @@ ghost use Rattle.docker_model.specs.records.Date.{IsDay};
 ghost use Rattle.docker_model.specs.state.Lapse.{lapse_entries, lapse_table};
 ghost use Rattle.std.specs.Option.{option_copied, option_map};
 ghost use Rattle.cif_change.specs.Meaning.{key_meant};
-ghost use Rattle.docker_model.specs.state.Stamp.{IsFloor};
+ghost use Rattle.docker_model.specs.state.Stamp.{IsFloor, ledger_item_of};
 ghost use Rattle.docker_join.specs.Meaning.{entry_meant, file_stamp_meant, row_meant, floor_meant};
 ghost use Rattle.docker_join.specs.Room.{HasRoomOf};
 ghost use Rattle.docker_join.specs.Rows.{AreAscending};
@@ -19,7 +19,6 @@ ghost use Rattle.docker_model.specs.state.Table as tables;
 ghost use Rattle.docker_model.specs.state.Table.{IsPlainTable};
 ghost use Rattle.cif_file.specs.FileRead.{IsOfRecords};
 ghost use Rattle.cif_change.specs.Meaning.{change_meant};
-ghost use Rattle.docker_laws.specs.Thinning.{IsStateOfChanges};
 ghost use Rattle.docker_state.specs.Indexed.{HasRoomIfAny, IsIndexIfAny};
 ghost use Rattle.docker_state.specs.MadeState.{HaveRecords, IsMadeState, MakeValid};
 ghost use Rattle.docker_state.specs.Live.{live_rows, AreInKeyOrder};
@@ -35,7 +34,7 @@ use crate::place_rows::{PlaceRows, Walk};
 use crate::rows::{kept_rows, last_greatest, rows_made};
 use crate::sifted::{SiftedRows, count_calls};
 use crate::uid_rows::rows_of_uid;
-use cif_file::{CifFile, FileParts, Key, ThinFile};
+use cif_file::{CifFile, FileParts, Key};
 use cif_line::{Day, Memory, Tiploc, Uid};
 use docker_join::{Entry, FileStamp, Merge, Table, join_rows, lapse_rows};
 use state_index::Index;
@@ -183,15 +182,17 @@ impl State {
         }
     }
 
-    /// The state that the thin changes of a file make, for the docker of one place on one day. For
-    /// that place and day, the docker of this state is the docker of the whole file's state. The
-    /// state must not be used for anything else. If memory runs out, the thin changes are dropped.
-    pub fn of_thin(alloc: Global, file: ThinFile) -> Result<State, Memory>
-        ensures { (records : List (List ℕ)) → IsOfRecords file.file records
-            → IfOk result (IsStateOfChanges records file.kept) }
+    /// The state that the changes in these parts make. It has no index. The changes needn't be all
+    /// changes of the file whose header is in the parts. If memory runs out, the parts are dropped.
+    pub fn of_parts(alloc: Global, parts: FileParts) -> Result<State, Memory>
+        requires records { HaveRecords (map change_meant parts.changes.items) }
+        requires valid { MakeValid (ledger_item_of (parts.header ∷ []))
+            (map change_meant parts.changes.items) }
+        ensures { IfOk result (IsMadeState (ledger_item_of (parts.header ∷ []))
+            (map change_meant parts.changes.items)) }
     {
-        let item = item_of(&file.header());
-        match State::of_changes(alloc, item, file.into_parts(), None) {
+        let item = item_of(&parts.header.view());
+        match State::of_changes(alloc, item, parts, None) {
             Ok(state) => Ok(state),
             Err(_) => Err(Memory),
         }

@@ -1,8 +1,9 @@
 //! Tests that check which changes of a file are kept for the docker of one place on one day.
 
 use super::compare::same_in;
-use cif_file::{Act, Body, read_thin};
+use cif_file::{Act, Body};
 use cif_line::{Bytes, Day, Tiploc};
+use docker_excerpt::read_thin;
 use std::alloc::Global;
 use std::process::Abort;
 use test_records::files::PUT_AND_DELETED;

@@ -21,5 +21,5 @@ returns-in-Ok g c = record {
 
 pub returns-in-Err : goal.returns-in-Err
 returns-in-Err g c =
-    wants_none c.args.limit (g.S.Source.left c.args.source.now) (g.S.Source.left c.read_source.new.source)
-    (g.S.Source.failures c.args.source.now) (g.S.Source.failures c.read_source.new.source) c.in-Err.fault c.in-Err.ensures
+    wants_none c.args.limit (g.S.Source.left c.args.source.now) (g.S.Source.left c.read_kept.new.source)
+    (g.S.Source.failures c.args.source.now) (g.S.Source.failures c.read_kept.new.source) c.in-Err.fault c.in-Err.ensures

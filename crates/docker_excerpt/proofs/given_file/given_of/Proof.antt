@@ -27,7 +27,7 @@ use denote.Triple.Spec.{Meets, triple_of}
 use denote.Triple.Table.{entered}
 use denote.Triple.Walked.{says, stay_none_ref, Stays, walk_of, Walks, ends_at, walked, Goes-none_ref, walk_Meets}
 use Rattle.docker_excerpt.specs.Values.{state_of_read}
-use Rattle.cif_file.specs.contracts.thin_file.ThinFile as thin
+use Rattle.docker_excerpt.specs.contracts.thin_file.ThinFile as thin
 use Rattle.state_text.specs.contracts.given.Given as given
 use Rattle.docker_excerpt.specs.contracts.given_file.given_of as f
 use Rattle.docker_excerpt.specs.contracts.given_file.given_of.Key.{name as #self}

@@ -5,6 +5,7 @@ use Rattle.docker_model.specs.state.State.{State, live_table}
 use Rattle.docker_day.specs.DockerValue.{Docker}
 use Rattle.docker_day.specs.Dockers.{IsDockerOf}
 use Rattle.docker_excerpt.specs.Values.{StandsAt}
+use Rattle.docker_state.specs.Timetables.{live_in}
 use Rattle.docker_office.proofs.excerpt_docker.docker_of.Goals as goal
 
 -- a docker of the part, for the place and the day, is a docker of the state
@@ -20,7 +21,9 @@ docker_of_state place day state part stands docker made = record {
 pub returns-clause-ok : goal.returns-clause-ok
 returns-clause-ok c =
     let it = c.args.excerpt.now in
-    let part = c.part.result.now in
-    IfOk-weaker c.docker.result _ _ (docker_of_state it.place it.day it.state part c.part.ensures.stands)
-    (subst (λ place. IfOk c.docker.result (IsDockerOf (live_table part) place it.day)) c.place.ensures
-    (subst (λ day. IfOk c.docker.result (IsDockerOf (live_table part) c.place.result.now day)) c.day.ensures c.docker.ensures.ok))
+    let timetable = c.timetable.result in
+    IfOk-weaker c.docker_in.result _ _ (docker_of_state it.place it.day it.state timetable.state c.timetable.ensures.stands)
+    (subst (λ permanent. IfOk c.docker_in.result
+    (IsDockerOf (live_in (record { state = timetable.state; permanent = permanent })) it.place it.day)) c.timetable.ensures.all
+    (subst (λ place. IfOk c.docker_in.result (IsDockerOf (live_in timetable) place it.day)) c.place.ensures
+    (subst (λ day. IfOk c.docker_in.result (IsDockerOf (live_in timetable) c.place.result.now day)) c.day.ensures c.docker_in.ensures.ok)))

@@ -3,7 +3,16 @@
 use Rattle.std.proofs.Common.{ap, sym, ◌∙◌, subst}
 use Rattle.docker_excerpt.specs.Values.{Excerpt, with_entries, StandsAt}
 use Rattle.docker_excerpt.proofs.ThinExcerpt.{given_is_state, state_is_summary, thin_stands}
+use Rattle.docker_excerpt.proofs.ThinParts.{parts_records, parts_state, parts_valid}
 use Rattle.docker_excerpt.proofs.excerpt.Excerpt.of_file.Goals as goal
+
+pub of_parts-requires-clause-records : goal.of_parts-requires-clause-records
+of_parts-requires-clause-records c =
+    parts_records c.args.file.place c.args.file.day c.args.file.file.changes_made c.into_parts-parts.result c.into_parts-parts.ensures.parts
+
+pub of_parts-requires-clause-valid : goal.of_parts-requires-clause-valid
+of_parts-requires-clause-valid c =
+    parts_valid c.args.file.place c.args.file.day c.args.file.file.changes_made c.into_parts-parts.result c.into_parts-parts.ensures.parts
 
 pub of-requires : goal.of-requires
 of-requires c =
@@ -13,7 +22,7 @@ of-requires c =
     subst (λ place. StandsAt place c.args.day state c.in_ok-part.part) (sym c.requires.place)
     (subst (λ day. StandsAt c.args.file.place day state c.in_ok-part.part) (sym c.requires.day)
     (thin_stands c.args.file.place c.args.file.day c.args.file.file read.records read.of_records read.is_file read.few c.args.file.kept thin.thinning
-    c.in_ok-part.part (c.in_ok-part.ensures read.records read.of_records) c.given_of-given.result.entries c.given_of-given.ensures))
+    c.in_ok-part.part (parts_state c.args.file c.into_parts-parts.result c.into_parts-parts.ensures.thin read.records read.of_records c.in_ok-part.part c.in_ok-part.ensures) c.given_of-given.result.entries c.given_of-given.ensures))
 
 pub returns-clause-place : goal.returns-clause-place
 returns-clause-place c = ap (λ (it : Excerpt). it.place) c.of.ensures
@@ -24,6 +33,6 @@ returns-clause-day c = ap (λ (it : Excerpt). it.day) c.of.ensures
 pub returns-clause-state : goal.returns-clause-state
 returns-clause-state c = λ records of.
     ap (λ (it : Excerpt). it.state) c.of.ensures
-    ∙ given_is_state c.args.file.file records of c.args.file.kept c.in_ok-part.part (c.in_ok-part.ensures records of) c.given_of-given.result.entries
+    ∙ given_is_state c.args.file.file records of c.args.file.kept c.in_ok-part.part (parts_state c.args.file c.into_parts-parts.result c.into_parts-parts.ensures.thin records of c.in_ok-part.part c.in_ok-part.ensures) c.given_of-given.result.entries
     c.given_of-given.ensures
     ∙ state_is_summary c.args.file.file records of

@@ -1,6 +1,0 @@
--- The place and the day that the type gives are the place and the day that were passed to the
--- function.
-use Rattle.cif_file.proofs.read.read_thin.Given as goal
-
-abbrev pub ghosts-thin_at : goal.ghosts-thin_at
-ghosts-thin_at g a = record { place = a.place; day = a.day }

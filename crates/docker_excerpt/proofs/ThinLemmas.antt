@@ -1,0 +1,235 @@
+-- Lemmas on why the changes that are kept are enough for the docker of one place on one day. The thin form of a change (`thin_change`) has only what this
+-- docker needs.
+use Rattle.std.proofs.Common.{◌≡◌, ℕ, ◌∙◌, inl, inr, Bool, true, false, cond, List, [], ◌∷◌, ◌++◌}
+use Rattle.std.proofs.Common.{length, map, subst, refl, ap, sym, Some, None, arith, append_assoc}
+use Rattle.std.specs.Global.{Vec}
+use Rattle.std.proofs.lemmas.List.{map-append}
+use Rattle.std.specs.Prelude.{Option, Contains, ◌⊎◌, ◌||◌, not}
+use Rattle.std.specs.Ordering.{on, is_eq}
+use Rattle.std.specs.BTreeSet as set
+use Rattle.std.specs.BTreeSet.{BTreeSet}
+use Rattle.std.specs.BTreeMap.{is_at}
+use Rattle.std.specs.declared.cmp.Ordering.{Ordering}
+use Rattle.std.specs.Cmp.{tied_itself}
+use Rattle.std.proofs.lemmas.List.Elements.{Contains-append_cases}
+use Rattle.cif_laws.proofs.lists.Membership.{nil-Contains, Contains-single}
+use Rattle.docker_model.specs.records.Field.{is_deletion, as_new}
+use Rattle.docker_model.specs.file.File.{IsSchedule}
+use Rattle.docker_model.specs.file.Change.{Change, Act, tiploc_body, association_body, schedule_body, delete, put}
+use Rattle.docker_model.specs.state.Op.{key_cmp}
+use Rattle.cif_laws.proofs.orders.Orders.{key_total}
+use Rattle.docker_laws.specs.NearDay.{runs_near}
+use Rattle.docker_laws.specs.Thinning.{may_matter, thin_act, thin_change, lines_for, HasNoChangeOf, IsThinning}
+use Rattle.docker_laws.proofs.dockers.ThinChanges.{thinning_at_first, thinning_kept, thinning_dropped, thinning_elsewhere, act_far, near_of_new}
+use Rattle.cif_change.specs.declared.change.Change as code
+use Rattle.cif_change.specs.declared.key.Key.{Key}
+use Rattle.cif_change.specs.declared.key.Key.TheVariants as key
+use Rattle.cif_change.specs.JourneyRead.{progress_meant, HasLines}
+use Rattle.cif_change.specs.Meaning.{change_meant, key_meant}
+use Rattle.cif_file.specs.declared.opened.Opened.{Opened}
+use Rattle.docker_excerpt.specs.declared.thinned.Thinned.{Thinned}
+use Rattle.cif_file.specs.KeeperRead.{change_opened, with_new_first}
+use Rattle.cif_file.specs.MadeChanges.{HasMade, Makes}
+use Rattle.cif_file.specs.SingleChanges.{puts_schedule, PutsNoSchedule, listed_after}
+use Rattle.docker_excerpt.specs.ThinKept.{has_key, HasKeysOf, HasThinned, Thins, ThinsAll, SaysRunsNear}
+
+abbrev Lines : Type 0
+Lines = List (List ℕ)
+
+-- the definitions' order of keys, applied to keys of the code
+abbrev cmp : Key → Key → Ordering
+cmp = on key_meant key_cmp
+
+-- Says that the new set is the old set with one key added.
+abbrev pub HasOneMore : BTreeSet Key → Key → BTreeSet Key → Type 0
+HasOneMore old key new = set.Updates cmp old new key true
+
+still_has : (old new : BTreeSet Key) (added key : Key) → HasOneMore old added new → has_key old key ≡ true → has_key new key ≡ true
+still_has old new added key more has = more.0 key ∙ by (is_at (cmp added) key) has
+  where
+    by : (b : Bool) → has_key old key ≡ true → cond b true (has_key old key) ≡ true
+    by true had = refl
+    by false had = had
+
+has_added : (old new : BTreeSet Key) (added key : Key) → HasOneMore old added new → key_meant key ≡ key_meant added → has_key new key ≡ true
+has_added old new added key more same =
+    more.0 key ∙ (λ i. cond (is_eq (key_cmp (key_meant added) (same i))) true (has_key old key))
+    ∙ (λ i. cond (is_eq (tied_itself key_total (key_meant added) i)) true (has_key old key))
+
+-- after keeping a change and adding its key to the set, the set has the keys of all kept changes
+keys_of_more : (old new : BTreeSet Key) (added : code.Change) (kept : List Change) → HasOneMore old added.key new → HasKeysOf old kept
+    → HasKeysOf new (kept ++ change_meant added ∷ [])
+keys_of_more old new added kept more known change among key same = by (Contains-append_cases kept (change_meant added ∷ []) change among)
+  where
+    by : Contains kept change ⊎ Contains (change_meant added ∷ []) change → has_key new key ≡ true
+    by (inl before) = still_has old new added.key key more (known change before key same)
+    by (inr last) =
+        has_added old new added.key key more (same ∙ sym (ap (λ (c : Change). c.key) (Contains-single (change_meant added) change last)))
+
+-- pushing a change appends it to the changes
+pub makes_pushed : (old : Vec code.Change) (change : code.Change) (new : Vec code.Change) → new.items ≡ old.items ++ change ∷ []
+    → Makes old (change_meant change ∷ []) new
+makes_pushed old change new pushed before made =
+    ap (map change_meant) pushed ∙ map-append change_meant old.items (change ∷ []) ∙ ap (λ all. all ++ change_meant change ∷ []) made
+
+-- before the first change, no change has to be kept: the empty list is a thinning of the empty list
+pub none_thinned : (place : List ℕ) (day : ℕ) (thinned : Thinned) → thinned.place ≡ place → thinned.day ≡ day → HasMade thinned.made []
+    → HasThinned place day thinned []
+none_thinned place day thinned there dated made = record {
+  place_is = there;
+  day_is = dated;
+  kept = [];
+  made = made;
+  thinning = thinning_at_first place day;
+  known = λ change among. absurd (nil-Contains change among);
+}
+
+module _ (place : List ℕ) (day : ℕ) (old new : Thinned) (whole : Change) where
+  -- a change whose key may matter can be kept in its thin form
+  pub thin_kept : (change : code.Change) → new.place ≡ old.place → new.day ≡ old.day → HasOneMore old.keys change.key new.keys
+      → Makes old.made (change_meant change ∷ []) new.made → may_matter place whole.key ≡ true → thin_change place day whole ≡ change_meant change
+      → Thins place day old whole new
+  thin_kept change there dated more made matters same all has = record {
+    place_is = there ∙ has.place_is;
+    day_is = dated ∙ has.day_is;
+    kept = has.kept ++ change_meant change ∷ [];
+    made = made has.kept has.made;
+    thinning =
+        subst (λ (c : Change). IsThinning place day (all ++ whole ∷ []) (has.kept ++ c ∷ [])) same
+        (thinning_kept place day all has.kept whole has.thinning matters);
+    known = keys_of_more old.keys new.keys change has.kept more has.known;
+  }
+
+  -- a change whose key can't matter at the place can be dropped
+  pub elsewhere_dropped : new ≡ old → may_matter old.place whole.key ≡ false → Thins place day old whole new
+  elsewhere_dropped same apart all has = subst (λ (t : Thinned). HasThinned place day t (all ++ whole ∷ [])) (sym same) (record {
+    place_is = has.place_is;
+    day_is = has.day_is;
+    kept = has.kept;
+    made = has.made;
+    thinning = thinning_elsewhere place day all has.kept whole has.thinning (ap (λ p. may_matter p whole.key) (sym has.place_is) ∙ apart);
+    known = has.known;
+  })
+
+  -- a change whose thin form is a deletion can be dropped if no change to its key was kept
+  pub deletion_dropped : (key : Key) → new ≡ old → has_key old.keys key ≡ false → whole.key ≡ key_meant key → thin_act place day whole.act ≡ delete
+      → Thins place day old whole new
+  deletion_dropped key same none named deletes all has = subst (λ (t : Thinned). HasThinned place day t (all ++ whole ∷ [])) (sym same) (record {
+    place_is = has.place_is;
+    day_is = has.day_is;
+    kept = has.kept;
+    made = has.made;
+    thinning = thinning_dropped place day all has.kept whole has.thinning deletes (unknown has.kept has.known);
+    known = has.known;
+  })
+    where
+      unknown : (kept : List Change) → HasKeysOf old.keys kept → HasNoChangeOf whole.key kept
+      unknown kept known change among is = let bad = known change among key (sym named ∙ sym is) in let both : true ≡ false = sym bad ∙ none in cc
+
+-- an act that puts no schedule is its own thin form
+never_thin : (place : List ℕ) (day : ℕ) (act : Act) → puts_schedule act ≡ false → thin_act place day act ≡ act
+never_thin place day delete none = refl
+never_thin place day (put (tiploc_body details)) none = refl
+never_thin place day (put (association_body line)) none = refl
+never_thin place day (put (schedule_body lines)) none = absurd (let bad : true ≡ false = none in cc)
+
+-- if a change puts no schedule, the thin form of the change is the change itself
+pub never_thin_change : (place : List ℕ) (day : ℕ) (change : Change) → PutsNoSchedule change → thin_change place day change ≡ change
+never_thin_change place day change none = λ i. record { number = change.number; key = change.key; act = never_thin place day change.act none i }
+
+-- ---- the change of a schedule
+
+module _ (place : List ℕ) (day : ℕ) (opened : Opened) (near : Bool) where
+  -- if a schedule is a deletion, the thin form of its change is a deletion
+  deletes_itself : (lines : Lines) → (progress_meant opened.progress).deletion ≡ true → thin_act place day (change_opened opened lines).act ≡ delete
+  deletes_itself lines deletion = λ i. thin_act place day (cond (deletion i) delete (put (schedule_body (with_new_first lines))))
+
+  module _ (basic : List ℕ) (others : Lines) (is : SaysRunsNear day (basic ∷ others) near) where
+    abbrev renewed : Lines
+    renewed = as_new basic ∷ others
+
+    -- unless the schedule is a deletion, setting its transaction to N doesn't change whether it runs near the day
+    near_renewed : is_deletion basic ≡ false → runs_near day (as_new basic) ≡ near
+    near_renewed stays = near_of_new day basic ∙ sym (is stays)
+
+    act_put : (progress_meant opened.progress).deletion ≡ false → (change_opened opened (basic ∷ others)).act ≡ put (schedule_body renewed)
+    act_put stays = λ i. cond (stays i) delete (put (schedule_body renewed))
+
+  -- the thin form of a schedule's change is a deletion if the schedule is a deletion or doesn't run near the day
+  pub opened_deletes : (lines : Lines) → HasLines (progress_meant opened.progress) lines → IsSchedule lines → SaysRunsNear day lines near
+      → ((progress_meant opened.progress).deletion ≡ true) ⊎ (near ≡ false) → thin_act place day (change_opened opened lines).act ≡ delete
+  opened_deletes lines read whole is (inl deletion) = deletes_itself lines deletion
+  opened_deletes [] read whole is (inr far) = absurd (let size = ap (λ (l : Lines). length l) whole.whole in omega arith)
+  opened_deletes (basic ∷ others) read whole is (inr far) = by (progress_meant opened.progress).deletion refl
+    where
+      by : (b : Bool) → (progress_meant opened.progress).deletion ≡ b → thin_act place day (change_opened opened (basic ∷ others)).act ≡ delete
+      by true h = deletes_itself (basic ∷ others) h
+      by false h =
+          ap (thin_act place day) (act_put basic others is h)
+          ∙ act_far place day (renewed basic others is) (near_renewed basic others is (sym read.deletion_is ∙ h) ∙ far)
+
+  -- if a schedule isn't a deletion and runs near the day, the thin form of its change puts only the
+  -- lines that the docker of the place needs
+  pub opened_puts : (lines : Lines) → HasLines (progress_meant opened.progress) lines → IsSchedule lines → SaysRunsNear day lines near
+      → (progress_meant opened.progress).deletion ≡ false → near ≡ true
+      → thin_act place day (change_opened opened lines).act ≡ put (schedule_body (lines_for place (with_new_first lines)))
+  opened_puts [] read whole is stays runs = absurd (let size = ap (λ (l : Lines). length l) whole.whole in omega arith)
+  opened_puts (basic ∷ others) read whole is stays runs =
+      ap (thin_act place day) (act_put basic others is stays)
+      ∙ (λ i. cond ((near_renewed basic others is (sym read.deletion_is ∙ stays) ∙ runs) i)
+      (put (schedule_body (lines_for place (as_new basic ∷ others)))) delete)
+
+-- a key that may matter at the place of a `Thinned` may matter at the docker's place, since the two places are equal
+pub matters_here : (place : List ℕ) {day : ℕ} (change : Change) {thinned : Thinned} {all : List Change} (has : HasThinned place day thinned all)
+    → may_matter thinned.place change.key ≡ true → may_matter place change.key ≡ true
+matters_here place change has matters = ap (λ p. may_matter p change.key) (sym has.place_is) ∙ matters
+
+-- a change whose thin form is a deletion can be kept as a deletion with the same number and key
+pub deletion_kept : (place : List ℕ) (day : ℕ) (whole : Change) (number : ℕ) (key : Key) → whole.number ≡ number → whole.key ≡ key_meant key
+    → thin_act place day whole.act ≡ delete → thin_change place day whole ≡ record { number = number; key = key_meant key; act = delete }
+deletion_kept place day whole number key numbered named deletes = λ i. record { number = numbered i; key = named i; act = deletes i }
+
+-- ---- the changes of a record that is a unit by itself
+
+module _ (place : List ℕ) (day : ℕ) (old new : Thinned) (first : Option code.Change) (last : Change) where
+  -- if a record makes one change, a `Thinned` that has received this change has received all changes of the record
+  pub one_taken : first ≡ None → Thins place day old last new → ThinsAll place day old (listed_after first last) new
+  one_taken none thins = subst (λ f. ThinsAll place day old (listed_after f last) new) (sym none) thins
+
+  -- if a record makes two changes, a `Thinned` that has received one after the other has received all changes of the record
+  pub two_taken : (change : code.Change) (between : Thinned) → first ≡ Some change → Thins place day old (change_meant change) between
+      → Thins place day between last new → ThinsAll place day old (listed_after first last) new
+  two_taken change between some takes thins =
+      subst (λ f. ThinsAll place day old (listed_after f last) new) (sym some)
+      (λ all has. subst (HasThinned place day new) (append_assoc all (change_meant change ∷ []) (last ∷ []))
+      (thins (all ++ change_meant change ∷ []) (takes all has)))
+
+-- ---- the test `a || not b`
+
+-- if `a || not b` is true, `a` is true or `b` is false
+pub either : (a b : Bool) → (a || not b) ≡ true → (a ≡ true) ⊎ (b ≡ false)
+either true b h = inl refl
+either false false h = inr refl
+either false true h = absurd cc
+
+-- if `a || not b` is false, `a` is false and `b` is true
+pub neither : (a b : Bool) → (a || not b) ≡ false → (a ≡ false) × (b ≡ true)
+neither true b h = absurd cc
+neither false false h = absurd cc
+neither false true h = (refl, refl)
+
+-- if a schedule runs near the day, the change that is kept for it is the thin form of the schedule's change
+pub opened_kept : (place : List ℕ) (day : ℕ) (opened : Opened) (near : Bool) (lines : Lines) → HasLines (progress_meant opened.progress) lines
+    → IsSchedule lines → SaysRunsNear day lines near → (progress_meant opened.progress).deletion ≡ false → near ≡ true
+    → (thinned : Thinned) → thinned.place ≡ place → (renewed : Lines) → renewed ≡ with_new_first lines
+    → (body : Lines) → body ≡ lines_for thinned.place renewed
+    → thin_change place day (change_opened opened lines)
+    ≡ record { number = opened.number; key = key_meant (key.Schedule opened.key); act = put (schedule_body body) }
+opened_kept place day opened near lines read whole is stays runs thinned there renewed same body needed = λ i. record {
+  number = opened.number;
+  key = key_meant (key.Schedule opened.key);
+  act = (opened_puts place day opened near lines read whole is stays runs ∙ ap (λ b. put (schedule_body b)) (sym needs)) i;
+}
+  where
+    needs : body ≡ lines_for place (with_new_first lines)
+    needs = needed ∙ ap (λ p. lines_for p renewed) there ∙ ap (lines_for place) same

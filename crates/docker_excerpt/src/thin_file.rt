@@ -1,0 +1,93 @@
+//! Thin files: what was kept of a CIF file for the docker of one place on one day.
+ghost use Rattle.std.specs.Prelude.{◌≡◌};
+ghost use Rattle.docker_excerpt.specs.ThinRead.{AreThinParts, IsThinRead, thin_of_parts};
+ghost use Rattle.docker_excerpt.specs.ThinEnded.{thin_parts_ended, thin_ended};
+
+use crate::changes_so_far::ChangesSoFar;
+use crate::place_day::PlaceDay;
+use crate::thin_kept::ThinSoFar;
+use crate::thinned::Thinned;
+use cif_file::{Ended, FileParts};
+use cif_line::{Day, Header, Tiploc};
+use std::marker::Model;
+
+/// What was kept of a CIF file for the docker of one place on one day: the header, and those
+/// changes that this docker needs. A thin file must not be used for any other docker. In proofs,
+/// its model also includes all changes of the file.
+#[derive(Debug, Drop)]
+pub struct ThinFile {
+    place: Tiploc,
+    day: Day,
+    parts: FileParts,
+    so_far: ChangesSoFar,
+}
+
+impl Model for ThinFile {
+    ghost use Rattle.docker_excerpt.specs.ThinRead.{ThinRead, AreThinParts, thin_of_parts};
+
+    ghost Value = { ThinRead };
+
+    ghost view = { λ thin. thin_of_parts thin.place thin.day thin.so_far.changes thin.parts };
+
+    ghost invariant = { λ thin.
+        AreThinParts thin.place thin.day thin.so_far.changes thin.parts };
+}
+
+impl ThinFile {
+    /// Makes a thin file from these parts, which were kept for this place and day. `so_far` records
+    /// all changes of the file for proofs.
+    pub(crate) fn of(place: Tiploc, day: Day, parts: FileParts, so_far: ChangesSoFar) -> ThinFile
+        requires { AreThinParts place day so_far.changes parts }
+        ensures { result ≡ thin_of_parts place day so_far.changes parts }
+    {
+        ThinFile {
+            place,
+            day,
+            parts,
+            so_far,
+        }
+    }
+
+    /// A view of the file's header.
+    pub fn header(&self) -> Header<'_>
+        ensures header { result ≡ self.now.file.header_line }
+        ensures read { IsThinRead self.now }
+    {
+        self.parts.header.view()
+    }
+
+    /// Takes the thin file apart. The parts have only the changes that were kept.
+    pub fn into_parts(self) -> FileParts
+        ensures thin { thin_of_parts self.place self.day self.file.changes_made result ≡ self }
+        ensures parts { AreThinParts self.place self.day self.file.changes_made result }
+    {
+        let ThinFile { parts, .. } = self;
+        parts
+    }
+}
+
+/// Makes a thin file from what the keeper kept of a CIF file.
+pub(crate) fn thin_of<P: PlaceDay>(ended: Ended<ThinSoFar<P>>) -> ThinFile
+    requires { AreThinParts ended.keeper.thinned.place ended.keeper.thinned.day
+        ended.keeper.so_far.changes (thin_parts_ended ended) }
+    ensures { result ≡ thin_ended ended }
+{
+    let Ended {
+        header,
+        records,
+        keeper,
+    } = ended;
+    let (thinned, so_far) = keeper.into_kept();
+    let Thinned {
+        place,
+        day,
+        made,
+        ..
+    } = thinned;
+    let parts = FileParts {
+        header,
+        records,
+        changes: made,
+    };
+    ThinFile::of(place, day, parts, so_far)
+}

@@ -1,0 +1,149 @@
+//! The changes of a file that are kept for the docker of one place on one day.
+ghost use Rattle.std.specs.Prelude.{◌≡◌, ℕ, [], List, true, OnOk};
+ghost use Rattle.docker_model.specs.file.Change as model;
+ghost use Rattle.docker_model.specs.file.Change.{delete};
+ghost use Rattle.docker_laws.specs.Thinning.{may_matter, thin_act, thin_change};
+ghost use Rattle.cif_change.specs.Meaning.{change_meant, key_meant};
+ghost use Rattle.cif_file.specs.SingleChanges.{PutNoSchedules, PutsNoSchedule, listed};
+ghost use Rattle.docker_excerpt.specs.ThinKept.{has_key, HasThinned, Thins, ThinsAll, ThinsOpened};
+
+use crate::needs::may_matter;
+use crate::thin_lines::lines_for;
+use cif_change::{Act, Body, Change, Key};
+use cif_file::{Opened, SingleChanges};
+use cif_line::{Day, Line, Tiploc};
+use std::alloc::{AllocError, Global};
+use std::collections::BTreeSet;
+
+/// The changes that are kept for the docker of one place on one day, and the set of their keys.
+#[derive(Debug, Drop)]
+pub(crate) struct Thinned {
+    alloc: Global,
+    pub(crate) place: Tiploc,
+    pub(crate) day: Day,
+    keys: BTreeSet<Key>,
+    pub(crate) made: Vec<Change>,
+}
+
+impl Thinned {
+    /// A `Thinned` that has kept nothing yet.
+    pub(crate) fn new(alloc: Global, place: Tiploc, day: Day) -> Thinned
+        ensures { HasThinned place day result [] }
+    {
+        Thinned {
+            alloc,
+            place,
+            day,
+            keys: BTreeSet::new(alloc),
+            made: Vec::new(alloc),
+        }
+    }
+
+    /// The day of the docker.
+    pub(crate) fn day(&self) -> Day
+        ensures { result ≡ self.now.day }
+    {
+        self.day
+    }
+
+    /// Whether a change to this key was kept. In most extracts the changes are nearly sorted by
+    /// key. So the function first compares the key with the greatest kept key, which needs no
+    /// search.
+    fn has_kept(&self, key: &Key) -> bool
+        ensures { result ≡ has_key self.now.keys key.now }
+    {
+        let Some(greatest) = self.keys.last() else {
+            return false;
+        };
+        if *greatest < *key {
+            return false;
+        }
+        self.keys.contains(key)
+    }
+
+    /// Appends a change that is to be kept, and adds its key to the set. The change already
+    /// contains only what the docker needs.
+    fn keep(&mut self, change: Change) -> Result<(), AllocError>
+        ensures { OnOk result ((place : List ℕ) (day : ℕ) (whole : model.Change)
+            → may_matter place whole.key ≡ true
+            → thin_change place day whole ≡ change_meant change
+            → Thins place day self.old whole self.new) }
+    {
+        match self.keys.insert(change.key) {
+            Ok(_) => {
+                self.made.push(change)?;
+                Ok(())
+            }
+            Err(_) => Err(AllocError),
+        }
+    }
+
+    /// Keeps the change of a TIPLOC or an association unaltered if the change's key may matter at
+    /// the place. Drops the change otherwise.
+    fn add(&mut self, change: Change) -> Result<(), AllocError>
+        ensures { OnOk result (PutsNoSchedule (change_meant change)
+            → (place : List ℕ) (day : ℕ) → Thins place day self.old (change_meant change) self.new) }
+    {
+        if !may_matter(&self.place, &change.key) {
+            return Ok(());
+        }
+        self.keep(change)
+    }
+
+    /// Keeps or drops the one or two changes of a record that is a unit by itself.
+    pub(crate) fn add_single(&mut self, changes: SingleChanges) -> Result<(), AllocError>
+        requires { PutNoSchedules changes }
+        ensures { OnOk result ((place : List ℕ) (day : ℕ)
+            → ThinsAll place day self.old (listed changes) self.new) }
+    {
+        let SingleChanges { first, last } = changes;
+        match first {
+            None => self.add(last),
+            Some(change) => {
+                self.add(change)?;
+                self.add(last)
+            }
+        }
+    }
+
+    /// Receives a change after which the docker doesn't need the schedule with this key. If an
+    /// earlier change to the key was kept, a deletion is kept. Otherwise nothing is kept.
+    fn delete(&mut self, number: u32, key: Key) -> Result<(), AllocError>
+        ensures { OnOk result ((place : List ℕ) (day : ℕ) (whole : model.Change)
+            → whole.number ≡ number → whole.key ≡ key_meant key
+            → may_matter place whole.key ≡ true → thin_act place day whole.act ≡ delete
+            → Thins place day self.old whole self.new) }
+    {
+        if !self.has_kept(&key) {
+            return Ok(());
+        }
+        self.keep(Change {
+            number,
+            key,
+            act: Act::Delete,
+        })
+    }
+
+    /// Receives the change of a schedule with these lines. `runs_near` says whether the
+    /// schedule runs near the day, and has no meaning for a deletion.
+    pub(crate) fn add_opened(
+        &mut self,
+        opened: Opened,
+        runs_near: bool,
+        lines: &[Line],
+    ) -> Result<(), AllocError>
+        ensures { OnOk result ((place : List ℕ) (day : ℕ)
+            → ThinsOpened place day self.old opened runs_near lines.now self.new) }
+    {
+        let key = Key::Schedule(opened.key);
+        if opened.progress.is_deletion() | !runs_near {
+            return self.delete(opened.number, key);
+        }
+        let body = lines_for(self.alloc, &self.place, lines)?;
+        self.keep(Change {
+            number: opened.number,
+            key,
+            act: Act::Put(Body::Schedule(body)),
+        })
+    }
+}
