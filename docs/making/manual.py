@@ -254,6 +254,8 @@ def requests():
     as_in_code(FORMATS, [usage for usage, _, of in listed if of != "any"], REQUESTS, [usage for usage, writes in rows if writes == "true"])
     usages = [" | ".join(usage for usage, writes in rows if writes == needed) for needed in ("false", "true")]
     as_in_code(FORMATS, codes(section(FORMATS, "The answers of a desk"))[0], REQUESTS, [f"desk: usage: [--write] STATE, and then a line for each request: {usages[0]} | with --write {usages[1]}"])
+    lines = [f"with --write {usage}" if writes == "true" else usage for usage, writes in rows]
+    as_in_code(FORMATS, codes(section(FORMATS, "The words of a desk"))[0][1:], REQUESTS, lines)
     text = "".join(item(words(usage), sentence(what) + ("" if of == "any" else " With `--write` only.")) for usage, what, of in listed)
     return text + prose(*paragraphs(told), part("Its files")[0])
 
@@ -296,7 +298,7 @@ def desk():
     ends = section(MANUAL, "How it ends", "###")
     return page(
         *("docker-desk", "station dockers of one state, a request a line", "MANUAL.md, FORMATS.md, examples/office and office/causes"),
-        ("SYNOPSIS", r"\fB\*[program]\-desk\fR \fB[\-\-write]\fR \fISTATE\fR" + "\n"),
+        ("SYNOPSIS", "\n.br\n".join(rf"\fB\*[program]\-desk\fR {given}" for given in (r"\fB[\-\-write]\fR \fISTATE\fR", r"\fB\-\-help\fR", r"\fB\-\-version\fR")) + "\n"),
         ("DESCRIPTION", prose(*part("What it is"))),
         ("REQUESTS", requests()),
         ("ANSWERS", prose(*desk_answers(), part("How it ends")[0])),

@@ -14,6 +14,28 @@ desk: usage: [--write] STATE, and then a line for each request: print TIPLOC DAT
 | trains IDENTITY DATE | files | places | known | renew | with --write take FILE | merge OTHER \
 | horizon DATE | save";
 
+/// What `--help` prints: 305 bytes with the line feeds.
+pub(crate) const HELP: Lines = &[
+    b"desk: usage: [--write] STATE, and then a line for each request:",
+    b"print TIPLOC DATE",
+    b"permanent TIPLOC DATE",
+    b"detail TIPLOC DATE",
+    b"permanent-detail TIPLOC DATE",
+    b"train UID DATE",
+    b"trains IDENTITY DATE",
+    b"files",
+    b"places",
+    b"known",
+    b"renew",
+    b"with --write take FILE",
+    b"with --write merge OTHER",
+    b"with --write horizon DATE",
+    b"with --write save",
+];
+
+/// What `--version` prints: 32 bytes with the line feed.
+pub(crate) const VERSION: Lines = &[b"desk: STATE has the format DKS2"];
+
 /// The line on a device that failed.
 const DEVICE_LINE: &[u8] = b"docker: device failed";
 

@@ -25,6 +25,8 @@ mod lists;
 #[cfg(test)]
 mod permanent;
 #[cfg(test)]
+mod questions;
+#[cfg(test)]
 mod records;
 #[cfg(test)]
 mod requests;

@@ -11,9 +11,11 @@ mod FixedLemmas
 mod TrainLemmas
 mod ReadingLemmas
 mod StepLemmas
+mod HelpLemmas
 mod ServeLemmas
 mod LookLemmas
 mod ReplacingLemmas
+mod UnsavedLemmas
 mod HeardLemmas
 mod GainLemmas
 mod WitnessLemmas

@@ -19,7 +19,7 @@ use Rattle.docker_desk.proofs.LookLemmas.{good_first, good_steps}
 module _ (standing : Standing) (name : Text) (history : List Event) (look : ℕ) where
   -- if a look directly precedes an opening, and the file has held the same bytes since the look, these
   -- are the bytes that were opened
-  opened_own : (rest : List Event) (opening : IsBeforeOpening name history look) → IsStandingOf standing (history ++ rest)
+  pub opened_own : (rest : List Event) (opening : IsBeforeOpening name history look) → IsStandingOf standing (history ++ rest)
       → IsStill standing name look (length history) → standing (length history) name ≡ opening.held
   opened_own rest opening are still =
       let front = opening.earlier ++ looked name ∷ [] in
@@ -39,7 +39,7 @@ module _ (standing : Standing) (name : Text) (history : List Event) (look : ℕ)
 
   -- if a look directly follows the replacement of a file, and the file has held the same bytes since
   -- the look, these are the bytes of the draft
-  placed_own : (rest : List Event) (placing : IsAfterPlacing name history look) → IsStandingOf standing (history ++ rest)
+  pub placed_own : (rest : List Event) (placing : IsAfterPlacing name history look) → IsStandingOf standing (history ++ rest)
       → IsStill standing name look (length history) → standing (length history) name ≡ placing.bytes
   placed_own rest placing are still =
       let more = looked name ∷ placing.later in

@@ -13,7 +13,7 @@ use Rattle.docker_desk.specs.Desk.{DeskView, IsWhyNot, RefusesToReceive}
 use Rattle.docker_desk.specs.Reading.{LooksAndOpens, Reading, StopsInState, opening_of}
 use Rattle.docker_desk.specs.declared.ending.Ending.{Ending}
 use Rattle.docker_desk.specs.SessionViews.{SessionView, session_view, setting}
-use Rattle.docker_desk.specs.Serving.{BeginsAt, EndsOpening, EndsWithStatus, LeavesStreams, NamesSession, Serves}
+use Rattle.docker_desk.specs.Serving.{BeginsAt, EndsOpening, EndsWithStatus, LeavesStreams, NamesSession, ServesSession}
 use Rattle.docker_desk.proofs.WritingLemmas.{both_taken, part_of_back, part_of_front}
 
 -- if a text was written and then a second text, their concatenation was written
@@ -52,7 +52,7 @@ pub still : (before after : ℕ) → IsCounted 0 before after → after ≡ befo
 still before after counted = counted.1 (λ four. omega arith)
 
 -- if a session started, its lines were answered and its end was reported, the session was served as
--- the contract of `serve` says
+-- the contract of `serve_session` says
 pub served : (words : List Text) (names_bytes : Bool) (old new : HostView) (status : ℕ) (name : Text) (may_write : Bool) (first last : SessionView)
     (ending : Ending) (unsaved : Bool)
     → NamesSession words name may_write → BeginsAt name old.history first → first.failures ≡ old.folder_failures
@@ -60,7 +60,7 @@ pub served : (words : List Text) (names_bytes : Bool) (old new : HostView) (stat
     → new.history ≡ last.history → new.folder_failures ≡ last.failures
     → CountsStreams ending old.input_failures new.input_failures old.output_failures new.output_failures
     → (old.ended ≡ false → new.passed ≡ old.passed) → EndsWithStatus ending unsaved status (faults_of old) (faults_of new)
-    → unsaved ≡ may_write && last.desk.unsaved → Serves words names_bytes old new status
+    → unsaved ≡ may_write && last.desk.unsaved → ServesSession words names_bytes old new status
 served words names_bytes old new status name may_write first last ending unsaved named begins none answers history failures counts not_passed ends same =
     inr (inr (record {
       name = name;
@@ -87,20 +87,20 @@ pub served_as : (words : List Text) (names_bytes : Bool) (seen old new : HostVie
     → new.history ≡ last.history → new.folder_failures ≡ last.failures
     → CountsStreams ending seen.input_failures new.input_failures seen.output_failures new.output_failures
     → (seen.ended ≡ false → new.passed ≡ seen.passed) → EndsWithStatus ending unsaved status (faults_of seen) (faults_of new)
-    → unsaved ≡ may_write && last.desk.unsaved → Serves words names_bytes old new status
+    → unsaved ≡ may_write && last.desk.unsaved → ServesSession words names_bytes old new status
 served_as words names_bytes seen old new status name may_write first last ending unsaved is named begins none answers history failures counts stops ends same =
-    subst (λ (host : HostView). Serves words names_bytes host new status) is
+    subst (λ (host : HostView). ServesSession words names_bytes host new status) is
     (served words names_bytes seen new status name may_write first last ending unsaved named begins none answers history failures counts stops ends same)
 
 -- if the state's file was looked at, but no state could be read from it, the start was refused as the
--- contract of `serve` says. The host `seen` equals the old host
+-- contract of `serve_session` says. The host `seen` equals the old host
 pub refused_as : (words : List Text) (names_bytes : Bool) (seen old new : HostView) (status : ℕ) (name : Text) (may_write : Bool) (fault : OfficeFault)
     → seen ≡ old → NamesSession words name may_write
     → LooksAndOpens name (IsWhyNot RefusesToReceive fault) seen.history new.history
     → IsCounted (status_of (Office fault)) seen.folder_failures new.folder_failures → LeavesStreams seen new → status ≡ status_of (Office fault)
-    → TellsText (fault_line (Office fault) ++ []) (faults_of seen) (faults_of new) → Serves words names_bytes old new status
+    → TellsText (fault_line (Office fault) ++ []) (faults_of seen) (faults_of new) → ServesSession words names_bytes old new status
 refused_as words names_bytes seen old new status name may_write fault is named opens counted streams status_is tells =
-    subst (λ (host : HostView). Serves words names_bytes host new status) is
+    subst (λ (host : HostView). ServesSession words names_bytes host new status) is
     (inr (inl (record {
       name = name;
       may_write = may_write;

@@ -1,5 +1,5 @@
 -- A session that asks for the files of a state without files.
-use Rattle.std.proofs.Common.{◌≡◌, ◌≢◌, ℕ, ◌≤◌, Bool, true, false, List, [], ◌∷◌, ◌++◌, length, refl}
+use Rattle.std.proofs.Common.{◌≡◌, ◌≢◌, ℕ, ◌≤◌, Bool, true, false, List, [], ◌∷◌, ◌++◌, length, get_or, refl}
 use Rattle.std.proofs.Common.{sym, ◌∙◌, ap, subst, arith, append-nil, Some, None, ◌⊎◌, inl, inr}
 use Rattle.std.specs.Prelude.{Option, codes, decimal}
 use Rattle.std.proofs.lemmas.Fmt.{decimal_digit}
@@ -23,6 +23,9 @@ use Rattle.docker_desk.specs.Replies.{AnswerView, answer_bytes, done_with, memor
 use Rattle.docker_desk.specs.SessionViews.{SessionView, Setting, Step, setting}
 use Rattle.docker_desk.specs.Doing.{AreSteps, AsksOf, DoesAsked}
 use Rattle.docker_desk.specs.Answering.{EndsSession, answers_text, lines_of}
+use Rattle.docker_desk.specs.Help.{word_of}
+use Rattle.docker_desk.specs.declared.help.Question.{Question}
+use Rattle.docker_desk.specs.declared.help.Question.TheVariants.{Help, Version}
 use Rattle.docker_desk.specs.Serving.{BeginsAt, Serves, ending_status, session_words}
 use Rattle.docker_desk.specs.declared.ending.Ending.{Ending}
 use Rattle.docker_desk.specs.declared.ending.Ending.TheVariants.{Ended, InputFailed, InputEndless, OutputFailed}
@@ -175,16 +178,24 @@ module _ (text : List ℕ) (holds : HoldsState dks_2 most_bytes (Some text) no_s
       let line : step.line ≡ whole_line asked_line = cc in one_step its first last step begins named line are met takes
   all_steps its first last (step ∷ next ∷ steps) begins named lines are met takes = let never : ⊥ = cc in absurd never
 
+-- the word `S` asks no question
+asks_nothing : (question : Question) → codes "S" ∷ [] ≡ word_of question ∷ [] → ⊥
+asks_nothing Help same =
+    let width : ◌≡◌ {A = ℕ} 1 6 = ap (λ (words : List Text). length (get_or words 0 [])) same in omega (arith, width)
+asks_nothing Version same =
+    let width : ◌≡◌ {A = ℕ} 1 9 = ap (λ (words : List Text). length (get_or words 0 [])) same in omega (arith, width)
+
 -- suppose that STATE holds the text of a state without files, and that `files` is the only line of
 -- the input. Then the desk answers that there are no files, or that memory ran out
 pub files_answered : (text : List ℕ) (old new : HostView) (status : ℕ) → HoldsState dks_2 most_bytes (Some text) no_state
     → old.history ≡ placed (codes "S") (Some text) ∷ [] → old.input ≡ Some (codes "files\n") → old.output ≡ Some []
     → IsShelfHistory new.history → status ≡ 0 → Serves (codes "S" ∷ []) true old new status → IsAnswered new.output
-files_answered text old new status holds history input output met none (inl misused) =
+files_answered text old new status holds history input output met none (inl asked) = absurd (asks_nothing asked.question asked.words_are)
+files_answered text old new status holds history input output met none (inr (unasked, inl misused)) =
     let two = misused.status_is in absurd (omega (arith, none, two))
-files_answered text old new status holds history input output met none (inr (inl refused)) =
+files_answered text old new status holds history input output met none (inr (unasked, inr (inl refused))) =
     absurd (some_status refused.fault (sym refused.status_is ∙ none))
-files_answered text old new status holds history input output met none (inr (inr served)) =
+files_answered text old new status holds history input output met none (inr (unasked, inr (inr served))) =
     all_steps text holds old.history new.output history (setting served.name served.may_write true) served.first served.last served.answers.steps
     served.begins (named_so (codes "S") served.name served.may_write served.words_are.words_are)
     (one_reading (codes "files\n") (lines_of served.answers.steps) (whole_line asked_line ∷ []) ends.0 one_line)

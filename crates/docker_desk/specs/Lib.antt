@@ -7,6 +7,7 @@ pub mod Desk
 pub mod SessionViews
 pub mod Doing
 pub mod Answering
+pub mod Help
 pub mod Serving
 pub mod Learning
 pub mod Looking

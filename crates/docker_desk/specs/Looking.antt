@@ -1,10 +1,10 @@
 -- What is true of the look on which a session's next draft is based, and what this draft replaces.
 use Rattle.std.specs.Prelude.{◌≡◌, ℕ, ◌+◌, List, ◌∷◌, ◌++◌, length, ◌⊎◌}
 use Rattle.docker_model.specs.state.State.{State}
-use Rattle.docker_model.specs.state.StateText.{dks_2}
+use Rattle.docker_model.specs.state.StateText.{dks_2, state_text}
 use Rattle.docker_bytes.specs.SourceRead.{ReadsState}
 use Rattle.docker_cmd.specs.Prepared.{most_bytes}
-use Rattle.docker_host.specs.History.{Bytes, Event, Text, closed, looked, opened, placed}
+use Rattle.docker_host.specs.History.{Bytes, Event, IsText, Text, closed, looked, opened, placed}
 use Rattle.docker_host.specs.Standing.{IsStill, Standing}
 use Rattle.docker_desk.specs.SessionViews.{SessionView, Setting}
 
@@ -40,6 +40,19 @@ abbrev pub IsOwn : Text → List Event → ℕ → Bytes → Type 0
 IsOwn name history look bytes =
     ((opening : IsBeforeOpening name history look) × (bytes ≡ opening.held))
     ⊎ ((placing : IsAfterPlacing name history look) × (bytes ≡ placing.bytes))
+
+-- this text is what the desk read right after this look, or what it placed right before the look, as
+-- far as contracts can say
+abbrev pub IsOwnText : Text → List Event → ℕ → Text → Type 0
+IsOwnText name history look text =
+    ((opening : IsBeforeOpening name history look) × IsText opening.held text)
+    ⊎ ((placing : IsAfterPlacing name history look) × IsText placing.bytes text)
+
+-- the state's file held the text of this point's state, right after the look of the point or right
+-- before it
+abbrev pub WasInState : Setting → SessionView → Type 0
+WasInState setting point =
+    IsOwnText setting.name point.history point.look (state_text dks_2 point.desk.state)
 
 -- a draft is made at this point of a session. The state's file has held the same bytes since the
 -- look on which the draft is based. The desk has read these bytes, or has placed them itself.

@@ -16,6 +16,8 @@ use Rattle.docker_desk.specs.declared.ending.Ending.{Ending}
 use Rattle.docker_desk.specs.declared.ending.Ending.TheVariants.{Ended, InputFailed, InputEndless, OutputFailed}
 use Rattle.docker_desk.specs.SessionViews.{SessionView, setting}
 use Rattle.docker_desk.specs.Answering.{AnswersLines, CountsStreams}
+use Rattle.docker_desk.specs.Help.{AnswersQuestion, AskNoQuestion, word_of}
+use Rattle.docker_desk.specs.declared.help.Question.{Question}
 
 -- ---- the words of a session
 
@@ -148,9 +150,21 @@ pub record IsServed (words : List Text) (names_bytes : Bool) (old new : HostView
   pub ends : EndsWithStatus ending (may_write && last.desk.unsaved) status (faults_of old)
       (faults_of new)
 
--- the program was run with these words. Either they aren't the words of a session, or the start was
--- refused, or the lines of the input were answered
-abbrev pub Serves : List Text → Bool → HostView → HostView → ℕ → Type 0
-Serves words names_bytes old new status =
+-- the program was run with these words, which ask no question. Either they aren't the words of a
+-- session, or the start was refused, or the lines of the input were answered
+abbrev pub ServesSession : List Text → Bool → HostView → HostView → ℕ → Type 0
+ServesSession words names_bytes old new status =
     IsMisused words old new status
     ⊎ (IsRefusedStart words old new status ⊎ IsServed words names_bytes old new status)
+
+-- the words ask a question about the program, and its answer was printed
+pub record IsAsked (words : List Text) (old new : HostView) (status : ℕ) : Type 0 where
+  pub question : Question
+  pub words_are : words ≡ word_of question ∷ []
+  pub answers : AnswersQuestion question old new status
+
+-- the program was run with these words. Either they ask a question about the program, or a session
+-- was served
+abbrev pub Serves : List Text → Bool → HostView → HostView → ℕ → Type 0
+Serves words names_bytes old new status =
+    IsAsked words old new status ⊎ (AskNoQuestion words × ServesSession words names_bytes old new status)

@@ -1,6 +1,6 @@
 //! Laws of every session. Each law is the contract of a function that does nothing. The law holds
 //! for all values of the variables in the function's clauses.
-ghost use Rattle.std.specs.Prelude.{◌≡◌, ◌≤◌, ◌++◌, ℕ, List, Some, length};
+ghost use Rattle.std.specs.Prelude.{◌≡◌, ◌≤◌, ◌++◌, ℕ, List, Some, false, length};
 ghost use Rattle.docker_model.specs.state.Lapse.{IsDayRefused, lapse_table};
 ghost use Rattle.docker_model.specs.state.State.{State, live_table};
 ghost use Rattle.docker_model.specs.state.StateText.{dks_2, state_text};
@@ -14,8 +14,8 @@ ghost use Rattle.docker_model.specs.run.Knowledge.{AreOneKnowledge, HaveSameFile
 ghost use Rattle.docker_cmd.specs.Prepared.{DeviceBytes, most_bytes};
 ghost use Rattle.docker_cmd.specs.Saved.{Gain, HoldsVersion};
 ghost use Rattle.docker_host.specs.Asked.{IsUnplaced};
-ghost use Rattle.docker_host.specs.History.{Event};
-ghost use Rattle.docker_host.specs.Standing.{IsStandingOf, Standing};
+ghost use Rattle.docker_host.specs.History.{Event, IsText};
+ghost use Rattle.docker_host.specs.Standing.{IsStandingOf, IsStill, Standing};
 ghost use Rattle.docker_desk.specs.Lines.{AreLines, LineView};
 ghost use Rattle.docker_model.specs.lists.TrainsText.{IsTrainsText};
 ghost use Rattle.docker_model.specs.lists.TrainText.{IsTrainText};
@@ -31,7 +31,7 @@ ghost use Rattle.docker_desk.specs.SessionViews.{SessionView, Setting, Step};
 ghost use Rattle.docker_desk.specs.Reading.{events_of};
 ghost use Rattle.docker_desk.specs.Replies.{done_with, refused_for};
 ghost use Rattle.docker_desk.specs.Requests.{merge_request, renew_request, save_request};
-ghost use Rattle.docker_desk.specs.Looking.{IsGoodLook, ReplacesOwn};
+ghost use Rattle.docker_desk.specs.Looking.{IsGoodLook, ReplacesOwn, WasInState};
 ghost use Rattle.docker_desk.specs.Serving.{BeginsAt};
 ghost use Rattle.docker_desk.specs.declared.ending.Ending.{Ending};
 ghost use Rattle.docker_desk.specs.declared.ending.Ending.TheVariants.{Ended};
@@ -82,6 +82,27 @@ pub fn saves_replace_what_was_read()
         (text : List ℕ) → BeginsAt setting.name old first → AreSteps setting first steps before
         → IsUnplaced setting.names_bytes setting.name before.look text before.history after.history
         → IsStandingOf standing after.history → ReplacesOwn standing setting before }
+{}
+
+/// If a desk has no unsaved changes, STATE has held the text of the desk's state: the desk read this
+/// text right after its last look, or placed it right before that look. If STATE's bytes have stayed
+/// the same since the look, STATE still holds this text. A `renew` that is refused changes neither
+/// the desk nor its look, whatever STATE holds then. So the desk's flag for unsaved changes still
+/// refers to the text that the desk last read as a state or placed.
+pub fn what_is_not_unsaved_is_in_state()
+    ensures held { (setting : Setting) (old : List Event) (first last : SessionView)
+        (steps : List Step) → BeginsAt setting.name old first → AreSteps setting first steps last
+        → last.desk.unsaved ≡ false → WasInState setting last }
+    ensures holds { (standing : Standing) (setting : Setting) (old : List Event)
+        (first last : SessionView) (steps : List Step) → BeginsAt setting.name old first
+        → AreSteps setting first steps last → last.desk.unsaved ≡ false
+        → IsStandingOf standing last.history
+        → IsStill standing setting.name last.look (length last.history)
+        → IsText (standing (length last.history) setting.name)
+        (state_text dks_2 last.desk.state) }
+    ensures refused { (setting : Setting) (before after : SessionView) (fault : OfficeFault)
+        → DoesRequest setting renew_request before (refused_for fault) after
+        → (after.desk ≡ before.desk) × (after.look ≡ before.look) }
 {}
 
 /// Suppose that the file that `merge` or `renew` read held the text of a summary. Then the desk

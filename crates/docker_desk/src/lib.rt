@@ -9,6 +9,7 @@ mod compared;
 mod copying;
 mod desk;
 mod ending;
+mod help;
 pub mod laws;
 mod lines;
 mod matching;

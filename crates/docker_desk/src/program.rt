@@ -2,9 +2,10 @@
 ghost use Rattle.std.specs.Prelude.{◌≡◌, ◌-◌, ◌<◌};
 ghost use Rattle.docker_cmd.specs.Words.{texts};
 ghost use Rattle.docker_host.specs.Host.{AreFew};
-ghost use Rattle.docker_desk.specs.Serving.{Serves};
+ghost use Rattle.docker_desk.specs.Serving.{Serves, ServesSession};
 
 use crate::ending::{end_session, tell_failure};
+use crate::help::{answer_question, question_in};
 use crate::opening::open_session;
 use crate::requests::usage;
 use crate::serving::serve_lines;
@@ -15,9 +16,8 @@ use docker_host::{Folder, Host, tell_text};
 use std::alloc::Global;
 use std::mem;
 
-/// Serves a session: reads the state in the file that the words name, writes an answer to the
-/// output for each line of the input, and returns the exit status. The sink of faults gains a line
-/// only if the session can't begin, a stream fails, or changes weren't saved.
+/// Serves a session, or answers the question that the words ask about the program. Returns the exit
+/// status.
 ///
 /// The laws in `laws` say what the answers are in terms of the known files, and on which look each
 /// draft is based.
@@ -29,6 +29,24 @@ pub fn serve<S: Source, D: Folder, K: Sink, L: Sink>(
     requires few { AreFew host.old }
     requires none { host.old.folder_failures ≡ 0 }
     ensures { Serves (texts words.now) D.names_bytes host.old host.new result }
+{
+    if let Some(question) = question_in(words) {
+        return answer_question(question, host);
+    }
+    serve_session(alloc, words, host)
+}
+
+/// Serves a session: reads the state in the file that the words name, writes an answer to the
+/// output for each line of the input, and returns the exit status. The sink of faults gains a line
+/// only if the session can't begin, a stream fails, or changes weren't saved.
+fn serve_session<S: Source, D: Folder, K: Sink, L: Sink>(
+    alloc: Global,
+    words: &[&str],
+    host: &mut Host<S, D, K, L>,
+) -> u8
+    requires few { AreFew host.old }
+    requires none { host.old.folder_failures ≡ 0 }
+    ensures { ServesSession (texts words.now) D.names_bytes host.old host.new result }
 {
     let Some(named) = session_words_in(words) else {
         tell_text(usage(), &mut host.faults);

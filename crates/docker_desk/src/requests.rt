@@ -47,13 +47,13 @@ pub enum Verb {
 
 /// A row of the table of requests.
 #[derive(Clone, Copy, Debug)]
-struct RequestRow<'a> {
+pub(crate) struct RequestRow<'a> {
     /// The word that names the request.
-    name: &'a str,
+    pub(crate) name: &'a str,
     /// The names of the words after the verb, as the usage line shows them.
-    ids: &'a [&'a str],
+    pub(crate) ids: &'a [&'a str],
     /// Whether the request is allowed only if the desk may write.
-    writes: bool,
+    pub(crate) writes: bool,
 }
 
 impl<'a> RequestRow<'a> {
@@ -69,7 +69,7 @@ impl<'a> RequestRow<'a> {
 
 impl Verb {
     /// Returns all verbs, in the order of the usage line.
-    fn all<'a>() -> &'a [Verb]
+    pub(crate) fn all<'a>() -> &'a [Verb]
         ensures { result.now ≡ verbs }
     {
         &[
@@ -91,7 +91,7 @@ impl Verb {
     }
 
     /// Returns the verb's row in the table.
-    fn row<'a>(self) -> RequestRow<'a>
+    pub(crate) fn row<'a>(self) -> RequestRow<'a>
         ensures { row_meant result ≡ row_of self }
     {
         match self {

@@ -11,7 +11,7 @@ from tables import each
 REFUSED_WORDS = [
     (), ("--write",), ("STATE", "STATE"), ("STATE", "--write"), ("--write", "STATE", "more"),
     ("--write", "--write"), ("--write", "--write", "STATE"), ("--read", "STATE"), ("-w", "STATE"),
-    ("--Write", "STATE"), ("--help",), ("-h",), ("--", "STATE"), ("-",), ("-STATE",), ("",),
+    ("--Write", "STATE"), ("-h",), ("--help", "STATE"), ("--version", "--help"), ("--Help",), ("--", "STATE"), ("-",), ("-STATE",), ("",),
     ("--write", ""), ("stdin",), ("--write", "stdin"), ("--write=yes", "STATE"), ("print", "STATE"),
     ("--write", "-STATE"), (b"STATE\xff",), (b"--write", b"\xff\xfe"), ("--write STATE",),
 ]

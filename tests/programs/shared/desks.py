@@ -16,6 +16,24 @@ USAGE = (
     b" | trains IDENTITY DATE | files | places | known | renew | with --write take FILE"
     b" | merge OTHER | horizon DATE | save\n"
 )
+HELP = b"""\
+desk: usage: [--write] STATE, and then a line for each request:
+print TIPLOC DATE
+permanent TIPLOC DATE
+detail TIPLOC DATE
+permanent-detail TIPLOC DATE
+train UID DATE
+trains IDENTITY DATE
+files
+places
+known
+renew
+with --write take FILE
+with --write merge OTHER
+with --write horizon DATE
+with --write save
+"""
+VERSION = b"desk: STATE has the format DKS2\n"
 NOT_SAVED = b"desk: changes not saved\n"
 # The form of an answer's header, and the most bytes of a header.
 HEADER = re.compile(rb"(0|[1-9][0-9]*) (0|[1-9][0-9]*) (0|[1-9][0-9]*)\n")

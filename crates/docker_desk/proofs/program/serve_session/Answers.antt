@@ -3,7 +3,7 @@ use Rattle.std.specs.Prelude.{Bool, ◌&&◌}
 use Rattle.docker_cmd.specs.Words.{texts}
 use Rattle.docker_desk.specs.SessionViews.{session_view}
 use Rattle.docker_desk.proofs.ServeLemmas.{begins, refused_as, served_as, still}
-use Rattle.docker_desk.proofs.program.serve.Goals as goal
+use Rattle.docker_desk.proofs.program.serve_session.Goals as goal
 
 pub returns-in-Ok : goal.returns-in-Ok
 returns-in-Ok g c =

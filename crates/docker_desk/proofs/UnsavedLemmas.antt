@@ -1,0 +1,255 @@
+-- At every point of a session at which nothing is unsaved, the state's file has held the text of the
+-- desk's state.
+use Rattle.std.proofs.Common.{◌≡◌, ◌≢◌, ℕ, ◌+◌, List, [], ◌∷◌, ◌++◌, length, refl, sym, ◌∙◌, ap, subst, arith, append_assoc, append-nil, length-append, Some, None, Ok, Err, inl, inr, true≢false}
+use Rattle.std.specs.Prelude.{Option, Result, ⊤, Bool, true, false}
+use Rattle.docker_model.specs.state.State.{State}
+use Rattle.docker_model.specs.state.StateText.{dks_2, state_text}
+use Rattle.docker_bytes.specs.SourceRead.{ReadsState}
+use Rattle.docker_cmd.specs.Prepared.{most_bytes}
+use Rattle.docker_host.specs.History.{Bytes, Event, IsText, Text, closed, drafted, dropped, looked, named_if, opened, placed, undrafted, unplaced}
+use Rattle.docker_host.specs.Asked.{FailsToStore}
+use Rattle.docker_host.specs.Standing.{IsStandingOf, IsStill, Standing}
+use Rattle.docker_office.specs.declared.fault.OfficeFault.{OfficeFault}
+use Rattle.docker_office.specs.declared.fault.OfficeFault.TheVariants as office
+use Rattle.docker_desk.specs.Desk.{DeskView, EndsReceiving, EndsRenewing, EndsSaving, EndsTaking, IsFound, look_by, unsaved_by, unsaved_if}
+use Rattle.docker_desk.specs.Reading.{Reading, opening_of}
+use Rattle.docker_desk.specs.declared.compared.Compared.{Compared}
+use Rattle.docker_desk.specs.declared.compared.Compared.TheVariants as compared
+use Rattle.docker_desk.specs.Requests.{RequestView, print_request, permanent_request, train_request, trains_request, files_request, places_request}
+use Rattle.docker_desk.specs.Requests.{detail_request, permanent_detail_request}
+use Rattle.docker_desk.specs.Requests.{known_request, renew_request, take_request, merge_request, horizon_request, save_request}
+use Rattle.docker_desk.specs.Replies.{AnswerView, refused_for}
+use Rattle.docker_desk.specs.SessionViews.{SessionView, Setting, Step}
+use Rattle.docker_desk.specs.Doing.{AreSteps, DoesAsked, DoesRequest, answer_of, desk_by}
+use Rattle.docker_desk.specs.Looking.{IsOwnText, WasInState}
+use Rattle.docker_desk.specs.Serving.{BeginsAt}
+use Rattle.docker_desk.proofs.ReplacingLemmas.{opened_own, placed_own}
+
+-- the flag isn't set, so it isn't `true`
+not_set : (flag : Bool) → flag ≡ true → flag ≡ false → ⊥
+not_set flag set clear = let never : true ≡ false = sym set ∙ clear in true≢false never
+
+-- the bytes of a draft are its text
+named_text : (names_bytes : Bool) (text : Text) → IsText (named_if names_bytes text) text
+named_text true text = refl
+named_text false text = tt
+
+-- a text that a state's file held is the text of this state
+read_text : (held : Bytes) (state : State) → ReadsState dks_2 most_bytes held state → IsText held (state_text dks_2 state)
+read_text None state reads = tt
+read_text (Some bytes) state reads = reads.held ∙ reads.is.is
+
+module _ (name : Text) where
+  -- what the desk last read or placed stays so after events are added to the history
+  own_more : (old new more : List Event) (look : ℕ) (text : Text) → new ≡ old ++ more → IsOwnText name old look text → IsOwnText name new look text
+  own_more old new more look text grown (inl (before, is)) = inl (
+    record {
+      earlier = before.earlier;
+      held = before.held;
+      left = before.left;
+      later = before.later ++ more;
+      whole = grown ∙ ap (λ (events : List Event). events ++ more) before.whole
+          ∙ append_assoc before.earlier (looked name ∷ opened name before.held ∷ closed before.left ∷ before.later) more;
+      number = before.number;
+      state = before.state;
+      reads = before.reads;
+    },
+    is,
+  )
+  own_more old new more look text grown (inr (placing, is)) = inr (
+    record {
+      earlier = placing.earlier;
+      bytes = placing.bytes;
+      later = placing.later ++ more;
+      whole = grown ∙ ap (λ (events : List Event). events ++ more) placing.whole
+          ∙ append_assoc placing.earlier (placed name placing.bytes ∷ looked name ∷ placing.later) more;
+      number = placing.number;
+    },
+    is,
+  )
+
+  -- if the look and the state are unchanged, the text of the state is still what the desk last read
+  -- or placed
+  own_same : (old new more : List Event) (look look_now : ℕ) (state state_now : State) → new ≡ old ++ more → look_now ≡ look → state_now ≡ state
+      → IsOwnText name old look (state_text dks_2 state) → IsOwnText name new look_now (state_text dks_2 state_now)
+  own_same old new more look look_now state state_now grown same is own =
+      subst (λ (l : ℕ). IsOwnText name new l (state_text dks_2 state_now)) (sym same)
+      (subst (λ (s : State). IsOwnText name new look (state_text dks_2 s)) (sym is) (own_more old new more look (state_text dks_2 state) grown own))
+
+  -- a text that was read after the look is the desk's own
+  own_opened : (old new : List Event) (held left : Bytes) (look : ℕ) (state read : State)
+      → new ≡ old ++ looked name ∷ opened name held ∷ closed left ∷ [] → look ≡ length old → ReadsState dks_2 most_bytes held read
+      → IsText held (state_text dks_2 state) → IsOwnText name new look (state_text dks_2 state)
+  own_opened old new held left look state read grown number reads is =
+      inl (record { earlier = old; held = held; left = left; later = []; whole = grown; number = number; state = read; reads = reads }, is)
+
+  -- the text of a draft that replaced the file is the desk's own
+  own_placed : (old new : List Event) (bytes : Bytes) (from look : ℕ) (text : Text)
+      → new ≡ old ++ drafted name from ∷ placed name bytes ∷ looked name ∷ [] → look ≡ length old + 2 → IsText bytes text → IsOwnText name new look text
+  own_placed old new bytes from look text grown number is = inr (
+    record {
+      earlier = old ++ drafted name from ∷ [];
+      bytes = bytes;
+      later = [];
+      whole = grown ∙ sym (append_assoc old (drafted name from ∷ []) (placed name bytes ∷ looked name ∷ []));
+      number = (let size = length-append old (drafted name from ∷ []) in omega (arith, size, number));
+    },
+    is,
+  )
+
+  -- after `take` or `merge`: if it succeeded there are unsaved changes, and if it was refused the
+  -- desk is unchanged
+  own_joined : (result : Result ⊤ OfficeFault) (old new more : List Event) (look look_now : ℕ) (own after : DeskView)
+      → new ≡ old ++ more → look_now ≡ look → after.unsaved ≡ unsaved_by result own.unsaved → ((fault : OfficeFault) → result ≡ Err fault → after.state ≡ own.state)
+      → (own.unsaved ≡ false → IsOwnText name old look (state_text dks_2 own.state)) → after.unsaved ≡ false
+      → IsOwnText name new look_now (state_text dks_2 after.state)
+  own_joined (Ok done) old new more look look_now own after grown same flag state saved clear = absurd (not_set after.unsaved flag clear)
+  own_joined (Err fault) old new more look look_now own after grown same flag state saved clear =
+      own_same old new more look look_now own.state after.state grown same (state fault refl) (saved (sym flag ∙ clear))
+
+  own_found : (found : Compared) (old new : List Event) (read : Reading) (look : ℕ) (after : DeskView) (received : State)
+      → new ≡ old ++ looked name ∷ opening_of name (Some read) → look ≡ length old → ReadsState dks_2 most_bytes read.held received
+      → IsFound found after.state read → after.unsaved ≡ unsaved_if found → after.unsaved ≡ false → IsOwnText name new look (state_text dks_2 after.state)
+  own_found compared.Same old new read look after received grown number reads is flag clear =
+      own_opened old new read.held read.left look after.state received grown number reads is
+  own_found compared.Other old new read look after received grown number reads is flag clear = absurd (not_set after.unsaved flag clear)
+  own_found compared.Unknown old new read look after received grown number reads is flag clear = absurd (not_set after.unsaved flag clear)
+
+  -- after `renew`: nothing is unsaved only if the file held the text of the new state, or if `renew`
+  -- was refused and the desk is unchanged
+  own_renewed : (read : Option Reading) (result : Result Compared OfficeFault) (old new : List Event) (own after : DeskView) (look look_now : ℕ)
+      → new ≡ old ++ looked name ∷ opening_of name read → EndsRenewing own after result read → look_now ≡ look_by result (length old) look
+      → (own.unsaved ≡ false → IsOwnText name old look (state_text dks_2 own.state)) → after.unsaved ≡ false
+      → IsOwnText name new look_now (state_text dks_2 after.state)
+  own_renewed (Some read) (Ok found) old new own after look look_now grown ends same saved clear =
+      own_found found old new read look_now after ends.0.0.received grown same ends.0.0.read ends.0.1 ends.1 clear
+  own_renewed None (Ok found) old new own after look look_now grown ends same saved clear = absurd ends.0.0
+  own_renewed read (Err fault) old new own after look look_now grown ends same saved clear =
+      own_same old new (looked name ∷ opening_of name read) look look_now own.state after.state grown same (ap (λ (desk : DeskView). desk.state) ends.1)
+      (saved (sym (ap (λ (desk : DeskView). desk.unsaved) ends.1) ∙ clear))
+
+  -- after a `save` that failed, the desk and its look are unchanged
+  own_kept : (old new more : List Event) (own after : DeskView) (look look_now : ℕ) → new ≡ old ++ more → look_now ≡ look → after ≡ own
+      → (own.unsaved ≡ false → IsOwnText name old look (state_text dks_2 own.state)) → after.unsaved ≡ false
+      → IsOwnText name new look_now (state_text dks_2 after.state)
+  own_kept old new more own after look look_now grown same is saved clear =
+      own_same old new more look look_now own.state after.state grown same (ap (λ (desk : DeskView). desk.state) is)
+      (saved (sym (ap (λ (desk : DeskView). desk.unsaved) is) ∙ clear))
+
+  own_unsaved : (names_bytes : Bool) (text : List ℕ) (old new : List Event) (from : ℕ) (own after : DeskView) (look look_now : ℕ)
+      → FailsToStore names_bytes name from text old new → look_now ≡ look → after ≡ own
+      → (own.unsaved ≡ false → IsOwnText name old look (state_text dks_2 own.state)) → after.unsaved ≡ false
+      → IsOwnText name new look_now (state_text dks_2 after.state)
+  own_unsaved names_bytes text old new from own after look look_now (inl grown) same is saved clear =
+      own_kept old new (undrafted name from ∷ []) own after look look_now grown same is saved clear
+  own_unsaved names_bytes text old new from own after look look_now (inr (inl grown)) same is saved clear =
+      own_kept old new (drafted name from ∷ dropped name ∷ []) own after look look_now grown same is saved clear
+  own_unsaved names_bytes text old new from own after look look_now (inr (inr grown)) same is saved clear =
+      own_kept old new (drafted name from ∷ unplaced name (named_if names_bytes text) ∷ []) own after look look_now grown same is saved clear
+
+  own_saved : (result : Result ⊤ OfficeFault) (names_bytes : Bool) (old new : List Event) (from : ℕ) (own after : DeskView) (look look_now : ℕ)
+      → EndsSaving names_bytes name from (state_text dks_2 own.state) old new result → look_now ≡ look_by result (length old + 2) look
+      → after ≡ desk_by result own → (own.unsaved ≡ false → IsOwnText name old look (state_text dks_2 own.state)) → after.unsaved ≡ false
+      → IsOwnText name new look_now (state_text dks_2 after.state)
+  own_saved (Ok done) names_bytes old new from own after look look_now grown same is saved clear =
+      subst (λ (s : State). IsOwnText name new look_now (state_text dks_2 s)) (sym (ap (λ (desk : DeskView). desk.state) is))
+      (own_placed old new (named_if names_bytes (state_text dks_2 own.state)) from look_now (state_text dks_2 own.state) grown same
+      (named_text names_bytes (state_text dks_2 own.state)))
+  own_saved (Err office.Sink) names_bytes old new from own after look look_now failed same is saved clear =
+      own_unsaved names_bytes (state_text dks_2 own.state) old new from own after look look_now failed same is saved clear
+  own_saved (Err office.Memory) names_bytes old new from own after look look_now grown same is saved clear =
+      own_kept old new (undrafted name from ∷ []) own after look look_now grown same is saved clear
+  own_saved (Err office.Source) names_bytes old new from own after look look_now never same is saved clear = absurd never
+  own_saved (Err office.Lapsed) names_bytes old new from own after look look_now never same is saved clear = absurd never
+  own_saved (Err (office.File fault)) names_bytes old new from own after look look_now never same is saved clear = absurd never
+  own_saved (Err (office.State fault)) names_bytes old new from own after look look_now never same is saved clear = absurd never
+
+module _ (setting : Setting) where
+  -- if nothing is unsaved at this point, the state's file has held the text of the desk's state
+  abbrev IsSaved : SessionView → Type 0
+  IsSaved point = point.desk.unsaved ≡ false → WasInState setting point
+
+  saved_kept : (before after : SessionView) → after ≡ before → IsSaved before → IsSaved after
+  saved_kept before after same saved = subst IsSaved (sym same) saved
+
+  taken_same : (own after : State) (result : Result ⊤ OfficeFault) (read : Option Reading) → EndsTaking own after result read → (fault : OfficeFault)
+      → result ≡ Err fault → after ≡ own
+  taken_same own after (Ok done) read ends fault is = let never : ⊥ = cc in absurd never
+  taken_same own after (Err cause) read ends fault is = ends.1
+
+  received_same : (own after : State) (result : Result ⊤ OfficeFault) (read : Option Reading) → EndsReceiving own after result read → (fault : OfficeFault)
+      → result ≡ Err fault → after ≡ own
+  received_same own after (Ok done) read ends fault is = let never : ⊥ = cc in absurd never
+  received_same own after (Err cause) read ends fault is = ends.1
+
+  -- each request keeps this true
+  saved_request : (request : RequestView) (before after : SessionView) (answer : AnswerView) → DoesRequest setting request before answer after → IsSaved before
+      → IsSaved after
+  saved_request (print_request place day) before after answer does saved = saved_kept before after does.1 saved
+  saved_request (permanent_request place day) before after answer does saved = saved_kept before after does.1 saved
+  saved_request (detail_request place day) before after answer does saved = saved_kept before after does.1 saved
+  saved_request (permanent_detail_request place day) before after answer does saved = saved_kept before after does.1 saved
+  saved_request (train_request uid day) before after answer does saved = saved_kept before after does.1 saved
+  saved_request (trains_request identity day) before after answer does saved = saved_kept before after does.1 saved
+  saved_request files_request before after answer does saved = saved_kept before after does.1 saved
+  saved_request places_request before after answer does saved = saved_kept before after does.1 saved
+  saved_request known_request before after answer does saved = saved_kept before after does.1 saved
+  saved_request renew_request before after answer does saved =
+      own_renewed setting.name does.opens.read does.result before.history after.history before.desk after.desk before.look after.look
+      does.opens.asked does.opens.ends does.look saved
+  saved_request (take_request file) before after answer does saved =
+      own_joined setting.name does.result before.history after.history (opening_of file does.opens.read) before.look after.look before.desk after.desk
+      does.opens.asked does.look does.unsaved (taken_same before.desk.state after.desk.state does.result does.opens.read does.opens.ends) saved
+  saved_request (merge_request other) before after answer does saved =
+      own_joined setting.name does.result before.history after.history (opening_of other does.opens.read) before.look after.look before.desk after.desk
+      does.opens.asked does.look does.unsaved (received_same before.desk.state after.desk.state does.result does.opens.read does.opens.ends) saved
+  saved_request (horizon_request day) before after answer does saved =
+      λ clear. absurd (not_set after.desk.unsaved (ap (λ (point : SessionView). point.desk.unsaved) does.1) clear)
+  saved_request save_request before after answer does saved =
+      own_saved setting.name does.result setting.names_bytes before.history after.history before.look before.desk after.desk before.look after.look
+      does.stores does.look does.desk saved
+
+  saved_asked : (request : Option RequestView) (before after : SessionView) (answer : AnswerView) → DoesAsked setting request before answer after
+      → IsSaved before → IsSaved after
+  saved_asked (Some request) before after answer does saved = saved_request request before after answer does saved
+  saved_asked None before after answer does saved = saved_kept before after does.1 saved
+
+  saved_steps : (first last : SessionView) (steps : List Step) → IsSaved first → AreSteps setting first steps last → IsSaved last
+  saved_steps first last [] saved are = saved_kept first last are saved
+  saved_steps first last (step ∷ steps) saved are =
+      saved_steps step.after last steps
+      (saved_asked step.request step.before step.after step.answer are.1.0.does (saved_kept first step.before are.0 saved)) are.1.1
+
+  -- at the beginning of a session, the file has held the text of the desk's state
+  saved_first : (old : List Event) (first : SessionView) → BeginsAt setting.name old first → IsSaved first
+  saved_first old first begins clear =
+      own_opened setting.name old first.history begins.held begins.left first.look first.desk.state first.desk.state begins.asked begins.look begins.state
+      (read_text begins.held first.desk.state begins.state)
+
+  -- at every point at which nothing is unsaved, the file has held the text of the desk's state
+  pub was_in_state : (old : List Event) (first last : SessionView) (steps : List Step) → BeginsAt setting.name old first → AreSteps setting first steps last
+      → last.desk.unsaved ≡ false → WasInState setting last
+  was_in_state old first last steps begins are = saved_steps first last steps (saved_first old first begins) are
+
+  -- if the file's bytes have stayed the same since the look, the file holds that text
+  pub is_in_state : (standing : Standing) (point : SessionView) → WasInState setting point → IsStandingOf standing point.history
+      → IsStill standing setting.name point.look (length point.history)
+      → IsText (standing (length point.history) setting.name) (state_text dks_2 point.desk.state)
+  is_in_state standing point (inl (opening, is)) stands still =
+      subst (λ (bytes : Bytes). IsText bytes (state_text dks_2 point.desk.state))
+      (sym (opened_own standing setting.name point.history point.look [] opening
+      (subst (IsStandingOf standing) (sym (append-nil point.history)) stands) still)) is
+  is_in_state standing point (inr (placing, is)) stands still =
+      subst (λ (bytes : Bytes). IsText bytes (state_text dks_2 point.desk.state))
+      (sym (placed_own standing setting.name point.history point.look [] placing
+      (subst (IsStandingOf standing) (sym (append-nil point.history)) stands) still)) is
+
+  -- a `renew` that is refused changes neither the desk nor its look
+  pub refused_renewal : (before after : SessionView) (fault : OfficeFault) → DoesRequest setting renew_request before (refused_for fault) after
+      → (after.desk ≡ before.desk) × (after.look ≡ before.look)
+  refused_renewal before after fault does = by does.result does.told does.opens.ends does.look
+    where
+      by : (result : Result Compared OfficeFault) → refused_for fault ≡ answer_of result → EndsRenewing before.desk after.desk result does.opens.read
+          → after.look ≡ look_by result (length before.history) before.look → (after.desk ≡ before.desk) × (after.look ≡ before.look)
+      by (Ok found) told ends look = let never : ⊥ = cc in absurd never
+      by (Err cause) told ends look = (ends.1, look)
