@@ -14,11 +14,13 @@ desk: usage: [--write] STATE, and then a line for each request: print TIPLOC DAT
 | trains IDENTITY DATE | files | places | known | renew | with --write take FILE | merge OTHER \
 | horizon DATE | save";
 
-/// What `--help` prints: 257 bytes with the line feeds.
+/// What `--help` prints: 305 bytes with the line feeds.
 pub(crate) const HELP: Lines = &[
     b"desk: usage: [--write] STATE, and then a line for each request:",
     b"print TIPLOC DATE",
     b"permanent TIPLOC DATE",
+    b"detail TIPLOC DATE",
+    b"permanent-detail TIPLOC DATE",
     b"train UID DATE",
     b"trains IDENTITY DATE",
     b"files",

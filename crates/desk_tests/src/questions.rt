@@ -37,14 +37,14 @@ fn prints(rt: &impl Abort, alloc: Global, word: &str, lines: Lines, end: (usize,
 #[test]
 fn help_and_version(rt: HostRuntime) {
     let alloc = rt.alloc();
-    prints(&rt, alloc, "--help", HELP, (257, &[], 0));
+    prints(&rt, alloc, "--help", HELP, (305, &[], 0));
     prints(&rt, alloc, "--version", VERSION, (32, &[], 0));
 }
 
 #[test]
 fn help_that_can_t_be_printed(rt: HostRuntime) {
     let alloc = rt.alloc();
-    for bytes in [0, 1, 63, 64, 65, 69, 77, 82, 256] {
+    for bytes in [0, 1, 63, 64, 65, 69, 77, 82, 304] {
         prints(&rt, alloc, "--help", HELP, (bytes, DEVICE, 4));
     }
     prints(&rt, alloc, "--version", VERSION, (31, DEVICE, 4));

@@ -16,6 +16,7 @@ use Rattle.docker_desk.specs.Reading.{Reading, opening_of}
 use Rattle.docker_desk.specs.declared.compared.Compared.{Compared}
 use Rattle.docker_desk.specs.declared.compared.Compared.TheVariants as compared
 use Rattle.docker_desk.specs.Requests.{RequestView, print_request, permanent_request, train_request, trains_request, files_request, places_request}
+use Rattle.docker_desk.specs.Requests.{detail_request, permanent_detail_request}
 use Rattle.docker_desk.specs.Requests.{known_request, renew_request, take_request, merge_request, horizon_request, save_request}
 use Rattle.docker_desk.specs.Replies.{AnswerView, refused_for}
 use Rattle.docker_desk.specs.SessionViews.{SessionView, Setting, Step}
@@ -186,6 +187,8 @@ module _ (setting : Setting) where
       → IsSaved after
   saved_request (print_request place day) before after answer does saved = saved_kept before after does.1 saved
   saved_request (permanent_request place day) before after answer does saved = saved_kept before after does.1 saved
+  saved_request (detail_request place day) before after answer does saved = saved_kept before after does.1 saved
+  saved_request (permanent_detail_request place day) before after answer does saved = saved_kept before after does.1 saved
   saved_request (train_request uid day) before after answer does saved = saved_kept before after does.1 saved
   saved_request (trains_request identity day) before after answer does saved = saved_kept before after does.1 saved
   saved_request files_request before after answer does saved = saved_kept before after does.1 saved

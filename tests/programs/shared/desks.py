@@ -20,6 +20,8 @@ HELP = b"""\
 desk: usage: [--write] STATE, and then a line for each request:
 print TIPLOC DATE
 permanent TIPLOC DATE
+detail TIPLOC DATE
+permanent-detail TIPLOC DATE
 train UID DATE
 trains IDENTITY DATE
 files
