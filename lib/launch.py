@@ -112,13 +112,15 @@ class Record:
         return hashlib.sha256(out(self.program, self.program).read_bytes()).hexdigest()
 
     def is_built(self, wanted):
-        """Whether the program was built from what has this checksum. A program that `rt` built has no record; it may not be older than one of its sources."""
+        """Whether the program was built from what has this checksum. A program that `rt` built isn't the one that is recorded. It may not be older than one of its
+        sources. If there is no record, it may be in a copy of a checkout, in which only the times of writing are kept."""
         built = out(self.program, self.program)
         if not os.access(built, os.X_OK):
             return False
-        if self.sum:
-            return (self.sum, self.own) == (wanted, self.own_now())
-        return all(path.stat().st_mtime_ns <= built.stat().st_mtime_ns for path in watched(self.program) if path.is_relative_to(ROOT))
+        if self.own == self.own_now():
+            return self.sum == wanted
+        found = (path.stat() for path in (ROOT / "crates.txt", *(path for crate in plan(self.program) for path in sources(crate))))
+        return all((it.st_ctime_ns if self.own else it.st_mtime_ns) <= built.stat().st_mtime_ns for it in found)
 
     def keeps(self, wanted, kit, began):
         """Records the program, and lists what lib/launch.sh compares with it. The program gets the time at which its sources were first read. So what changes later is

@@ -289,12 +289,13 @@ def test_a_program_that_something_else_built_from_other_sources(tree):
 
 
 def test_a_program_that_rt_built_runs(tree):
-    """There is no record of it, and no source is newer."""
+    """It isn't the one that is recorded, or there is no record. No source is newer."""
     tree.launch("desk")
-    for change in ("", "// changed\n"):
-        for name in ("desk.built", "desk.sources"):
+    for change, names in (("", ["desk.sources"]), ("", ["desk.built", "desk.sources"]), ("// changed\n", ["desk.built", "desk.sources"])):
+        for name in names:
             (tree.program("desk").parent / name).unlink()
-        tree.program("desk").touch()
+        with open(tree.program("desk"), "a", encoding="utf-8") as program:
+            program.write("# built by rt\n")
         time.sleep(0.1)
         tree.changes("docker_train", change)
         tree.launch("desk")
