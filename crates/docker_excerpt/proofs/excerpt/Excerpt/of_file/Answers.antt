@@ -22,7 +22,9 @@ of-requires c =
     subst (λ place. StandsAt place c.args.day state c.in_ok-part.part) (sym c.requires.place)
     (subst (λ day. StandsAt c.args.file.place day state c.in_ok-part.part) (sym c.requires.day)
     (thin_stands c.args.file.place c.args.file.day c.args.file.file read.records read.of_records read.is_file read.few c.args.file.kept thin.thinning
-    c.in_ok-part.part (parts_state c.args.file c.into_parts-parts.result c.into_parts-parts.ensures.thin read.records read.of_records c.in_ok-part.part c.in_ok-part.ensures) c.given_of-given.result.entries c.given_of-given.ensures))
+    c.in_ok-part.part
+    (parts_state c.args.file c.into_parts-parts.result c.into_parts-parts.ensures.thin read.records read.of_records c.in_ok-part.part c.in_ok-part.ensures)
+    c.given_of-given.result.entries c.given_of-given.ensures))
 
 pub returns-clause-place : goal.returns-clause-place
 returns-clause-place c = ap (λ (it : Excerpt). it.place) c.of.ensures
@@ -33,6 +35,7 @@ returns-clause-day c = ap (λ (it : Excerpt). it.day) c.of.ensures
 pub returns-clause-state : goal.returns-clause-state
 returns-clause-state c = λ records of.
     ap (λ (it : Excerpt). it.state) c.of.ensures
-    ∙ given_is_state c.args.file.file records of c.args.file.kept c.in_ok-part.part (parts_state c.args.file c.into_parts-parts.result c.into_parts-parts.ensures.thin records of c.in_ok-part.part c.in_ok-part.ensures) c.given_of-given.result.entries
-    c.given_of-given.ensures
+    ∙ given_is_state c.args.file.file records of c.args.file.kept c.in_ok-part.part
+    (parts_state c.args.file c.into_parts-parts.result c.into_parts-parts.ensures.thin records of c.in_ok-part.part c.in_ok-part.ensures)
+    c.given_of-given.result.entries c.given_of-given.ensures
     ∙ state_is_summary c.args.file.file records of
