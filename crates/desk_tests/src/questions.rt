@@ -41,8 +41,8 @@ fn help_and_version(rt: HostRuntime) {
     prints(&rt, alloc, "--version", VERSION, (32, &[], 0));
 }
 
-/// Numbers of bytes after which an output fails: in and at the first line of what `--help` prints, in
-/// a word, at the end of a line, and before the last byte.
+/// Numbers of bytes after which an output fails. They are in the first line of what `--help` prints,
+/// at its end, in a word, at the end of another line, and before the last byte.
 const TOO_FEW: &[usize] = &[0, 1, 63, 64, 65, 69, 77, 82, 256];
 
 #[test]
