@@ -9,6 +9,8 @@ import trains
 
 # A UID and a train identity as people type them.
 UID, IDENTITY = re.compile(r"[A-Z][0-9]{5}"), re.compile(r"[0-9][A-Z][0-9]{2}")
+# The first and the last column of a field in a list of trains, by its name in docs/FORMATS.md.
+LISTED = {"UID": (1, 6)}
 # The greatest length of a search text, and the greatest number of places that are shown.
 LONGEST, SHOWN = 60, 50
 # The greatest number of places whose dockers are looked through for a train identity, and the greatest number of trains whose journeys are read for it.
@@ -43,10 +45,17 @@ class Found(NamedTuple):
 
 class Sought(NamedTuple):
     """What a search for trains found. `way` says how they were looked for: `uid`, `identity` among all trains of a day, or identity on the dockers of some `places`. It
-    is empty if the text is neither a UID nor a train identity. `is_whole` says whether all that were found are here."""
+    is empty if the text is neither a UID nor a train identity. `is_whole` says whether all that were found are here. If the day is refused, `refused` says why."""
     way: str = ""
     trains: tuple = ()
     is_whole: bool = True
+    refused: str = ""
+
+
+def refusal(answer):
+    """What the line of a refused request says, and what to do."""
+    line = answer.text.decode("utf-8", "replace").strip()
+    return ": ".join(filter(None, [line, dockers.advice(line)]))
 
 
 def ends_of(train):
@@ -56,24 +65,25 @@ def ends_of(train):
 def by_uid(reader, uid, date):
     """The train with a UID that starts on a day."""
     answer = reader.train(uid, date)
-    train = trains.train_of(answer.text) if answer.status == 0 else None
-    if train is None or train.state == "NONE":
-        return ()
-    return (Found(train.identity, uid, *ends_of(train), date, note="cancelled on this day" if train.state == "CANCELLED" else ""),)
+    if answer.status != 0:
+        return Sought("uid", refused=refusal(answer))
+    train = trains.train_of(answer.text)
+    found = Found(train.identity, uid, *ends_of(train), date, note="cancelled on this day" if train.state == "CANCELLED" else "")
+    return Sought("uid", (found,) if train.state != "NONE" else ())
 
 
 def starts_of(reader, identity, day):
-    """The UIDs of the trains with this identity that start on a day, each with its start day. Those of the days before, which may still be on their way, are there too.
-    None if the reader can't list trains."""
-    found = []
-    for before in range(DAYS):
-        start = (day - datetime.timedelta(before)).isoformat()
-        answer = reader.listed(identity, start) if dockers.is_date(start) else dockers.Answer(0, b"")
-        if answer.status in dockers.LACKING:
-            return None
-        # A day before the horizon has no list.
-        found += [(line[:6], start) for line in answer.text.decode("ascii").splitlines()] if answer.status == 0 else []
-    return found
+    """The UIDs of the trains with this identity that started on the days before a day, and may still be on their way, each with its start day. A day before the horizon
+    has no list."""
+    days = [(day - datetime.timedelta(before)).isoformat() for before in range(1, DAYS)]
+    lists = [(start, reader.listed(identity, start)) for start in days if dockers.is_date(start)]
+    return [(uid, start) for start, answer in lists if answer.status == 0 for uid in uids_in(answer)]
+
+
+def uids_in(answer):
+    """The UIDs on a list of trains."""
+    first, last = LISTED["UID"]
+    return [line[first - 1:last] for line in answer.text.decode("ascii").splitlines()]
 
 
 def found_at(train, identity, day, near):
@@ -90,10 +100,10 @@ def found_at(train, identity, day, near):
 
 def by_identity(reader, identity, date, near):
     """The trains with this identity that are on their way on a day, by the time at which they are shown. None if the reader can't list trains."""
-    day = datetime.date.fromisoformat(date)
-    starts = starts_of(reader, identity, day)
-    if starts is None:
-        return None
+    day, listed = datetime.date.fromisoformat(date), reader.listed(identity, date)
+    if listed.status != 0:
+        return None if listed.status in dockers.LACKING else Sought("identity", refused=refusal(listed))
+    starts = [*((uid, date) for uid in uids_in(listed)), *starts_of(reader, identity, day)]
     answers = reader.trains(starts[:READ])
     running = [trains.train_of(answer.text) for answer in answers if answer.status == 0]
     found = sorted(filter(None, (found_at(train, identity, day, near) for train in running)), key=lambda one: (one[1], one[2].uid, one[0]))
@@ -117,7 +127,7 @@ def trains_of(reader, text, date, near, places):
     can `docker`. Then an identity is looked for on the dockers of a place and of the office's places."""
     word = text.upper()
     if UID.fullmatch(word):
-        return Sought("uid", by_uid(reader, word, date))
+        return by_uid(reader, word, date)
     if not IDENTITY.fullmatch(word):
         return Sought()
     return by_identity(reader, word, date, near) or Sought("places", on_dockers(reader, word, date, filter(dockers.is_tiploc, (near, *places))))

@@ -358,6 +358,6 @@ class Screen:
         code = sought.upper() if dockers.is_tiploc(sought.upper()) and sought.upper() not in named.places else None
         return flask.render_template(
             "places.html", places=self.list_of_places(), few=self.thinned_places(), labels=names.Labels(named, is_codes), text=text, sought=sought, found=found[:finding.SHOWN], number=len(found), code=code,
-            trains=trains_found.trains, way=trains_found.way, is_whole=trains_found.is_whole, day=datetime.date.fromisoformat(day), today=self.now(),
+            trains=trains_found.trains, way=trains_found.way, is_whole=trains_found.is_whole, refused=trains_found.refused, day=datetime.date.fromisoformat(day), today=self.now(),
             on=date if date and day == date else "", style=STYLE, script=SEARCH, is_finder=True, query=f"?q={rows.part(text)}" if text else "",
         )

@@ -6,7 +6,7 @@ import pytest
 import browser
 from extracts import DAY, NEXT, PLACES, WEDNESDAY, basic, call, end, extract, origin, place, record, train
 from pages_read import element, links_of, text_of
-from serving import TESTS
+from serving import TESTS, docker
 
 MORE = place("ASHVALE", "ASHVALE", "AHV") + place("BUSY", "CORHAM ROAD", "TWO") + place("CALM", "CORHAM YARD", "TWO") + place("BLANK", "")
 FOUND = extract(
@@ -106,6 +106,18 @@ def test_search_without_lists_of_trains(serves, environment):
         assert [link for link in links_of(page, "found") if "/train/" in link] == [f"/train/{place}" for place in places], words
         assert ("Trains at this office’s places on" in page) == bool(places)
     assert element(served.page("/?q=9Z99"), "number") == "No train with this identity is at this office’s places on Wednesday 12 June 2024"
+
+
+def test_search_before_the_horizon(serves):
+    """A day before the horizon has no trains to find, and the page says why."""
+    served = serves(FOUND)
+    docker("horizon", served.state, "2024-06-11")
+    for word in ("A10001", "1A10"):
+        page = served.page(f"/?q={word}&on=2024-06-10")
+        assert element(page, "number").startswith("docker: day refused: before horizon plus three days: a day before the third day after the horizon. Take a later day: ") and links_of(page, "found") == []
+    # The day before the first day is refused, and the first day isn't.
+    assert links_of(served.page("/?q=1A10&on=2024-06-11"), "found") == ["/train/A10001/2024-06-11#CORHAM", "/train/A10002/2024-06-11#BRAYTON"]
+    assert "needs the program desk" in element(serves(FOUND, DESK="/nonexistent").page("/?q=A10001"), "number")
 
 
 def test_search_of_very_many_trains(serves):
