@@ -10,7 +10,7 @@
 # its old time has a new time of change, and so has a folder that gains or loses a file.
 is_new() {
   [ -x "$root/crates/$1/out/$1" ] || return
-  changed=$(cd "$root" && find -files0-from "crates/$1/out/$1.sources" -maxdepth 0 -cnewer "crates/$1/out/$1" -print -quit 2>/dev/null) && [ -z "$changed" ]
+  changed=$(CDPATH="" cd "$root" && find -files0-from "crates/$1/out/$1.sources" -maxdepth 0 -cnewer "crates/$1/out/$1" -print -quit 2>/dev/null) && [ -z "$changed" ]
 }
 
 launch() {

@@ -172,8 +172,7 @@ def unsaved_at(output, whole):
     mirror, length = Mirror("full"), 0
     for request, answer in zip(REQUESTS, answers_in(whole)):
         mirror.answer(*request)
-        header = b"%d %d %d\n" % (answer.status, answer.text.count(b"\n"), len(answer.text))
-        length += len(header) + len(answer.text)
+        length += len(answer.written())
         if length > len(output):
             break
     return mirror.is_unsaved

@@ -95,15 +95,10 @@ def test_a_file_through_a_pipe_byte_by_byte():
     assert piped(BY_BYTES, "check", "stdin") == ACCEPTED
 
 
-def test_take_of_a_file_through_a_pipe_byte_by_byte():
+@each("line", {"a file through a pipe byte by byte": BY_BYTES, "a compressed file": "gzip -c one | gzip -dc"})
+def test_take_of(line):
     give(STATES["no_files"], "office")
-    assert piped(BY_BYTES, "take", "office", "stdin") == DONE
-    assert held("office") == STATE_OF_ONE
-
-
-def test_a_compressed_file():
-    give(STATES["no_files"], "office")
-    assert piped("gzip -c one | gzip -dc", "take", "office", "stdin") == DONE
+    assert piped(line, "take", "office", "stdin") == DONE
     assert held("office") == STATE_OF_ONE
 
 
@@ -143,30 +138,20 @@ def test_a_named_pipe():
         assert docker("check", "queue") == ACCEPTED
 
 
-@pytest.fixture
-def named_stdin(given):
-    """A file named `stdin`."""
-    give(FILE, "stdin")
-
-
-@pytest.mark.usefixtures("named_stdin")
-def test_stdin_is_standard_input_though_a_file_has_that_name():
-    assert docker("check", "stdin", given=b"") == NO_END
-
-
-@pytest.mark.usefixtures("named_stdin")
-def test_stdin_in_a_folder_is_the_file_of_that_name():
-    assert docker("check", "./stdin", given=b"") == ACCEPTED
+@each("name, wanted", {
+    "stdin is standard input, though a file has that name": ("stdin", NO_END),
+    "stdin in a folder is the file of that name": ("./stdin", ACCEPTED),
+    "a path with spaces": ("folder/a name with spaces", ACCEPTED),
+})
+def test_the_name(name, wanted):
+    for there in ("stdin", "folder/a name with spaces"):
+        give(FILE, there)
+    assert docker("check", name, given=b"") == wanted
 
 
 def test_stdin_in_a_folder_is_a_state_of_that_name():
     give(STATE_OF_ONE, "stdin")
     stores(STATE_OF_BOTH, "take", "./stdin", "revised", state="stdin")
-
-
-def test_a_path_with_spaces():
-    give(FILE, "folder/a name with spaces")
-    assert docker("check", "folder/a name with spaces") == ACCEPTED
 
 
 @each("words", {
@@ -189,14 +174,6 @@ def test_a_folder(words):
         os.close(source)
 
 
-@each("words", {
-    "standard input that is closed": ["check", "stdin"],
-    "no job line, for standard input is closed": [],
-})
-def test_without_input(words):
-    assert docker(*words, before=redirected("<&-")) == DEVICE
-
-
 @each("words, wanted", {
     "a full device under check": ("check one", DEVICE),
     "a full device under day": ("day one ASHFELD 2024-06-10", DEVICE),
@@ -215,12 +192,14 @@ def test_take_writes_nothing_to_standard_output():
     stores(STATE_OF_BOTH, "take", "office", "revised", before=redirected(">/dev/full"))
 
 
-@each("words", {
-    "standard output that is closed": "check one",
-    "print with standard output closed": "print state_of_one ASHFELD 2024-06-10",
+@each("words, closed", {
+    "standard input that is closed": ("check stdin", "<&-"),
+    "no job line, for standard input is closed": ("", "<&-"),
+    "standard output that is closed": ("check one", ">&-"),
+    "print with standard output closed": ("print state_of_one ASHFELD 2024-06-10", ">&-"),
 })
-def test_without_output(words):
-    assert docker(*words.split(), before=redirected(">&-")) == DEVICE
+def test_without(words, closed):
+    assert docker(*words.split(), before=redirected(closed)) == DEVICE
 
 
 @each("words", {
