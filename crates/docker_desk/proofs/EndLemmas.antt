@@ -1,5 +1,5 @@
 -- What is left in an input at the end of a session.
-use Rattle.std.proofs.Common.{◌≡◌, ℕ, List, [], ◌∷◌, ◌++◌, Some, None, ◌⊎◌, inl, inr, ap, subst, ◌∙◌}
+use Rattle.std.proofs.Common.{◌≡◌, ℕ, List, [], ◌∷◌, Some, None, ◌⊎◌, inl, inr, ap, subst, ◌∙◌}
 use Rattle.std.specs.Prelude.{Option, Ok}
 use Rattle.docker_cmd.specs.Prepared.{DeviceBytes}
 use Rattle.docker_desk.specs.Lines.{EndsLine, LineView, ReadsAsked, ReadsNext, asked_meant, cut_line, with_ahead}

@@ -63,7 +63,8 @@ pub served : (words : List Text) (names_bytes : Bool) (old new : HostView) (stat
     → (old.ended ≡ false → new.passed ≡ old.passed) → (old.ended ≡ false → ending ≡ Ended → new.ended ≡ true)
     → (ending ≡ Ended → LeavesNone old.input new.input) → EndsWithStatus ending unsaved status (faults_of old) (faults_of new)
     → unsaved ≡ may_write && last.desk.unsaved → ServesSession words names_bytes old new status
-served words names_bytes old new status name may_write first last ending unsaved named begins none answers history failures counts not_passed told left ends same =
+served words names_bytes old new status name may_write first last ending unsaved named begins none answers history failures counts not_passed told left
+    ends same =
     inr (inr (record {
       name = name;
       may_write = may_write;
@@ -93,9 +94,11 @@ pub served_as : (words : List Text) (names_bytes : Bool) (seen old new : HostVie
     → (seen.ended ≡ false → new.passed ≡ seen.passed) → (seen.ended ≡ false → ending ≡ Ended → new.ended ≡ true)
     → (ending ≡ Ended → LeavesNone seen.input new.input) → EndsWithStatus ending unsaved status (faults_of seen) (faults_of new)
     → unsaved ≡ may_write && last.desk.unsaved → ServesSession words names_bytes old new status
-served_as words names_bytes seen old new status name may_write first last ending unsaved is named begins none answers history failures counts stops told left ends same =
+served_as words names_bytes seen old new status name may_write first last ending unsaved is named begins none answers history failures counts stops told
+    left ends same =
     subst (λ (host : HostView). ServesSession words names_bytes host new status) is
-    (served words names_bytes seen new status name may_write first last ending unsaved named begins none answers history failures counts stops told left ends same)
+    (served words names_bytes seen new status name may_write first last ending unsaved named begins none answers history failures counts stops told left
+    ends same)
 
 -- if the state's file was looked at, but no state could be read from it, the start was refused as the
 -- contract of `serve_session` says. The host `seen` equals the old host
