@@ -159,7 +159,7 @@ fn again<'a>(line: &'a [u8], number: &'a [u8], association: &'a [u8]) -> [&'a [u
 /// The line of an association has its record, and the records of the base train. An event's line
 /// doesn't have it, even if both lines are of the same event.
 #[test]
-fn associations(rt: HostRuntime) {
+fn associations_with_their_records(rt: HostRuntime) {
     let state = state(&rt, rt.alloc(), DIVISION_FILE);
     let other: &[&[u8]] = &[
         OTHER_LEAVES,
@@ -186,7 +186,7 @@ fn associations(rt: HostRuntime) {
 
 /// In the permanent docker, the cancellation of an association doesn't count.
 #[test]
-fn permanent(rt: HostRuntime) {
+fn permanent_details(rt: HostRuntime) {
     let state = state(&rt, rt.alloc(), DIVISION_CANCELLED);
     let (at, on) = (place(&rt, "COLWELL"), day(&rt, "2024-06-10"));
     let docker = permanent_detailed_docker(rt.alloc(), &state, &at, on).expect(&rt, "a docker");
