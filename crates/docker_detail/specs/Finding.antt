@@ -14,7 +14,7 @@ abbrev pub lines_of : Option Train → List (List ℕ)
 lines_of None = []
 lines_of (Some train) = train.lines
 
--- the record of the association that a docker line with this end tells of. `links` returns the
+-- the record of the association that belongs to a docker line with this end. `links` returns the
 -- association chosen in a group for a start day
 abbrev pub association_by : (Group → ℕ → Option Link) → List ℕ → ℕ → ℕ → List ℕ → Detail → Option (List ℕ)
 association_by links base suffix start place (ends origin destination) = None

@@ -16,9 +16,8 @@ use docker_state::Timetable;
 use std::marker::Model;
 
 /// The records of the schedules according to which trains run in a timetable. The train that was
-/// looked up last is remembered, with a walk over its records. So if the events of each train are
-/// asked for one after the other, in ascending order of their numbers, each train is looked up only
-/// once, and its records are read only once.
+/// looked up last is remembered, with a walk over its records. If the events of a train are asked
+/// for one after the other, in ascending order, it is looked up once and its records are read once.
 #[derive(Debug, Drop)]
 pub(crate) struct TrainRecords<'a> {
     timetable: Timetable<'a>,
