@@ -2,6 +2,7 @@
 mod associations;
 mod choice;
 mod compare;
+mod details;
 mod horizons;
 mod memory;
 mod midnights;

@@ -1,11 +1,9 @@
 -- The text of a docker line's origin, made from the records that were found for the line.
 use Rattle.std.specs.Prelude.{ℕ, List, ◌++◌, Option}
-use Rattle.std.specs.Option.{option_copied}
 use Rattle.docker_model.specs.records.PrintedNumber.{number_text}
 use Rattle.docker_model.specs.records.PrintedTime.{spaces, day_text}
 use Rattle.docker_model.specs.docker.DetailedText.{record_text}
-use Rattle.docker_detail.specs.Records.{EventRecords, records_meant}
-use Rattle.docker_detail.specs.declared.origin.Origin.{Origin}
+use Rattle.docker_detail.specs.Records.{EventRecords}
 
 -- columns 57 to 483 of a detailed line, for a train that starts on this day, the number of one of
 -- its events, the schedule's records that belong to the event, and the record of an association
@@ -14,7 +12,3 @@ found_text start number records association =
     spaces 1 ++ day_text start ++ spaces 1 ++ number_text number ++ spaces 1 ++ record_text records.basic ++ spaces 1
     ++ record_text records.extra ++ spaces 1 ++ record_text records.change ++ spaces 1 ++ record_text records.location
     ++ spaces 1 ++ record_text association
-
--- the text of the code's `Origin`
-abbrev pub origin_meant : Origin → List ℕ
-origin_meant origin = found_text origin.start origin.number (records_meant origin.records) (option_copied origin.association)

@@ -1,13 +1,8 @@
--- The records of a schedule that belong to an event with a given number. They are found by a walk
--- over the schedule's records.
-use Rattle.std.specs.Prelude.{◌≡◌, ℕ, ◌+◌, ◌*◌, ◌^◌, ◌≤◌, nat_le, if◌then◌else◌, List, [], ◌∷◌, Option, Some, None, option_map, codes, length, All}
-use Rattle.std.specs.Option.{option_copied}
-use Rattle.docker_model.specs.records.Field.{HasGoodFields}
+-- The records of a schedule that belong to the event with a given number.
+use Rattle.std.specs.Prelude.{◌≡◌, ℕ, ◌+◌, nat_le, if◌then◌else◌, List, [], ◌∷◌, Option, Some, None, codes, length}
 use Rattle.docker_model.specs.file.Journey.{times_of}
 use Rattle.docker_model.specs.docker.Event.{has_identity}
 use Rattle.docker_model.specs.docker.DetailedText.{extra_record}
-use Rattle.docker_detail.specs.declared.event_records.EventRecords as code
-use Rattle.docker_detail.specs.declared.record_walk.RecordWalk.{RecordWalk}
 
 -- the change en route that is in force at an event, and the event's location record
 pub record Place : Type 0 where
@@ -32,24 +27,10 @@ place_from passed change (line ∷ lines) number =
 abbrev pub place_in : List (List ℕ) → ℕ → Place
 place_in lines number = place_from 0 None lines number
 
--- the place that a walk finds for the event with this number
-abbrev pub place_ahead : RecordWalk → ℕ → Place
-place_ahead walk number = place_from walk.passed (option_copied walk.change) walk.rest.now number
-
 -- the first of these records
 abbrev pub first_of : List (List ℕ) → Option (List ℕ)
 first_of [] = None
 first_of (line ∷ lines) = Some line
-
--- the place at which a walk stands: its next record, and the change en route in force there
-abbrev pub place_here : RecordWalk → Place
-place_here walk = record { change = option_copied walk.change; location = first_of walk.rest.now }
-
--- says that the walk can go on: the fields of the later records are good, and their events can be
--- counted
-pub record CanWalk (walk : RecordWalk) : Type 0 where
-  pub good : All HasGoodFields walk.rest.now
-  pub room : walk.passed + 3 * length walk.rest.now ≤ 2 ^ 40
 
 -- the records of a schedule that belong to one of its events: the basic schedule, the extra
 -- details, the change en route in force at the event, and the event's location record
@@ -66,13 +47,4 @@ records_of lines number = record {
   extra = extra_record lines;
   change = (place_in lines number).change;
   location = (place_in lines number).location;
-}
-
--- converts the code's `EventRecords` to the `EventRecords` of the definitions
-abbrev pub records_meant : code.EventRecords → EventRecords
-records_meant records = record {
-  basic = option_copied records.basic;
-  extra = option_copied records.extra;
-  change = option_copied records.change;
-  location = option_copied records.location;
 }

@@ -1,6 +1,6 @@
 //! A docker line, with where it comes from.
 ghost use Rattle.std.specs.Prelude.{◌≡◌};
-ghost use Rattle.docker_detail.specs.OriginText.{origin_meant};
+ghost use Rattle.docker_detail.specs.Meaning.{origin_meant};
 
 use crate::origin::Origin;
 use docker_day::DockerLine;
@@ -9,14 +9,14 @@ use std::marker::Model;
 /// A docker line, with where it comes from.
 #[derive(Debug, Drop)]
 pub struct DetailedLine<'a> {
-    line: DockerLine<'a>,
-    origin: Origin<'a>,
+    pub(crate) line: DockerLine<'a>,
+    pub(crate) origin: Origin<'a>,
 }
 
 impl<'a> Model for DetailedLine<'a> {
-    ghost use Rattle.std.specs.Prelude.{◌×◌, List, ℕ};
+    ghost use Rattle.std.specs.Prelude.{List, ℕ};
     ghost use Rattle.docker_model.specs.docker.DockerLine as lines;
-    ghost use Rattle.docker_detail.specs.OriginText.{origin_meant};
+    ghost use Rattle.docker_detail.specs.Meaning.{origin_meant};
 
     ghost Value = { lines.DockerLine × List ℕ };
 
@@ -24,13 +24,6 @@ impl<'a> Model for DetailedLine<'a> {
 }
 
 impl<'a> DetailedLine<'a> {
-    /// The docker line, with this origin.
-    pub(crate) fn of(line: DockerLine<'a>, origin: Origin<'a>) -> DetailedLine<'a>
-        ensures { result ≡ (line.entry, origin_meant origin.entry) }
-    {
-        DetailedLine { line, origin }
-    }
-
     /// The docker line.
     pub fn line(&self) -> &DockerLine<'a>
         ensures { result.now ≡ self.now.0 }
@@ -39,9 +32,9 @@ impl<'a> DetailedLine<'a> {
     }
 
     /// Where the docker line comes from.
-    pub(crate) fn origin(&self) -> Origin<'a>
-        ensures { origin_meant result ≡ self.now.1 }
+    pub(crate) fn origin(&self) -> &Origin<'a>
+        ensures { origin_meant result.now ≡ self.now.1 }
     {
-        self.origin
+        &self.origin
     }
 }

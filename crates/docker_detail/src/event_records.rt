@@ -2,7 +2,7 @@
 use cif_line::Line;
 
 /// The records of a schedule that belong to one of its events. A record that there isn't is `None`.
-#[derive(Clone, Copy, Debug)]
+#[derive(Debug, Drop)]
 pub(crate) struct EventRecords<'a> {
     /// The basic schedule.
     pub(crate) basic: Option<&'a Line>,

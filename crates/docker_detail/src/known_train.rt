@@ -5,8 +5,10 @@ ghost use Rattle.std.specs.Str.{bytes_eq};
 ghost use Rattle.docker_model.specs.records.Field.{HasGoodFields};
 ghost use Rattle.docker_model.specs.docker.DetailedText.{extra_record};
 ghost use Rattle.docker_state.specs.Timetables.{live_in};
-ghost use Rattle.docker_detail.specs.Finding.{IsKnownTrain, IsReady, lines_of};
-ghost use Rattle.docker_detail.specs.Records.{records_meant, records_of};
+ghost use Rattle.docker_detail.specs.Finding.{lines_of};
+ghost use Rattle.docker_detail.specs.Known.{IsKnownTrain, IsReady};
+ghost use Rattle.docker_detail.specs.Meaning.{records_meant};
+ghost use Rattle.docker_detail.specs.Records.{records_of};
 
 use crate::event_records::EventRecords;
 use crate::record_walk::{RecordWalk, has_identity};
@@ -16,7 +18,7 @@ use train_choice::{ScheduleView, train_on};
 
 /// The schedule according to which the train of a UID runs that starts on a day, with a walk over
 /// the schedule's records. If the train doesn't run, there are no records.
-#[derive(Clone, Copy, Debug)]
+#[derive(Debug, Drop)]
 pub(crate) struct KnownTrain<'a> {
     uid: Uid,
     start: Day,

@@ -2,8 +2,8 @@
 //! from.
 #![tactic(auto)]
 
-mod detailed_docker;
 mod detailed_line;
+mod detailed_list;
 mod event_records;
 mod known_train;
 mod link_records;
@@ -14,8 +14,8 @@ mod print;
 mod record_walk;
 mod train_records;
 
-pub use detailed_docker::DetailedDocker;
 pub use detailed_line::DetailedLine;
+pub use detailed_list::DetailedDocker;
 pub use docker_day::{DockerFault, State};
 pub use making::{detailed_docker, permanent_detailed_docker};
 pub use print::write_detailed;

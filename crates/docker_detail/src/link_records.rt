@@ -1,9 +1,9 @@
 //! The records of the associations that are chosen at a place. The associations that were looked up
 //! last are remembered.
-ghost use Rattle.std.specs.Prelude.{◌≡◌, List, IfOk, IfSome, option_map};
+ghost use Rattle.std.specs.Prelude.{◌≡◌, ℕ, List, IfOk, IfSome};
 ghost use Rattle.std.specs.Option.{option_copied};
 ghost use Rattle.docker_model.specs.state.Row.{Row, AreRowsOf};
-ghost use Rattle.docker_model.specs.docker.DockerLine.{Detail, partner};
+ghost use Rattle.docker_model.specs.docker.DockerLine.{partner};
 ghost use Rattle.docker_laws.specs.LiveRows.{link_in};
 ghost use Rattle.docker_day.specs.Details.{detail_meant};
 ghost use Rattle.docker_state.specs.Timetables.{live_in};
@@ -35,7 +35,7 @@ pub(crate) struct LinkRecords<'a> {
 }
 
 impl<'a> Model for LinkRecords<'a> {
-    ghost use Rattle.docker_detail.specs.Finding.{AtPlace, MayBeKnownLinks};
+    ghost use Rattle.docker_detail.specs.Known.{AtPlace, MayBeKnownLinks};
 
     ghost Value = { AtPlace };
 

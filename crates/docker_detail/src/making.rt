@@ -7,7 +7,7 @@ ghost use Rattle.docker_state.specs.Timetables.{live_in};
 ghost use Rattle.docker_day.specs.Dockers.{IsDockerOf};
 ghost use Rattle.docker_detail.specs.DetailedValue.{IsDetailedOf};
 
-use crate::detailed_docker::DetailedDocker;
+use crate::detailed_list::DetailedDocker;
 use crate::origins::with_origins;
 use cif_line::{Day, Memory, Tiploc};
 use docker_day::{Docker, DockerFault, State, docker, permanent_docker};

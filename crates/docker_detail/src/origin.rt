@@ -1,17 +1,21 @@
 //! Where a docker line comes from.
-use crate::event_records::EventRecords;
 use cif_line::{Day, Line};
 
-/// Where a docker line comes from: the train's start day, the number of the event, the records of
-/// the train's schedule that belong to the event, and the record of the association.
-#[derive(Clone, Copy, Debug)]
+/// Where a docker line comes from. A record that there isn't is `None`.
+#[derive(Debug, Drop)]
 pub(crate) struct Origin<'a> {
     /// The day on which the train starts.
     pub(crate) start: Day,
     /// The number of the event, counted from 1.
     pub(crate) number: u64,
-    /// The records of the schedule that belong to the event.
-    pub(crate) records: EventRecords<'a>,
-    /// The record of the association, if the line tells of one.
+    /// The basic schedule.
+    pub(crate) basic: Option<&'a Line>,
+    /// The extra details of the schedule.
+    pub(crate) extra: Option<&'a Line>,
+    /// The change en route that is in force at the event.
+    pub(crate) change: Option<&'a Line>,
+    /// The location record of the event.
+    pub(crate) location: Option<&'a Line>,
+    /// The association, if the line tells of one.
     pub(crate) association: Option<&'a Line>,
 }

@@ -1,10 +1,9 @@
 //! Finds out where the lines of a docker come from.
-ghost use Rattle.std.specs.Prelude.{◌≡◌, List, ◌×◌, All, IfOk, OnOk, map};
+ghost use Rattle.std.specs.Prelude.{◌≡◌, All, IfOk};
 ghost use Rattle.std.specs.List.Sorted.{IsPermutation, IsSorted};
-ghost use Rattle.std.specs.Ordering.{on};
-ghost use Rattle.docker_model.specs.docker.DockerLine.{DockerLine, docker_line_cmp};
+ghost use Rattle.docker_model.specs.docker.DockerLine.{docker_line_cmp};
 ghost use Rattle.docker_state.specs.Timetables.{live_in};
-ghost use Rattle.docker_detail.specs.Finding.{AreFound, IsFound};
+ghost use Rattle.docker_detail.specs.Finding.{AreFound, IsFound, firsts};
 
 use crate::detailed_line::DetailedLine;
 use crate::link_records::LinkRecords;
@@ -27,7 +26,7 @@ struct Finder<'a> {
 
 impl<'a> Model for Finder<'a> {
     ghost use Rattle.std.specs.Prelude.{◌≡◌};
-    ghost use Rattle.docker_detail.specs.Finding.{AtPlace};
+    ghost use Rattle.docker_detail.specs.Known.{AtPlace};
 
     ghost Value = { AtPlace };
 
@@ -57,15 +56,16 @@ impl<'a> Finder<'a> {
         let association = self.links.of_line(&line)?;
         let (start, number) = (line.start(), line.number());
         let records = self.trains.of_event(&line.uid(), start, number);
-        Ok(DetailedLine::of(
-            line,
-            Origin {
-                start,
-                number,
-                records,
-                association,
-            },
-        ))
+        let origin = Origin {
+            start,
+            number,
+            basic: records.basic,
+            extra: records.extra,
+            change: records.change,
+            location: records.location,
+            association,
+        };
+        Ok(DetailedLine { line, origin })
     }
 }
 
@@ -107,7 +107,7 @@ fn each_with_origin<'a>(
     alloc: Global,
 ) -> Result<Vec<DetailedLine<'a>>, Memory>
     ensures lines { IfOk result (λ detailed.
-        map (λ (line : DockerLine × List ℕ). line.0) detailed.items ≡ lines.entry.items) }
+        firsts detailed.items ≡ lines.entry.items) }
     ensures found { IfOk result (λ detailed.
         All (IsFound (live_in finder.entry.timetable) finder.entry.place) detailed.items) }
 {
@@ -121,8 +121,7 @@ fn each_with_origin<'a>(
 /// Sorts the lines into the order of a docker.
 fn in_order(mut detailed: Vec<DetailedLine<'_>>) -> Vec<DetailedLine<'_>>
     ensures same { IsPermutation detailed.entry.items result.items }
-    ensures sorted { IsSorted (on (λ (line : DockerLine × List ℕ). line.0) docker_line_cmp)
-        result.items }
+    ensures sorted { IsSorted docker_line_cmp (firsts result.items) }
 {
     detailed.sort_unstable_by(|line, other| line.line().cmp(other.line()));
     detailed

@@ -1,6 +1,6 @@
 //! The text of a detailed docker: a heading, the docker's lines, each with its origin, and a last
 //! line. Each line of the text has 483 columns and a line feed.
-ghost use Rattle.std.specs.Prelude.{◌≡◌, ℕ, List, ◌-◌, ◌+◌, ◌^◌, ◌<◌, ◌≤◌, ◌++◌, ◌×◌, IsErr, OnOk, OnErr, length};
+ghost use Rattle.std.specs.Prelude.{◌≡◌, ℕ, List, ◌-◌, ◌+◌, ◌^◌, ◌<◌, ◌≤◌, ◌++◌, IsErr, OnOk, OnErr, length};
 ghost use Rattle.std.specs.List.{flat_map};
 ghost use Rattle.std.specs.Option.{option_copied};
 ghost use Rattle.arrayvec.specs.ArrayVec.{array_vec_len};
@@ -8,16 +8,15 @@ ghost use Rattle.cif_device.specs.Device.{CountsFailure, Takes, TakesPart};
 ghost use Rattle.docker_model.specs.records.PrintedNumber.{number_text};
 ghost use Rattle.docker_model.specs.records.PrintedTime.{spaces};
 ghost use Rattle.docker_model.specs.state.Table.{Table};
-ghost use Rattle.docker_model.specs.docker.DockerLine.{DockerLine as Line};
+ghost use Rattle.docker_model.specs.docker.DockerLine.{DockerLine};
 ghost use Rattle.docker_model.specs.docker.DockerText.{ended, last_line};
 ghost use Rattle.docker_model.specs.docker.DetailedText.{IsDetailedText, detailed_line, padded, record_text};
 ghost use Rattle.docker_day.specs.DockerValue.{head};
 ghost use Rattle.docker_detail.specs.DetailedValue.{IsDetailedOf, text_of};
-ghost use Rattle.docker_detail.specs.OriginText.{origin_meant};
-ghost use Rattle.docker_detail.specs.Records.{records_meant};
+ghost use Rattle.docker_detail.specs.Meaning.{origin_meant};
 
-use crate::detailed_docker::DetailedDocker;
 use crate::detailed_line::DetailedLine;
+use crate::detailed_list::DetailedDocker;
 use crate::origin::Origin;
 use arrayvec::ArrayVec;
 use cif_line::{Day, Failed, Line, Sink, Tiploc, write_all};
@@ -55,11 +54,11 @@ fn write_lines<K: Sink>(sink: &mut K, lines: &[DetailedLine<'_>]) -> Result<(), 
     requires { K.failures sink.old < 2 ^ 64 - 1 }
     ensures whole { OnOk result
         (Takes (K.taken sink.old)
-        (flat_map (λ (line : Line × List ℕ). ended (detailed_line line)) lines.now)
+        (flat_map (λ (line : DockerLine × List ℕ). ended (detailed_line line)) lines.now)
         (K.taken sink.new)) }
     ensures part { OnErr result
         (TakesPart (K.taken sink.old)
-        (flat_map (λ (line : Line × List ℕ). ended (detailed_line line)) lines.now)
+        (flat_map (λ (line : DockerLine × List ℕ). ended (detailed_line line)) lines.now)
         (K.taken sink.new)) }
     ensures failures { CountsFailure (IsErr result) (K.failures sink.old) (K.failures sink.new) }
 {
@@ -108,13 +107,12 @@ fn text_of_detailed(line: &DetailedLine<'_>) -> ArrayVec<u8, ROOM>
 {
     let mut text = ArrayVec::new();
     put(&mut text, columns_of(&text_of_line(line.line())));
-    put_origin(&mut text, &line.origin());
+    put_origin(&mut text, line.origin());
     put(&mut text, b"\n");
     text
 }
 
 /// Appends the text of an origin.
-#[tactic(auto, unfolding(crate::specs::OriginText::found_text))]
 fn put_origin(text: &mut ArrayVec<u8, ROOM>, origin: &Origin<'_>)
     requires room { array_vec_len text.old ≡ 56 }
     ensures items { text.new.items ≡ text.old.items ++ origin_meant origin.now }
@@ -124,10 +122,10 @@ fn put_origin(text: &mut ArrayVec<u8, ROOM>, origin: &Origin<'_>)
     put(text, &origin.start.iso());
     put(text, b" ");
     put_number(text, origin.number);
-    put_record(text, origin.records.basic);
-    put_record(text, origin.records.extra);
-    put_record(text, origin.records.change);
-    put_record(text, origin.records.location);
+    put_record(text, origin.basic);
+    put_record(text, origin.extra);
+    put_record(text, origin.change);
+    put_record(text, origin.location);
     put_record(text, origin.association);
 }
 
@@ -144,14 +142,14 @@ fn put_number(text: &mut ArrayVec<u8, ROOM>, number: u64)
 }
 
 /// Appends a space and a record, or 81 spaces if there is no record.
-fn put_record(text: &mut ArrayVec<u8, ROOM>, record: Option<&Line>)
+fn put_record(text: &mut ArrayVec<u8, ROOM>, line: Option<&Line>)
     requires room { array_vec_len text.old ≤ 412 }
     ensures items { text.new.items
-        ≡ text.old.items ++ (spaces 1 ++ record_text (option_copied record.entry)) }
+        ≡ text.old.items ++ (spaces 1 ++ record_text (option_copied line.entry)) }
     ensures len { array_vec_len text.new ≡ array_vec_len text.old + 81 }
 {
     put(text, b" ");
-    match record {
+    match line {
         Some(line) => put(text, line.bytes()),
         None => put(text, &[b' '; 80]),
     }

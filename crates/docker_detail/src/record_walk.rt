@@ -3,14 +3,15 @@ ghost use Rattle.std.specs.Prelude.{◌≡◌, ℕ, ◌≤◌, ◌<◌, ◌^◌,
 ghost use Rattle.std.specs.Option.{option_copied};
 ghost use Rattle.docker_model.specs.records.Field.{HasGoodFields};
 ghost use Rattle.docker_model.specs.docker.Event.{has_identity};
-ghost use Rattle.docker_detail.specs.Records.{CanWalk, change_after, first_of, place_ahead, place_from, place_here};
+ghost use Rattle.docker_detail.specs.Meaning.{CanWalk, place_ahead, place_here};
+ghost use Rattle.docker_detail.specs.Records.{change_after, first_of, place_from};
 
 use cif_line::Line;
 use train_choice::event_count;
 
 /// A walk over the records of a schedule. It stands before one of the records, and keeps how many
 /// events it has passed, and the last change en route among the records that it has passed.
-#[derive(Clone, Copy, Debug)]
+#[derive(Debug, Drop)]
 pub(crate) struct RecordWalk<'a> {
     rest: &'a [Line],
     passed: u64,

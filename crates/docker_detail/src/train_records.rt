@@ -4,8 +4,10 @@ ghost use Rattle.std.specs.Prelude.{◌≡◌, ◌≤◌, ℕ, List, IfSome};
 ghost use Rattle.docker_model.specs.state.Row.{Row, AreRowsOf};
 ghost use Rattle.docker_laws.specs.LiveRows.{train_in};
 ghost use Rattle.docker_state.specs.Timetables.{live_in};
-ghost use Rattle.docker_detail.specs.Finding.{IsKnownTrain, lines_of};
-ghost use Rattle.docker_detail.specs.Records.{records_meant, records_of};
+ghost use Rattle.docker_detail.specs.Finding.{lines_of};
+ghost use Rattle.docker_detail.specs.Known.{IsKnownTrain};
+ghost use Rattle.docker_detail.specs.Meaning.{records_meant};
+ghost use Rattle.docker_detail.specs.Records.{records_of};
 
 use crate::event_records::EventRecords;
 use crate::known_train::KnownTrain;
@@ -26,7 +28,7 @@ pub(crate) struct TrainRecords<'a> {
 impl<'a> Model for TrainRecords<'a> {
     ghost use Rattle.docker_state.specs.Timetables as timetables;
     ghost use Rattle.docker_state.specs.Timetables.{live_in};
-    ghost use Rattle.docker_detail.specs.Finding.{MayBeKnownTrain};
+    ghost use Rattle.docker_detail.specs.Known.{MayBeKnownTrain};
 
     ghost Value = { timetables.Timetable };
 
@@ -53,21 +55,22 @@ impl<'a> TrainRecords<'a> {
         ensures records { (rows : List Row) → AreRowsOf (live_in self.old) rows
             → records_meant result ≡ records_of (lines_of (train_in rows uid.now start)) number }
     {
-        let mut known = self.train(uid, start, number);
+        let mut known = self.take(uid, start, number);
         let records = known.records(number);
         self.known = Some(known);
         records
     }
 
-    /// The train of a UID that starts on a day, with a walk that can find the event with this
-    /// number.
-    fn train(&self, uid: &Uid, start: Day, number: u64) -> KnownTrain<'a>
-        ensures known { IsKnownTrain (live_in self.now) result }
+    /// Takes the train of a UID that starts on a day, with a walk that can find the event with this
+    /// number. It is the train that was looked up last, if it is the same.
+    fn take(&mut self, uid: &Uid, start: Day, number: u64) -> KnownTrain<'a>
+        ensures same { self.new ≡ self.old }
+        ensures known { IsKnownTrain (live_in self.old) result }
         ensures uid { result.uid ≡ uid.now }
         ensures start { result.start ≡ start }
         ensures least { result.least ≤ number }
     {
-        match self.known {
+        match self.known.take() {
             Some(known) => {
                 if known.finds(uid, start, number) {
                     known

@@ -1,6 +1,6 @@
 -- The remembered train identities and associations are correct, and each look-up preserves their correctness.
 use Rattle.std.proofs.Common.{◌≡◌, ℕ, Bool, true, false, cond, List, refl, ap, sym, ◌∙◌, subst, Some}
-use Rattle.std.specs.Prelude.{Option, ◌&&◌, ◌==◌}
+use Rattle.std.specs.Prelude.{Option, option_map, ◌&&◌, ◌==◌}
 use Rattle.std.specs.declared.cmp.Ordering.{Ordering}
 use Rattle.std.specs.BTreeMap.{BTreeMap, get, Updates}
 use Rattle.std.specs.Str.{bytes_eq}
@@ -92,6 +92,14 @@ pub counts_told : (live : Table) (place : List ℕ) (day : ℕ) (best : GroupLin
     → (rows : List Row) → AreRowsOf live rows → answer ≡ counts_as (link_in rows (group_of key) day) key
 counts_told live place day best key link answer are here kept is rows each =
     is ∙ ap (λ (found : Option Link). counts_as found key) (kept ∙ are (group_of key) here rows each)
+
+-- suppose that a map has the associations chosen at a place on a day. Then the record of the
+-- association that the map has for a group at the place is that of the group's chosen association
+pub record_told : (live : Table) (place : List ℕ) (day : ℕ) (best : GroupLinks) (group : Group) (link : Link) (line : List ℕ)
+    → AreDayLinks live place day best → group.location ≡ place → Some link ≡ get group_cmp best group → line ≡ link.line
+    → (rows : List Row) → AreRowsOf live rows → Some line ≡ option_map (λ (l : Link). l.line) (link_in rows group day)
+record_told live place day best group link line are here kept is rows each =
+    ap Some is ∙ ap (option_map (λ (l : Link). l.line)) (kept ∙ are group here rows each)
 
 module _ (day : ℕ) (link : Link) where
   abbrev by_key : Link → Link → Ordering

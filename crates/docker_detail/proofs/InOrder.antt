@@ -1,0 +1,100 @@
+-- A docker's lines, each with its origin, are the detailed docker.
+use Rattle.std.proofs.Common.{◌≡◌, ℕ, List, [], ◌∷◌, ◌++◌, ◌+◌, ◌<◌, map, length, refl, ap, sym, ◌∙◌, subst, Contains, append_assoc, arith}
+use Rattle.std.specs.Prelude.{All, zip}
+use Rattle.std.specs.List.{AllByRecursion, AllZip, flat_map}
+use Rattle.std.specs.List.Sorted.{IsPermutation, IsSorted}
+use Rattle.std.proofs.lemmas.List.Elements.{recursion_from_All}
+use Rattle.std.proofs.lemmas.List.{get_or-map, length-map, map-append}
+use Rattle.std.proofs.lemmas.List.Sorted.{All-permutation, Contains-permutation, IsPermutation-map, IsPermutation-sym, IsPermutation-trans}
+use Rattle.std.specs.Ordering.{is_lt}
+use Rattle.docker_model.specs.state.Order.{IsBelow, IsStrictlyAscending}
+use Rattle.docker_model.specs.state.Row.{Row, AreRowsOf}
+use Rattle.docker_model.specs.state.Table.{Table}
+use Rattle.docker_model.specs.docker.DetailedText.{IsDetailedText, IsOrigin, detailed_line, detailed_text, padded}
+use Rattle.docker_model.specs.docker.DockerLine.{DockerLine, docker_line_cmp}
+use Rattle.docker_model.specs.docker.DockerList.{IsDockerList}
+use Rattle.docker_model.specs.docker.DockerText.{ended, heading, last_line}
+use Rattle.cif_laws.proofs.lists.Membership.{all_members, map-Contains, member_of}
+use Rattle.cif_laws.proofs.lists.Later.{AllLater}
+use Rattle.cif_laws.proofs.lists.Sorted.{AreApart, sort_ascends}
+use Rattle.cif_laws.proofs.orders.Orders.{docker_line_total}
+use Rattle.docker_day.specs.DockerValue.{Docker}
+use Rattle.docker_day.specs.Dockers.{IsDockerOf}
+use Rattle.docker_detail.specs.DetailedValue.{DetailedDocker, IsDetailedOf, text_of}
+use Rattle.docker_detail.specs.Finding.{AreFound, Detailed, IsFound, firsts}
+use Rattle.docker_detail.proofs.FoundOrigins.{found_is_origin}
+
+-- no two lines of a strictly ascending list tie
+ascending_apart : (lines : List DockerLine) → IsStrictlyAscending docker_line_cmp lines → AreApart docker_line_cmp lines
+ascending_apart [] up = tt
+ascending_apart (line ∷ lines) up = (below_apart lines up.0, ascending_apart lines up.1)
+  where
+    below_apart : (rest : List DockerLine) → AllByRecursion (IsBelow docker_line_cmp line) rest
+        → AllByRecursion (λ (other : DockerLine). ¬ (docker_line_cmp line other ≡ Rattle.std.specs.declared.cmp.Ordering.TheVariants.Equal)) rest
+    below_apart [] all = tt
+    below_apart (other ∷ rest) all = ((λ same. let less = all.0 in cc), below_apart rest all.1)
+
+-- the lines of a docker, each with its origin, are the lines of the detailed docker
+pub detailed_is : (live : Table) (place : List ℕ) (day : ℕ) (rows : List Row) (docker : Docker) (detailed : List Detailed) → AreRowsOf live rows
+    → IsDockerOf live place day docker → AreFound live docker.place docker.lines detailed → (result : DetailedDocker)
+    → result ≡ record { place = docker.place; day = docker.day; description = docker.description; lines = detailed }
+    → IsDetailedOf live place day result
+detailed_is live place day rows docker detailed are is made result told =
+    subst (IsDetailedOf live place day) (sym told) (record {
+      place_is = is.place_is;
+      day_is = is.day_is;
+      described = is.described;
+      list = record {
+        ascending = sort_ascends docker_line_total docker.lines (firsts detailed) (ascending_apart docker.lines is.list.ascending) made.same made.sorted;
+        members = λ line. (
+          λ among. (is.list.members line).0 (Contains-permutation (firsts detailed) docker.lines line (IsPermutation-sym docker.lines (firsts detailed) made.same) among),
+          λ meant. Contains-permutation docker.lines (firsts detailed) line made.same ((is.list.members line).1 meant),
+        );
+      };
+      origins = all_members (λ (line : Detailed). IsOrigin live place day line.0 line.1) detailed (λ line among.
+          found_is_origin live place day rows are line.0 line.1
+          ((is.list.members line.0).0 (Contains-permutation (firsts detailed) docker.lines line.0 (IsPermutation-sym docker.lines (firsts detailed) made.same)
+          (map-Contains (λ (l : Detailed). l.0) detailed line among)))
+          (subst (λ (p : List ℕ). IsFound live p line) is.place_is (member_of (IsFound live docker.place) detailed line made.found among)));
+    })
+
+-- the lines that were looked up, in the order of a docker, are what is found for the lines
+pub found_in_order : (live : Table) (place : List ℕ) (lines ordered : List DockerLine) (each sorted : List Detailed) → IsPermutation lines ordered
+    → firsts each ≡ ordered → All (IsFound live place) each → IsPermutation each sorted → IsSorted docker_line_cmp (firsts sorted)
+    → AreFound live place lines sorted
+found_in_order live place lines ordered each sorted by_train are found same up = record {
+  same = IsPermutation-trans lines (firsts each) (firsts sorted) (subst (IsPermutation lines) (sym are) by_train)
+      (IsPermutation-map (λ (line : Detailed). line.0) each sorted same);
+  sorted = up;
+  found = All-permutation (IsFound live place) each sorted same found;
+}
+
+-- if pairs are sorted by their lines, their lines are sorted
+pub firsts_sorted : (lines : List Detailed) → IsSorted (λ (a b : Detailed). docker_line_cmp a.0 b.0) lines → IsSorted docker_line_cmp (firsts lines)
+firsts_sorted lines sorted k d low below =
+    let long : length (firsts lines) ≡ length lines = length-map lines (λ (line : Detailed). line.0) in
+    let high : k + 1 < length lines = omega arith in
+    let here : k < length lines = omega arith in
+    (λ i. is_lt (docker_line_cmp (get_or-map (λ (line : Detailed). line.0) lines (k + 1) (d, []) d high i)
+    (get_or-map (λ (line : Detailed). line.0) lines k (d, []) d here i)))
+    ∙ sorted k (d, []) low high
+
+-- one more line is looked up
+pub one_more : (items : List Detailed) (more : Detailed) (line : DockerLine) (before rest lines : List DockerLine) → before ≡ line ∷ rest → more.0 ≡ line
+    → firsts items ++ before ≡ lines → firsts (items ++ more ∷ []) ++ rest ≡ lines
+one_more items more line before rest lines is same all =
+    ap (λ (front : List DockerLine). front ++ rest) (map-append (λ (l : Detailed). l.0) items (more ∷ []))
+    ∙ append_assoc (firsts items) (more.0 ∷ []) rest
+    ∙ (λ i. firsts items ++ (same i ∷ rest))
+    ∙ ap (λ (back : List DockerLine). firsts items ++ back) (sym is) ∙ all
+
+-- the docker that the code makes is the detailed docker of the definitions
+pub detailed_made : (live : Table) (place : List ℕ) (day : ℕ) (rows : List Row) (docker : Docker) (detailed : List Detailed) (own : List ℕ) (told : ℕ)
+    (described : List ℕ) (lines : List DockerLine) (result : DetailedDocker) → AreRowsOf live rows → own ≡ docker.place → told ≡ docker.day
+    → described ≡ docker.description → lines ≡ docker.lines → AreFound live own lines detailed
+    → result ≡ record { place = own; day = told; description = described; lines = detailed } → IsDockerOf live place day docker
+    → IsDetailedOf live place day result
+detailed_made live place day rows docker detailed own told described lines result are own_is told_is described_is lines_are found is made =
+    detailed_is live place day rows docker detailed are made
+    (subst (λ (v : List ℕ × List DockerLine). AreFound live v.0 v.1 detailed) (λ i. (own_is i, lines_are i)) found) result
+    (is ∙ (λ i. record { place = own_is i; day = told_is i; description = described_is i; lines = detailed }))

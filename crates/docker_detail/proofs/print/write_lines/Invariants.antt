@@ -1,0 +1,13 @@
+use Rattle.std.proofs.Common.{◌≡◌, drop}
+use Rattle.docker_model.specs.docker.DetailedText.{detailed_line}
+use Rattle.docker_detail.specs.Finding.{Detailed}
+use Rattle.docker_model.specs.docker.DockerText.{ended}
+use Rattle.docker_day.proofs.Written.{Leads}
+use Rattle.docker_detail.proofs.print.write_lines.Given as goal
+
+-- the sink has gained the lines before the current line
+abbrev pub invariant-loop-line : goal.invariant-loop-line
+invariant-loop-line g l = record {
+  leads : Leads (λ (line : Detailed). ended (detailed_line line)) l.lines (drop l.line-index l.lines) (g.K.Sink.taken l.fn.sink) (g.K.Sink.taken l.sink);
+  no_failure : g.K.Sink.failures l.sink ≡ g.K.Sink.failures l.fn.sink;
+}
