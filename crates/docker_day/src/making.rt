@@ -6,7 +6,7 @@ ghost use Rattle.docker_model.specs.records.Record.{columns};
 ghost use Rattle.docker_model.specs.file.Change.{tiploc_key};
 ghost use Rattle.docker_model.specs.state.State.{live_table};
 ghost use Rattle.docker_model.specs.docker.Permanent.{permanent_table};
-ghost use Rattle.docker_laws.specs.CountedRows.{IsOfGoodRows};
+ghost use Rattle.state_laws.specs.CountedRows.{IsOfGoodRows};
 ghost use Rattle.docker_model.specs.state.Lapse.{IsDayRefused};
 ghost use Rattle.docker_model.specs.docker.DockerText.{description_in};
 ghost use Rattle.docker_day.specs.Dockers.{HasGathered, IsDockerOf};

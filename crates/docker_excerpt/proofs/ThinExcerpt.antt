@@ -12,7 +12,7 @@ use Rattle.docker_model.specs.docker.DockerText.{description_in}
 use Rattle.docker_laws.specs.FileSummary.{latest_entries, summary_of}
 use Rattle.docker_laws.specs.Thinning.{may_matter, thin_body, thinned, IsThinning, IsStateOfChanges}
 use Rattle.docker_laws.proofs.dockers.FileSummary.{summary_is, summary_valid}
-use Rattle.docker_laws.proofs.dockers.GoodBodies.{good_bodies}
+use Rattle.state_laws.proofs.states.GoodBodies.{good_bodies}
 use Rattle.docker_laws.proofs.dockers.ThinDocker.{thinned_stands}
 use Rattle.docker_laws.proofs.dockers.ThinState.{live_of_summary, thin_live, thin_state_list}
 use Rattle.cif_file.specs.FileRead.{FileRead, IsOfRecords}

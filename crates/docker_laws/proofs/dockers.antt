@@ -2,7 +2,6 @@ pub mod Events
 pub mod EventWalk
 pub mod FewMidnights
 pub mod StartDays
-pub mod GoodBodies
 pub mod KeptSchedules
 pub mod OneChoice
 pub mod OneDockerLine
@@ -35,7 +34,6 @@ pub mod ThinState
 pub mod FileSummary
 pub mod NoLinesElsewhere
 pub mod Sublists
-pub mod CountedRows
 pub mod PermanentDocker
 pub mod OneOrigin
 pub mod LapsedOrigins

@@ -11,5 +11,4 @@ pub mod ExcerptWalk
 pub mod NearDay
 pub mod StandIn
 pub mod Thinning
-pub mod CountedRows
 pub mod FirstColumns

@@ -1,9 +1,9 @@
 -- The rows of a timetable are good rows, since all live rows of a valid state are good rows.
 use Rattle.std.proofs.Common.{refl}
 use Rattle.docker_model.specs.state.State.{State, IsValid, live_table}
-use Rattle.docker_laws.specs.CountedRows.{IsOfGoodRows}
-use Rattle.docker_laws.proofs.dockers.CountedRows.{counted_good}
-use Rattle.docker_laws.proofs.dockers.GoodBodies.{good_bodies}
+use Rattle.state_laws.specs.CountedRows.{IsOfGoodRows}
+use Rattle.state_laws.proofs.states.CountedRows.{counted_good}
+use Rattle.state_laws.proofs.states.GoodBodies.{good_bodies}
 use Rattle.docker_state.specs.Live.{live_rows}
 use Rattle.docker_state.specs.Timetables.{Timetable, counts, live_in}
 use Rattle.docker_state.proofs.LiveTable.{live_ascends, live_walks}

@@ -4,7 +4,7 @@ use Rattle.docker_model.specs.file.Change as model
 use Rattle.docker_model.specs.docker.Permanent.{is_permanent}
 use Rattle.docker_model.specs.state.State.{State, live_table}
 use Rattle.docker_model.specs.state.Table.{Table}
-use Rattle.docker_laws.specs.CountedRows.{counted_table}
+use Rattle.state_laws.specs.CountedRows.{counted_table}
 
 -- a timetable: a state, and whether only its permanent entries count
 pub record Timetable : Type 0 where

@@ -6,7 +6,7 @@ ghost use Rattle.cif_change.specs.Meaning.{body_meant};
 ghost use Rattle.docker_model.specs.file.Change.{tiploc_key};
 ghost use Rattle.docker_model.specs.records.Date.{IsDay};
 ghost use Rattle.docker_model.specs.state.Op.{body_of};
-ghost use Rattle.docker_laws.specs.CountedRows.{IsOfGoodRows};
+ghost use Rattle.state_laws.specs.CountedRows.{IsOfGoodRows};
 ghost use Rattle.docker_state.specs.Timetables.{live_in};
 ghost use Rattle.state_laws.specs.Index.{AreCalling, AreLinked, AreOfUid};
 ghost use Rattle.docker_join.specs.Meaning.{op_meant};

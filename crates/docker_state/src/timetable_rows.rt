@@ -3,7 +3,7 @@ ghost use Rattle.std.specs.Prelude.{◌≡◌};
 ghost use Rattle.std.specs.Iterator.{YieldsFirstBy, item_count};
 ghost use Rattle.cif_change.specs.Meaning.{key_meant, body_meant};
 ghost use Rattle.docker_model.specs.docker.Permanent.{is_permanent};
-ghost use Rattle.docker_laws.specs.CountedRows.{counted_rows};
+ghost use Rattle.state_laws.specs.CountedRows.{counted_rows};
 ghost use Rattle.docker_state.specs.Timetables.{counts};
 
 use crate::live::Live;
@@ -24,7 +24,7 @@ pub struct TimetableRows<'a> {
 impl<'a> Model for TimetableRows<'a> {
     ghost use Rattle.std.specs.Prelude.{List};
     ghost use Rattle.docker_model.specs.state.Row.{Row};
-    ghost use Rattle.docker_laws.specs.CountedRows.{counted_rows};
+    ghost use Rattle.state_laws.specs.CountedRows.{counted_rows};
     ghost use Rattle.docker_state.specs.Timetables.{counts};
 
     ghost Value = { List Row };
@@ -71,7 +71,7 @@ pub struct UidSchedules<'a> {
 impl<'a> Model for UidSchedules<'a> {
     ghost use Rattle.std.specs.Prelude.{List};
     ghost use Rattle.docker_model.specs.state.Row.{Row};
-    ghost use Rattle.docker_laws.specs.CountedRows.{counted_rows};
+    ghost use Rattle.state_laws.specs.CountedRows.{counted_rows};
     ghost use Rattle.docker_state.specs.Timetables.{counts};
 
     ghost Value = { List Row };

@@ -25,7 +25,7 @@ use Rattle.state_laws.proofs.states.PlainLive.{live_is_lapsed_plain}
 use Rattle.docker_laws.proofs.dockers.TrainOfRows.{one_answer}
 use Rattle.docker_laws.proofs.dockers.LapsedChoice.{chosen_iff}
 use Rattle.docker_laws.proofs.dockers.PrintedDocker.{day_bound}
-use Rattle.docker_laws.proofs.dockers.GoodBodies.{good_bodies}
+use Rattle.state_laws.proofs.states.GoodBodies.{good_bodies}
 use Rattle.docker_laws.proofs.dockers.NearStarts.{event_near, association_near}
 use Rattle.train_choice.specs.Along.{IsLiveTrain}
 use Rattle.docker_model.specs.lists.TrainText.{Stamped, IsFoundFor, IsStampOf, IsTrainText, train_text}

@@ -15,3 +15,5 @@ pub mod TableLapsed
 pub mod LapsedPlainTable
 pub mod ExactEntries
 pub mod PlainLive
+pub mod GoodBodies
+pub mod CountedRows

@@ -2,3 +2,4 @@ pub mod TextStage
 pub mod LawTerms
 pub mod Index
 pub mod Staging
+pub mod CountedRows

@@ -1,6 +1,6 @@
 //! A search for the schedules of a UID: a timetable, and the row at which the search begins.
 ghost use Rattle.std.specs.Prelude.{◌≡◌};
-ghost use Rattle.docker_laws.specs.CountedRows.{IsOfGoodRows};
+ghost use Rattle.state_laws.specs.CountedRows.{IsOfGoodRows};
 ghost use Rattle.state_laws.specs.Index.{AreOfUid};
 ghost use Rattle.docker_state.specs.Timetables.{live_in};
 

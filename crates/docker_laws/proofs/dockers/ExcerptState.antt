@@ -27,7 +27,7 @@ use Rattle.docker_laws.proofs.dockers.Sublists.{sublist_all, sublist_later, subl
 use Rattle.cif_laws.proofs.lists.BoolsAndOptions.{and_true}
 use Rattle.cif_laws.proofs.lists.FilteredMembers.{find_some, filter_back}
 use Rattle.state_laws.proofs.states.PlainTable.{Keyed, live_none}
-use Rattle.docker_laws.proofs.dockers.GoodBodies.{live_entry}
+use Rattle.state_laws.proofs.states.GoodBodies.{live_entry}
 use Rattle.docker_laws.proofs.dockers.ExcerptDocker.{same_where_needed}
 use Rattle.state_laws.proofs.indexes.CallsTest.{any_forth, calls_test}
 

@@ -16,7 +16,7 @@ use Rattle.docker_laws.proofs.dockers.Sublists.{sublist_filter}
 use Rattle.cif_laws.proofs.lists.FilteredMembers.{filter_back, filter_forth}
 use Rattle.state_laws.proofs.states.PlainTable.{Keyed, Found, NotFound, find_in, one_per_key, live_at, live_none}
 use Rattle.docker_laws.proofs.dockers.FewMidnights.{bodies_few}
-use Rattle.docker_laws.proofs.dockers.GoodBodies.{good_bodies}
+use Rattle.state_laws.proofs.states.GoodBodies.{good_bodies}
 use Rattle.docker_laws.proofs.dockers.ExcerptState.{some_valid}
 use Rattle.docker_laws.proofs.dockers.ExcerptWalk.{walk_valid, walk_list_iff, walk_text_iff}
 use Rattle.docker_laws.proofs.dockers.NearDocker.{IsLeftOut, IsNearPart, near_list_iff, near_text_iff}

@@ -22,9 +22,9 @@ use Rattle.state_laws.proofs.states.SummaryLaws.{summary_unique, lapsed_summary}
 use Rattle.state_laws.proofs.states.SummaryValid.{summary_is_valid}
 use Rattle.state_laws.proofs.states.TableLapsed.{live_lapsed}
 use Rattle.docker_laws.specs.Gathering.{IsDockerLine}
-use Rattle.docker_laws.proofs.dockers.CountedRows.{counted_bodies, was_counted}
+use Rattle.state_laws.proofs.states.CountedRows.{counted_bodies, was_counted}
 use Rattle.docker_laws.proofs.dockers.FewMidnights.{bodies_few}
-use Rattle.docker_laws.proofs.dockers.GoodBodies.{good_bodies}
+use Rattle.state_laws.proofs.states.GoodBodies.{good_bodies}
 use Rattle.docker_laws.proofs.dockers.LapsedDocker.{docker_text_iff}
 use Rattle.docker_laws.proofs.dockers.PrintedDocker.{day_bound, plain_bodies}
 use Rattle.docker_laws.proofs.runs.RunEnd.{greater_prints, one_text}

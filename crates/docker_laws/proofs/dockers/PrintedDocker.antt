@@ -22,7 +22,7 @@ use Rattle.state_laws.proofs.states.PlainTable.{entries_along, step, NoneThere, 
 use Rattle.state_laws.proofs.states.PlainTable.{after_files_is, entries_ascend, suffix_ascends, out_entries}
 use Rattle.state_laws.proofs.states.TableLapsed.{live_lapsed}
 use Rattle.docker_laws.proofs.dockers.FewMidnights.{bodies_few}
-use Rattle.docker_laws.proofs.dockers.GoodBodies.{good_bodies}
+use Rattle.state_laws.proofs.states.GoodBodies.{good_bodies}
 use Rattle.docker_laws.proofs.dockers.LapsedDocker.{docker_list_iff, docker_text_iff}
 use Rattle.state_laws.proofs.states.PlainLive.{lapse_table_none, live_is_lapsed_plain}
 

@@ -32,7 +32,7 @@ use Rattle.state_laws.proofs.states.PlainTable.{LastThere, last_there, step, ent
 use Rattle.state_laws.proofs.states.PlainLive.{lapse_table_none}
 use Rattle.state_laws.proofs.states.LapsedPlainTable.{live_is_plain}
 use Rattle.state_laws.proofs.states.SummaryValid.{item_good, summary_is_valid}
-use Rattle.docker_laws.proofs.dockers.GoodBodies.{good_bodies}
+use Rattle.state_laws.proofs.states.GoodBodies.{good_bodies}
 use Rattle.docker_laws.proofs.dockers.ThinBody.{needed_is_body}
 use Rattle.docker_laws.proofs.dockers.ThinDocker.{thin_list_iff, thin_text_iff}
 

@@ -2,7 +2,7 @@ use Rattle.std.proofs.Common.{◌+◌, ◌∙◌, ap, refl, subst, sym}
 use Rattle.cif_change.specs.Meaning.{body_meant, key_meant}
 use Rattle.cif_device.specs.Device.{Takes, TakesPart}
 use Rattle.docker_model.specs.state.State.{live_table}
-use Rattle.docker_laws.proofs.dockers.GoodBodies.{good_bodies}
+use Rattle.state_laws.proofs.states.GoodBodies.{good_bodies}
 use Rattle.docker_state.specs.Live.{live_rows}
 use Rattle.train_choice.specs.Along.{AreGoodRows, AreLive}
 use Rattle.docker_day.proofs.Written.{none_failed, on_any_err, one_failed}

@@ -2,8 +2,8 @@ use Rattle.std.proofs.Common.{List, ap, sym, ◌∙◌, subst}
 use Rattle.docker_model.specs.state.State.{IsValid, live_table}
 use Rattle.state_laws.specs.Index.{AreLinked}
 use Rattle.docker_model.specs.state.Row.{Row}
-use Rattle.docker_laws.specs.CountedRows.{counted_table, counted_rows}
-use Rattle.docker_laws.proofs.dockers.CountedRows.{counted_linked}
+use Rattle.state_laws.specs.CountedRows.{counted_table, counted_rows}
+use Rattle.state_laws.proofs.states.CountedRows.{counted_linked}
 use Rattle.docker_state.specs.Timetables.{Timetable, counts, live_in}
 use Rattle.docker_state.proofs.Timetables.{timetable_good}
 use Rattle.docker_state.proofs.timetable.Timetable.linked.Goals as goal

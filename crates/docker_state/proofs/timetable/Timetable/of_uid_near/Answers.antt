@@ -2,8 +2,8 @@ use Rattle.std.proofs.Common.{List, sym, subst}
 use Rattle.docker_model.specs.state.State.{IsValid, live_table}
 use Rattle.state_laws.specs.Index.{AreOfUid}
 use Rattle.docker_model.specs.state.Row.{Row}
-use Rattle.docker_laws.specs.CountedRows.{counted_table}
-use Rattle.docker_laws.proofs.dockers.CountedRows.{counted_of_uid}
+use Rattle.state_laws.specs.CountedRows.{counted_table}
+use Rattle.state_laws.proofs.states.CountedRows.{counted_of_uid}
 use Rattle.docker_state.specs.Timetables.{Timetable, counts, live_in}
 use Rattle.docker_state.proofs.Timetables.{timetable_good}
 use Rattle.docker_state.proofs.timetable.Timetable.of_uid_near.Goals as goal

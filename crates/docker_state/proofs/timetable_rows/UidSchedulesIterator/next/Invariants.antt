@@ -1,5 +1,5 @@
 use Rattle.std.proofs.Common.{◌≡◌, length}
-use Rattle.docker_laws.specs.CountedRows.{counted_rows}
+use Rattle.state_laws.specs.CountedRows.{counted_rows}
 use Rattle.docker_state.specs.Timetables.{counts}
 use Rattle.docker_state.proofs.timetable_rows.UidSchedulesIterator.next.Given as goal
 

@@ -12,7 +12,7 @@ use Rattle.docker_model.specs.state.Row.{Row, AreInKeyOrder, AreRowsOf}
 use Rattle.cif_laws.proofs.lists.FilteredMembers.{filter_back, filter_forth}
 use Rattle.cif_laws.proofs.lists.Later.{later_filter}
 use Rattle.cif_laws.proofs.orders.Ascending.{later_of, ascending_of}
-use Rattle.docker_laws.specs.CountedRows.{counted_table, counted_rows, IsOfGoodRows}
+use Rattle.state_laws.specs.CountedRows.{counted_table, counted_rows, IsOfGoodRows}
 
 module _ (counts : Key → Bool) where
   abbrev row_counts : Row → Bool
