@@ -10,7 +10,7 @@ use Rattle.docker_model.specs.state.Table.{Table, IsPlainTable}
 use Rattle.docker_model.specs.docker.DetailedText.{IsDetailedText}
 use Rattle.docker_model.specs.docker.Permanent.{is_permanent, permanent_table}
 use Rattle.docker_model.specs.run.Knowledge.{AreFiles, HaveSameFiles}
-use Rattle.docker_laws.proofs.dockers.CountedRows.{counted_bodies}
+use Rattle.state_laws.proofs.states.CountedRows.{counted_bodies}
 use Rattle.docker_laws.proofs.dockers.FewMidnights.{bodies_few}
 use Rattle.docker_laws.proofs.dockers.LapsedOrigins.{detailed_text_iff}
 use Rattle.docker_laws.proofs.dockers.OneOrigin.{one_detailed_text}

@@ -16,7 +16,7 @@ use Rattle.state_laws.proofs.states.PlainLive.{lapse_table_none, live_is_lapsed_
 use Rattle.state_laws.proofs.states.SummaryLaws.{summary_unique, lapsed_summary}
 use Rattle.state_laws.proofs.states.SummaryValid.{summary_is_valid}
 use Rattle.state_laws.proofs.states.TableLapsed.{live_lapsed}
-use Rattle.docker_laws.proofs.dockers.GoodBodies.{good_bodies}
+use Rattle.state_laws.proofs.states.GoodBodies.{good_bodies}
 use Rattle.docker_laws.proofs.dockers.PrintedDocker.{plain_bodies}
 use Rattle.docker_laws.proofs.runs.RunEnd.{greater_prints}
 
