@@ -50,8 +50,9 @@ NO_REQUEST = 2
 # If the words of a request are good, these statuses of its answer say that the request isn't known.
 LACKING = (UNKNOWN, NO_REQUEST)
 # The lists that are requested only once as long as STATE doesn't change. If a desk doesn't know
-# `permanent`, this fact is remembered too.
+# one of the newer requests, this fact is remembered too.
 LISTS = (("files",), ("known",), ("places",))
+NEWER = ("permanent", "detail", "permanent-detail")
 # The most bytes of requests that are sent together. Every pipe has room for this many.
 TOGETHER = 4096
 # The most bytes that are read at once from a process.
@@ -180,6 +181,13 @@ class Reader:
         if not self.has_trains:
             return Answer(UNKNOWN, b"what is permanent needs the program desk\n")
         return wrong_place(tiploc) or wrong_day(date) or self.ask(("permanent", tiploc, date))
+
+    def detailed(self, tiploc, date, is_permanent=False):
+        """A docker, or the permanent docker, in which each line is followed by the records that it was made from. Only `desk` knows it; a desk of an older version
+        refuses with NO_REQUEST."""
+        if not self.has_trains:
+            return Answer(UNKNOWN, b"what a docker was made from needs the program desk\n")
+        return wrong_place(tiploc) or wrong_day(date) or self.ask(("permanent-detail" if is_permanent else "detail", tiploc, date))
 
     def dockers(self, wanted, command="print"):
         """The dockers of many places, each on its day, in this order; or what `permanent` gives. They are asked for one by one, as far as they are read."""
@@ -347,7 +355,7 @@ class Desk(Reader):
     def answered(self, request):
         """The answer of the process. A list is kept until STATE changes, and so is the answer that there is none."""
         answer = self.exchange([request])[0]
-        if request in LISTS and answer.status in (0, NO_REQUEST) or request[0] == "permanent" and answer.status == NO_REQUEST:
+        if request in LISTS and answer.status in (0, NO_REQUEST) or request[0] in NEWER and answer.status == NO_REQUEST:
             self.lists[request[:1]] = answer
         return answer
 

@@ -52,6 +52,17 @@ class Call(NamedTuple):
         """The change of its first line that has one."""
         return next((row.change for row in self.rows if row.change), None)
 
+    @property
+    def about(self):
+        """What its first row says of the train."""
+        return self.rows[0].about
+
+    @property
+    def operators(self):
+        """The operators of its train, now and in the permanent timetable; None if they aren't known."""
+        found = [row.operators for row in self.rows]
+        return None if None in found else frozenset().union(*found)
+
     def event(self, kind):
         """The line of this kind, or None."""
         return next((row.line for row in self.rows if row.line.kind == kind), None)
@@ -112,8 +123,11 @@ def chosen(calls, view):
 
 
 def is_wanted(call, view):
-    """Whether a call is one that a reader chose, now or in the permanent timetable: so a train that was moved to another platform is in both lists."""
+    """Whether a call is one that a reader chose, now or in the permanent timetable: so a train that was moved to another platform is in both lists. If the operator
+    of a train isn't known, the train is in the list of each operator."""
     both = [*call.lines, *call.before()]
+    if view.operators and call.operators is not None and call.operators.isdisjoint(view.operators):
+        return False
     return (
         (not view.is_stopping or any(line.kind != "P" for line in both)) and (not view.platforms or any(line.platform in view.platforms for line in both))
         and (not view.tracks or any(line.line in view.tracks for line in both))

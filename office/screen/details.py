@@ -101,9 +101,14 @@ class Details(NamedTuple):
         return self._replace(of=self.of | {name: cut(record, columns) for name, (*_, columns) in FIELDS.items() if columns}) if record else self
 
 
+def details_in(basic, extra, operators):
+    """The details in the records BS and BX of a train."""
+    return Details({name: cut(basic, columns) or cut(extra, others) for name, (columns, others, _) in FIELDS.items()}, operators)
+
+
 def details_of(train, operators):
     """The details of a train at its start."""
-    return Details({name: cut(train.basic, basic) or cut(train.extra, extra) for name, (basic, extra, _) in FIELDS.items()}, operators)
+    return details_in(train.basic, train.extra, operators)
 
 
 def along(train, operators):

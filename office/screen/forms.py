@@ -54,9 +54,9 @@ def changed_fields(row):
     return [row.change.kind, *(getattr(was, name) if was else "" for name in WAS)]
 
 
-def json_of(docker, starts, known, named, differing, news, few, schedules, now):
+def json_of(docker, starts, known, named, differing, news, few, of_lines, now):
     """The lines of a docker, with everything that its page says. If it is known what is new since the last morning, each line says whether it is. `few` has the
-    docker, if a change left it with few lines. `schedules` say what kind of train it is."""
+    docker, if a change left it with few lines. `of_lines` has the call of each line and what kind of train it is there, or None."""
     place = named.places.get(docker.tiploc)
     heading = {
         "made": now.isoformat(timespec="minutes"), "is_covered": not known.gaps(docker.date) if known.coverage else None,
@@ -66,7 +66,7 @@ def json_of(docker, starts, known, named, differing, news, few, schedules, now):
         "thinned": [{"file": it.cause, "place": it.place, "date": it.day, "before": it.before, "after": it.after} for it in few],
         "missing": [{"reference": reference, "before": extract._asdict()} for reference, extract in dockers.missing(known.extracts)],
     }
-    told = [described(line, start, named) | {"of_train": of_train(schedules.of(line, start, docker))} for line, start in zip(docker.lines, starts)]
+    told = [described(line, start, named) | {"of_train": of_train(found)} for line, start, found in zip(docker.lines, starts, of_lines)]
     if differing:
         heading["changes"] = {kind: len(differing.trains.get(kind, ())) for kind in changes.WORDS}
         heading["not_here"] = [described(line, change.start, named) | {"change": change.kind, "words": change.words} for line, change in differing.gone]

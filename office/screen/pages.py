@@ -20,6 +20,7 @@ import journeys
 import lines
 import names
 import news
+import origins
 import rows
 import train_forms
 import trains
@@ -98,11 +99,12 @@ class Shown(NamedTuple):
 
 
 class Day(NamedTuple):
-    """A docker with the calls on it that a page shows, how it differs from the permanent timetable, and what is new on it."""
+    """A docker with the calls on it that a page shows. Also how it differs from the permanent timetable, what is new on it, and what its rows say of their trains."""
     docker: lines.Docker
     differing: Optional[changes.Changes]
     news: Optional[news.News]
     calls: list
+    abouts: Optional[origins.Abouts]
 
 
 class Screen:
@@ -117,6 +119,8 @@ class Screen:
         self.read = b"", names.names_of(b"")
         # For each tag, the changes that were found when its dockers were last compared.
         self.compared = {}
+        # For each tag, what the rows of its docker say of their trains.
+        self.said = {}
         self.turn = threading.Lock()
 
     def now(self):
@@ -159,6 +163,23 @@ class Screen:
         earlier = (kept[0].moment, kept[1]) if kept else None
         return Pair(tiploc, date, text, None if permanent.status in dockers.LACKING else self.asked(permanent), earlier)
 
+    def origins(self, pair, is_permanent=False):
+        """What each line of a docker, or of the permanent docker, was made from. None if there is no desk that knows, or if STATE changed since the docker was read."""
+        answer = self.reader.detailed(pair.tiploc, pair.date, is_permanent)
+        is_same = answer.status == 0 and origins.docker_in(answer.text) == (pair.permanent if is_permanent else pair.text)
+        return origins.origins_in(answer.text) if is_same else None
+
+    def abouts(self, docker, pair, differing, told):
+        """What the rows of a docker say of their trains; None if it isn't known. It is remembered until STATE changes."""
+        tag = tag_of(*pair.texts()[:2], told)
+        with self.turn:
+            if tag not in self.said and (own := self.origins(pair)) is not None:
+                before = (self.origins(pair, is_permanent=True) if differing else None) or ()
+                if len(self.said) == COMPARED:
+                    del self.said[next(iter(self.said))]
+                self.said[tag] = origins.abouts_of(docker, own, self.docker_of(pair.permanent).lines if before else (), before, differing)
+            return self.said.get(tag)
+
     def thinned(self, place, *dates):
         """The dockers of a place on these days that a change left with few lines. Their day isn't over."""
         return [it for it in thinned.thinned_in(self.folder, self.now().date()) if it.place == place and it.day in dates]
@@ -187,7 +208,8 @@ class Screen:
         """The calls of a docker that a reader chose. Calls are put together before any is left out."""
         docker, differing = self.docker_of(pair.text), self.differing(pair, told)
         fresh = news.news_of(*pair.earlier, pair.text, differing) if pair.earlier else None
-        found = rows.rows_of(docker, differing, fresh)
+        abouts = self.abouts(docker, pair, differing, told)
+        found = rows.rows_of(docker, differing, fresh, abouts)
         those = [calls.Call((row,)) for row in found] if view.is_lines else calls.calls_of(found, docker.tiploc)
         if view.only == "changes":
             those = [call for call in those if call.change]
@@ -195,7 +217,7 @@ class Screen:
             lost = news.rows_of(fresh)
             others = [calls.Call((row,)) for row in lost] if view.is_lines else calls.calls_of(lost, docker.tiploc)
             those = sorted([*(call for call in those if call.is_new), *others], key=lambda call: changes.place_in_day(call.line))
-        return Day(docker, differing, fresh, calls.chosen(those, view))
+        return Day(docker, differing, fresh, calls.chosen(those, view), abouts)
 
     def meant(self, word):
         """The code that a word in an address means: the code itself, also in small letters, or the busiest place with this CRS code."""
@@ -221,19 +243,21 @@ class Screen:
         self.looks_for([pair, *([after] if after else [])], known)
         if view.only == "changes" and pair.permanent is None:
             raise Refused(dockers.Answer(dockers.UNKNOWN, b"what differs needs a program desk that knows what is permanent\n"))
+        if view.operators and self.reader.detailed(tiploc, pair.date).status in dockers.LACKING:
+            raise Refused(dockers.Answer(dockers.UNKNOWN, b"a choice of operators needs a program desk that knows what a docker was made from\n"))
         if view.only == "new" and pair.earlier is None:
             raise Nowhere("No morning before the last one kept this docker, so it isn’t known what is new.")
         named.learns(tiploc, dockers.description_of(pair.text))
         labels = names.Labels(named, view.is_codes)
         heading = f"{dict(zip(views.LISTS, ('Changes at ', 'New at '))).get(view.only, '')}{labels.of(tiploc)}, {long_day(day)}"
-        few = self.thinned(tiploc, pair.date, *([after.date] if after else []))
+        few, operators = self.thinned(tiploc, pair.date, *([after.date] if after else [])), details.operators_in(self.folder)
         lost = "".join(it.told(" It") + "." for it in few if it.day == pair.date)
         foot = f"Made {now:%Y-%m-%d %H:%M}. {known.short()} {known.cover(pair.date)}.{lost}"
         texts = [text for one in (pair, after) if one for text in one.texts()]
-        tag = tag_of(*texts, told, named.tag, VERSION.encode(), now.date().isoformat().encode(), repr(view).encode(), repr(few).encode())
+        tag = tag_of(*texts, told, named.tag, VERSION.encode(), now.date().isoformat().encode(), repr(view).encode(), repr((few, operators)).encode())
         paper = paper_style(heading, foot)
         context = {
-            "day": day, "now": now, "known": known, "labels": labels, "view": view, "heading": heading, "paper": paper, "tag": tag, "is_alone": is_alone,
+            "day": day, "now": now, "known": known, "labels": labels, "view": view, "heading": heading, "paper": paper, "tag": tag, "is_alone": is_alone, "operator_names": operators,
             "few": [(it, datetime.date.fromisoformat(it.day)) for it in few], "is_sure": known.is_sure(pair.date, now) and not lost, "holiday": bank_holidays.note(day, long_day(day)) if day else "",
         }
         return Shown(tag, lambda: self.rendered(pair, after, told, context), paper)
@@ -244,14 +268,14 @@ class Screen:
         own, tomorrow = self.day(pair, told, view), self.day(after, told, view) if after else None
         ahead = early_part(tomorrow.calls) if tomorrow and not view.only else []
         is_other, is_linked = not is_alone and day != now.date(), self.reader.has_trains and not is_alone
-        has_notes = any(call.change or call.is_new for call in (*own.calls, *ahead))
+        has_notes, more = any(call.change or call.is_new for call in (*own.calls, *ahead)), rows.columns_of((*own.calls, *ahead))
         from_now = None if is_other or is_alone or view.only else now.hour * 120 + now.minute * 2
         first = view.half_minutes if view.at else from_now
-        made = rows.Rows(own.docker, labels, is_linked, has_notes)
+        made, later = (rows.Rows(it.docker, labels, is_linked, has_notes, more, context["operator_names"]) if it else None for it in (own, tomorrow))
         return flask.render_template(
             "docker.html", **context, docker=own.docker, differing=own.differing, news=own.news, rows=made.all(own.calls, now=first, is_lines=view.is_lines), has_notes=has_notes,
-            next=tomorrow and tomorrow.docker, next_rows=rows.Rows(tomorrow.docker, labels, is_linked, has_notes).all(ahead, 2880, is_lines=view.is_lines) if ahead else "",
-            heads=rows.LINES if view.is_lines else rows.CALLS, before=day - datetime.timedelta(1), after=day + datetime.timedelta(1), is_other=is_other, version=VERSION, ahead=self.ahead,
+            next=tomorrow and tomorrow.docker, next_rows=later.all(ahead, 2880, is_lines=view.is_lines) if ahead else "",
+            heads=(rows.LINES if view.is_lines else rows.CALLS) + more, operators=own.abouts.operators if own.abouts else [], before=day - datetime.timedelta(1), after=day + datetime.timedelta(1), is_other=is_other, version=VERSION, ahead=self.ahead,
             platforms=sorted({line.platform for line in own.docker.lines} - {""}, key=graph.platform_order), tracks=sorted({line.line for line in own.docker.lines} - {""}),
             drawn=graph.both(own.docker, labels.of(pair.tiploc)) if is_alone else None, style=STYLE, script="" if is_alone else SCRIPT, text="",
         )
@@ -270,14 +294,15 @@ class Screen:
         tag = tag_of(*pair.texts(), told, named.tag, VERSION.encode(), repr((few, operators)).encode())
 
         def make():
-            timetable = changes.Timetable(self.reader, tiploc)
-            starts = timetable.starts_of(docker) if self.reader.has_trains else [""] * len(docker.lines)
+            timetable, found, kinds = changes.Timetable(self.reader, tiploc), self.origins(pair), origins.Kinds(operators)
+            starts = [origin.start for origin in found] if found is not None else timetable.starts_of(docker) if self.reader.has_trains else [""] * len(docker.lines)
             differing = self.differing(pair, told)
             if form == "csv":
                 return forms.csv_of(docker, starts, named, differing)
             fresh = news.news_of(*pair.earlier, pair.text, differing) if pair.earlier else None
             schedules = details.Schedules(timetable.answers, operators, [tiploc])
-            return forms.json_of(docker, starts, known, named, differing, fresh, few, schedules, self.now())
+            of_train = [kinds.of_train(*one) for one in zip(docker.lines, found)] if found is not None else [schedules.of(*one, docker) for one in zip(docker.lines, starts)]
+            return forms.json_of(docker, starts, known, named, differing, fresh, few, of_train, self.now())
 
         return Shown(tag, make)
 

@@ -7,6 +7,7 @@ import urllib.parse
 import calls
 import changes
 import lines
+import origins
 
 
 def part(word):
@@ -20,6 +21,8 @@ LINES = (
     ("from", "From", ""), ("to", "To", ""), ("uid", "UID", ""), ("suffix", "Sfx", "Suffix"), ("stp", "STP", ""),
 )
 CALLS = (("arr", "Arr.", "Arrives"), ("dep", "Dep.", "Departs or passes"), *(column for column in LINES[2:] if column[0] != "suffix"))
+# The columns that a table has if one of its rows has something there.
+MORE = (("operator", "Op.", "Operator"), ("words", "Kind", "Kind of train, and what it does here"))
 
 
 class Escaped(dict):
@@ -32,20 +35,30 @@ class Escaped(dict):
 
 class Row(NamedTuple):
     """A line of a docker, or a permanent line that isn't on it, with its change if there is one. `is_new` says whether the docker before the last morning had
-    the row too."""
+    the row too. `operators` are the codes of the train's operators, now and in the permanent timetable; None if they aren't known."""
     line: lines.Line
     change: Optional[changes.Change]
     is_gone: bool
     is_new: bool = False
+    about: Optional[origins.About] = None
+    operators: Optional[frozenset] = None
 
 
-def rows_of(docker, differing, news=None):
+def rows_of(docker, differing, news=None, abouts=None):
     """The lines of a docker in order, with the permanent lines that it lacks in their places. Without a comparison there are no changes."""
-    found = [Row(line, differing and differing.of.get(number), False, news is not None and number in news.of) for number, line in enumerate(docker.lines)]
-    for line, change in differing.gone if differing else ():
+    found = []
+    for number, line in enumerate(docker.lines):
+        change = differing.of.get(number) if differing else None
+        found.append(Row(line, change, False, news is not None and number in news.of, *(abouts.own[number] if abouts else ())))
+    for number, (line, change) in enumerate(differing.gone if differing else ()):
         at = bisect.bisect_right(found, changes.place_in_day(line), key=lambda row: changes.place_in_day(row.line))
-        found.insert(at, Row(line, change, True, news is not None and line._replace(stp="") in news.gone))
+        found.insert(at, Row(line, change, True, news is not None and line._replace(stp="") in news.gone, *(abouts.gone[number] if abouts else ())))
     return found
+
+
+def columns_of(those):
+    """The columns of `MORE` in which one of these calls has something."""
+    return tuple(column for column in MORE if any(call.about and getattr(call.about, column[0]) for call in those))
 
 
 def once_here(docker):
@@ -63,13 +76,15 @@ def once_here(docker):
 
 class Rows:
     """Makes the rows of a docker, by line or by call. They link to their trains if single trains can be shown. They show codes if there is no list of names. If
-    `has_notes`, each row has a cell for its change, and for whether it is new."""
+    `has_notes`, each row has a cell for its change, and for whether it is new. `more` are columns of `MORE`."""
 
-    def __init__(self, docker, labels, is_linked, has_notes=False):
+    def __init__(self, docker, labels, is_linked, has_notes=False, more=(), operators=None):
         self.docker = docker
         self.labels = labels
         self.is_linked = is_linked
         self.has_notes = has_notes
+        self.more = [name for name, *_ in more]
+        self.operators = operators or {}
         self.place = part(docker.tiploc)
         self.once = once_here(docker)
         self.cells = {}
@@ -107,6 +122,15 @@ class Rows:
         text = self.escaped[calls.worded(call, self.labels)] if call.change else ""
         fresh = '<b class="fresh">new</b>' if call.is_new else ""
         return f'<td class="change">{text}{" " if text and fresh else ""}{fresh}</td>' if text or fresh else "<td></td>"
+
+    def about(self, call):
+        """The cells with the operator, and with what is unusual of the train, if the table has such columns."""
+        cells = ""
+        for name in self.more:
+            text = getattr(call.about, name) if call.about else ""
+            tip = f' title="{self.escaped[self.operators[text]]}"' if name == "operator" and text in self.operators else ""
+            cells += f'<td class="{name}"{tip}>{self.escaped[text]}</td>'
+        return cells
 
     def times(self, call):
         """The cells of a row of lines: the time and the event."""
@@ -146,7 +170,7 @@ class Rows:
             f'<tr{mark} class="{kind}" data-at="{call.end + after}">{self.times(call) if is_lines else self.both_times(call)}'
             f'<td class="train">{self.train(call)}</td><td class="platform">{platform}</td>'
             f'<td class="path">{path}</td><td class="line">{track}</td><td class="public">{self.public(call)}</td>{self.ends(call, is_lines)}'
-            f'<td class="uid">{uid}</td>{last}<td class="stp">{stp}</td>{self.note(call)}</tr>\n'
+            f'<td class="uid">{uid}</td>{last}<td class="stp">{stp}</td>{self.about(call)}{self.note(call)}</tr>\n'
         )
 
     def all(self, those, after=0, now=None, is_lines=False):

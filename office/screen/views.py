@@ -19,10 +19,11 @@ class View(NamedTuple):
     platforms: tuple = ()
     tracks: tuple = ()
     at: str = ""
+    operators: tuple = ()
 
     @property
     def is_filtered(self):
-        return bool(self.is_stopping or self.platforms or self.tracks)
+        return bool(self.is_stopping or self.platforms or self.tracks or self.operators)
 
     @property
     def half_minutes(self):
@@ -33,7 +34,8 @@ class View(NamedTuple):
         """The part of an address that makes this choice, with other choices instead of some. It is empty if nothing was chosen."""
         view = self._replace(**other)
         words = [("rows", "lines")] * view.is_lines + [("stops", "1")] * view.is_stopping
-        words += [("platform", platform) for platform in view.platforms] + [("line", track) for track in view.tracks] + [("at", view.at)] * bool(view.at)
+        words += [("platform", platform) for platform in view.platforms] + [("line", track) for track in view.tracks]
+        words += [("operator", code) for code in view.operators] + [("at", view.at)] * bool(view.at)
         return f"?{urllib.parse.urlencode(words)}" if words else ""
 
 
@@ -46,6 +48,5 @@ def several(words):
 def view_of(words, is_codes, only=""):
     """The choice that the words after `?` make. Words without a meaning are ignored."""
     time = TIME.fullmatch(words.get("at", ""))
-    return View(
-        is_codes, words.get("rows") == "lines", only, words.get("stops") == "1", several(words.getlist("platform")), several(words.getlist("line")), ":".join(time.groups()) if time else "",
-    )
+    platforms, tracks, operators = (several(words.getlist(name)) for name in ("platform", "line", "operator"))
+    return View(is_codes, words.get("rows") == "lines", only, words.get("stops") == "1", platforms, tracks, ":".join(time.groups()) if time else "", operators)

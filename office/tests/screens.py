@@ -21,8 +21,8 @@ NAMES = {"ASHFELD": "Ashfeld Junction", "BRAYTON": "Brayton", "CORHAM": "Corham 
 # The words that a page shows for each kind of event, and for the link of an association.
 WORDS = {"A": "arrives", "P": "passes", "D": "departs", "J": "is joined", "V": "divides", "N": "goes on"}
 LEADS = {"J": "by", "V": "into", "N": "as"}
-# The cells of each row, without the column of changes.
-CELLS = "row => [...row.cells].slice(0, row.cells.length - document.querySelectorAll('#docker thead .change').length).map(cell => cell.textContent)"
+# The cells of each row, without the columns that not every docker has.
+CELLS = "row => [...row.cells].slice(0, row.cells.length - document.querySelectorAll('#docker thead :is(.change, .of-operator, .of-words)').length).map(cell => cell.textContent)"
 ROWS = f"return [...document.querySelectorAll('#day tr')].map({CELLS})"
 # The times of all events in a list of calls.
 CLOCKS = "return [...document.querySelectorAll('#day :is(.arr, .dep)')].map(cell => cell.textContent).filter(text => text.includes(':')).sort()"
