@@ -131,7 +131,7 @@ either_way a b = by (bytes_eq a b) (bytes_eq b a) refl refl
     by true true _ _ = refl
     by false false _ _ = refl
     by true false is not = sym not ∙ (bytes_eq-Decides b a).1 (sym ((bytes_eq-Decides a b).0 is))
-    by false true not is = sym (sym is ∙ sym (sym not ∙ (bytes_eq-Decides a b).1 (sym ((bytes_eq-Decides b a).0 is)))) 
+    by false true not is = sym (sym is ∙ sym (sym not ∙ (bytes_eq-Decides a b).1 (sym ((bytes_eq-Decides b a).0 is))))
 
 -- the index names a place for a row exactly if the row is a schedule that calls there
 named_is_call : (place : List ℕ) (key : Key) (body : Body) → names place (key, body) ≡ is_call_at place key body
