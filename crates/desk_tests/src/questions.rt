@@ -44,7 +44,7 @@ fn help_and_version(rt: HostRuntime) {
 #[test]
 fn help_that_can_t_be_printed(rt: HostRuntime) {
     let alloc = rt.alloc();
-    for bytes in [0, 1, 63, 64, 65, 69, 77, 82, 256] {
+    for bytes in [0, 1, 63, 64, 65, 69, 77, 82, 304] {
         prints(&rt, alloc, "--help", HELP, (bytes, DEVICE, 4));
     }
     prints(&rt, alloc, "--version", VERSION, (31, DEVICE, 4));

@@ -7,7 +7,7 @@ use Rattle.docker_model.specs.state.Row.{Row, AreRowsOf}
 use Rattle.docker_model.specs.docker.DetailedText.{extra_record}
 use Rattle.docker_laws.specs.LiveRows.{train_in}
 use Rattle.docker_state.specs.Timetables.{Timetable}
-use Rattle.docker_detail.specs.Finding.{lines_of}
+use Rattle.docker_detail.specs.Finding.{records_of_train}
 use Rattle.docker_detail.specs.Meaning.{CanWalk, place_ahead}
 use Rattle.docker_detail.specs.Records.{place_in}
 use Rattle.docker_detail.specs.declared.known_train.KnownTrain.{KnownTrain}
@@ -22,7 +22,7 @@ pub record IsReady (known : KnownTrain) : Type 0 where
 
 -- says that the kept records belong to the UID's train that starts on the day
 pub record IsKnownTrain (live : Table) (known : KnownTrain) : Type 0 where
-  pub lines_are : (rows : List Row) → AreRowsOf live rows → known.lines.now ≡ lines_of (train_in rows known.uid known.start)
+  pub lines_are : (rows : List Row) → AreRowsOf live rows → known.lines.now ≡ records_of_train (train_in rows known.uid known.start)
   pub ready : IsReady known
 
 -- like `IsKnownTrain`, for a train that may be kept
