@@ -25,7 +25,8 @@ leads_part_at bytes lines i none text first now next below is =
     leads_part bytes lines i (get_or lines i none) text first now next below (get_or_default lines i none (get_or lines i none) below) is
 
 -- the words after a verb, as bytes
-words_of : (words : List (Bor Text)) → flat_map (λ (word : Bor Text). 32 ∷ word.now) words ≡ flat_map (λ (id : Text). 32 ∷ id) (map (λ (id : Bor Text). id.now) words)
+words_of : (words : List (Bor Text)) → flat_map (λ (word : Bor Text). 32 ∷ word.now) words
+    ≡ flat_map (λ (id : Text). 32 ∷ id) (map (λ (id : Bor Text). id.now) words)
 words_of [] = refl
 words_of (word ∷ words) = ap (λ (rest : List ℕ). (32 ∷ word.now) ++ rest) (words_of words)
 

@@ -11,6 +11,7 @@ mod FixedLemmas
 mod TrainLemmas
 mod ReadingLemmas
 mod StepLemmas
+mod EndLemmas
 mod HelpLemmas
 mod ServeLemmas
 mod LookLemmas

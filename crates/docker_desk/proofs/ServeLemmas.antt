@@ -1,10 +1,10 @@
 -- How a session ends.
-use Rattle.std.proofs.Common.{◌≡◌, ◌+◌, ℕ, Bool, List, ◌++◌, [], ◌∷◌, length, arith, inl, inr, Some, None, Ok, ap, append-nil, subst, sym, ◌∙◌, false}
+use Rattle.std.proofs.Common.{◌≡◌, ◌+◌, ℕ, Bool, List, ◌++◌, [], ◌∷◌, length, arith, inl, inr, Some, None, Ok, ap, append-nil, subst, sym, ◌∙◌, false, true}
 use Rattle.std.specs.Prelude.{Option, IfSome, ◌&&◌}
 use Rattle.cif_device.specs.Device.{Takes, TakesPart}
 use Rattle.docker_host.specs.History.{Event, Text, looked}
 use Rattle.docker_host.specs.Host.{HostView}
-use Rattle.docker_desk.specs.Answering.{AnswersLines, CountsStreams}
+use Rattle.docker_desk.specs.Answering.{AnswersLines, CountsStreams, LeavesNone}
 use Rattle.docker_cmd.specs.FaultLine.{IsCounted, fault_line, status_of}
 use Rattle.docker_office.specs.declared.fault.OfficeFault.{OfficeFault}
 use Rattle.docker_cmd.specs.declared.fault.Fault.TheVariants.{Office}
@@ -12,6 +12,7 @@ use Rattle.docker_host.specs.FaultSink.{FaultsView, TellsText, faults_of}
 use Rattle.docker_desk.specs.Desk.{DeskView, IsWhyNot, RefusesToReceive}
 use Rattle.docker_desk.specs.Reading.{LooksAndOpens, Reading, StopsInState, opening_of}
 use Rattle.docker_desk.specs.declared.ending.Ending.{Ending}
+use Rattle.docker_desk.specs.declared.ending.Ending.TheVariants.{Ended}
 use Rattle.docker_desk.specs.SessionViews.{SessionView, session_view, setting}
 use Rattle.docker_desk.specs.Serving.{BeginsAt, EndsOpening, EndsWithStatus, LeavesStreams, NamesSession, ServesSession}
 use Rattle.docker_desk.proofs.WritingLemmas.{both_taken, part_of_back, part_of_front}
@@ -59,9 +60,11 @@ pub served : (words : List Text) (names_bytes : Bool) (old new : HostView) (stat
     → AnswersLines (setting name may_write names_bytes) first last old.input old.output new.output ending
     → new.history ≡ last.history → new.folder_failures ≡ last.failures
     → CountsStreams ending old.input_failures new.input_failures old.output_failures new.output_failures
-    → (old.ended ≡ false → new.passed ≡ old.passed) → EndsWithStatus ending unsaved status (faults_of old) (faults_of new)
+    → (old.ended ≡ false → new.passed ≡ old.passed) → (old.ended ≡ false → ending ≡ Ended → new.ended ≡ true)
+    → (ending ≡ Ended → LeavesNone old.input new.input) → EndsWithStatus ending unsaved status (faults_of old) (faults_of new)
     → unsaved ≡ may_write && last.desk.unsaved → ServesSession words names_bytes old new status
-served words names_bytes old new status name may_write first last ending unsaved named begins none answers history failures counts not_passed ends same =
+served words names_bytes old new status name may_write first last ending unsaved named begins none answers history failures counts not_passed told left
+    ends same =
     inr (inr (record {
       name = name;
       may_write = may_write;
@@ -76,6 +79,8 @@ served words names_bytes old new status name may_write first last ending unsaved
       failures = failures;
       counts = counts;
       not_passed = not_passed;
+      told = told;
+      left = left;
       ends = subst (λ (u : Bool). EndsWithStatus ending u status (faults_of old) (faults_of new)) same ends;
     }))
 
@@ -86,11 +91,14 @@ pub served_as : (words : List Text) (names_bytes : Bool) (seen old new : HostVie
     → AnswersLines (setting name may_write names_bytes) first last seen.input seen.output new.output ending
     → new.history ≡ last.history → new.folder_failures ≡ last.failures
     → CountsStreams ending seen.input_failures new.input_failures seen.output_failures new.output_failures
-    → (seen.ended ≡ false → new.passed ≡ seen.passed) → EndsWithStatus ending unsaved status (faults_of seen) (faults_of new)
+    → (seen.ended ≡ false → new.passed ≡ seen.passed) → (seen.ended ≡ false → ending ≡ Ended → new.ended ≡ true)
+    → (ending ≡ Ended → LeavesNone seen.input new.input) → EndsWithStatus ending unsaved status (faults_of seen) (faults_of new)
     → unsaved ≡ may_write && last.desk.unsaved → ServesSession words names_bytes old new status
-served_as words names_bytes seen old new status name may_write first last ending unsaved is named begins none answers history failures counts stops ends same =
+served_as words names_bytes seen old new status name may_write first last ending unsaved is named begins none answers history failures counts stops told
+    left ends same =
     subst (λ (host : HostView). ServesSession words names_bytes host new status) is
-    (served words names_bytes seen new status name may_write first last ending unsaved named begins none answers history failures counts stops ends same)
+    (served words names_bytes seen new status name may_write first last ending unsaved named begins none answers history failures counts stops told left
+    ends same)
 
 -- if the state's file was looked at, but no state could be read from it, the start was refused as the
 -- contract of `serve_session` says. The host `seen` equals the old host

@@ -1,6 +1,7 @@
 -- At every point of a session at which nothing is unsaved, the state's file has held the text of the
 -- desk's state.
-use Rattle.std.proofs.Common.{◌≡◌, ◌≢◌, ℕ, ◌+◌, List, [], ◌∷◌, ◌++◌, length, refl, sym, ◌∙◌, ap, subst, arith, append_assoc, append-nil, length-append, Some, None, Ok, Err, inl, inr, true≢false}
+use Rattle.std.proofs.Common.{◌≡◌, ℕ, ◌+◌, List, [], ◌∷◌, ◌++◌, length, refl, sym, ◌∙◌, ap, subst, arith, append_assoc, append-nil, length-append}
+use Rattle.std.proofs.Common.{Some, None, Ok, Err, inl, inr, true≢false}
 use Rattle.std.specs.Prelude.{Option, Result, ⊤, Bool, true, false}
 use Rattle.docker_model.specs.state.State.{State}
 use Rattle.docker_model.specs.state.StateText.{dks_2, state_text}
@@ -100,7 +101,8 @@ module _ (name : Text) where
   -- after `take` or `merge`: if it succeeded there are unsaved changes, and if it was refused the
   -- desk is unchanged
   own_joined : (result : Result ⊤ OfficeFault) (old new more : List Event) (look look_now : ℕ) (own after : DeskView)
-      → new ≡ old ++ more → look_now ≡ look → after.unsaved ≡ unsaved_by result own.unsaved → ((fault : OfficeFault) → result ≡ Err fault → after.state ≡ own.state)
+      → new ≡ old ++ more → look_now ≡ look → after.unsaved ≡ unsaved_by result own.unsaved
+      → ((fault : OfficeFault) → result ≡ Err fault → after.state ≡ own.state)
       → (own.unsaved ≡ false → IsOwnText name old look (state_text dks_2 own.state)) → after.unsaved ≡ false
       → IsOwnText name new look_now (state_text dks_2 after.state)
   own_joined (Ok done) old new more look look_now own after grown same flag state saved clear = absurd (not_set after.unsaved flag clear)

@@ -1,5 +1,5 @@
 -- What a desk reads from its input and writes to its output while it answers lines.
-use Rattle.std.specs.Prelude.{◌≡◌, ℕ, ◌+◌, ◌-◌, ◌^◌, ◌≤◌, ◌⊎◌, Bool, false, List, [], ◌∷◌, ◌++◌, length, map, Option, Some, None, ⊤}
+use Rattle.std.specs.Prelude.{◌≡◌, ℕ, ◌+◌, ◌-◌, ◌^◌, ◌≤◌, ◌⊎◌, Bool, false, true, List, [], ◌∷◌, ◌++◌, length, map, Option, Some, None, ⊤}
 use Rattle.std.specs.List.{flat_map}
 use Rattle.cif_device.specs.Device.{Takes, TakesPart}
 use Rattle.docker_cmd.specs.Prepared.{DeviceBytes}
@@ -45,6 +45,12 @@ HasLines (Some text) lines = AreLines text lines
 abbrev pub IsEndless : DeviceBytes → Type 0
 IsEndless None = ⊤
 IsEndless (Some text) = 2 ^ 64 - 1 ≤ length text
+
+-- no byte of the input is left. The definition is also true if contracts can't say which bytes the
+-- input held
+abbrev pub LeavesNone : DeviceBytes → DeviceBytes → Type 0
+LeavesNone None new = ⊤
+LeavesNone (Some text) new = new ≡ Some []
 
 -- the output gained every answer but the last, and a proper prefix of the last answer
 pub record BreaksOff (steps : List Step)
@@ -115,10 +121,12 @@ CountsNext (Some ending) input input_now output output_now =
     CountsStreams ending input input_now output output_now
 
 -- if an input hadn't reported its end before, it wasn't read past its end. If the session
--- continues, the input still hasn't reported its end
-abbrev pub StopsAtEnd : Option Ending → Bool → Bool → Bool → Bool → Type 0
-StopsAtEnd result ended ended_now passed passed_now =
-    ended ≡ false → (passed_now ≡ passed) × (result ≡ None → ended_now ≡ false)
+-- continues, the input still hasn't reported its end. If the session ended because the input ended,
+-- the input has reported its end
+pub record StopsAtEnd (result : Option Ending) (ended ended_now passed passed_now : Bool) : Type 0 where
+  pub not_passed : ended ≡ false → passed_now ≡ passed
+  pub going : ended ≡ false → result ≡ None → ended_now ≡ false
+  pub told : ended ≡ false → result ≡ Some Ended → ended_now ≡ true
 
 -- writing an answer to the output ended with this result. Two cases are possible: the answer was
 -- written and the result is `next`, or the output failed after a proper prefix of the answer and

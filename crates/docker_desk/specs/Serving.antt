@@ -15,7 +15,7 @@ use Rattle.docker_desk.specs.Reading.{HasOpened, LooksAndOpens, Reading}
 use Rattle.docker_desk.specs.declared.ending.Ending.{Ending}
 use Rattle.docker_desk.specs.declared.ending.Ending.TheVariants.{Ended, InputFailed, InputEndless, OutputFailed}
 use Rattle.docker_desk.specs.SessionViews.{SessionView, setting}
-use Rattle.docker_desk.specs.Answering.{AnswersLines, CountsStreams}
+use Rattle.docker_desk.specs.Answering.{AnswersLines, CountsStreams, LeavesNone}
 use Rattle.docker_desk.specs.Help.{AnswersQuestion, AskNoQuestion, word_of}
 use Rattle.docker_desk.specs.declared.help.Question.{Question}
 
@@ -129,7 +129,8 @@ pub record IsRefusedStart (words : List Text) (old new : HostView) (status : ℕ
 
 -- the session started, the lines of the input were answered, and then the session ended. Unsaved
 -- changes are reported only if the desk may write. If the input hadn't reported its end at the
--- start, it wasn't read past its end
+-- start, it wasn't read past its end. If the session ended because the input ended, the input has
+-- reported its end, and no byte is left in it
 pub record IsServed (words : List Text) (names_bytes : Bool) (old new : HostView) (status : ℕ)
     : Type 0 where
   pub name : Text
@@ -147,6 +148,8 @@ pub record IsServed (words : List Text) (names_bytes : Bool) (old new : HostView
   pub counts : CountsStreams ending old.input_failures new.input_failures old.output_failures
       new.output_failures
   pub not_passed : old.ended ≡ false → new.passed ≡ old.passed
+  pub told : old.ended ≡ false → ending ≡ Ended → new.ended ≡ true
+  pub left : ending ≡ Ended → LeavesNone old.input new.input
   pub ends : EndsWithStatus ending (may_write && last.desk.unsaved) status (faults_of old)
       (faults_of new)
 

@@ -70,8 +70,10 @@ pub(crate) fn answer_question<S: Source, D: Folder, K: Sink, L: Sink>(
 /// Writes the answer to a question.
 fn write_about<K: Sink>(question: Question, sink: &mut K) -> Result<(), Failed>
     requires { K.failures sink.old < 2 ^ 64 - 1 }
-    ensures whole { OnOk result (Takes (K.taken sink.old) (text_about question) (K.taken sink.new)) }
-    ensures part { OnErr result (TakesPart (K.taken sink.old) (text_about question) (K.taken sink.new)) }
+    ensures whole { OnOk result (Takes (K.taken sink.old) (text_about question)
+        (K.taken sink.new)) }
+    ensures part { OnErr result (TakesPart (K.taken sink.old) (text_about question)
+        (K.taken sink.new)) }
     ensures no_failure { OnOk result (K.failures sink.new ≡ K.failures sink.old) }
     ensures counted { OnErr result (K.failures sink.new ≡ K.failures sink.old + 1) }
 {
@@ -84,8 +86,10 @@ fn write_about<K: Sink>(question: Question, sink: &mut K) -> Result<(), Failed>
 /// Writes what `--help` prints.
 fn write_help<K: Sink>(sink: &mut K) -> Result<(), Failed>
     requires { K.failures sink.old < 2 ^ 64 - 1 }
-    ensures whole { OnOk result (Takes (K.taken sink.old) (text_about Question.Help) (K.taken sink.new)) }
-    ensures part { OnErr result (TakesPart (K.taken sink.old) (text_about Question.Help) (K.taken sink.new)) }
+    ensures whole { OnOk result (Takes (K.taken sink.old) (text_about Question.Help)
+        (K.taken sink.new)) }
+    ensures part { OnErr result (TakesPart (K.taken sink.old) (text_about Question.Help)
+        (K.taken sink.new)) }
     ensures no_failure { OnOk result (K.failures sink.new ≡ K.failures sink.old) }
     ensures counted { OnErr result (K.failures sink.new ≡ K.failures sink.old + 1) }
 {

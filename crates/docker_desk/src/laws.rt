@@ -84,7 +84,7 @@ pub fn saves_replace_what_was_read()
         → IsStandingOf standing after.history → ReplacesOwn standing setting before }
 {}
 
-/// If a desk has no unsaved changes, STATE has held the text of the desk's state: the desk read this
+/// If a desk has no unsaved changes, STATE has held the text of the desk's state. The desk read this
 /// text right after its last look, or placed it right before that look. If STATE's bytes have stayed
 /// the same since the look, STATE still holds this text. A `renew` that is refused changes neither
 /// the desk nor its look, whatever STATE holds then. So the desk's flag for unsaved changes still

@@ -1,8 +1,8 @@
 //! Reads the lines of a session and writes their answers.
-ghost use Rattle.std.specs.Prelude.{◌≡◌, false, ◌+◌, ◌-◌, ◌^◌, ◌<◌, ◌≤◌, Some, Option};
+ghost use Rattle.std.specs.Prelude.{◌≡◌, false, true, ◌+◌, ◌-◌, ◌^◌, ◌<◌, ◌≤◌, Some, Option};
 ghost use Rattle.docker_desk.specs.Lines.{with_ahead};
 ghost use Rattle.docker_desk.specs.Replies.{answer_meant, answer_bytes};
-ghost use Rattle.docker_desk.specs.Answering.{AnswersLines, CountsNext, CountsStreams, ServesNext, StopsAtEnd, TellsAnswer};
+ghost use Rattle.docker_desk.specs.Answering.{AnswersLines, CountsNext, CountsStreams, LeavesNone, ServesNext, StopsAtEnd, TellsAnswer};
 ghost use Rattle.docker_desk.specs.SessionViews.{point_of, setting_of};
 
 use crate::ahead::Ahead;
@@ -36,6 +36,8 @@ pub fn serve_lines<S: Source, D: Folder, K: Sink>(
         (K.failures output.old) (K.failures output.new) }
     ensures not_passed { S.ended input.old ≡ false
         → S.passed input.new ≡ S.passed input.old }
+    ensures told { S.ended input.old ≡ false → result ≡ Ending.Ended → S.ended input.new ≡ true }
+    ensures left { result ≡ Ending.Ended → LeavesNone (S.left input.old) (S.left input.new) }
 {
     let mut ahead = Ahead::new();
     for _ in 0..u64::MAX {
@@ -71,6 +73,8 @@ pub fn serve_next<S: Source, D: Folder, K: Sink>(
         (K.failures output.old) (K.failures output.new) }
     ensures stops { StopsAtEnd result (S.ended input.old) (S.ended input.new)
         (S.passed input.old) (S.passed input.new) }
+    ensures left { result ≡ Some Ending.Ended
+        → LeavesNone (with_ahead ahead.old (S.left input.old)) (S.left input.new) }
 {
     match next_line(ahead, input) {
         Ok(Asked::Line(line)) => {

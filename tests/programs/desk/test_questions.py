@@ -10,7 +10,7 @@ from tables import each
 ANSWERS = {"--help": HELP, "--version": VERSION}
 
 
-@each("word", ANSWERS)
+@each("word", [*ANSWERS])
 def test_the_text_to_the_letter(word):
     before = give(state_of("full"))
     names = sorted(os.listdir())
@@ -23,13 +23,13 @@ def test_the_text_to_the_letter(word):
     assert sorted(os.listdir()) == names
 
 
-@each("word", ANSWERS)
+@each("word", [*ANSWERS])
 def test_a_file_of_that_name_is_not_opened(word):
     os.mkfifo(word)
     assert desk(word) == Ended(0, ANSWERS[word], b"")
 
 
-@each("word", ANSWERS)
+@each("word", [*ANSWERS])
 def test_an_output_that_is_full(word):
     with open("/dev/full", "wb") as full:
         ended = desk(word, stdout=full)

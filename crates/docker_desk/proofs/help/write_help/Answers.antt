@@ -1,5 +1,4 @@
-use Rattle.std.proofs.Common.{ap, subst, List, ℕ}
-use Rattle.std.specs.Prelude.{codes}
+use Rattle.std.proofs.Common.{subst}
 use Rattle.std.specs.List.{flat_map}
 use Rattle.std.proofs.lemmas.Result.{on_ok_weaker, on_err_weaker}
 use Rattle.cif_device.specs.Device.{Takes, TakesPart}
@@ -12,14 +11,16 @@ use Rattle.docker_desk.proofs.help.write_help.Goals as goal
 pub returns-in_err-write_all-clause-part : goal.returns-in_err-write_all-clause-part
 returns-in_err-write_all-clause-part g c =
     on_any_err c.from_residual.result
-    (part_of_front (g.K.Sink.taken c.args.sink.now) (g.K.Sink.taken c.write_all.new.sink) help_head (flat_map (λ (verb : Verb). request_line (row_of verb)) verbs) c.in_err-write_all.ensures.part)
+    (part_of_front (g.K.Sink.taken c.args.sink.now) (g.K.Sink.taken c.write_all.new.sink) help_head
+    (flat_map (λ (verb : Verb). request_line (row_of verb)) verbs) c.in_err-write_all.ensures.part)
 
 pub returns-clause-whole : goal.returns-clause-whole
 returns-clause-whole g c =
     on_ok_weaker c.write_requests.result
     (λ lines. both_taken (g.K.Sink.taken c.args.sink.now) (g.K.Sink.taken c.write_all.new.sink) (g.K.Sink.taken c.write_requests.new.sink)
     help_head (flat_map (λ (verb : Verb). request_line (row_of verb)) verbs) c.in_ok-write_all.ensures.whole
-    (subst (λ these. Takes (g.K.Sink.taken c.write_all.new.sink) (flat_map (λ (verb : Verb). request_line (row_of verb)) these) (g.K.Sink.taken c.write_requests.new.sink))
+    (subst (λ these. Takes (g.K.Sink.taken c.write_all.new.sink) (flat_map (λ (verb : Verb). request_line (row_of verb)) these)
+    (g.K.Sink.taken c.write_requests.new.sink))
     c.all.ensures lines))
     c.write_requests.ensures.whole
 
@@ -28,6 +29,7 @@ returns-clause-part g c =
     on_err_weaker c.write_requests.result
     (λ lines. part_of_back (g.K.Sink.taken c.args.sink.now) (g.K.Sink.taken c.write_all.new.sink) (g.K.Sink.taken c.write_requests.new.sink)
     help_head (flat_map (λ (verb : Verb). request_line (row_of verb)) verbs) c.in_ok-write_all.ensures.whole
-    (subst (λ these. TakesPart (g.K.Sink.taken c.write_all.new.sink) (flat_map (λ (verb : Verb). request_line (row_of verb)) these) (g.K.Sink.taken c.write_requests.new.sink))
+    (subst (λ these. TakesPart (g.K.Sink.taken c.write_all.new.sink) (flat_map (λ (verb : Verb). request_line (row_of verb)) these)
+    (g.K.Sink.taken c.write_requests.new.sink))
     c.all.ensures lines))
     c.write_requests.ensures.part

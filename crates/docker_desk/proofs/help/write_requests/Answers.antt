@@ -1,4 +1,4 @@
-use Rattle.std.proofs.Common.{ap, ◌+◌, ◌∙◌, refl}
+use Rattle.std.proofs.Common.{ap, ◌∙◌, refl}
 use Rattle.docker_desk.specs.Requests.{row_meant, row_of}
 use Rattle.docker_desk.specs.Help.{request_line}
 use Rattle.docker_desk.specs.declared.requests.Verb.{Verb}
@@ -29,5 +29,6 @@ returns-in_err-write_request-clause-part g c =
 
 pub returns-clause-whole : goal.returns-clause-whole
 returns-clause-whole g c =
-    leads_last (λ (verb : Verb). request_line (row_of verb)) c.args.verbs.now c.loop-verb.verb-index (g.K.Sink.taken c.args.sink.now) (g.K.Sink.taken c.loop-verb.sink)
+    leads_last (λ (verb : Verb). request_line (row_of verb)) c.args.verbs.now c.loop-verb.verb-index (g.K.Sink.taken c.args.sink.now)
+    (g.K.Sink.taken c.loop-verb.sink)
     c.loop-verb-test.false c.loop-verb.invariant.leads

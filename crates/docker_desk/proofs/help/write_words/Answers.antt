@@ -1,4 +1,4 @@
-use Rattle.std.proofs.Common.{ap, ◌+◌, ◌∙◌, ◌∷◌, refl, List, ℕ}
+use Rattle.std.proofs.Common.{ap, ◌∙◌, ◌∷◌, refl, List, ℕ}
 use Rattle.std.specs.Borrow.{Bor}
 use Rattle.docker_day.proofs.Written.{on_any_err, leads_first, leads_last}
 use Rattle.docker_desk.proofs.HelpLemmas.{leads_at, leads_part_at}
@@ -27,5 +27,6 @@ returns-in_err-write_both-clause-part g c =
 
 pub returns-clause-whole : goal.returns-clause-whole
 returns-clause-whole g c =
-    leads_last (λ (word : Bor (List ℕ)). 32 ∷ word.now) c.args.words.now c.loop-word.word-index (g.K.Sink.taken c.args.sink.now) (g.K.Sink.taken c.loop-word.sink)
+    leads_last (λ (word : Bor (List ℕ)). 32 ∷ word.now) c.args.words.now c.loop-word.word-index (g.K.Sink.taken c.args.sink.now)
+    (g.K.Sink.taken c.loop-word.sink)
     c.loop-word-test.false c.loop-word.invariant.leads

@@ -1,5 +1,6 @@
-use Rattle.std.proofs.Common.{◌≡◌, ◌-◌, ◌^◌, refl, ◌∙◌, arith}
+use Rattle.std.proofs.Common.{◌≡◌, ◌-◌, ◌^◌, Some, ap, refl, ◌∙◌, arith}
 use Rattle.docker_desk.proofs.StepLemmas.{counts_on, ended_after, ended_endless, so_far_first, so_far_on}
+use Rattle.docker_desk.proofs.EndLemmas.{left_of_all}
 use Rattle.docker_desk.proofs.serving.serve_lines.Goals as goal
 
 pub loop-init : goal.loop-init
@@ -21,8 +22,8 @@ loop-preserved g c =
       output = counts.1 ∙ c.loop.invariant.output;
       going = λ before.
           let going = c.loop.invariant.going before in
-          let stops = c.serve_next-next.ensures.stops going.1 in
-          (stops.0 ∙ going.0, stops.1 c.in_default.is);
+          let stops = c.serve_next-next.ensures.stops in
+          (stops.not_passed going.1 ∙ going.0, stops.going going.1 c.in_default.is);
     }
 
 pub returns-in-Some-clause-answers : goal.returns-in-Some-clause-answers
@@ -35,7 +36,13 @@ returns-clause-answers g c =
 
 pub returns-in-Some-clause-not_passed : goal.returns-in-Some-clause-not_passed
 returns-in-Some-clause-not_passed g c = λ before.
-    let going = c.loop.invariant.going before in (c.serve_next-next.ensures.stops going.1).0 ∙ going.0
+    let going = c.loop.invariant.going before in c.serve_next-next.ensures.stops.not_passed going.1 ∙ going.0
 
 pub returns-clause-not_passed : goal.returns-clause-not_passed
 returns-clause-not_passed g c = λ before. (c.loop.invariant.going before).0
+
+pub returns-in-Some-clause-told : goal.returns-in-Some-clause-told
+returns-in-Some-clause-told g c = λ before ended. c.in-Some.ensures.stops.told (c.loop.invariant.going before).1 (ap Some ended)
+
+pub returns-in-Some-clause-left : goal.returns-in-Some-clause-left
+returns-in-Some-clause-left g c = λ ended. left_of_all _ _ _ _ c.loop.invariant.so_far.read (c.in-Some.ensures.left (ap Some ended))
