@@ -1,8 +1,8 @@
 """Links the names in the tables of RULES.md: from a rule to its definitions, calls, code, tests and wrong bodies. Lists at the end of the page where each link
 leads. A link leads to a file.
 
-Names are written between backquotes; the clauses of a call follow it and a colon. A name that several crates have is written `crate::name`. In the column *Code*,
-the functions that keep the rule follow their file and a colon. For each of them, one of the row's wrong bodies has to change it, or something that it calls.
+Names are written between backquotes; the clauses of a call follow it and a colon. A name that several crates have is written `crate::name`, and a definition
+that several files of a crate have is written `crate::file::name`. In the column *Code*, the functions that keep the rule follow their file and a colon. For each of them, one of the row's wrong bodies has to change it, or something that it calls.
 Each wrong body of the row has to be such a body. Laws have no code to change. Cases follow `tests/programs` and a colon, in italics: a
 test, the row of a table, or both with a colon between them."""
 import functools
@@ -35,6 +35,7 @@ def known():
 
     for it in sources.definitions():
         add("definition", it.crate, it.name, it.place)
+        found["definition"].setdefault(f"{it.crate}::{it.file.stem}::{it.name}", []).append(it.place)
     for it in sources.functions():
         if it.is_test:
             add("test", it.crate, it.name, it)
