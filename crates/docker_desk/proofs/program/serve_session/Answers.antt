@@ -17,7 +17,7 @@ returns-in-Ok g c =
     (begins (λ session. session.desk) c.in-Some.named.name.now (g.D.Folder.history c.host.inside.folder) (g.D.Folder.history c.open_session.new.folder)
     c.in-Ok.session (g.D.Folder.look_of c.in-Ok.session.seen) (g.D.Folder.failures c.open_session.new.folder) c.in-Ok.ensures.opens c.in-Ok.ensures.look)
     (still _ _ c.in-Ok.ensures.counted) c.serve_lines-ending.ensures.answers refl refl c.serve_lines-ending.ensures.counted
-    c.serve_lines-ending.ensures.not_passed c.serve_lines-ending.ensures.told c.serve_lines-ending.ensures.left c.end_session.ensures
+    c.serve_lines-ending.ensures.not_passed c.serve_lines-ending.ensures.reported c.serve_lines-ending.ensures.left c.end_session.ensures
     (ap (λ (unsaved : Bool). c.in-Some.named.may_write && unsaved) c.is_unsaved-unsaved.ensures)
 
 pub returns-in-Err : goal.returns-in-Err

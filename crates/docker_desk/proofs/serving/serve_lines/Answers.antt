@@ -41,8 +41,8 @@ returns-in-Some-clause-not_passed g c = λ before.
 pub returns-clause-not_passed : goal.returns-clause-not_passed
 returns-clause-not_passed g c = λ before. (c.loop.invariant.going before).0
 
-pub returns-in-Some-clause-told : goal.returns-in-Some-clause-told
-returns-in-Some-clause-told g c = λ before ended. c.in-Some.ensures.stops.told (c.loop.invariant.going before).1 (ap Some ended)
+pub returns-in-Some-clause-reported : goal.returns-in-Some-clause-reported
+returns-in-Some-clause-reported g c = λ before ended. c.in-Some.ensures.stops.told (c.loop.invariant.going before).1 (ap Some ended)
 
 pub returns-in-Some-clause-left : goal.returns-in-Some-clause-left
 returns-in-Some-clause-left g c = λ ended. left_of_all _ _ _ _ c.loop.invariant.so_far.read (c.in-Some.ensures.left (ap Some ended))
