@@ -15,7 +15,7 @@ use Rattle.docker_laws.specs.LiveRows.{Link, train_in, link_in}
 use Rattle.docker_laws.proofs.dockers.LinkOfRows.{links_tell, one_link_answer}
 use Rattle.docker_laws.proofs.dockers.OneDockerLine.{first_event_is}
 use Rattle.docker_laws.proofs.dockers.TrainOfRows.{trains_tell, one_train_answer}
-use Rattle.docker_detail.specs.Finding.{IsFound, lines_of, origin_by}
+use Rattle.docker_detail.specs.Finding.{IsLineFound, records_of_train, origin_by}
 use Rattle.docker_detail.specs.OriginText.{found_text}
 use Rattle.docker_detail.specs.Records.{records_of}
 use Rattle.docker_detail.proofs.EventPlaces.{origin_is}
@@ -26,7 +26,7 @@ module _ (live : Table) (place : List ℕ) (day : ℕ) (rows : List Row) (are : 
       → origin_by (train_in rows) (link_in rows) place line ≡ origin_text made.start made.schedule made.event None
   event_origin made =
       ap (origin_by (train_in rows) (link_in rows) place) made.is
-      ∙ ap (λ (t : Option Train). found_text made.start made.event.number (records_of (lines_of t) made.event.number) None) train
+      ∙ ap (λ (t : Option Train). found_text made.start made.event.number (records_of (records_of_train t) made.event.number) None) train
       ∙ origin_is made.start made.schedule made.event None made.among
     where
       train : train_in rows made.key.uid made.start ≡ Some (record { key = made.key; lines = made.schedule })
@@ -38,7 +38,7 @@ module _ (live : Table) (place : List ℕ) (day : ℕ) (rows : List Row) (are : 
       → origin_by (train_in rows) (link_in rows) place line ≡ origin_text made.start made.base made.event (Some made.association)
   association_origin made =
       ap (origin_by (train_in rows) (link_in rows) place) made.is
-      ∙ (λ i. found_text made.start made.event.number (records_of (lines_of (train i)) made.event.number)
+      ∙ (λ i. found_text made.start made.event.number (records_of (records_of_train (train i)) made.event.number)
       (option_map (λ (l : Link). l.line) (link i)))
       ∙ origin_is made.start made.base made.event (Some made.association) first.0
     where
@@ -80,6 +80,6 @@ module _ (live : Table) (place : List ℕ) (day : ℕ) (rows : List Row) (are : 
           (Some (record { key = made.key; line = made.association })) (links_tell live rows are (group_of made.key) made.start) made.chosen
 
   -- what is found for a docker line is its origin
-  pub found_is_origin : (text : List ℕ) → IsDockerLine live place day line → IsFound live place (line, text) → IsOrigin live place day line text
+  pub found_is_origin : (text : List ℕ) → IsDockerLine live place day line → IsLineFound live place (line, text) → IsOrigin live place day line text
   found_is_origin text (inl made) found = inl (record { line_is = made; origin_is = found rows are ∙ event_origin made })
   found_is_origin text (inr made) found = inr (record { line_is = made; origin_is = found rows are ∙ association_origin made })

@@ -21,7 +21,7 @@ use Rattle.cif_laws.proofs.orders.Orders.{docker_line_total}
 use Rattle.docker_day.specs.DockerValue.{Docker}
 use Rattle.docker_day.specs.Dockers.{IsDockerOf}
 use Rattle.docker_detail.specs.DetailedValue.{DetailedDocker, IsDetailedOf, text_of}
-use Rattle.docker_detail.specs.Finding.{AreFound, Detailed, IsFound, firsts}
+use Rattle.docker_detail.specs.Finding.{AreFound, Detailed, IsLineFound, firsts}
 use Rattle.docker_detail.proofs.FoundOrigins.{found_is_origin}
 
 -- no two lines of a strictly ascending list tie
@@ -55,18 +55,18 @@ detailed_is live place day rows docker detailed are is made result told =
           found_is_origin live place day rows are line.0 line.1
           ((is.list.members line.0).0 (Contains-permutation (firsts detailed) docker.lines line.0 (IsPermutation-sym docker.lines (firsts detailed) made.same)
           (map-Contains (λ (l : Detailed). l.0) detailed line among)))
-          (subst (λ (p : List ℕ). IsFound live p line) is.place_is (member_of (IsFound live docker.place) detailed line made.found among)));
+          (subst (λ (p : List ℕ). IsLineFound live p line) is.place_is (member_of (IsLineFound live docker.place) detailed line made.found among)));
     })
 
 -- the lines that were looked up, in the order of a docker, are what is found for the lines
 pub found_in_order : (live : Table) (place : List ℕ) (lines ordered : List DockerLine) (each sorted : List Detailed) → IsPermutation lines ordered
-    → firsts each ≡ ordered → All (IsFound live place) each → IsPermutation each sorted → IsSorted docker_line_cmp (firsts sorted)
+    → firsts each ≡ ordered → All (IsLineFound live place) each → IsPermutation each sorted → IsSorted docker_line_cmp (firsts sorted)
     → AreFound live place lines sorted
 found_in_order live place lines ordered each sorted by_train are found same up = record {
   same = IsPermutation-trans lines (firsts each) (firsts sorted) (subst (IsPermutation lines) (sym are) by_train)
       (IsPermutation-map (λ (line : Detailed). line.0) each sorted same);
   sorted = up;
-  found = All-permutation (IsFound live place) each sorted same found;
+  found = All-permutation (IsLineFound live place) each sorted same found;
 }
 
 -- if pairs are sorted by their lines, their lines are sorted

@@ -1,4 +1,4 @@
--- The associations that are remembered tell of the associations that are asked for.
+-- The remembered associations include the association that is asked for.
 use Rattle.std.proofs.Common.{◌≡◌, ℕ, List, ap, sym, ◌∙◌, subst, Some, None}
 use Rattle.std.specs.Prelude.{Option, IfSome}
 use Rattle.docker_model.specs.docker.DockerLine.{Detail, partner}
@@ -9,7 +9,7 @@ use Rattle.train_choice.specs.Known.{PlaceDay}
 use Rattle.docker_detail.specs.Finding.{association_by}
 use Rattle.docker_detail.specs.Known.{AtPlace}
 
--- what the remembered associations of the start day say is what is asked for
+-- if the remembered associations belong to the start day, they give the record that is asked for
 pub pair_known : {F : Type 0} (copied : F → Option (List ℕ)) (timetable : Timetable) (place : List ℕ) (there : AtPlace) (links : PlaceDay) (day start : ℕ)
     (base associated : List ℕ) (suffix : ℕ) (found : Option F) → record { timetable = timetable; place = place } ≡ there
     → links ≡ record { timetable = timetable; place = place; day = day }

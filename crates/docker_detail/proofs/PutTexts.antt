@@ -17,11 +17,11 @@ without_feed line columns long is =
     let wide : 56 ≡ length columns = omega arith in
     ap (take 56) is ∙ ap (λ (n : ℕ). take n (ended columns)) wide ∙ take-append_seam columns (10 ∷ [])
 
--- one more piece is put behind a text
+-- one more piece is appended to a text
 joined : (old front piece before after : List ℕ) → before ≡ old ++ front → after ≡ before ++ piece → after ≡ old ++ (front ++ piece)
 joined old front piece before after was is = is ∙ ap (λ (text : List ℕ). text ++ piece) was ∙ append_assoc old front piece
 
--- a space and one more piece are put behind a text
+-- a space and one more piece are appended to a text
 joined_apart : (old front piece before after : List ℕ) → before ≡ old ++ front → after ≡ before ++ (spaces 1 ++ piece)
     → after ≡ old ++ (front ++ spaces 1 ++ piece)
 joined_apart old front piece before after was is =

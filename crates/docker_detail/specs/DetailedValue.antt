@@ -22,8 +22,8 @@ abbrev pub text_of : DetailedDocker → List ℕ
 text_of docker =
     ended (padded (head docker.place docker.day docker.description)) ++ flat_map (λ line. ended (detailed_line line)) docker.lines ++ ended (padded last_line)
 
--- says that this is the detailed docker of the place and the day: the docker has the place, the
--- day, the description of the place, and the docker list, and each line has its origin beside it
+-- says that this is the detailed docker of the place and the day. It has the place, the day, the
+-- description of the place, and the docker list. Each line has its origin beside it
 pub record IsDetailedOf (live : Table) (place : List ℕ) (day : ℕ) (docker : DetailedDocker) : Type 0 where
   pub place_is : docker.place ≡ place
   pub day_is : docker.day ≡ day

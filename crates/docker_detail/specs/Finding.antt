@@ -10,11 +10,11 @@ use Rattle.docker_detail.specs.Records.{records_of}
 use Rattle.docker_detail.specs.OriginText.{found_text}
 
 -- the records of a train's schedule, or none if there is no train
-abbrev pub lines_of : Option Train → List (List ℕ)
-lines_of None = []
-lines_of (Some train) = train.lines
+abbrev pub records_of_train : Option Train → List (List ℕ)
+records_of_train None = []
+records_of_train (Some train) = train.lines
 
--- the record of the association that a docker line with this end tells of. `links` returns the
+-- the record of the association that belongs to a docker line with this end. `links` returns the
 -- association chosen in a group for a start day
 abbrev pub association_by : (Group → ℕ → Option Link) → List ℕ → ℕ → ℕ → List ℕ → Detail → Option (List ℕ)
 association_by links base suffix start place (ends origin destination) = None
@@ -26,7 +26,7 @@ association_by links base suffix start place (partner uid identity) =
 -- `links` the association chosen in a group for a start day
 abbrev pub origin_by : (List ℕ → ℕ → Option Train) → (Group → ℕ → Option Link) → List ℕ → DockerLine → List ℕ
 origin_by trains links place line =
-    found_text line.start line.number (records_of (lines_of (trains line.uid line.start)) line.number)
+    found_text line.start line.number (records_of (records_of_train (trains line.uid line.start)) line.number)
     (association_by links line.uid line.suffix line.start place line.detail)
 
 -- a docker line, and the text of its origin
@@ -38,11 +38,11 @@ abbrev pub firsts : List Detailed → List DockerLine
 firsts lines = map (λ (line : Detailed). line.0) lines
 
 -- says that this text is the origin of the docker line, whatever the rows of the table
-abbrev pub IsFound : Table → List ℕ → Detailed → Type 0
-IsFound live place line = (rows : List Row) → AreRowsOf live rows → line.1 ≡ origin_by (train_in rows) (link_in rows) place line.0
+abbrev pub IsLineFound : Table → List ℕ → Detailed → Type 0
+IsLineFound live place line = (rows : List Row) → AreRowsOf live rows → line.1 ≡ origin_by (train_in rows) (link_in rows) place line.0
 
 -- says that these are the docker lines, each with its origin, in the order of a docker
 pub record AreFound (live : Table) (place : List ℕ) (lines : List DockerLine) (detailed : List Detailed) : Type 0 where
   pub same : IsPermutation lines (firsts detailed)
   pub sorted : IsSorted docker_line_cmp (firsts detailed)
-  pub found : All (IsFound live place) detailed
+  pub found : All (IsLineFound live place) detailed

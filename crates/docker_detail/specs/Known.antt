@@ -7,7 +7,7 @@ use Rattle.docker_model.specs.state.Row.{Row, AreRowsOf}
 use Rattle.docker_model.specs.docker.DetailedText.{extra_record}
 use Rattle.docker_laws.specs.LiveRows.{train_in}
 use Rattle.docker_state.specs.Timetables.{Timetable}
-use Rattle.docker_detail.specs.Finding.{lines_of}
+use Rattle.docker_detail.specs.Finding.{records_of_train}
 use Rattle.docker_detail.specs.Meaning.{CanWalk, place_ahead}
 use Rattle.docker_detail.specs.Records.{place_in}
 use Rattle.docker_detail.specs.declared.known_train.KnownTrain.{KnownTrain}
@@ -20,12 +20,12 @@ pub record IsReady (known : KnownTrain) : Type 0 where
   pub can : CanWalk known.walk
   pub ahead : (number : ℕ) → known.least ≤ number → place_ahead known.walk number ≡ place_in known.lines.now number
 
--- says that the records that are kept are those of the UID's train that starts on the day
+-- says that the kept records belong to the UID's train that starts on the day
 pub record IsKnownTrain (live : Table) (known : KnownTrain) : Type 0 where
-  pub lines_are : (rows : List Row) → AreRowsOf live rows → known.lines.now ≡ lines_of (train_in rows known.uid known.start)
+  pub lines_are : (rows : List Row) → AreRowsOf live rows → known.lines.now ≡ records_of_train (train_in rows known.uid known.start)
   pub ready : IsReady known
 
--- says the same of a train that is kept, if there is one
+-- like `IsKnownTrain`, for a train that may be kept
 abbrev pub MayBeKnownTrain : Table → Option KnownTrain → Type 0
 MayBeKnownTrain live None = ⊤
 MayBeKnownTrain live (Some known) = IsKnownTrain live known
@@ -35,7 +35,7 @@ pub record AtPlace : Type 0 where
   pub timetable : Timetable
   pub place : List ℕ
 
--- says that the associations that are kept, if there are any, are those at the place
+-- says that the kept associations, if there are any, are the associations at the place
 abbrev pub MayBeKnownLinks : Timetable → List ℕ → Option KnownLinks → Type 0
 MayBeKnownLinks timetable place None = ⊤
 MayBeKnownLinks timetable place (Some known) = known.links ≡ record { timetable = timetable; place = place; day = known.day }

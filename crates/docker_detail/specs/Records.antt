@@ -32,8 +32,8 @@ abbrev pub first_of : List (List ℕ) → Option (List ℕ)
 first_of [] = None
 first_of (line ∷ lines) = Some line
 
--- the records of a schedule that belong to one of its events: the basic schedule, the extra
--- details, the change en route in force at the event, and the event's location record
+-- the records of a schedule that belong to one of its events. These are the basic schedule, the
+-- extra details, the change en route in force at the event, and the event's location record
 pub record EventRecords : Type 0 where
   pub basic : Option (List ℕ)
   pub extra : Option (List ℕ)

@@ -5,7 +5,7 @@ ghost use Rattle.std.specs.Str.{bytes_eq};
 ghost use Rattle.docker_model.specs.records.Field.{HasGoodFields};
 ghost use Rattle.docker_model.specs.docker.DetailedText.{extra_record};
 ghost use Rattle.docker_state.specs.Timetables.{live_in};
-ghost use Rattle.docker_detail.specs.Finding.{lines_of};
+ghost use Rattle.docker_detail.specs.Finding.{records_of_train};
 ghost use Rattle.docker_detail.specs.Known.{IsKnownTrain, IsReady};
 ghost use Rattle.docker_detail.specs.Meaning.{records_meant};
 ghost use Rattle.docker_detail.specs.Records.{records_of};
@@ -36,7 +36,7 @@ impl<'a> KnownTrain<'a> {
         ensures start { result.start ≡ start }
         ensures least { result.least ≡ 0 }
     {
-        let lines = lines_of(train_on(timetable, uid, start));
+        let lines = records_of_train(train_on(timetable, uid, start));
         KnownTrain {
             uid: *uid,
             start,
@@ -78,8 +78,8 @@ impl<'a> KnownTrain<'a> {
 }
 
 /// The records of a train's schedule, or none if there is no train.
-fn lines_of<'a>(train: Option<ScheduleView<'a>>) -> &'a [Line]
-    ensures lines { result.now ≡ lines_of train.entry }
+fn records_of_train<'a>(train: Option<ScheduleView<'a>>) -> &'a [Line]
+    ensures lines { result.now ≡ records_of_train train.entry }
     ensures good { All HasGoodFields result.now }
     ensures few { length result.now < 2 ^ 32 }
 {

@@ -62,7 +62,7 @@ impl<'a> LinkRecords<'a> {
         }
     }
 
-    /// The record of the association that a docker line tells of. Returns `None` for the line of an
+    /// The record of the association that belongs to a docker line. Returns `None` for the line of an
     /// event, and `Memory` if there is no room for the chosen associations.
     pub(crate) fn of_line(&mut self, line: &DockerLine<'_>) -> Result<Option<&'a Line>, Memory>
         ensures same { self.new ≡ self.old }

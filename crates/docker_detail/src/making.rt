@@ -67,7 +67,7 @@ fn detail<'a>(
     }
 }
 
-/// Like `detail`, with only want of memory as an error.
+/// Like `detail`, with out of memory as its only error.
 fn with_lines<'a>(
     alloc: Global,
     timetable: &Timetable<'a>,

@@ -16,6 +16,6 @@ pub(crate) struct Origin<'a> {
     pub(crate) change: Option<&'a Line>,
     /// The location record of the event.
     pub(crate) location: Option<&'a Line>,
-    /// The association, if the line tells of one.
+    /// The association, if it is the line of one.
     pub(crate) association: Option<&'a Line>,
 }

@@ -3,7 +3,7 @@ ghost use Rattle.std.specs.Prelude.{◌≡◌, All, IfOk};
 ghost use Rattle.std.specs.List.Sorted.{IsPermutation, IsSorted};
 ghost use Rattle.docker_model.specs.docker.DockerLine.{docker_line_cmp};
 ghost use Rattle.docker_state.specs.Timetables.{live_in};
-ghost use Rattle.docker_detail.specs.Finding.{AreFound, IsFound, firsts};
+ghost use Rattle.docker_detail.specs.Finding.{AreFound, IsLineFound, firsts};
 
 use crate::detailed_line::DetailedLine;
 use crate::link_records::LinkRecords;
@@ -51,7 +51,7 @@ impl<'a> Finder<'a> {
     fn detailed(&mut self, line: DockerLine<'a>) -> Result<DetailedLine<'a>, Memory>
         ensures same { self.new ≡ self.old }
         ensures line { IfOk result (λ detailed. detailed.0 ≡ line.entry) }
-        ensures found { IfOk result (IsFound (live_in self.old.timetable) self.old.place) }
+        ensures found { IfOk result (IsLineFound (live_in self.old.timetable) self.old.place) }
     {
         let association = self.links.of_line(&line)?;
         let (start, number) = (line.start(), line.number());
@@ -109,7 +109,7 @@ fn each_with_origin<'a>(
     ensures lines { IfOk result (λ detailed.
         firsts detailed.items ≡ lines.entry.items) }
     ensures found { IfOk result (λ detailed.
-        All (IsFound (live_in finder.entry.timetable) finder.entry.place) detailed.items) }
+        All (IsLineFound (live_in finder.entry.timetable) finder.entry.place) detailed.items) }
 {
     let mut detailed = Vec::with_capacity(alloc, lines.len())?;
     for line in lines {

@@ -4,7 +4,7 @@ ghost use Rattle.std.specs.Prelude.{◌≡◌, ◌≤◌, ℕ, List, IfSome};
 ghost use Rattle.docker_model.specs.state.Row.{Row, AreRowsOf};
 ghost use Rattle.docker_laws.specs.LiveRows.{train_in};
 ghost use Rattle.docker_state.specs.Timetables.{live_in};
-ghost use Rattle.docker_detail.specs.Finding.{lines_of};
+ghost use Rattle.docker_detail.specs.Finding.{records_of_train};
 ghost use Rattle.docker_detail.specs.Known.{IsKnownTrain};
 ghost use Rattle.docker_detail.specs.Meaning.{records_meant};
 ghost use Rattle.docker_detail.specs.Records.{records_of};
@@ -16,9 +16,8 @@ use docker_state::Timetable;
 use std::marker::Model;
 
 /// The records of the schedules according to which trains run in a timetable. The train that was
-/// looked up last is remembered, with a walk over its records. So if the events of each train are
-/// asked for one after the other, in ascending order of their numbers, each train is looked up only
-/// once, and its records are read only once.
+/// looked up last is remembered, with a walk over its records. If the events of a train are asked
+/// for one after the other, in ascending order, it is looked up once and its records are read once.
 #[derive(Debug, Drop)]
 pub(crate) struct TrainRecords<'a> {
     timetable: Timetable<'a>,
@@ -53,7 +52,7 @@ impl<'a> TrainRecords<'a> {
     pub(crate) fn of_event(&mut self, uid: &Uid, start: Day, number: u64) -> EventRecords<'a>
         ensures same { self.new ≡ self.old }
         ensures records { (rows : List Row) → AreRowsOf (live_in self.old) rows
-            → records_meant result ≡ records_of (lines_of (train_in rows uid.now start)) number }
+            → records_meant result ≡ records_of (records_of_train (train_in rows uid.now start)) number }
     {
         let mut known = self.take(uid, start, number);
         let records = known.records(number);

@@ -93,8 +93,8 @@ pub counts_told : (live : Table) (place : List ℕ) (day : ℕ) (best : GroupLin
 counts_told live place day best key link answer are here kept is rows each =
     is ∙ ap (λ (found : Option Link). counts_as found key) (kept ∙ are (group_of key) here rows each)
 
--- suppose that a map has the associations chosen at a place on a day. Then the record of the
--- association that the map has for a group at the place is that of the group's chosen association
+-- suppose that a map has the associations chosen at a place on a day. If the map has an association
+-- for a group at the place, the chosen association of the group has the same record
 pub record_told : (live : Table) (place : List ℕ) (day : ℕ) (best : GroupLinks) (group : Group) (link : Link) (line : List ℕ)
     → AreDayLinks live place day best → group.location ≡ place → Some link ≡ get group_cmp best group → line ≡ link.line
     → (rows : List Row) → AreRowsOf live rows → Some line ≡ option_map (λ (l : Link). l.line) (link_in rows group day)

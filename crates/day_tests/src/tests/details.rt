@@ -46,13 +46,13 @@ const NONE: &[u8] =
 const START: &[u8] = b"2024-06-10";
 
 /// The heading of a docker of Colwell, before its padding.
-const COLWELL: &[u8] = b"DOCKER COLWELL 2024-06-10                               ";
+const HEADING_AT_COLWELL: &[&[u8]] = &[b"DOCKER COLWELL 2024-06-10                               "];
 
 /// The heading of a docker of Brayton, before its padding.
-const BRAYTON: &[u8] = b"DOCKER BRAYTON 2024-06-10                               ";
+const HEADING_AT_BRAYTON: &[&[u8]] = &[b"DOCKER BRAYTON 2024-06-10                               "];
 
 /// The last line of a docker, before its padding.
-const LAST: &[u8] = b"END                                                     ";
+const LAST_LINE: &[&[u8]] = &[b"END                                                     "];
 
 /// The text of these lines. The fields of a line have a space between them, and a line without
 /// fields after its first is padded with 427 spaces.
@@ -116,7 +116,7 @@ fn extra_details_and_changes(rt: HostRuntime) {
         rt.alloc(),
         &state,
         "COLWELL",
-        &[&[COLWELL], passes, &[LAST]],
+        &[HEADING_AT_COLWELL, passes, LAST_LINE],
     );
     let comes: &[&[u8]] = &[
         COMES_AS_5E51,
@@ -133,7 +133,7 @@ fn extra_details_and_changes(rt: HostRuntime) {
         rt.alloc(),
         &state,
         "BRAYTON",
-        &[&[BRAYTON], comes, &[LAST]],
+        &[HEADING_AT_BRAYTON, comes, LAST_LINE],
     );
 }
 
@@ -159,7 +159,7 @@ fn again<'a>(line: &'a [u8], number: &'a [u8], association: &'a [u8]) -> [&'a [u
 /// The line of an association has its record, and the records of the base train. An event's line
 /// doesn't have it, even if both lines are of the same event.
 #[test]
-fn associations(rt: HostRuntime) {
+fn associations_with_their_records(rt: HostRuntime) {
     let state = state(&rt, rt.alloc(), DIVISION_FILE);
     let other: &[&[u8]] = &[
         OTHER_LEAVES,
@@ -171,22 +171,27 @@ fn associations(rt: HostRuntime) {
         LO_COLWELL_1045,
         NONE,
     ];
+    let first_comes = first(FIRST_COMES, b"         2");
+    let first_leaves = first(FIRST_LEAVES, b"         3");
+    let again_comes = again(AGAIN_COMES, b"         4", NONE);
+    let divides = again(DIVIDES, b"         4", AA_DIVIDE);
+    let again_leaves = again(AGAIN_LEAVES, b"         5", NONE);
     let lines: &[&[&[u8]]] = &[
-        &[COLWELL],
-        &first(FIRST_COMES, b"         2"),
-        &first(FIRST_LEAVES, b"         3"),
-        &again(AGAIN_COMES, b"         4", NONE),
-        &again(DIVIDES, b"         4", AA_DIVIDE),
-        &again(AGAIN_LEAVES, b"         5", NONE),
+        HEADING_AT_COLWELL,
+        &first_comes,
+        &first_leaves,
+        &again_comes,
+        &divides,
+        &again_leaves,
         other,
-        &[LAST],
+        LAST_LINE,
     ];
     shows(&rt, rt.alloc(), &state, "COLWELL", lines);
 }
 
 /// In the permanent docker, the cancellation of an association doesn't count.
 #[test]
-fn permanent(rt: HostRuntime) {
+fn permanent_details(rt: HostRuntime) {
     let state = state(&rt, rt.alloc(), DIVISION_CANCELLED);
     let (at, on) = (place(&rt, "COLWELL"), day(&rt, "2024-06-10"));
     let docker = permanent_detailed_docker(rt.alloc(), &state, &at, on).expect(&rt, "a docker");

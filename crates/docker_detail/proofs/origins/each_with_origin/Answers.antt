@@ -3,7 +3,7 @@ use Rattle.std.specs.Prelude.{All}
 use Rattle.std.specs.Vec.Iter.{into_iter_items}
 use Rattle.std.proofs.lemmas.List.Elements.{All-push}
 use Rattle.docker_state.specs.Timetables.{live_in}
-use Rattle.docker_detail.specs.Finding.{Detailed, IsFound, firsts}
+use Rattle.docker_detail.specs.Finding.{Detailed, IsLineFound, firsts}
 use Rattle.docker_detail.specs.Known.{AtPlace}
 use Rattle.docker_detail.proofs.InOrder.{one_more}
 use Rattle.docker_detail.proofs.origins.each_with_origin.Goals as goal
@@ -16,8 +16,8 @@ loop-line-preserved c =
       lines = ap (λ (all : List Detailed). firsts all ++ into_iter_items c.next.new.self) items
           ∙ one_more c.loop-line.detailed.items more c.in-Some.line (into_iter_items c.loop-line.line-iterator) (into_iter_items c.next.new.self)
           c.args.lines.items c.in-Some.ensures.steps.0 c.in_ok-detailed-2.ensures.line c.loop-line.invariant.lines;
-      found = subst (All (IsFound (live_in c.args.finder.timetable) c.args.finder.place)) (sym items)
-          (All-push (IsFound (live_in c.args.finder.timetable) c.args.finder.place) c.loop-line.detailed.items more c.loop-line.invariant.found
-          (subst (λ (there : AtPlace). IsFound (live_in there.timetable) there.place more) c.loop-line.invariant.same c.in_ok-detailed-2.ensures.found));
+      found = subst (All (IsLineFound (live_in c.args.finder.timetable) c.args.finder.place)) (sym items)
+          (All-push (IsLineFound (live_in c.args.finder.timetable) c.args.finder.place) c.loop-line.detailed.items more c.loop-line.invariant.found
+          (subst (λ (there : AtPlace). IsLineFound (live_in there.timetable) there.place more) c.loop-line.invariant.same c.in_ok-detailed-2.ensures.found));
       same = c.detailed.ensures.same ∙ c.loop-line.invariant.same;
     }

@@ -1,7 +1,7 @@
 use Rattle.std.proofs.Common.{subst}
 use Rattle.std.specs.Prelude.{All}
 use Rattle.docker_state.specs.Timetables.{live_in}
-use Rattle.docker_detail.specs.Finding.{IsFound}
+use Rattle.docker_detail.specs.Finding.{IsLineFound}
 use Rattle.docker_detail.specs.Known.{AtPlace}
 use Rattle.docker_detail.proofs.InOrder.{found_in_order}
 use Rattle.docker_detail.proofs.origins.with_origins.Goals as goal
@@ -10,6 +10,6 @@ pub returns : goal.returns
 returns c =
     found_in_order (live_in c.args.timetable.now) c.args.place.now c.args.lines.items c.by_train.result.items c.in_ok-detailed.detailed.items
     c.in_order.result.items c.by_train.ensures c.in_ok-detailed.ensures.lines
-    (subst (λ (there : AtPlace). All (IsFound (live_in there.timetable) there.place) c.in_ok-detailed.detailed.items) c.at.ensures
+    (subst (λ (there : AtPlace). All (IsLineFound (live_in there.timetable) there.place) c.in_ok-detailed.detailed.items) c.at.ensures
     c.in_ok-detailed.ensures.found)
     c.in_order.ensures.same c.in_order.ensures.sorted
