@@ -1,6 +1,6 @@
 -- What is found for a line of a docker is the line's origin.
-use Rattle.std.proofs.Common.{◌≡◌, ℕ, List, ap, sym, ◌∙◌, subst, inl, inr, Some, None, Contains}
-use Rattle.std.specs.Prelude.{Option, ◌⊎◌, option_map}
+use Rattle.std.proofs.Common.{◌≡◌, ℕ, List, ap, sym, ◌∙◌, inl, inr, Some, None, Contains}
+use Rattle.std.specs.Prelude.{Option, option_map}
 use Rattle.docker_model.specs.records.Record.{column, columns}
 use Rattle.docker_model.specs.state.Row.{Row, AreRowsOf}
 use Rattle.docker_model.specs.state.Table.{Table}

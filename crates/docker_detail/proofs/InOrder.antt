@@ -1,26 +1,22 @@
 -- A docker's lines, each with its origin, are the detailed docker.
-use Rattle.std.proofs.Common.{◌≡◌, ℕ, List, [], ◌∷◌, ◌++◌, ◌+◌, ◌<◌, map, length, refl, ap, sym, ◌∙◌, subst, Contains, append_assoc, arith}
-use Rattle.std.specs.Prelude.{All, zip}
-use Rattle.std.specs.List.{AllByRecursion, AllZip, flat_map}
+use Rattle.std.proofs.Common.{◌≡◌, ℕ, List, [], ◌∷◌, ◌++◌, ◌+◌, ◌<◌, length, ap, sym, ◌∙◌, subst, append_assoc, arith}
+use Rattle.std.specs.Prelude.{All}
+use Rattle.std.specs.List.{AllByRecursion}
 use Rattle.std.specs.List.Sorted.{IsPermutation, IsSorted}
-use Rattle.std.proofs.lemmas.List.Elements.{recursion_from_All}
 use Rattle.std.proofs.lemmas.List.{get_or-map, length-map, map-append}
 use Rattle.std.proofs.lemmas.List.Sorted.{All-permutation, Contains-permutation, IsPermutation-map, IsPermutation-sym, IsPermutation-trans}
 use Rattle.std.specs.Ordering.{is_lt}
 use Rattle.docker_model.specs.state.Order.{IsBelow, IsStrictlyAscending}
 use Rattle.docker_model.specs.state.Row.{Row, AreRowsOf}
 use Rattle.docker_model.specs.state.Table.{Table}
-use Rattle.docker_model.specs.docker.DetailedText.{IsDetailedText, IsOrigin, detailed_line, detailed_text, padded}
+use Rattle.docker_model.specs.docker.DetailedText.{IsOrigin}
 use Rattle.docker_model.specs.docker.DockerLine.{DockerLine, docker_line_cmp}
-use Rattle.docker_model.specs.docker.DockerList.{IsDockerList}
-use Rattle.docker_model.specs.docker.DockerText.{ended, heading, last_line}
 use Rattle.cif_laws.proofs.lists.Membership.{all_members, map-Contains, member_of}
-use Rattle.cif_laws.proofs.lists.Later.{AllLater}
 use Rattle.cif_laws.proofs.lists.Sorted.{AreApart, sort_ascends}
 use Rattle.cif_laws.proofs.orders.Orders.{docker_line_total}
 use Rattle.docker_day.specs.DockerValue.{Docker}
 use Rattle.docker_day.specs.Dockers.{IsDockerOf}
-use Rattle.docker_detail.specs.DetailedValue.{DetailedDocker, IsDetailedOf, text_of}
+use Rattle.docker_detail.specs.DetailedValue.{DetailedDocker, IsDetailedOf}
 use Rattle.docker_detail.specs.Finding.{AreFound, Detailed, IsLineFound, firsts}
 use Rattle.docker_detail.proofs.FoundOrigins.{found_is_origin}
 
@@ -47,7 +43,8 @@ detailed_is live place day rows docker detailed are is made result told =
       list = record {
         ascending = sort_ascends docker_line_total docker.lines (firsts detailed) (ascending_apart docker.lines is.list.ascending) made.same made.sorted;
         members = λ line. (
-          λ among. (is.list.members line).0 (Contains-permutation (firsts detailed) docker.lines line (IsPermutation-sym docker.lines (firsts detailed) made.same) among),
+          λ among. (is.list.members line).0
+              (Contains-permutation (firsts detailed) docker.lines line (IsPermutation-sym docker.lines (firsts detailed) made.same) among),
           λ meant. Contains-permutation docker.lines (firsts detailed) line made.same ((is.list.members line).1 meant),
         );
       };

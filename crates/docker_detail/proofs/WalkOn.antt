@@ -1,11 +1,11 @@
 -- A walk over the records of a schedule passes one record at a time.
-use Rattle.std.proofs.Common.{◌≡◌, ℕ, suc, ◌+◌, ◌*◌, ◌<◌, ◌≤◌, cond, List, [], ◌∷◌, length, refl, ap, sym, ◌∙◌, subst, Some, None, arith}
-use Rattle.std.specs.Prelude.{Option, nat_le, All}
+use Rattle.std.proofs.Common.{◌≡◌, ℕ, ◌+◌, ◌<◌, ◌≤◌, cond, List, [], ◌∷◌, length, ap, sym, ◌∙◌, subst, Some, arith}
+use Rattle.std.specs.Prelude.{Option, All}
 use Rattle.std.proofs.lemmas.Bool.{le-leb, lt-leb}
 use Rattle.std.proofs.lemmas.List.Elements.{All-head, All-tail}
 use Rattle.docker_model.specs.file.Journey.{times_of}
 use Rattle.docker_model.specs.records.Field.{HasGoodFields}
-use Rattle.docker_detail.specs.Records.{Place, change_after, first_of, place_from}
+use Rattle.docker_detail.specs.Records.{change_after, first_of, place_from}
 
 -- at the end of the records the walk stands at the place that it finds
 pub ended : (passed number : ℕ) (change : Option (List ℕ)) (rest : List (List ℕ)) → rest ≡ []

@@ -1,6 +1,6 @@
 -- Converts the code's records and origins to the terms of the definitions, and says which place a
 -- walk over a schedule's records finds.
-use Rattle.std.specs.Prelude.{◌≡◌, ℕ, ◌+◌, ◌*◌, ◌^◌, ◌≤◌, List, length, All}
+use Rattle.std.specs.Prelude.{ℕ, ◌+◌, ◌*◌, ◌^◌, ◌≤◌, List, length, All}
 use Rattle.std.specs.Option.{option_copied}
 use Rattle.docker_model.specs.records.Field.{HasGoodFields}
 use Rattle.docker_detail.specs.OriginText.{found_text}

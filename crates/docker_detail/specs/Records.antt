@@ -1,5 +1,5 @@
 -- The records of a schedule that belong to the event with a given number.
-use Rattle.std.specs.Prelude.{◌≡◌, ℕ, ◌+◌, nat_le, if◌then◌else◌, List, [], ◌∷◌, Option, Some, None, codes, length}
+use Rattle.std.specs.Prelude.{ℕ, ◌+◌, nat_le, if◌then◌else◌, List, [], ◌∷◌, Option, Some, None, codes, length}
 use Rattle.docker_model.specs.file.Journey.{times_of}
 use Rattle.docker_model.specs.docker.Event.{has_identity}
 use Rattle.docker_model.specs.docker.DetailedText.{extra_record}

@@ -5,7 +5,6 @@ ghost use Rattle.std.specs.Option.{option_copied};
 ghost use Rattle.docker_model.specs.state.Row.{Row, AreRowsOf};
 ghost use Rattle.docker_model.specs.docker.DockerLine.{partner};
 ghost use Rattle.docker_laws.specs.LiveRows.{link_in};
-ghost use Rattle.docker_day.specs.Details.{detail_meant};
 ghost use Rattle.docker_state.specs.Timetables.{live_in};
 ghost use Rattle.docker_detail.specs.Finding.{association_by};
 

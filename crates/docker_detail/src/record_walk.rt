@@ -1,5 +1,5 @@
 //! A walk over the records of a schedule, which finds the record of an event by its number.
-ghost use Rattle.std.specs.Prelude.{◌≡◌, ℕ, ◌≤◌, ◌<◌, ◌^◌, None, All, codes, length};
+ghost use Rattle.std.specs.Prelude.{◌≡◌, ℕ, ◌≤◌, ◌<◌, ◌^◌, None, All, length};
 ghost use Rattle.std.specs.Option.{option_copied};
 ghost use Rattle.docker_model.specs.records.Field.{HasGoodFields};
 ghost use Rattle.docker_model.specs.docker.Event.{has_identity};

@@ -1,6 +1,6 @@
 //! The records of the schedules according to which trains run. The train that was looked up last is
 //! remembered.
-ghost use Rattle.std.specs.Prelude.{◌≡◌, ◌≤◌, ℕ, List, IfSome};
+ghost use Rattle.std.specs.Prelude.{◌≡◌, ◌≤◌, List};
 ghost use Rattle.docker_model.specs.state.Row.{Row, AreRowsOf};
 ghost use Rattle.docker_laws.specs.LiveRows.{train_in};
 ghost use Rattle.docker_state.specs.Timetables.{live_in};

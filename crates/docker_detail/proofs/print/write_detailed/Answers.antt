@@ -16,7 +16,8 @@ returns-in_err-write_all-clause-part g c =
     (part_of_first (g.K.Sink.taken c.args.sink.now) (g.K.Sink.taken c.write_all.new.sink) (g.K.Sink.taken c.write_all.new.sink)
     (g.K.Sink.taken c.write_all.new.sink)
     c.padded_heading-heading.result (flat_map (λ (line : Detailed). ended (detailed_line line)) docker.lines) (ended (padded last_line))
-    (ended (padded (head docker.place docker.day docker.description))) (flat_map (λ (line : Detailed). ended (detailed_line line)) docker.lines) (ended (padded last_line))
+    (ended (padded (head docker.place docker.day docker.description)))
+    (flat_map (λ (line : Detailed). ended (detailed_line line)) docker.lines) (ended (padded last_line))
     (heading_is docker.place c.place.result docker.day c.day.result docker.description c.description.result.now c.padded_heading-heading.result
     c.place.ensures c.day.ensures c.description.ensures c.padded_heading-heading.ensures) refl refl
     c.in_err-write_all.ensures.part)
@@ -28,7 +29,8 @@ returns-in_err-write_lines-clause-part g c =
     (part_of_second (g.K.Sink.taken c.args.sink.now) (g.K.Sink.taken c.write_all.new.sink) (g.K.Sink.taken c.write_lines.new.sink)
     (g.K.Sink.taken c.write_lines.new.sink)
     c.padded_heading-heading.result (flat_map (λ (line : Detailed). ended (detailed_line line)) c.lines.result.now) (ended (padded last_line))
-    (ended (padded (head docker.place docker.day docker.description))) (flat_map (λ (line : Detailed). ended (detailed_line line)) docker.lines) (ended (padded last_line))
+    (ended (padded (head docker.place docker.day docker.description)))
+    (flat_map (λ (line : Detailed). ended (detailed_line line)) docker.lines) (ended (padded last_line))
     (heading_is docker.place c.place.result docker.day c.day.result docker.description c.description.result.now c.padded_heading-heading.result
     c.place.ensures c.day.ensures c.description.ensures c.padded_heading-heading.ensures)
     (ap (flat_map (λ (line : Detailed). ended (detailed_line line))) c.lines.ensures) refl
@@ -41,7 +43,8 @@ returns-clause-whole g c =
     (all_taken (g.K.Sink.taken c.args.sink.now) (g.K.Sink.taken c.write_all.new.sink) (g.K.Sink.taken c.write_lines.new.sink)
     (g.K.Sink.taken c.write_all-2.new.sink)
     c.padded_heading-heading.result (flat_map (λ (line : Detailed). ended (detailed_line line)) c.lines.result.now) c.padded_last_line.result
-    (ended (padded (head docker.place docker.day docker.description))) (flat_map (λ (line : Detailed). ended (detailed_line line)) docker.lines) (ended (padded last_line))
+    (ended (padded (head docker.place docker.day docker.description)))
+    (flat_map (λ (line : Detailed). ended (detailed_line line)) docker.lines) (ended (padded last_line))
     (heading_is docker.place c.place.result docker.day c.day.result docker.description c.description.result.now c.padded_heading-heading.result
     c.place.ensures c.day.ensures c.description.ensures c.padded_heading-heading.ensures)
     (ap (flat_map (λ (line : Detailed). ended (detailed_line line))) c.lines.ensures) c.padded_last_line.ensures
@@ -55,7 +58,8 @@ returns-clause-part g c =
     (part_of_third (g.K.Sink.taken c.args.sink.now) (g.K.Sink.taken c.write_all.new.sink) (g.K.Sink.taken c.write_lines.new.sink)
     (g.K.Sink.taken c.write_all-2.new.sink)
     c.padded_heading-heading.result (flat_map (λ (line : Detailed). ended (detailed_line line)) c.lines.result.now) c.padded_last_line.result
-    (ended (padded (head docker.place docker.day docker.description))) (flat_map (λ (line : Detailed). ended (detailed_line line)) docker.lines) (ended (padded last_line))
+    (ended (padded (head docker.place docker.day docker.description)))
+    (flat_map (λ (line : Detailed). ended (detailed_line line)) docker.lines) (ended (padded last_line))
     (heading_is docker.place c.place.result docker.day c.day.result docker.description c.description.result.now c.padded_heading-heading.result
     c.place.ensures c.day.ensures c.description.ensures c.padded_heading-heading.ensures)
     (ap (flat_map (λ (line : Detailed). ended (detailed_line line))) c.lines.ensures) c.padded_last_line.ensures

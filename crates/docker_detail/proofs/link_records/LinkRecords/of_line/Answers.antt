@@ -1,6 +1,6 @@
 use Rattle.std.proofs.Common.{◌≡◌, ap, sym, ◌∙◌}
 use Rattle.std.proofs.lemmas.Result.{IfOk-weaker}
-use Rattle.docker_model.specs.docker.DockerLine.{Detail, partner}
+use Rattle.docker_model.specs.docker.DockerLine.{partner}
 use Rattle.docker_laws.specs.LiveRows.{link_in}
 use Rattle.docker_day.specs.Details.{detail_meant}
 use Rattle.docker_detail.specs.Finding.{association_by}
