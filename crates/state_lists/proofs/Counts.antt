@@ -29,7 +29,7 @@ use Rattle.docker_state.proofs.LiveTable.{live_walks, live_ascends}
 use Rattle.docker_model.specs.lists.PlacesText.{count_at, is_call_at}
 
 -- whether the index names this place for a live row of a schedule
-names : List ℕ → Row → Bool
+abbrev names : List ℕ → Row → Bool
 names place row = list_any (bytes_eq place) (call_places row.0 (put_with row.1))
 
 rows_total : IsTotalOrder (on (λ (row : Row). row.0) key_cmp)
@@ -114,14 +114,12 @@ rows_are state valid = record {
 any_kept : {A B : Type 0} (p : A → Bool) (f : A → B) (q r : B → Bool) → ((y : B) → q y ≡ r y) → (xs : List A)
     → list_any q (map f (filter p xs)) ≡ list_any (λ x. p x && r (f x)) xs
 any_kept p f q r same [] = refl
-any_kept p f q r same (x ∷ xs) = by (p x)
+any_kept p f q r same (x ∷ xs) = by (p x) (any_kept p f q r same xs)
   where
-    rest : list_any q (map f (filter p xs)) ≡ list_any (λ x. p x && r (f x)) xs
-    rest = any_kept p f q r same xs
-
-    by : (b : Bool) → list_any q (map f (if b then x ∷ filter p xs else filter p xs)) ≡ (b && r (f x)) || list_any (λ x. p x && r (f x)) xs
-    by true = ap (λ c. c || list_any q (map f (filter p xs))) (same (f x)) ∙ ap (λ c. r (f x) || c) rest
-    by false = rest
+    by : (b : Bool) → list_any q (map f (filter p xs)) ≡ list_any (λ x. p x && r (f x)) xs
+        → list_any q (map f (if b then x ∷ filter p xs else filter p xs)) ≡ (b && r (f x)) || list_any (λ x. p x && r (f x)) xs
+    by true rest = ap (λ c. c || list_any q (map f (filter p xs))) (same (f x)) ∙ ap (λ c. r (f x) || c) rest
+    by false rest = rest
 
 -- the order of the texts that are compared doesn't matter
 either_way : (a b : List ℕ) → bytes_eq a b ≡ bytes_eq b a
@@ -130,8 +128,8 @@ either_way a b = by (bytes_eq a b) (bytes_eq b a) refl refl
     by : (one two : Bool) → bytes_eq a b ≡ one → bytes_eq b a ≡ two → one ≡ two
     by true true _ _ = refl
     by false false _ _ = refl
-    by true false is not = sym not ∙ (bytes_eq-Decides b a).1 (sym ((bytes_eq-Decides a b).0 is))
-    by false true not is = sym (sym is ∙ sym (sym not ∙ (bytes_eq-Decides a b).1 (sym ((bytes_eq-Decides b a).0 is))))
+    by true false is not = sym ((bytes_eq-Decides b a).1 (sym ((bytes_eq-Decides a b).0 is))) ∙ not
+    by false true not is = sym not ∙ (bytes_eq-Decides a b).1 (sym ((bytes_eq-Decides b a).0 is))
 
 -- the index names a place for a row exactly if the row is a schedule that calls there
 named_is_call : (place : List ℕ) (key : Key) (body : Body) → names place (key, body) ≡ is_call_at place key body
