@@ -131,11 +131,11 @@ TOLD = {
 }
 
 
-@each(("request", "wanted"), TOLD)
-def test_details_to_the_letter(request, wanted):
+@each(("asked", "wanted"), TOLD)
+def test_details_to_the_letter(asked, wanted):
     state_of(WORKED)
     with Desk("STATE") as desk:
-        got = desk.ask(request)
+        got = desk.ask(asked)
         ends_well(desk)
     assert got == Answer(0, wanted)
 
