@@ -153,10 +153,10 @@ fn an_output_that_fails_within_an_answer(rt: HostRuntime) {
     let alloc = rt.alloc();
     stops_at(&rt, alloc, 1, "");
     stops_at(&rt, alloc, 3, "2 ");
-    stops_at(&rt, alloc, 8, "2 1 240");
-    stops_at(&rt, alloc, 9, "2 1 240\n");
-    stops_at(&rt, alloc, 14, "2 1 240\ndesk:");
-    let (done, sink) = broken_at(&rt, alloc, 249);
+    stops_at(&rt, alloc, 8, "2 1 292");
+    stops_at(&rt, alloc, 9, "2 1 292\n");
+    stops_at(&rt, alloc, 14, "2 1 292\ndesk:");
+    let (done, sink) = broken_at(&rt, alloc, 301);
     same(&rt, done, Ok(()));
     let whole = lines_text(&rt, alloc, USAGE);
     same(&rt, sink.device().bytes(), whole.as_slice());
