@@ -26,18 +26,12 @@ abbrev pub change_at : List (List ℕ) → Event → Option (List ℕ)
 change_at lines event = last_or None (filter (λ line. has_identity (codes "CR") line) (take event.place lines))
 
 -- columns 57 to 483 of a detailed line: where the docker line comes from. A space comes before each
--- field. The fields are:
---
--- 58 to 67: the day on which the train starts
--- 69 to 78: the number of the event, padded with spaces on the left
--- 80 to 159: the basic schedule (BS)
--- 161 to 240: the schedule's extra details (BX)
--- 242 to 321: the change en route (CR) that is in force at the event
--- 323 to 402: the location record of the event
--- 404 to 483: the association (AA)
---
--- A field of a record that there isn't consists of spaces. If the line is one of an association,
--- the start day, the schedule and the event are those of the base train
+-- field. Columns 58 to 67 are the day on which the train starts. Columns 69 to 78 are the number of
+-- the event, padded with spaces on the left. Each other field is a record of 80 columns, or spaces
+-- if there is no such record. Column 80 begins the basic schedule (BS), and column 161 its extra
+-- details (BX). Column 242 begins the change en route (CR) that is in force at the event. Column 323
+-- begins the event's location record, and column 404 the association (AA). In the line of an
+-- association, the start day, the schedule and the event belong to the base train
 unfoldable pub origin_text : ℕ → List (List ℕ) → Event → Option (List ℕ) → List ℕ
 origin_text start lines event association =
     spaces 1 ++ day_text start ++ spaces 1 ++ number_text event.number ++ spaces 1 ++ first_record lines ++ spaces 1
