@@ -36,7 +36,8 @@ pub fn serve_lines<S: Source, D: Folder, K: Sink>(
         (K.failures output.old) (K.failures output.new) }
     ensures not_passed { S.ended input.old ≡ false
         → S.passed input.new ≡ S.passed input.old }
-    ensures reported { S.ended input.old ≡ false → result ≡ Ending.Ended → S.ended input.new ≡ true }
+    ensures reported { S.ended input.old ≡ false → result ≡ Ending.Ended
+        → S.ended input.new ≡ true }
     ensures left { result ≡ Ending.Ended → LeavesNone (S.left input.old) (S.left input.new) }
 {
     let mut ahead = Ahead::new();
