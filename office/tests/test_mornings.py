@@ -1,16 +1,18 @@
 """Random mornings of three offices. Each gets good and bad files: late, twice, cut, doubled, with wrong dates, with another file's stamp, and updates that delete or cancel
-too much. Clocks are wrong, and runs are killed. After each run the office must print what a plain reader makes of the files
-that the office knows, and the office mustn't have lost more than half of anything.
+too much. Clocks are wrong, and runs are killed. After each run the office must print what a reader makes of the files
+that the office knows, and the office mustn't have lost more than half of anything. The reader is tests/programs/shared/details.py, which shares no code with the office.
 
 `--mornings` is the number of mornings, and another `--seed` chooses other files and times. What happened to files of each kind is counted. If 500 mornings or more are run,
 the test fails if anything in WANTED never happened."""
 import datetime
+import functools
 import random
 import re
 import signal
 import time
 
-import plain
+import details
+import lists
 import pytest
 import timetable
 from offices import docker, station
@@ -39,6 +41,16 @@ WANTED = (
     "small: less than half", "small: held back", "cut: refused", "doubled: refused", "dated: ahead", "dated: held back", "altered: unlike", "altered: held back", "noise: refused",
     *EVENTS.values(), "a run was killed before it changed STATE", "a run was killed after it changed STATE",
 )
+
+
+@functools.cache
+def records_of(content):
+    return lists.records_of(content.decode("ascii"))
+
+
+def texts(known):
+    """The texts of some files, always in the same order."""
+    return tuple(sorted(content.decode("ascii") for content in known.values()))
 
 
 class Feed:
@@ -202,8 +214,8 @@ class World:
     def withdraws(self, office, now):
         """Withdraws a file that the office knows. The command may be held back."""
         stamp = self.chance.choice(sorted(self.known[office][0]))
-        moment = f"{stamp.date}T{stamp.time[:2]}:{stamp.time[2:]}"
-        status, _, said = station().run("--now", f"{now:%FT%H:%M}", "withdraw", office.state, stamp.reference, moment)
+        moment = f"{stamp.day}T{stamp.minute[:2]}:{stamp.minute[2:]}"
+        status, _, said = station().run("--now", f"{now:%FT%H:%M}", "withdraw", office.state, stamp.reference.strip(), moment)
         assert "Traceback" not in said and status in (0, 1, 5), said
         self.notes(said)
         return b"", said
@@ -223,7 +235,7 @@ class World:
         it sent its state. If files with one stamp differ, each of them is possible until a docker shows which it is."""
         possible = [{}]
         for line in docker("files", office.state).decode("ascii").splitlines():
-            stamp = plain.Stamp(datetime.date.fromisoformat(line[:10]), line[11:15], line[16:23].strip())
+            stamp = lists.Stamp(datetime.date.fromisoformat(line[:10]), line[11:15], line[16:23])
             contents = self.ever[office].get(stamp) or self.sources(office, stamp)
             assert contents, f"nobody made {line}"
             possible = [{**one, stamp: content} for one in possible for content in contents]
@@ -231,7 +243,7 @@ class World:
 
     def sources(self, office, stamp):
         """The contents of the files with a stamp that an office may have got."""
-        found = {content for content in self.came[office] if content[:2] == b"HD" and plain.lines_of(content)[-1][:2] == "ZZ" and plain.stamp_of(content) == stamp}
+        found = {it for it in self.came[office] if it[:2] == b"HD" and records_of(it)[-1][:2] == "ZZ" and lists.stamp_of(records_of(it)) == stamp}
         return found.union(*(self.of_stamp(known, stamp) for other, (_, known) in self.sent.items() if other != office))
 
     @staticmethod
@@ -255,15 +267,15 @@ class World:
 
     @staticmethod
     def dockers(known, places, day):
-        made = plain.Day(plain.table_of(known.values()))
-        return "".join(made.docker(place, day) for place in places).encode("ascii")
+        return b"".join(details.docker_part(details.detailed_text(texts(known), place, day.isoformat())) for place in places)
 
     @staticmethod
     def losses(before, after, places):
         """Of what more than half is gone."""
-        one, other = (plain.table_of(known.values()) for known in (before, after))
-        found = [name for name in one._fields if 2 * len(getattr(other, name)) < len(getattr(one, name))]
-        called = {place: [plain.calling(table, place) for table in (one, other)] for place in places}
+        one, other = (lists.live_of(texts(known)) for known in (before, after))
+        kinds = [[sum(key[0] == kind for key in live) for kind in "123"] for live in (one, other)]
+        found = [name for name, had, has in zip(("places", "associations", "schedules"), *kinds) if 2 * has < had]
+        called = {place: [lists.counts_of(live).get(f"{place:7}", 0) for live in (one, other)] for place in places}
         return found + [place for place, numbers in called.items() if numbers[0] >= 20 and 2 * numbers[1] < numbers[0]]
 
 

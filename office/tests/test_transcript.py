@@ -5,11 +5,12 @@ import datetime
 import re
 import shlex
 
-import plain
+import details
+import lists
 from offices import EXAMPLES, ROOT
 
 SCRIPT = (EXAMPLES / "run").read_text(encoding="utf-8")
-FULL, MONDAY, TUESDAY = ALL = [(EXAMPLES / f"{name}.cif").read_bytes() for name in ("full", "monday", "tuesday")]
+FULL, MONDAY, TUESDAY = ALL = tuple((EXAMPLES / f"{name}.cif").read_text(encoding="ascii") for name in ("full", "monday", "tuesday"))
 PLACES = (EXAMPLES / "places").read_text(encoding="utf-8").split()
 DAY = datetime.date(2024, 6, 12)
 NOW = datetime.datetime.fromisoformat(re.search(r"--now (\S+)", SCRIPT)[1])
@@ -20,21 +21,25 @@ def said(subject, words):
     return f"station-office: {subject}: {words}"
 
 
-def head(content):
+def stamp_of(text):
+    return lists.stamp_of(lists.records_of(text))
+
+
+def head(text):
     """A line of `docker files`: the fields of an extract's header, by their columns in docs/FORMATS.md."""
-    line, at = plain.lines_of(content)[0], plain.stamp_of(content)
-    return f"{at.date} {at.time} {line[32:39]} {line[46]} {line[39:46]}".rstrip()
+    line, at = lists.records_of(text)[0], stamp_of(text)
+    return f"{at.day} {at.minute} {line[32:39]} {line[46]} {line[39:46]}".rstrip()
 
 
-def name(content):
+def name(text):
     """An extract in words."""
-    at = plain.stamp_of(content)
-    return f"{'full extract' if plain.is_full(content) else 'update'} {at.reference} of {at.date} {at.time[:2]}:{at.time[2:]}"
+    at = stamp_of(text)
+    return f"{'full extract' if lists.is_full(lists.records_of(text)) else 'update'} {at.reference.strip()} of {at.day} {at.minute[:2]}:{at.minute[2:]}"
 
 
-def accepted(path, content):
+def accepted(path, text):
     """What is accepted: the records and the changes of an extract, counted."""
-    lines = plain.lines_of(content)
+    lines = lists.records_of(text)
     changes = sum(line[:2] in ("TI", "TD", "AA", "BS") for line in lines)
     return said(path, f"accepted: {len(lines)} records, {changes} changes")
 
@@ -49,37 +54,31 @@ def refused(path, number):
 
 
 def docker(place):
-    """A docker by `plain.py`, a reader of extracts that shares no code with `docker` or the office."""
-    return plain.Day(plain.table_of(ALL)).docker(place, DAY).splitlines()
+    """A docker by tests/programs/shared/details.py, a reader of extracts that shares no code with `docker` or the office."""
+    return details.docker_part(details.detailed_text(ALL, place, DAY.isoformat())).decode("ascii").splitlines()
 
 
 def remarks():
     """The lines above each docker: the clock that `run` sets, the newest header, and whether the day is between the full extract and the last day of a schedule."""
-    ends = [plain.day_of(line[15:21]) for content in ALL for line in plain.lines_of(content) if line[:2] == "BS"]
-    assert plain.is_full(FULL) and plain.stamp_of(FULL).date <= DAY <= max(ends)
-    return [f"# Made {NOW:%Y-%m-%d %H:%M}. Known up to {name(max(ALL, key=plain.stamp_of))}.", "# This day is covered."]
+    ends = [lists.end_of(key, put.lines) for text in ALL for key, put in lists.puts_of(text) if key[0] == "3" and put.lines]
+    assert lists.is_full(lists.records_of(FULL)) and stamp_of(FULL).day <= DAY <= max(end or DAY for end in ends)
+    return [f"# Made {NOW:%Y-%m-%d %H:%M}. Known up to {name(max(ALL, key=stamp_of))}.", "# This day is covered."]
 
 
-def trains(table, place):
+def trains(place, is_permanent):
     """The lines of each train on a docker, by its UID and its start day. The column of the STP indicator is left out."""
-    made, found = plain.Day(table), {}
-    for back in range(3):
-        for line in (*made.events(f"{place:7}", DAY, back), *made.associations(f"{place:7}", DAY, back)):
-            found.setdefault((line[2], back), set()).add(line[-1][:20] + line[-1][21:])
+    found = {}
+    for (_, _, uid, start, *_), text in details.rows_of(ALL, place, DAY, is_permanent):
+        found.setdefault((uid, start), set()).add(text[:20] + text[21:details.WIDTH])
     return found
 
 
-def permanent(table):
-    """The permanent schedules and associations of a table."""
-    return table._replace(**{part: {key: row for key, row in getattr(table, part).items() if key[-1] == "P"} for part in ("schedules", "links")})
-
-
 def differences():
-    """How many trains differ from the permanent timetable, and at how many places: the dockers of all schedules and of the permanent ones, by `plain.py`."""
-    table, places, changed = plain.table_of(ALL), 0, {"cancelled": set(), "altered": set(), "added": set()}
-    cancelled = {(uid, (DAY - first).days) for uid, first, stp in table.schedules if stp == "C"}
+    """How many trains differ from the permanent timetable, and at how many places: the dockers of all schedules and of the permanent ones."""
+    places, changed = 0, {"cancelled": set(), "altered": set(), "added": set()}
+    cancelled = {key[1:3] for key in lists.live_of(ALL) if key[0] == "3" and key[-1] == "C"}
     for place in PLACES:
-        now, before = trains(table, place), trains(permanent(table), place)
+        now, before = trains(place, False), trains(place, True)
         changed["added"] |= now.keys() - before.keys()
         changed["cancelled"] |= before.keys() - now.keys()
         changed["altered"] |= {train for train in now.keys() & before.keys() if now[train] != before[train]}
@@ -92,8 +91,8 @@ def differences():
 def morning():
     """South's first morning. It takes its files in the order of their names, and gets the full extract from North, so it asks for this extract. Nothing is old or missing, and
     one file was refused."""
-    references = [plain.stamp_of(content).reference for content in ALL]
-    assert [plain.lines_of(content)[0][39:46] for content in ALL[1:]] == references[:-1]
+    references = [stamp_of(text).reference for text in ALL]
+    assert [lists.records_of(text)[0][39:46] for text in ALL[1:]] == references[:-1]
     yield from refused("south/in/half.cif", 3)
     yield accepted("south/in/monday.cif", MONDAY)
     yield accepted("south/in/tuesday.cif.gz", TUESDAY)

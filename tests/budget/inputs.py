@@ -1,9 +1,8 @@
 """The extract, the updates and the states with which the budget is measured. They are the same on every machine."""
-import pathlib
-import subprocess
-
-import programs
 import records
+from outcomes import takes, takes_more
+from programs import give, held
+from states import File, ledger, older, schedule, tiploc
 
 UIDS = 3000
 PLACES = 700
@@ -15,10 +14,6 @@ HORIZON = "2024-05-01"
 HUB = "ASHFELD"
 # The identity of each train that an overlay alters.
 OVERLAID = "1X99"
-# How the text of a state begins: with the mark and the horizon in the new format, and with the mark in the older one.
-MARK, OLD_MARK = b"DKS2\0\0", b"DKS1"
-# A file's date and time, two bytes each: 2005-09-26 and 01:05.
-LONG_AGO = (16705).to_bytes(2, "big") + (65).to_bytes(2, "big")
 
 
 def mixed(number, salt, below):
@@ -130,53 +125,28 @@ def update(date, reference, turn):
     return records.extract(*parts)
 
 
-def item(number):
-    return LONG_AGO + b"A%06dULASTREF" % number
-
-
-def ledger(first):
-    """The text of a state without entries. Its files have every second number, starting with `first`."""
-    items = [item(first + 2 * number) for number in range(LEDGER)]
-    return MARK + LEDGER.to_bytes(8, "big") + b"".join(items) + bytes(8)
-
-
 def endless():
     """Texts of states that are cut short. In each, one count is far too great; the text's name is that count."""
-    one = MARK + (1).to_bytes(8, "big") + item(0)
-    stamp = item(0)[:11] + (2).to_bytes(4, "big")
-    places = b"".join(b"\1" + place_of(number).encode() + stamp + b"\1" + b" " * 63 for number in range(1, 600))
-    lines = records.basic("N", "C00001", "600101", "991231", "1111111")
-    lines += records.origin(HUB, "0900") + 599 * records.passes(HUB, "0900 ")
-    key = b"C00001" + bytes(2) + b"P"
-    schedule = b"\3" + key + stamp + b"\1" + (4 * 10**9).to_bytes(4, "big")
-    schedule += lines.replace("\n", "").encode()
+    files, one, long_ago = ledger(range(3000)), ledger([0])[:-8], File("2005-09-26", "0000000", last="LASTREF", time="0105")
+    places = b"".join(long_ago.put(tiploc(place_of(number)), b"\1" + b" " * 63) for number in range(1, 600))
+    records_of_one = records.basic("N", "C00001", "600101", "991231", "1111111") + records.origin(HUB, "0900") + 599 * records.passes(HUB, "0900 ")
+    body = b"\1" + (4 * 10**9).to_bytes(4, "big") + records_of_one.replace("\n", "").encode()
     return {
-        "files": MARK + b"\xff" * 8 + b"".join(item(number) for number in range(3000)),
+        "files": files[:6] + b"\xff" * 8 + files[14:-8],
         "entries": one + b"\xff" * 8 + places,
-        "lines of a schedule": one + (1).to_bytes(8, "big") + schedule,
+        "lines of a schedule": one + (1).to_bytes(8, "big") + long_ago.put(schedule("C00001", "1960-01-01"), body),
     }
-
-
-def docker(*words):
-    """Runs a command, which has to succeed."""
-    subprocess.run([programs.DOCKER, *words], check=True, stdin=subprocess.DEVNULL)
 
 
 def make(folder):
     """Writes all inputs to this folder."""
-    texts = {
-        "full.cif": full(),
-        "update.cif": update("240610", "DFROC1B", 0),
-        "second.cif": update("240611", "DFROC1C", 7),
-    }
-    for name, text in texts.items():
-        pathlib.Path(folder, name).write_text(text, encoding="ascii")
-    for name, first, file in (("full.state", 0, "full.cif"), ("second.state", 1, "second.cif")):
-        pathlib.Path(folder, name).write_bytes(ledger(first))
-        docker("take", f"{folder}/{name}", f"{folder}/{file}")
-    docker("new", f"{folder}/empty.state")
-    text = pathlib.Path(folder, "full.state").read_bytes()
-    pathlib.Path(folder, "old.state").write_bytes(OLD_MARK + text[len(MARK):])
+    for name, text in (("full", full()), ("update", update("240610", "DFROC1B", 0)), ("second", update("240611", "DFROC1C", 7))):
+        give(text.encode(), folder / f"{name}.cif")
+    for name, first in (("full", 0), ("second", 1)):
+        give(ledger(range(first, 2 * LEDGER, 2)), folder / f"{name}.state")
+        takes_more(folder / f"{name}.state", folder / f"{name}.cif")
+    takes(folder / "empty.state")
+    give(older(held(folder / "full.state")), folder / "old.state")
     for name, text in endless().items():
-        pathlib.Path(folder, f"endless {name}").write_bytes(text)
-        pathlib.Path(folder, f"endless {name}.old").write_bytes(OLD_MARK + text[len(MARK):])
+        give(text, folder / f"endless {name}")
+        give(older(text), folder / f"endless {name}.old")

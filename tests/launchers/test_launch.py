@@ -46,6 +46,11 @@ def below(crate):
     return found
 
 
+def above(crate):
+    """A crate and all crates above it that desk needs."""
+    return {it for it in below("desk") if crate in below(it)}
+
+
 class Tree:
     """A checkout with the launchers and with crates that have hardly any source."""
 
@@ -173,22 +178,20 @@ def test_what_is_proved_already_is_not_asked_again(tree):
 
 def test_only_what_changed_is_asked(tree):
     tree.launch("desk")
-    above = {it for it in below("desk") if "docker_train" in below(it)}
     tree.changes("docker_train")
     tree.program("desk").unlink()
     tree.has_memory(LITTLE)
     tree.launch("desk")
-    assert tree.crates("begin") == above
+    assert tree.crates("begin") == above("docker_train")
     assert tree.words("docker_desk") == "check --jobs 2"
 
 
 def test_after_a_failure_what_failed_is_asked_again(tree):
     tree.launch("desk")
-    above = {it for it in below("desk") if "docker_train" in below(it)}
     tree.changes("docker_train")
     tree.launch("desk", status=70, FAILING="docker_train")
     tree.launch("desk")
-    assert tree.crates("begin") == above
+    assert tree.crates("begin") == above("docker_train")
 
 
 def test_a_source_that_changes_during_the_build(tree):
@@ -230,7 +233,7 @@ def test_what_changes_is_noticed(tree, line):
     tree.runs_at_once("desk")
     subprocess.run(["sh", "-ec", line], cwd=folder, check=True)
     tree.launch("desk")
-    assert tree.crates("begin") == ({it for it in below("desk") if "docker_train" in below(it)} if "desk" not in line else {"desk"})
+    assert tree.crates("begin") == (above("docker_train") if "desk" not in line else {"desk"})
     tree.runs_at_once("desk")
 
 
@@ -240,7 +243,7 @@ def test_a_list_of_crates_that_changes_is_noticed(tree):
     text = listed.read_text(encoding="utf-8")
     listed.write_text(re.sub(r"^(docker_train:.*)$", r"\1 another", text, flags=re.M), encoding="utf-8")
     tree.launch("desk")
-    assert tree.crates("begin") == {it for it in below("desk") if "docker_train" in below(it)}
+    assert tree.crates("begin") == above("docker_train")
     tree.runs_at_once("desk")
 
 

@@ -23,6 +23,10 @@ Ends n room ended now_ended passed now_passed = (n ≡ 0 → 0 < room → now_en
     × (ended ≡ true → now_passed ≡ true)
     × (ended ≡ false → now_passed ≡ passed)
 
+-- if the source hadn't reported its end before, it wasn't read after it reported its end
+abbrev pub IsNotPassed : (ended passed now_passed : Bool) → Type 0
+IsNotPassed ended passed now_passed = ended ≡ false → now_passed ≡ passed
+
 -- the sink took these bytes: the bytes that it has now taken are the bytes that it had taken
 -- before, followed by these bytes
 abbrev pub Takes : Option (List ℕ) → List ℕ → Option (List ℕ) → Type 0

@@ -1,6 +1,6 @@
 //! Takers, which take a text in pieces, and how a source feeds a taker.
 ghost use Rattle.std.specs.Prelude.{◌≡◌, ℕ, ◌-◌, ◌^◌, ◌<◌, ◌++◌, true, false, List, length, IfErr, OnOk, OnErr, Err};
-ghost use Rattle.cif_device.specs.Device.{CountsFailure};
+ghost use Rattle.cif_device.specs.Device.{CountsFailure, IsNotPassed};
 ghost use Rattle.cif_device.specs.FeedEnds.{EndsFeeding, most_at_once};
 ghost use Rattle.cif_device.specs.Taken.{AfterEach, IsTaking, LosesOnePieceMore};
 
@@ -70,8 +70,8 @@ pub fn feed_all<S: Source, T: Taker>(
         (S.failures source.old) (S.failures source.new) }
     ensures ended { OnOk result (S.ended source.new ≡ true) }
     ensures not_ended { S.ended source.old ≡ false → OnErr result (S.ended source.new ≡ false) }
-    ensures not_passed { S.ended source.old ≡ false →
-        S.passed source.new ≡ S.passed source.old }
+    ensures not_passed { IsNotPassed (S.ended source.old)
+        (S.passed source.old) (S.passed source.new) }
 {
     let Ok(mut piece) = vec![in alloc; 0u8; PIECE] else {
         return Err(FeedFault::Memory);

@@ -6,3 +6,4 @@ pub mod PiecesLemmas
 pub mod ReadLemmas
 pub mod AnswerLemmas
 pub mod EndedLemmas
+pub mod LastLineLemmas

@@ -22,7 +22,7 @@ use Rattle.cif_laws.specs.RecordCause.{end_cause, length_cause, is_after_end, ca
 use Rattle.cif_laws.specs.CompleteLines.{HasNoFeed, open_line, line_left}
 use Rattle.cif_laws.proofs.files.CompleteLines.{lines_of_told, lines_of_ended, lines_of_open, complete_lines_plain, open_line_plain}
 use Rattle.cif_laws.proofs.files.CompleteLines.{complete_lines_ended, open_line_ended, complete_lines_stay, sure_lines_grow}
-use Rattle.cif_laws.proofs.files.ReportedFaults.{cause_of_length, not_80, no_next_place, sure_lines_short, length_at_end}
+use Rattle.cif_laws.proofs.files.ReportedFaults.{cause_of_length, not_80, no_next_place, sure_lines_short}
 use Rattle.cif_laws.proofs.files.ReportedFaults.{fault_at_feed, fault_at_long, fault_at_end, fault_stays, no_fault_told}
 use Rattle.cif_change.specs.declared.cause.FileCause.{FileCause}
 use Rattle.cif_change.specs.declared.cause.FileCause.TheVariants.{Memory}
@@ -83,7 +83,7 @@ memory_more limit records others number told = record {
   sound = subst BeginsFile (sym (take-append-le number records others told.one)) told.sound;
 }
 
-end_by_test : (place : Place) → is_after_end place ≡ true → place ≡ after_end
+pub end_by_test : (place : Place) → is_after_end place ≡ true → place ≡ after_end
 end_by_test after_end h = refl
 end_by_test _ h = absurd cc
 
@@ -576,7 +576,7 @@ had_failed parser fault at none = none fault at
 
 -- ---- faults after all complete lines
 
-later_than : {K : Type 0} (keeps : Keeps K) (reading : FileReading K) (limit : ℕ) (text : List ℕ) (fault : FileFault) → IsReading keeps reading limit text
+pub later_than : {K : Type 0} (keeps : Keeps K) (reading : FileReading K) (limit : ℕ) (text : List ℕ) (fault : FileFault) → IsReading keeps reading limit text
     → fault.number ≡ length (complete_lines text) + 1
     → sure_lines text < fault.number
 later_than keeps reading limit text fault is number = let same = sure_lines_short text is.short in omega arith
@@ -634,13 +634,6 @@ pub last_end : {K : Type 0} (keeps : Keeps K) (reading : FileReading K) (fault :
     → IsLast keeps reading fault
 last_end keeps reading fault told = λ memory limit text is.
     let bad : ◌≡◌ {A = Option model.FileCause} None (Some no_end) = sym (ap cause_meant memory) ∙ (told limit text is).1 in absurd cc
-
--- if memory ran out at the unfinished line at the end, it ran out at the last record of the text
-pub last_open : {K : Type 0} (keeps : Keeps K) (wants : Type 0) (reading : FileReading K) (line : List ℕ) (fault : FileFault)
-    → false ≡ (length reading.partial.items == 0) → FaultsNext keeps wants reading.records line fault
-    → IsLast keeps reading fault
-last_open keeps wants reading line fault some told =
-    λ _ limit text is. (told limit (complete_lines text) is.counted).number ∙ sym (length_at_end text (some_is_open keeps reading limit text is some))
 
 -- if a fault is after all complete lines that the parser has read, it is after all complete lines
 -- that the parser was fed

@@ -3,6 +3,7 @@ use Rattle.std.proofs.Common.{◌≡◌, ℕ, ◌≤◌, ◌≢◌, ◌⊎◌, i
 use Rattle.std.specs.Prelude.{Option, Ok, OnOk, IfOk, IfErr}
 use Rattle.docker_model.specs.file.Text.{lines_of}
 use Rattle.docker_model.specs.file.FaultSoFar.{IsFaultSoFar}
+use Rattle.docker_model.specs.file.FileFault.{IsFileText}
 use Rattle.docker_model.specs.file.FileFault as model
 use Rattle.cif_laws.proofs.files.ReportedFaults.{fault_in_the_end}
 use Rattle.cif_device.specs.Device.{CountsFailure, Reads, IsEnd}
@@ -111,7 +112,7 @@ returned_as_file fault told result memory file is =
     let from : result ≡ read.File fault = file other in
     (cc, other)
 
-memory_or_not : (cause : FileCause) → (cause ≡ Memory) ⊎ (cause ≢ Memory)
+pub memory_or_not : (cause : FileCause) → (cause ≡ Memory) ⊎ (cause ≢ Memory)
 memory_or_not Length = inr (λ same. cc)
 memory_or_not (Byte at) = inr (λ same. cc)
 memory_or_not Kind = inr (λ same. cc)
@@ -147,13 +148,14 @@ pub memory_at_end : {K : Type 0} (keeps : Keeps K) (wants : Type 0) {A : Type 0}
     (result : ReadFault) → IsReading keeps reading limit text
     → IsRefused limit text fault → IsLater keeps wants reading fault → IsLast keeps reading fault → (fault.cause ≢ Memory → result ≡ read.File fault)
     → ◌≡◌ {A = Result A ReadFault} (Err result) (Err read.Memory)
-    → wants × WantsMemoryAt limit (lines_of text) (length (lines_of text))
+    → wants × WantsMemoryAt limit (lines_of text) (length (lines_of text)) × IsFileText limit text (lines_of text)
 memory_at_end keeps wants limit text reading fault result has refused later last file is =
     let told_is : result ≡ read.Memory = cc in
-    let wanting = returned_as_memory fault result file told_is in (
+    let wanting = returned_as_memory fault result file told_is in
+    let whole = last wanting limit text has in (
       (later limit text has).1 wanting,
-      subst (WantsMemoryAt limit (lines_of text)) (last wanting limit text has)
-          (subst (λ cause. IsCauseOf limit text fault.number (cause_meant cause)) wanting refused),
+      subst (WantsMemoryAt limit (lines_of text)) whole.0 (subst (λ cause. IsCauseOf limit text fault.number (cause_meant cause)) wanting refused),
+      whole.1,
     )
 
 -- if a fault of the text is found at the end of the source, it is a fault of the text that the source held
@@ -165,9 +167,10 @@ refused_at_end keeps limit count initial now reading fault at end is =
 -- if memory runs out at the end of the source, it does so at the last record of the text that the source held
 wants_at_end : {K : Type 0} (keeps : Keeps K) (wants : Type 0) (limit count : ℕ) (initial now : Option (List ℕ)) (reading : FileReading K)
     → (at : HasFed (TakesFile keeps) count limit [] initial now reading) → IsEnd now
-    → wants × WantsMemoryAt limit (lines_of at.bytes) (length (lines_of at.bytes)) → WantsMemoryBy wants 65536 limit initial now
+    → wants × WantsMemoryAt limit (lines_of at.bytes) (length (lines_of at.bytes)) × IsFileText limit at.bytes (lines_of at.bytes)
+    → WantsMemoryBy wants 65536 limit initial now
 wants_at_end keeps wants limit count initial now reading at end wanting =
-    inr (wanting.0, inr (record { text = at.bytes; held = held_all initial now at.bytes at.lost end; wanting = wanting.1 }))
+    inr (wanting.0, inr (record { text = at.bytes; held = held_all initial now at.bytes at.lost end; wanting = wanting.1; is_file = wanting.2 }))
 
 -- Says that a piece from the source was refused with this fault.
 abbrev HasRefusedFile : {K : Type 0} → Keeps K → Type 0 → ℕ → Option (List ℕ) → Option (List ℕ) → FileReading K → FileFault → Type 0
@@ -246,7 +249,7 @@ pub ends_whole : {K : Type 0} (keeps : Keeps K) (wants : Type 0) (limit count : 
     → ReadsNoFurther 65536 limit initial now → failed_now ≡ failed → IfOk result (EndsBy keeps reading)
     → ((limit : ℕ) (text : List ℕ) → IsReading keeps reading limit text → (fault : FileFault) → result ≡ Err (read.File fault) → IsFaultOf limit text fault)
     → ((limit : ℕ) (text : List ℕ) → IsReading keeps reading limit text → result ≡ Err read.Memory
-    → wants × WantsMemoryAt limit (lines_of text) (length (lines_of text)))
+    → wants × WantsMemoryAt limit (lines_of text) (length (lines_of text)) × IsFileText limit text (lines_of text))
     → result ≢ Err read.Source
     → StopsReadingFile limit initial now (IsFileOutcome (WantsMemoryBy wants) limit (ReadsEnded keeps limit initial) initial now result)
     (CountsFileOutcome failed failed_now result)

@@ -203,15 +203,22 @@ IsLater keeps wants reading fault =
 abbrev pub NamesLater : ParserState → FileFault → Type 0
 NamesLater parser fault = HasNotFailed parser → (limit : ℕ) (text : List ℕ) → HasRead parser limit text → sure_lines text < fault.number
 
--- Says that if memory ran out, it did so at the last record of the text that was taken.
-abbrev pub IsLast : {K : Type 0} → Keeps K → FileReading K → FileFault → Type 0
-IsLast keeps reading fault = fault.cause ≡ Memory → (limit : ℕ) (text : List ℕ) → IsReading keeps reading limit text → fault.number ≡ length (lines_of text)
+-- Says that memory ran out at the last record of this text, and that nothing is at fault with the
+-- text: it is a CIF file within the limit. So it doesn't lack its trailer.
+abbrev pub IsLastOfFile : ℕ → List ℕ → ℕ → Type 0
+IsLastOfFile limit text number = (number ≡ length (lines_of text)) × IsFileText limit text (lines_of text)
 
--- Says of a parser that hasn't returned a fault: if memory ran out, it did so at the last record of
--- the text that was fed.
+-- Says that if memory ran out, it did so at the last record of the text that was taken, and this
+-- text is a CIF file.
+abbrev pub IsLast : {K : Type 0} → Keeps K → FileReading K → FileFault → Type 0
+IsLast keeps reading fault =
+    fault.cause ≡ Memory → (limit : ℕ) (text : List ℕ) → IsReading keeps reading limit text → IsLastOfFile limit text fault.number
+
+-- Says that a parser which hasn't returned a fault ran out of memory only at the last record of the
+-- text that was fed. This text is then a CIF file.
 abbrev pub NamesLast : ParserState → FileFault → Type 0
 NamesLast parser fault =
-    HasNotFailed parser → fault.cause ≡ Memory → (limit : ℕ) (text : List ℕ) → HasRead parser limit text → fault.number ≡ length (lines_of text)
+    HasNotFailed parser → fault.cause ≡ Memory → (limit : ℕ) (text : List ℕ) → HasRead parser limit text → IsLastOfFile limit text fault.number
 
 -- ---- for any text that may have been taken, under any limit on records
 

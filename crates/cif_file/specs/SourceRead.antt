@@ -2,7 +2,7 @@
 use Rattle.std.specs.Prelude.{◌≡◌, ℕ, ◌<◌, ◌≤◌, ◌⊎◌, List, [], ◌++◌, length, Option, Some, None, ⊤}
 use Rattle.docker_model.specs.file.Text.{lines_of, complete_lines}
 use Rattle.docker_model.specs.file.FaultSoFar.{IsFaultSoFar, sure_lines}
-use Rattle.docker_model.specs.file.FileFault.{FileCause, IsFileFault}
+use Rattle.docker_model.specs.file.FileFault.{FileCause, IsFileFault, IsFileText}
 use Rattle.docker_model.specs.file.FileFault as model
 use Rattle.cif_device.specs.Device.{Reads}
 use Rattle.cif_file.specs.declared.ended.Ended.{Ended}
@@ -70,12 +70,13 @@ pub record WantsRecord (most limit : ℕ) (old new : Option (List ℕ)) : Type 0
   pub first : sure_lines before < number
   pub wanting : WantsMemoryAt limit (complete_lines (before ++ piece)) number
 
--- Says that memory ran out at the last record of the text that the source held. No record of the
--- text is at fault.
+-- Says that memory ran out at the last record of the text that the source held. The text is a CIF
+-- file within the limit. So the text doesn't lack its trailer.
 pub record WantsLast (limit : ℕ) (left : Option (List ℕ)) : Type 0 where
   pub text : List ℕ
   pub held : Held left text
   pub wanting : WantsMemoryAt limit (lines_of text) (length (lines_of text))
+  pub is_file : IsFileText limit text (lines_of text)
 
 -- Says that memory ran out before a byte was read or, if `wants` holds, at a record. The condition
 -- `wants` says that the keeper may run out of memory. No record up to that record is at fault. The

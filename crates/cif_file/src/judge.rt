@@ -1,5 +1,6 @@
 //! Checks whether the text of a source is a CIF file, and counts the file's records and changes.
 ghost use Rattle.std.specs.Prelude.{◌-◌, ◌^◌, ◌<◌, ◌≤◌};
+ghost use Rattle.cif_device.specs.Device.{IsNotPassed};
 ghost use Rattle.cif_file.specs.FileEnds.{EndsReadingFile};
 ghost use Rattle.cif_file.specs.SourceRead.{CountsText, WantsAtStart};
 
@@ -21,8 +22,10 @@ pub fn judge_file<S: Source>(
 ) -> Result<FileCount, ReadFault>
     requires failures { S.failures source.old < 2 ^ 64 - 1 }
     requires limit { limit ≤ MOST_RECORDS }
-    ensures { EndsReadingFile WantsAtStart S.left S.failures limit
+    ensures reads { EndsReadingFile WantsAtStart S.left S.failures limit
         (CountsText limit (S.left source.old)) source.old source.new result }
+    ensures not_passed { IsNotPassed (S.ended source.old)
+        (S.passed source.old) (S.passed source.new) }
 {
     match read_kept(alloc, source, Tally::new(), limit) {
         Ok(ended) => Ok(ended.into_count()),

@@ -1,6 +1,6 @@
 //! Converts the bytes of a line to the next record of a file.
-ghost use Rattle.std.specs.Prelude.{◌≡◌, ◌<◌, IsErr, IfOk, IfErr, OnOk, Some};
-ghost use Rattle.docker_model.specs.records.Record.{IsRecord};
+ghost use Rattle.std.specs.Prelude.{◌≡◌, ◌<◌, ◌↔◌, IsErr, IfOk, IfErr, IsTrue, OnOk, Some};
+ghost use Rattle.docker_model.specs.records.Record.{HasKind, IsRecord, trailer};
 ghost use Rattle.cif_laws.specs.FileStage.{Place};
 ghost use Rattle.cif_laws.specs.RecordCause.{length_cause};
 ghost use Rattle.cif_change.specs.Cause.{cause_meant};
@@ -10,7 +10,7 @@ ghost use Rattle.cif_file.specs.ParserRead.{RefusesWithin};
 use crate::front::Front;
 use crate::keeper::Keeper;
 use cif_change::FileCause;
-use cif_line::{Line, LineFault};
+use cif_line::{Kind, Line, LineFault, kind};
 
 /// Makes a line from these bytes. The cause is `Length` if there aren't 80 bytes, and `Byte` if one
 /// of them isn't printable.
@@ -24,6 +24,19 @@ pub(crate) fn line_of(bytes: &[u8]) -> Result<Line, FileCause>
         Ok(line) => Ok(line),
         Err(LineFault::Length) => Err(FileCause::Length),
         Err(LineFault::Byte(column)) => Err(FileCause::Byte(column)),
+    }
+}
+
+/// Whether this record, given without its line end, is the trailer of a file.
+pub(crate) fn is_trailer(bytes: &[u8]) -> bool
+    ensures { IsRecord bytes.now → IsTrue result ↔ HasKind trailer bytes.now }
+{
+    let Some(line) = Line::of(bytes) else {
+        return false;
+    };
+    match kind(&line) {
+        Some(Kind::Trailer) => true,
+        _ => false,
     }
 }
 

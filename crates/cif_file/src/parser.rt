@@ -1,5 +1,6 @@
 //! The parser of a CIF file that arrives in pieces.
-ghost use Rattle.std.specs.Prelude.{◌≡◌, ◌+◌, ◌≤◌, ◌↔◌, length, IsTrue, [], ◌∷◌, ◌++◌, IsOk, IfOk, IfErr, OnOk, Err};
+ghost use Rattle.std.specs.Prelude.{◌≡◌, ◌≢◌, ◌+◌, ◌-◌, ◌^◌, ◌<◌, ◌≤◌, ◌↔◌, length, IsTrue, [], ◌∷◌, ◌++◌, IsOk, IfOk, IfErr, OnOk, Err};
+ghost use Rattle.docker_model.specs.records.Record.{HasKind, IsRecord, trailer};
 ghost use Rattle.cif_laws.specs.CompleteLines.{HasNoFeed};
 ghost use Rattle.cif_file.specs.ParserRead.{HasRead, HasFailed, HasNotFailed, IsReading, EndsBy, IsLater, NamesLater, IsLast};
 ghost use Rattle.cif_file.specs.ParserRead.{NamesLast, GoesOn, TakesUpTo, TellsFault, TellsNoFault, EndsAs, EndsInFault};
@@ -9,9 +10,11 @@ use crate::fault::FileFault;
 use crate::file::CifFile;
 use crate::keeper::Keeper;
 use crate::kept::FileSoFar;
+use crate::next_record::is_trailer;
 use crate::records::{MOST_RECORDS, Records};
 use crate::text::{split_eighty, split_line, without_return};
 use arrayvec::ArrayVec;
+use cif_change::FileCause;
 use cif_line::Line;
 use std::alloc::Global;
 use std::marker::Model;
@@ -33,6 +36,29 @@ fn extend(partial: &mut ArrayVec<u8, MOST_PARTIAL>, more: &[u8]) -> bool
     ensures items { IsTrue result → partial.new.items ≡ partial.old.items ++ more.now }
 {
     partial.try_extend_from_slice(more).is_ok()
+}
+
+/// The fault of a text whose last line is refused with the given fault. If memory runs out at a last
+/// line that isn't the trailer, the text lacks its trailer, so its fault is `NoEnd` after this line.
+fn fault_at_end(fault: FileFault, line: &[u8]) -> FileFault
+    ensures other { fault.cause ≢ FileCause.Memory → result ≡ fault }
+    ensures trailer { HasKind trailer line.now → IsRecord line.now → result ≡ fault }
+    ensures cut { fault.cause ≡ FileCause.Memory → IsRecord line.now →
+        ¬ HasKind trailer line.now → fault.number < 2 ^ 32 - 1 →
+        result ≡ record { number = fault.number + 1; cause = FileCause.NoEnd } }
+{
+    match fault.cause {
+        FileCause::Memory => {
+            if is_trailer(line) {
+                return fault;
+            }
+            FileFault {
+                number: fault.number.saturating_add(1),
+                cause: FileCause::NoEnd,
+            }
+        }
+        _ => fault,
+    }
 }
 
 impl<K: Keeper> FileReading<K> {
@@ -135,9 +161,10 @@ impl<K: Keeper> FileReading<K> {
         if partial.is_empty() {
             return records.finish();
         }
-        match records.take(without_return(partial.as_slice())) {
+        let line = without_return(partial.as_slice());
+        match records.take(line) {
             Ok(()) => records.finish(),
-            Err(fault) => Err(fault),
+            Err(fault) => Err(fault_at_end(fault, line)),
         }
     }
 }

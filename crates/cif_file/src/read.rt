@@ -1,5 +1,7 @@
 //! Reads a CIF file from a source.
 ghost use Rattle.std.specs.Prelude.{◌≡◌, ◌≢◌, ℕ, ◌-◌, ◌^◌, ◌<◌, ◌≤◌, List, [], length, IfOk, Err};
+ghost use Rattle.cif_device.specs.Device.{IsNotPassed};
+ghost use Rattle.docker_model.specs.file.FileFault.{IsFileText};
 ghost use Rattle.docker_model.specs.file.Text.{lines_of};
 ghost use Rattle.cif_file.specs.FileEnds.{EndsReadingFile};
 ghost use Rattle.cif_file.specs.ParserRead.{IsReading, WantsMemoryAt, EndsBy};
@@ -23,8 +25,10 @@ use std::alloc::Global;
 pub fn read_file<S: Source>(alloc: Global, source: &mut S, limit: u32) -> Result<CifFile, ReadFault>
     requires failures { S.failures source.old < 2 ^ 64 - 1 }
     requires limit { limit ≤ MOST_RECORDS }
-    ensures { EndsReadingFile WantsMemory S.left S.failures limit
+    ensures reads { EndsReadingFile WantsMemory S.left S.failures limit
         (ReadsText limit (S.left source.old)) source.old source.new result }
+    ensures not_passed { IsNotPassed (S.ended source.old)
+        (S.passed source.old) (S.passed source.new) }
 {
     match read_kept(alloc, source, FileSoFar::new(alloc), limit) {
         Ok(ended) => Ok(ended.into_file()),
@@ -62,8 +66,10 @@ pub fn read_kept<S: Source, K: Keeper>(
     requires failures { S.failures source.old < 2 ^ 64 - 1 }
     requires limit { limit ≤ MOST_RECORDS }
     requires none { K.keeps keeper [] [] }
-    ensures { EndsReadingFile (WantsMemoryBy K.wants) S.left S.failures limit
+    ensures reads { EndsReadingFile (WantsMemoryBy K.wants) S.left S.failures limit
         (ReadsEnded K.keeps limit (S.left source.old)) source.old source.new result }
+    ensures not_passed { IsNotPassed (S.ended source.old)
+        (S.passed source.old) (S.passed source.new) }
 {
     let mut reading = FileReading::new(keeper, limit);
     match feed_all(alloc, source, &mut reading) {
@@ -81,7 +87,8 @@ fn ended_of<K: Keeper>(reading: FileReading<K>) -> Result<Ended<K>, ReadFault>
         (fault : _) → result ≡ Err (ReadFault.File fault) → IsFaultOf limit text fault }
     ensures memory { (limit : ℕ) (text : List ℕ) → IsReading K.keeps reading limit text →
         result ≡ Err ReadFault.Memory →
-        K.wants × WantsMemoryAt limit (lines_of text) (length (lines_of text)) }
+        K.wants × WantsMemoryAt limit (lines_of text) (length (lines_of text))
+        × IsFileText limit text (lines_of text) }
     ensures source { result ≢ Err ReadFault.Source }
 {
     match reading.end() {

@@ -4,6 +4,7 @@ ghost use Rattle.std.specs.Prelude.{◌<◌};
 use crate::compare::{same, same_in};
 use crate::expected::{DAY_REFUSED, DONE, FAILED, FILE_WITHOUT_END, STATE_WITHOUT_MARK, USAGE};
 use crate::records::lines_text;
+use crate::session_parts::{room, writing_to};
 use cif_file::{FileCause, FileFault};
 use cif_line::{Failed, Fuse, Kept, Sink, write_all};
 use docker_cmd::OfficeFault;
@@ -23,8 +24,9 @@ type Row = (u8, &'static str, &'static str);
 /// Asserts the bytes of the answer in this row.
 fn is_answer(rt: &impl Abort, alloc: Global, row: &Row) {
     let (status, text, bytes) = *row;
-    let mut kept = Kept::new(alloc, ROOM).expect(rt, "room");
-    let done = write_answer(status, text.as_bytes(), &mut kept);
+    let mut streams = writing_to(room(rt, alloc, ROOM));
+    let done = write_answer(status, text.as_bytes(), &mut streams);
+    let (_, kept) = streams.into_parts();
     same_in(rt, text, done, Ok(()));
     same_in(rt, text, kept.bytes(), bytes.as_bytes());
 }
@@ -56,8 +58,9 @@ fn headers(rt: HostRuntime) {
 
 /// Returns the bytes of an answer.
 fn bytes_of(rt: &impl Abort, alloc: Global, answer: &Answer) -> Kept {
-    let mut kept = Kept::new(alloc, ROOM).expect(rt, "room");
-    write_reply(answer, &mut kept).expect(rt, "an answer");
+    let mut streams = writing_to(room(rt, alloc, ROOM));
+    write_reply(answer, &mut streams).expect(rt, "an answer");
+    let (_, kept) = streams.into_parts();
     kept
 }
 
@@ -132,8 +135,9 @@ fn broken_at(rt: &impl Abort, alloc: Global, write: u64) -> (Result<(), Failed>,
     requires { 0 < write }
 {
     let kept = Kept::new(alloc, ROOM).expect(rt, "room");
-    let mut sink = Fuse::new(kept, write);
-    let done = write_reply(&Answer::Usage, &mut sink);
+    let mut streams = writing_to(Fuse::new(kept, write));
+    let done = write_reply(&Answer::Usage, &mut streams);
+    let (_, sink) = streams.into_parts();
     (done, sink)
 }
 

@@ -9,7 +9,7 @@ use crate::session_parts::{READING, WRITING, room};
 use crate::shelves::{shelf_of, shelf_with, text_of};
 use cif_line::Bytes;
 use docker_desk::serve;
-use docker_host::{Host, Shelf};
+use docker_host::{SessionHost, Shelf, Streams};
 use std::alloc::Global;
 use std::process::Abort;
 use test_records::files::MORNING;
@@ -30,19 +30,24 @@ fn can_t_begin(
     requires { folder.failures ≡ 0 }
 {
     let (status, lines, text) = end;
-    let mut host = Host {
-        input: Bytes::new(INPUT, 1),
+    let mut host = SessionHost {
+        streams: Streams::new(Bytes::new(INPUT, 1), room(rt, alloc, 1000)),
         folder,
-        output: room(rt, alloc, 1000),
         faults: room(rt, alloc, 1000),
     };
     let ended = serve(alloc, words, &mut host);
+    let SessionHost {
+        streams,
+        folder,
+        faults,
+    } = host;
+    let (input, output) = streams.into_parts();
     same(rt, ended, status);
     let reported = lines_text(rt, alloc, lines);
-    same(rt, host.faults.bytes(), reported.as_slice());
+    same(rt, faults.bytes(), reported.as_slice());
     let silent = (b"".as_slice(), INPUT);
-    same(rt, (host.output.bytes(), host.input.left()), silent);
-    same(rt, text_of(&host.folder), text);
+    same(rt, (output.bytes(), input.left()), silent);
+    same(rt, text_of(&folder), text);
 }
 
 /// Asserts the reported line of a session that can't begin because the file `S` has this text.

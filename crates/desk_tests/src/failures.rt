@@ -10,7 +10,7 @@ use crate::session_parts::{READING, WRITING, joined, room};
 use crate::shelves::{shelf_of_morning, text_of};
 use cif_line::{Bytes, Fuse, Source};
 use docker_desk::serve;
-use docker_host::{Fails, Host};
+use docker_host::{Fails, SessionHost, Streams};
 use std::alloc::Global;
 use std::process::Abort;
 use test_records::dockers::Lines;
@@ -19,19 +19,27 @@ use test_records::states::MORNING_STATE;
 /// Asserts that an output with room for `bytes` bytes receives exactly the first `bytes` bytes of
 /// the answers to two requests, and that the session then reads nothing more.
 fn output_has_room_for(rt: &impl Abort, alloc: Global, bytes: usize) {
-    let mut host = Host {
-        input: Bytes::new(b"files\nprint ASHFELD 2024-06-10\nfiles\n", 1),
+    let mut host = SessionHost {
+        streams: Streams::new(
+            Bytes::new(b"files\nprint ASHFELD 2024-06-10\nfiles\n", 1),
+            room(rt, alloc, bytes),
+        ),
         folder: shelf_of_morning(rt, alloc),
-        output: room(rt, alloc, bytes),
         faults: room(rt, alloc, 100),
     };
     let ended = serve(alloc, READING, &mut host);
+    let SessionHost {
+        streams,
+        faults,
+        ..
+    } = host;
+    let (input, output) = streams.into_parts();
     let answers = joined(rt, alloc, &[FILES, ANSWER_0900]);
     let front = answers.as_slice().get(..bytes).expect(rt, "answers");
-    same(rt, (ended, host.output.bytes()), (4, front));
+    same(rt, (ended, output.bytes()), (4, front));
     let reported = lines_text(rt, alloc, DEVICE);
-    same(rt, host.faults.bytes(), reported.as_slice());
-    same(rt, host.input.left(), b"files\n".as_slice());
+    same(rt, faults.bytes(), reported.as_slice());
+    same(rt, input.left(), b"files\n".as_slice());
 }
 
 #[test]
@@ -48,17 +56,25 @@ fn an_output_that_fails(rt: HostRuntime) {
 fn input_fails_at(rt: &impl Abort, alloc: Global, read: u64, answers: &[Lines], end: (u8, Lines))
     requires { 0 < read }
 {
-    let mut host = Host {
-        input: Fuse::new(Bytes::new(b"take F2\nfiles\n", 1), read),
+    let mut host = SessionHost {
+        streams: Streams::new(
+            Fuse::new(Bytes::new(b"take F2\nfiles\n", 1), read),
+            room(rt, alloc, 1000),
+        ),
         folder: shelf_of_morning(rt, alloc),
-        output: room(rt, alloc, 1000),
         faults: room(rt, alloc, 100),
     };
     let ended = serve(alloc, WRITING, &mut host);
+    let SessionHost {
+        streams,
+        faults,
+        ..
+    } = host;
+    let (_, output) = streams.into_parts();
     let wanted = joined(rt, alloc, answers);
-    same(rt, (ended, host.output.bytes()), (end.0, wanted.as_slice()));
+    same(rt, (ended, output.bytes()), (end.0, wanted.as_slice()));
     let reported = lines_text(rt, alloc, end.1);
-    same(rt, host.faults.bytes(), reported.as_slice());
+    same(rt, faults.bytes(), reported.as_slice());
 }
 
 #[test]
@@ -77,19 +93,27 @@ fn an_input_that_fails(rt: HostRuntime) {
 fn store_fails(rt: &impl Abort, alloc: Global, fails: Fails) {
     let mut folder = shelf_of_morning(rt, alloc);
     folder.fail(fails);
-    let mut host = Host {
-        input: Bytes::new(b"take F2\nsave\nprint ASHFELD 2024-06-10\n", 4096),
+    let mut host = SessionHost {
+        streams: Streams::new(
+            Bytes::new(b"take F2\nsave\nprint ASHFELD 2024-06-10\n", 4096),
+            room(rt, alloc, 1000),
+        ),
         folder,
-        output: room(rt, alloc, 1000),
         faults: room(rt, alloc, 100),
     };
     let ended = serve(alloc, WRITING, &mut host);
+    let SessionHost {
+        streams,
+        folder,
+        faults,
+    } = host;
+    let (_, output) = streams.into_parts();
     let wanted = joined(rt, alloc, &[DONE, FAILED, ANSWER_0905]);
-    same(rt, (ended, host.output.bytes()), (1, wanted.as_slice()));
+    same(rt, (ended, output.bytes()), (1, wanted.as_slice()));
     let reported = lines_text(rt, alloc, UNSAVED);
-    same(rt, host.faults.bytes(), reported.as_slice());
+    same(rt, faults.bytes(), reported.as_slice());
     let kept = state_text(rt, alloc, MORNING_STATE);
-    same(rt, text_of(&host.folder), kept.as_slice());
+    same(rt, text_of(&folder), kept.as_slice());
 }
 
 #[test]

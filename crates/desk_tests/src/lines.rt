@@ -1,9 +1,11 @@
 //! Tests of the lines of an input that is read in pieces of several sizes.
-ghost use Rattle.std.specs.Prelude.{◌<◌};
+ghost use Rattle.std.specs.Prelude.{◌≡◌, ◌<◌};
 
 use crate::compare::same;
-use cif_line::{Bytes, Fuse, Source};
+use crate::session_parts::room;
+use cif_line::{Bytes, Fuse, Kept, Source};
 use docker_desk::{Ahead, Asked, next_line};
+use docker_host::Streams;
 use std::alloc::Global;
 use std::process::Abort;
 
@@ -26,9 +28,15 @@ const END: ExpectedLine<'static> = ("end", b"");
 /// A row: a text, and its lines in order.
 type Row = (&'static [u8], &'static [ExpectedLine<'static>]);
 
-/// Asserts that the next line of a source is `wanted`.
-fn is_next(rt: &impl Abort, ahead: &mut Ahead, source: &mut Bytes<'_>, wanted: ExpectedLine<'_>) {
-    match next_line(ahead, source) {
+/// Streams over a text, whose output takes nothing.
+type Reading<'a> = Streams<Bytes<'a>, Kept>;
+
+/// Asserts that the next line of the input is `wanted`.
+fn is_next(rt: &impl Abort, ahead: &mut Ahead, streams: &mut Reading<'_>, wanted: ExpectedLine<'_>)
+    requires { streams.old.input_failures ≡ 0 }
+    ensures { streams.new.input_failures ≡ 0 }
+{
+    match next_line(ahead, streams) {
         Ok(Asked::Line(text)) => same(rt, (LINE, text.as_slice()), wanted),
         Ok(Asked::Bad) => same(rt, BAD, wanted),
         Ok(Asked::Cut) => same(rt, CUT, wanted),
@@ -38,30 +46,31 @@ fn is_next(rt: &impl Abort, ahead: &mut Ahead, source: &mut Bytes<'_>, wanted: E
 }
 
 /// Asserts that a text has exactly these lines if it is read in pieces of at most `step` bytes.
-fn are_lines(rt: &impl Abort, text: &[u8], step: usize, lines: &[ExpectedLine<'_>])
+fn are_lines(rt: &impl Abort, alloc: Global, text: &[u8], step: usize, lines: &[ExpectedLine<'_>])
     requires { 0 < step }
 {
     let mut ahead = Ahead::new();
-    let mut source = Bytes::new(text, step);
+    let mut streams = Streams::new(Bytes::new(text, step), room(rt, alloc, 0));
     for line in lines {
-        is_next(rt, &mut ahead, &mut source, *line);
+        is_next(rt, &mut ahead, &mut streams, *line);
     }
-    is_next(rt, &mut ahead, &mut source, END);
+    is_next(rt, &mut ahead, &mut streams, END);
+    let (source, _) = streams.into_parts();
     same(rt, source.left().len(), 0);
 }
 
 /// Asserts that a text has these lines, whatever the size of its pieces.
-fn are_lines_in_pieces(rt: &impl Abort, text: &[u8], lines: &[ExpectedLine<'_>]) {
-    are_lines(rt, text, 1, lines);
-    are_lines(rt, text, 2, lines);
-    are_lines(rt, text, 4096, lines);
-    are_lines(rt, text, 10_000, lines);
+fn are_lines_in_pieces(rt: &impl Abort, alloc: Global, text: &[u8], lines: &[ExpectedLine<'_>]) {
+    are_lines(rt, alloc, text, 1, lines);
+    are_lines(rt, alloc, text, 2, lines);
+    are_lines(rt, alloc, text, 4096, lines);
+    are_lines(rt, alloc, text, 10_000, lines);
 }
 
 /// Asserts that the text of each row has the row's lines.
-fn have_lines(rt: &impl Abort, rows: &[Row]) {
+fn have_lines(rt: &impl Abort, alloc: Global, rows: &[Row]) {
     for (text, lines) in rows {
-        are_lines_in_pieces(rt, text, lines);
+        are_lines_in_pieces(rt, alloc, text, lines);
     }
 }
 
@@ -100,9 +109,9 @@ const CUTS: &[Row] = &[
 
 #[test]
 fn lines_of_texts(rt: HostRuntime) {
-    have_lines(&rt, WHOLE);
-    have_lines(&rt, OTHER_BYTES);
-    have_lines(&rt, CUTS);
+    have_lines(&rt, rt.alloc(), WHOLE);
+    have_lines(&rt, rt.alloc(), OTHER_BYTES);
+    have_lines(&rt, rt.alloc(), CUTS);
 }
 
 /// Returns a text of this many letters.
@@ -125,13 +134,18 @@ fn is_line_of(rt: &impl Abort, alloc: Global, many: usize, is_whole: bool) {
     } else {
         BAD
     };
-    are_lines_in_pieces(rt, text.as_slice(), &[first, (LINE, b"save".as_slice())]);
+    are_lines_in_pieces(
+        rt,
+        alloc,
+        text.as_slice(),
+        &[first, (LINE, b"save".as_slice())],
+    );
 }
 
 /// Asserts that this many letters without a line feed are a cut line.
 fn is_cut_of(rt: &impl Abort, alloc: Global, many: usize) {
     let text = letters(rt, alloc, many);
-    are_lines_in_pieces(rt, text.as_slice(), &[CUT]);
+    are_lines_in_pieces(rt, alloc, text.as_slice(), &[CUT]);
 }
 
 #[test]
@@ -161,30 +175,34 @@ fn many_lines(rt: &impl Abort, alloc: Global) -> Vec<u8> {
 #[test]
 fn a_thousand_lines(rt: HostRuntime) {
     let text = many_lines(&rt, rt.alloc());
-    are_lines_in_pieces(&rt, text.as_slice(), &[(LINE, b"renew".as_slice()); 1000]);
+    let lines = [(LINE, b"renew".as_slice()); 1000];
+    are_lines_in_pieces(&rt, rt.alloc(), text.as_slice(), &lines);
 }
 
 /// Reads one line from a source that returns one byte per read. Only the read with this number
 /// fails. Returns how often the source failed, and whether reading the line failed.
-fn read_with_fuse(text: &[u8], read: u64) -> (u64, bool)
+fn read_with_fuse(rt: &impl Abort, alloc: Global, text: &[u8], read: u64) -> (u64, bool)
     requires { 0 < read }
 {
-    let mut source = Fuse::new(Bytes::new(text, 1), read);
-    let failed = match next_line(&mut Ahead::new(), &mut source) {
+    let source = Fuse::new(Bytes::new(text, 1), read);
+    let mut streams = Streams::new(source, room(rt, alloc, 0));
+    let failed = match next_line(&mut Ahead::new(), &mut streams) {
         Err(_) => true,
         Ok(Asked::Line(_text)) => false,
         Ok(Asked::Bad) => false,
         Ok(Asked::Cut) => false,
         Ok(Asked::End) => false,
     };
+    let (source, _) = streams.into_parts();
     (source.failures(), failed)
 }
 
 #[test]
 fn an_input_that_fails(rt: HostRuntime) {
-    same(&rt, read_with_fuse(b"save\n", 1), (1, true));
-    same(&rt, read_with_fuse(b"save\n", 5), (1, true));
-    same(&rt, read_with_fuse(b"save\n", 6), (0, false));
-    same(&rt, read_with_fuse(b"s\xffve\n", 4), (1, true));
-    same(&rt, read_with_fuse(b"save", 5), (1, true));
+    let alloc = rt.alloc();
+    same(&rt, read_with_fuse(&rt, alloc, b"save\n", 1), (1, true));
+    same(&rt, read_with_fuse(&rt, alloc, b"save\n", 5), (1, true));
+    same(&rt, read_with_fuse(&rt, alloc, b"save\n", 6), (0, false));
+    same(&rt, read_with_fuse(&rt, alloc, b"s\xffve\n", 4), (1, true));
+    same(&rt, read_with_fuse(&rt, alloc, b"save", 5), (1, true));
 }

@@ -7,7 +7,7 @@ use crate::session_parts::room;
 use crate::shelves::{shelf_of_morning, text_of};
 use cif_line::Bytes;
 use docker_desk::serve;
-use docker_host::Host;
+use docker_host::{SessionHost, Streams};
 use std::alloc::Global;
 use std::process::Abort;
 use test_records::dockers::Lines;
@@ -16,22 +16,27 @@ use test_records::states::MORNING_STATE;
 /// Asserts that `word` prints the first `bytes` bytes of these lines on an output with room for
 /// them, and then reports `faults` and ends with `status`. No input is read, and no file changes.
 fn prints(rt: &impl Abort, alloc: Global, word: &str, lines: Lines, end: (usize, &[&[u8]], u8)) {
-    let (bytes, faults, status) = end;
-    let mut host = Host {
-        input: Bytes::new(b"files\nsave\n", 1),
+    let (bytes, told, status) = end;
+    let mut host = SessionHost {
+        streams: Streams::new(Bytes::new(b"files\nsave\n", 1), room(rt, alloc, bytes)),
         folder: shelf_of_morning(rt, alloc),
-        output: room(rt, alloc, bytes),
         faults: room(rt, alloc, 100),
     };
     let ended = serve(alloc, &[word], &mut host);
+    let SessionHost {
+        streams,
+        folder,
+        faults,
+    } = host;
+    let (input, output) = streams.into_parts();
     let text = lines_text(rt, alloc, lines);
     let front = text.as_slice().get(..bytes).expect(rt, "lines");
-    same(rt, (ended, host.output.bytes()), (status, front));
-    let reported = lines_text(rt, alloc, faults);
-    same(rt, host.faults.bytes(), reported.as_slice());
-    same(rt, host.input.left(), b"files\nsave\n".as_slice());
+    same(rt, (ended, output.bytes()), (status, front));
+    let reported = lines_text(rt, alloc, told);
+    same(rt, faults.bytes(), reported.as_slice());
+    same(rt, input.left(), b"files\nsave\n".as_slice());
     let kept = state_text(rt, alloc, MORNING_STATE);
-    same(rt, text_of(&host.folder), kept.as_slice());
+    same(rt, text_of(&folder), kept.as_slice());
 }
 
 #[test]

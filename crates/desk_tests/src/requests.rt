@@ -1,8 +1,10 @@
 //! Tests of the requests that lines contain.
 
 use crate::compare::same_in;
+use crate::session_parts::room;
 use cif_line::{Bytes, Day, Tiploc};
 use docker_desk::{Ahead, Asked, Request, next_line, request_in};
+use docker_host::Streams;
 use std::alloc::Global;
 use std::process::Abort;
 
@@ -81,8 +83,8 @@ fn words_of(rt: &impl Abort, alloc: Global, request: &Request<'_>) -> Vec<u8> {
 /// Returns the words of the request in the first line of a text, or an empty text if the line isn't
 /// a request.
 fn asked_by(rt: &impl Abort, alloc: Global, text: &[u8], may_write: bool) -> Vec<u8> {
-    let mut source = Bytes::new(text, 4096);
-    match next_line(&mut Ahead::new(), &mut source) {
+    let mut streams = Streams::new(Bytes::new(text, 4096), room(rt, alloc, 0));
+    match next_line(&mut Ahead::new(), &mut streams) {
         Ok(Asked::Line(line)) => match request_in(line.as_slice(), may_write) {
             Some(request) => words_of(rt, alloc, &request),
             None => Vec::new(alloc),

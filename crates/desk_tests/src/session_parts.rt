@@ -2,7 +2,8 @@
 ghost use Rattle.std.specs.Prelude.{◌≡◌};
 
 use crate::records::lines_text;
-use cif_line::Kept;
+use cif_line::{Bytes, Kept, Sink};
+use docker_host::Streams;
 use std::alloc::Global;
 use std::process::Abort;
 use test_records::dockers::Lines;
@@ -18,6 +19,13 @@ pub(crate) fn room(rt: &impl Abort, alloc: Global, bytes: usize) -> Kept
     ensures { result.failures ≡ 0 }
 {
     Kept::new(alloc, bytes).expect(rt, "room")
+}
+
+/// Returns streams with this output and an empty input.
+pub(crate) fn writing_to<K: Sink>(output: K) -> Streams<Bytes<'static>, K>
+    ensures { result.output_failures ≡ K.failures output }
+{
+    Streams::new(Bytes::new(b"", 1), output)
 }
 
 /// Returns the concatenation of these answers.

@@ -9,7 +9,7 @@ use crate::session_parts::{READING, WRITING, joined, room};
 use crate::shelves::{shelf_of_morning, text_of};
 use cif_line::Bytes;
 use docker_desk::serve;
-use docker_host::Host;
+use docker_host::{SessionHost, Streams};
 use std::alloc::Global;
 use std::process::Abort;
 use test_records::dockers::Lines;
@@ -33,20 +33,25 @@ fn goes_in_pieces(rt: &impl Abort, alloc: Global, row: &Row, step: usize)
     requires { 0 < step }
 {
     let (words, input, answers, reported, status, state) = *row;
-    let mut host = Host {
-        input: Bytes::new(input.as_bytes(), step),
+    let mut host = SessionHost {
+        streams: Streams::new(Bytes::new(input.as_bytes(), step), room(rt, alloc, 2000)),
         folder: shelf_of_morning(rt, alloc),
-        output: room(rt, alloc, 2000),
         faults: room(rt, alloc, 1000),
     };
     let ended = serve(alloc, words, &mut host);
+    let SessionHost {
+        streams,
+        folder,
+        faults,
+    } = host;
+    let (_, output) = streams.into_parts();
     same_in(rt, input, ended, status);
     let wanted = joined(rt, alloc, answers);
-    same_in(rt, input, host.output.bytes(), wanted.as_slice());
+    same_in(rt, input, output.bytes(), wanted.as_slice());
     let wanted = lines_text(rt, alloc, reported);
-    same_in(rt, input, host.faults.bytes(), wanted.as_slice());
+    same_in(rt, input, faults.bytes(), wanted.as_slice());
     let kept = state_text(rt, alloc, state);
-    same_in(rt, input, text_of(&host.folder), kept.as_slice());
+    same_in(rt, input, text_of(&folder), kept.as_slice());
 }
 
 /// Asserts that the session of each row ends as the row says.
@@ -198,15 +203,16 @@ fn sessions_that_write(rt: HostRuntime) {
 
 /// Asserts that a session reads this input to its end, and doesn't read it again after that.
 fn is_read_once(rt: &impl Abort, alloc: Global, input: &str) {
-    let mut host = Host {
-        input: EndRecorder::new(input.as_bytes()),
+    let mut host = SessionHost {
+        streams: Streams::new(EndRecorder::new(input.as_bytes()), room(rt, alloc, 1000)),
         folder: shelf_of_morning(rt, alloc),
-        output: room(rt, alloc, 1000),
         faults: room(rt, alloc, 100),
     };
     let ended = serve(alloc, READING, &mut host);
+    let SessionHost { streams, .. } = host;
+    let (recorder, _) = streams.into_parts();
     same_in(rt, input, ended, 0);
-    same_in(rt, input, host.input.is_read_past(), (true, false));
+    same_in(rt, input, recorder.is_read_past(), (true, false));
 }
 
 #[test]

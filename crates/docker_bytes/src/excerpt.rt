@@ -1,6 +1,7 @@
 //! Reads a state for a command that doesn't write it. The reader keeps only the part of the state
 //! from which the docker of one place and one day is made, or only the ledger.
 ghost use Rattle.std.specs.Prelude.{◌≡◌, ◌-◌, ◌^◌, ◌<◌};
+ghost use Rattle.cif_device.specs.Device.{IsNotPassed};
 ghost use Rattle.docker_model.specs.state.StateText.{dks_2};
 ghost use Rattle.docker_bytes.specs.Excerpts.{IsExcerptAt};
 ghost use Rattle.docker_bytes.specs.ReadEnds.{EndsReading};
@@ -24,8 +25,10 @@ pub fn read_excerpt<S: Source>(
     limit: u64,
 ) -> Result<Excerpt, ReadFault>
     requires { S.failures source.old < 2 ^ 64 - 1 }
-    ensures { EndsReading S.left S.failures dks_2 limit
+    ensures reads { EndsReading S.left S.failures dks_2 limit
         (ReadsMade (IsExcerptAt place day) dks_2 limit (S.left source.old)) source.old source.new result }
+    ensures not_passed { IsNotPassed (S.ended source.old)
+        (S.passed source.old) (S.passed source.new) }
 {
     excerpt_at::<Brand, S>(alloc, source, place, day, limit)
 }
@@ -41,8 +44,10 @@ fn excerpt_at<P: PlaceDay, S: Source>(
     requires failures { S.failures source.old < 2 ^ 64 - 1 }
     requires place { place ≡ P.place }
     requires day { day ≡ P.day }
-    ensures { EndsReading S.left S.failures dks_2 limit
+    ensures reads { EndsReading S.left S.failures dks_2 limit
         (ReadsMade (IsExcerptAt place day) dks_2 limit (S.left source.old)) source.old source.new result }
+    ensures not_passed { IsNotPassed (S.ended source.old)
+        (S.passed source.old) (S.passed source.new) }
 {
     let keeper: ExcerptingAt<P> = ExcerptingAt::new(alloc, place, day);
     read_format(alloc, Format::Dks2, keeper, source, limit)
@@ -57,8 +62,10 @@ pub fn read_ledger<S: Source>(
     limit: u64,
 ) -> Result<KeptLedger, ReadFault>
     requires { S.failures source.old < 2 ^ 64 - 1 }
-    ensures { EndsReading S.left S.failures dks_2 limit
+    ensures reads { EndsReading S.left S.failures dks_2 limit
         (ReadsState dks_2 limit (S.left source.old)) source.old source.new result }
+    ensures not_passed { IsNotPassed (S.ended source.old)
+        (S.passed source.old) (S.passed source.new) }
 {
     read_format(alloc, Format::Dks2, Ledger::new(alloc), source, limit)
 }

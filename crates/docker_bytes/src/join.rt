@@ -1,5 +1,6 @@
 //! Joins a state with a state that is read from a source.
 ghost use Rattle.std.specs.Prelude.{◌≡◌, ℕ, ◌-◌, ◌^◌, ◌<◌, List, IsErr};
+ghost use Rattle.cif_device.specs.Device.{IsNotPassed};
 ghost use Rattle.docker_model.specs.state.State.{IsValid};
 ghost use Rattle.docker_model.specs.state.StateText.{dks_2};
 ghost use Rattle.docker_model.specs.state.StateText as formats;
@@ -31,6 +32,8 @@ pub fn join_state<S: Source>(
     ensures reads { EndsReading S.left S.failures dks_2 limit
         (λ _. JoinsState dks_2 limit (S.left source.old) state.old state.new)
         source.old source.new result }
+    ensures not_passed { IsNotPassed (S.ended source.old)
+        (S.passed source.old) (S.passed source.new) }
     ensures unchanged { IsErr result → state.new ≡ state.old }
 {
     // This call is made only for its contract, which says that the state is valid.
@@ -55,6 +58,8 @@ fn receive<R: Receiver, S: Source>(
     ensures reads { EndsReading S.left S.failures dks_2 limit
         (λ _. JoinsState dks_2 limit (S.left source.old) own result.0)
         source.old source.new result.1 }
+    ensures not_passed { IsNotPassed (S.ended source.old)
+        (S.passed source.old) (S.passed source.new) }
     ensures unchanged { IsErr result.1 → result.0 ≡ own }
 {
     let received: Received<R> = Received::new(alloc, own);

@@ -1,5 +1,6 @@
 //! Reads a state whose horizon is raised. Entries lapse as they are read.
 ghost use Rattle.std.specs.Prelude.{◌≡◌, ◌-◌, ◌^◌, ◌<◌};
+ghost use Rattle.cif_device.specs.Device.{IsNotPassed};
 ghost use Rattle.docker_model.specs.state.StateText.{dks_2};
 ghost use Rattle.docker_bytes.specs.ReadEnds.{EndsReading};
 ghost use Rattle.docker_bytes.specs.SourceRead.{RaisesState};
@@ -21,8 +22,10 @@ pub fn read_raised<S: Source>(
     limit: u64,
 ) -> Result<State, ReadFault>
     requires { S.failures source.old < 2 ^ 64 - 1 }
-    ensures { EndsReading S.left S.failures dks_2 limit
+    ensures reads { EndsReading S.left S.failures dks_2 limit
         (RaisesState dks_2 limit (S.left source.old) day) source.old source.new result }
+    ensures not_passed { IsNotPassed (S.ended source.old)
+        (S.passed source.old) (S.passed source.new) }
 {
     raised_to::<Brand, S>(alloc, source, day, limit)
 }
@@ -36,8 +39,10 @@ fn raised_to<D: HorizonDay, S: Source>(
 ) -> Result<State, ReadFault>
     requires failures { S.failures source.old < 2 ^ 64 - 1 }
     requires day { day ≡ D.day }
-    ensures { EndsReading S.left S.failures dks_2 limit
+    ensures reads { EndsReading S.left S.failures dks_2 limit
         (RaisesState dks_2 limit (S.left source.old) day) source.old source.new result }
+    ensures not_passed { IsNotPassed (S.ended source.old)
+        (S.passed source.old) (S.passed source.new) }
 {
     let keeper: Lapsing<D> = Lapsing::new(alloc, day);
     read_format(alloc, Format::Dks2, keeper, source, limit)

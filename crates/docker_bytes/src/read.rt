@@ -1,5 +1,6 @@
 //! Reads the state that a source holds.
 ghost use Rattle.std.specs.Prelude.{◌≡◌, ◌≢◌, ℕ, ◌-◌, ◌^◌, ◌<◌, List, [], ◌++◌, length, IsOk, Err, Some};
+ghost use Rattle.cif_device.specs.Device.{IsNotPassed};
 ghost use Rattle.docker_model.specs.state.StateText.{dks_2};
 ghost use Rattle.docker_model.specs.state.StateText as formats;
 ghost use Rattle.state_text.specs.FormatMeaning.{format_meant};
@@ -50,8 +51,10 @@ impl Error for ReadFault {}
 /// that contains the byte at offset `limit`.
 pub fn read_state<S: Source>(alloc: Global, source: &mut S, limit: u64) -> Result<State, ReadFault>
     requires { S.failures source.old < 2 ^ 64 - 1 }
-    ensures { EndsReading S.left S.failures dks_2 limit
+    ensures reads { EndsReading S.left S.failures dks_2 limit
         (ReadsState dks_2 limit (S.left source.old)) source.old source.new result }
+    ensures not_passed { IsNotPassed (S.ended source.old)
+        (S.passed source.old) (S.passed source.new) }
 {
     read_format(alloc, Format::Dks2, Indexing::new(alloc), source, limit)
 }
@@ -65,8 +68,10 @@ pub fn read_unindexed<S: Source>(
     limit: u64,
 ) -> Result<State, ReadFault>
     requires { S.failures source.old < 2 ^ 64 - 1 }
-    ensures { EndsReading S.left S.failures (format_meant format) limit
+    ensures reads { EndsReading S.left S.failures (format_meant format) limit
         (ReadsState (format_meant format) limit (S.left source.old)) source.old source.new result }
+    ensures not_passed { IsNotPassed (S.ended source.old)
+        (S.passed source.old) (S.passed source.new) }
 {
     read_format(alloc, format, Whole::new(alloc), source, limit)
 }
@@ -82,9 +87,11 @@ pub(crate) fn read_format<S: Source, K: Maker>(
 ) -> Result<K::Made, ReadFault>
     requires failures { S.failures source.old < 2 ^ 64 - 1 }
     requires none { K.given keeper ≡ record { horizon = 0; ledger = []; entries = [] } }
-    ensures { EndsReading S.left S.failures (format_meant format) limit
+    ensures reads { EndsReading S.left S.failures (format_meant format) limit
         (ReadsMade K.makes (format_meant format) limit (S.left source.old))
         source.old source.new result }
+    ensures not_passed { IsNotPassed (S.ended source.old)
+        (S.passed source.old) (S.passed source.new) }
 {
     let mut parser = Parser::new(alloc, format, limit, keeper);
     read_pieces(alloc, source, &mut parser)?;
@@ -101,10 +108,12 @@ pub(crate) fn read_pieces<S: Source, K: Keeper>(
     requires failures { S.failures source.old < 2 ^ 64 - 1 }
     requires unread { IsUnread parser.old }
     requires limit { parser.old.reading.limit < 2 ^ 64 }
-    ensures { EndsReadingBy WantsSoFar as_it_is S.left S.failures (format_of parser.old.reading)
-        parser.old.reading.limit
+    ensures reads { EndsReadingBy WantsSoFar as_it_is S.left S.failures
+        (format_of parser.old.reading) parser.old.reading.limit
         (λ _. ReadsAll (format_of parser.old.reading) parser.old.reading.limit (S.left source.old)
         parser.new) source.old source.new result }
+    ensures not_passed { IsNotPassed (S.ended source.old)
+        (S.passed source.old) (S.passed source.new) }
 {
     match feed_all(alloc, source, parser) {
         Ok(_) => Ok(()),

@@ -1,6 +1,7 @@
 //! What a job keeps in memory after it has read its sources. `day`, `print` and `files` keep only
 //! what their output needs.
 ghost use Rattle.std.specs.Prelude.{◌-◌, ◌^◌, ◌<◌, IfOk};
+ghost use Rattle.cif_device.specs.Device.{IsNotPassed};
 ghost use Rattle.docker_cmd.specs.Holding.{IsWrittenFrom, held_meant};
 ghost use Rattle.docker_cmd.specs.Prepared.{EndsReadingSources, IsReadOf};
 ghost use Rattle.docker_cmd.specs.Tasks.{output_of, sources_of};
@@ -42,6 +43,8 @@ pub(crate) fn hold<S: Source, T: Source>(
         (λ held. IsReadOf job.now.task (S.left first.old) (T.left second.old) (held_meant held))
         (sources_of job.now.task) first.old first.new second.old second.new result }
     ensures written { IfOk result (IsWrittenFrom (output_of job.now.task)) }
+    ensures not_passed { IsNotPassed (S.ended first.old) (S.passed first.old) (S.passed first.new)
+        × IsNotPassed (T.ended second.old) (T.passed second.old) (T.passed second.new) }
 {
     match job.task() {
         Task::New => Ok(Holding::Whole(Office::new(alloc))),

@@ -1,7 +1,8 @@
 //! Reads the job line. A program that is started without words reads its words from the first line
 //! of its standard input.
-ghost use Rattle.std.specs.Prelude.{◌≡◌, ◌+◌, ◌*◌, ◌-◌, ◌^◌, ◌<◌, ◌≤◌, ◌↔◌, ◌≢◌, ◌++◌, length, Some, IfOk, IsErr, OnErr, Err, MatchOption, IfSome};
+ghost use Rattle.std.specs.Prelude.{◌≡◌, ◌+◌, ◌*◌, ◌-◌, ◌^◌, ◌<◌, ◌≤◌, ◌↔◌, ◌≢◌, ◌++◌, length, Some, IfOk, IsErr, IsSome, OnErr, OnOk, Err, MatchOption, IfSome};
 ghost use Rattle.std.specs.List.{position_or_len, before_first, after_first};
+ghost use Rattle.cif_device.specs.Device.{IsNotPassed};
 ghost use Rattle.cif_device.specs.Device.{CountsFailure};
 ghost use Rattle.docker_cmd.specs.Job.{IsJobOf, NameNoJob};
 ghost use Rattle.arrayvec.specs.ArrayVec.{array_vec_len};
@@ -31,7 +32,9 @@ type LineWords<'a> = ArrayVec<&'a str, MOST_WORDS>;
 
 /// Returns the job that the first line of a source names. On success the source is left just after
 /// the line feed. Fails with `Usage` if the source doesn't begin with a job line, or if the line
-/// names no job. Fails with `Memory` only if the line names a job. Reads at most 256 bytes.
+/// names no job. Fails with `Memory` only if the line names a job. Reads at most 256 bytes, and
+/// nothing after the source has reported its end. On success the source hasn't reported its end, so
+/// the caller may read on.
 pub fn job_line<S: Source>(alloc: Global, source: &mut S) -> Result<Job, JobFault>
     requires { S.failures source.old < 2 ^ 64 - 1 }
     ensures job { IfOk result (λ job. ReadsJob (S.left source.old) job (S.left source.new)) }
@@ -40,6 +43,9 @@ pub fn job_line<S: Source>(alloc: Global, source: &mut S) -> Result<Job, JobFaul
     ensures few { ReadsAtMost 256 (S.left source.old) (S.left source.new) }
     ensures failures { CountsFailure (result ≡ Err JobFault.Source)
         (S.failures source.old) (S.failures source.new) }
+    ensures not_passed { IsNotPassed (S.ended source.old)
+        (S.passed source.old) (S.passed source.new) }
+    ensures not_ended { OnOk result (S.ended source.new ≡ S.ended source.old) }
 {
     let line = read_line(source)?;
     job_of_line(alloc, line.as_slice())
@@ -76,6 +82,10 @@ fn read_byte<S: Source>(source: &mut S) -> Result<Option<u8>, JobFault>
         (S.failures source.new) }
     ensures unmoved { OnErr result (S.left source.new ≡ S.left source.old) }
     ensures fault { OnErr result (result ≡ Err JobFault.Source) }
+    ensures not_passed { IsNotPassed (S.ended source.old)
+        (S.passed source.old) (S.passed source.new) }
+    ensures not_ended { IfOk result (λ byte.
+        IsSome byte → S.ended source.new ≡ S.ended source.old) }
 {
     let mut byte = [0];
     match source.read(&mut byte) {
@@ -138,6 +148,9 @@ fn read_line<S: Source>(source: &mut S) -> Result<JobLine, JobFault>
     ensures few { ReadsAtMost 256 (S.left source.old) (S.left source.new) }
     ensures failures { CountsFailure (result ≡ Err JobFault.Source)
         (S.failures source.old) (S.failures source.new) }
+    ensures not_passed { IsNotPassed (S.ended source.old)
+        (S.passed source.old) (S.passed source.new) }
+    ensures not_ended { OnOk result (S.ended source.new ≡ S.ended source.old) }
 {
     let mut line = JobLine::new();
     for _ in 0..=LONGEST {

@@ -1,5 +1,6 @@
 //! A job that has read its sources.
 ghost use Rattle.std.specs.Prelude.{◌≡◌, ◌-◌, ◌^◌, ◌<◌, IfOk};
+ghost use Rattle.cif_device.specs.Device.{IsNotPassed};
 ghost use Rattle.docker_cmd.specs.Holding.{IsWrittenFrom, held_meant};
 ghost use Rattle.docker_cmd.specs.Prepared.{EndsReadingSources, IsOfOneFile, IsPreparedFor};
 ghost use Rattle.docker_cmd.specs.Tasks.{output_of, sources_of};
@@ -69,6 +70,8 @@ pub fn prepare<'a, S: Source, T: Source>(
         (sources_of job.now.task) first.old first.new second.old second.new result }
     ensures one_file { sources_of job.now.task ≡ taken_file →
         IfOk result (λ prepared. IsOfOneFile (S.left first.old) prepared.read) }
+    ensures not_passed { IsNotPassed (S.ended first.old) (S.passed first.old) (S.passed first.new)
+        × IsNotPassed (T.ended second.old) (T.passed second.old) (T.passed second.new) }
 {
     let held = hold(alloc, job, first, second)?;
     Ok(Prepared { job, held })

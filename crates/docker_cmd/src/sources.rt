@@ -1,5 +1,6 @@
 //! Reads the sources of the jobs that read a file's counts or a whole state.
 ghost use Rattle.std.specs.Prelude.{◌-◌, ◌^◌, ◌<◌, ℕ};
+ghost use Rattle.cif_device.specs.Device.{IsNotPassed};
 ghost use Rattle.cif_file.specs.SourceRead.{CountsText};
 ghost use Rattle.docker_model.specs.file.File.{most_records};
 ghost use Rattle.docker_model.specs.state.StateText.{dks_2};
@@ -28,6 +29,8 @@ pub(crate) fn counts_of_file<S: Source>(
         (S.left source.old) (S.left source.new) second second result }
     ensures counted { (second : ℕ) → CountsSources result
         (S.failures source.old) (S.failures source.new) second second }
+    ensures not_passed { IsNotPassed (S.ended source.old)
+        (S.passed source.old) (S.passed source.new) }
 {
     Ok(judge_file(alloc, source, MOST_RECORDS)?)
 }
@@ -39,8 +42,10 @@ pub(crate) fn office_raised<S: Source>(
     day: Day,
 ) -> Result<Office, OfficeFault>
     requires { S.failures source.old < 2 ^ 64 - 1 }
-    ensures { EndsReadingState S.left S.failures dks_2 most_bytes
+    ensures reads { EndsReadingState S.left S.failures dks_2 most_bytes
         (RaisesState dks_2 most_bytes (S.left source.old) day) source.old source.new result }
+    ensures not_passed { IsNotPassed (S.ended source.old)
+        (S.passed source.old) (S.passed source.new) }
 {
     let mut office = Office::new(alloc);
     office.reload_under(source, day, MOST_BYTES)?;
@@ -56,9 +61,11 @@ pub(crate) fn office_of_state_and_file<S: Source, T: Source>(
 ) -> Result<Office, OfficeFault>
     requires first { S.failures first.old < 2 ^ 64 - 1 }
     requires second { T.failures second.old < 2 ^ 64 - 1 }
-    ensures { EndsReadingSources S.left S.failures T.left T.failures
+    ensures reads { EndsReadingSources S.left S.failures T.left T.failures
         (TakesBehind (S.left first.old) (T.left second.old)) state_and_file
         first.old first.new second.old second.new result }
+    ensures not_passed { IsNotPassed (S.ended first.old) (S.passed first.old) (S.passed first.new)
+        × IsNotPassed (T.ended second.old) (T.passed second.old) (T.passed second.new) }
 {
     let mut taker = Office::read(alloc, Format::Dks2, first, MOST_BYTES)?;
     taker.take(second, MOST_RECORDS)?;
@@ -74,9 +81,11 @@ pub(crate) fn office_of_two_states<S: Source, T: Source>(
 ) -> Result<Office, OfficeFault>
     requires first { S.failures first.old < 2 ^ 64 - 1 }
     requires second { T.failures second.old < 2 ^ 64 - 1 }
-    ensures { EndsReadingSources S.left S.failures T.left T.failures
+    ensures reads { EndsReadingSources S.left S.failures T.left T.failures
         (JoinsBehind (S.left first.old) (T.left second.old)) two_states
         first.old first.new second.old second.new result }
+    ensures not_passed { IsNotPassed (S.ended first.old) (S.passed first.old) (S.passed first.new)
+        × IsNotPassed (T.ended second.old) (T.passed second.old) (T.passed second.new) }
 {
     let mut receiver = Office::read(alloc, Format::Dks2, first, MOST_BYTES)?;
     receiver.receive(second, MOST_BYTES)?;

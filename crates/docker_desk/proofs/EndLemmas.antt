@@ -7,7 +7,7 @@ use Rattle.docker_desk.specs.Answering.{LeavesNone}
 use Rattle.docker_desk.specs.declared.lines.Asked.{Asked}
 use Rattle.docker_desk.specs.declared.ending.Ending.{Ending}
 use Rattle.docker_desk.specs.declared.ending.Ending.TheVariants.{Ended, OutputFailed}
-use Rattle.docker_desk.proofs.StepLemmas.{ReadsFirst}
+use Rattle.docker_desk.proofs.ReadLinesLemmas.{ReadsFirst}
 
 -- if no bytes are to be read, none are left in the source
 none_left : (ahead : List ℕ) (left : DeviceBytes) → with_ahead ahead left ≡ Some [] → left ≡ Some []

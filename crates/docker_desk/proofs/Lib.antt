@@ -10,10 +10,14 @@ mod KnownLemmas
 mod FixedLemmas
 mod TrainLemmas
 mod ReadingLemmas
-mod StepLemmas
+mod ReadLinesLemmas
+mod UseLemmas
+mod TurnLemmas
 mod EndLemmas
+mod StepLemmas
 mod HelpLemmas
 mod ServeLemmas
+mod GivenLemmas
 mod LookLemmas
 mod ReplacingLemmas
 mod UnsavedLemmas

@@ -46,7 +46,7 @@ printable_more [] b good here = (here, tt)
 printable_more (y ∷ line) b good here = (good.0, printable_more line b good.1 here)
 
 -- the concatenation of two texts without a line feed has no line feed
-without_both : (xs ys : List ℕ) → IsWithoutFeed xs → IsWithoutFeed ys → IsWithoutFeed (xs ++ ys)
+pub without_both : (xs ys : List ℕ) → IsWithoutFeed xs → IsWithoutFeed ys → IsWithoutFeed (xs ++ ys)
 without_both [] ys first second = second
 without_both (x ∷ xs) ys first second = (first.0, without_both xs ys first.1 second)
 

@@ -3,18 +3,18 @@ use Rattle.std.proofs.Common.{◌≡◌, ◌+◌, ℕ, Bool, List, ◌++◌, [],
 use Rattle.std.specs.Prelude.{Option, IfSome, ◌&&◌}
 use Rattle.cif_device.specs.Device.{Takes, TakesPart}
 use Rattle.docker_host.specs.History.{Event, Text, looked}
-use Rattle.docker_host.specs.Host.{HostView}
+use Rattle.docker_host.specs.SessionHost.{SessionHostView}
 use Rattle.docker_desk.specs.Answering.{AnswersLines, CountsStreams, LeavesNone}
 use Rattle.docker_cmd.specs.FaultLine.{IsCounted, fault_line, status_of}
 use Rattle.docker_office.specs.declared.fault.OfficeFault.{OfficeFault}
 use Rattle.docker_cmd.specs.declared.fault.Fault.TheVariants.{Office}
-use Rattle.docker_host.specs.FaultSink.{FaultsView, TellsText, faults_of}
+use Rattle.docker_host.specs.FaultSink.{FaultsView, TellsText}
 use Rattle.docker_desk.specs.Desk.{DeskView, IsWhyNot, RefusesToReceive}
 use Rattle.docker_desk.specs.Reading.{LooksAndOpens, Reading, StopsInState, opening_of}
 use Rattle.docker_desk.specs.declared.ending.Ending.{Ending}
 use Rattle.docker_desk.specs.declared.ending.Ending.TheVariants.{Ended}
 use Rattle.docker_desk.specs.SessionViews.{SessionView, session_view, setting}
-use Rattle.docker_desk.specs.Serving.{BeginsAt, EndsOpening, EndsWithStatus, LeavesStreams, NamesSession, ServesSession}
+use Rattle.docker_desk.specs.Serving.{BeginsAt, EndsOpening, EndsWithStatus, NamesSession, ServesSession}
 use Rattle.docker_desk.proofs.WritingLemmas.{both_taken, part_of_back, part_of_front}
 
 -- if a text was written and then a second text, their concatenation was written
@@ -54,14 +54,15 @@ still before after counted = counted.1 (λ four. omega arith)
 
 -- if a session started, its lines were answered and its end was reported, the session was served as
 -- the contract of `serve_session` says
-pub served : (words : List Text) (names_bytes : Bool) (old new : HostView) (status : ℕ) (name : Text) (may_write : Bool) (first last : SessionView)
+pub served : (words : List Text) (names_bytes : Bool) (old new : SessionHostView) (status : ℕ) (name : Text) (may_write : Bool) (first last : SessionView)
     (ending : Ending) (unsaved : Bool)
     → NamesSession words name may_write → BeginsAt name old.history first → first.failures ≡ old.folder_failures
-    → AnswersLines (setting name may_write names_bytes) first last old.input old.output new.output ending
+    → AnswersLines (setting name may_write names_bytes) first last old.streams.input old.streams.output new.streams.output [] old.streams.exchanges
+    new.streams.exchanges ending
     → new.history ≡ last.history → new.folder_failures ≡ last.failures
-    → CountsStreams ending old.input_failures new.input_failures old.output_failures new.output_failures
-    → (old.ended ≡ false → new.passed ≡ old.passed) → (old.ended ≡ false → ending ≡ Ended → new.ended ≡ true)
-    → (ending ≡ Ended → LeavesNone old.input new.input) → EndsWithStatus ending unsaved status (faults_of old) (faults_of new)
+    → CountsStreams ending old.streams.input_failures new.streams.input_failures old.streams.output_failures new.streams.output_failures
+    → (old.streams.ended ≡ false → new.streams.passed ≡ old.streams.passed) → (old.streams.ended ≡ false → ending ≡ Ended → new.streams.ended ≡ true)
+    → (ending ≡ Ended → LeavesNone old.streams.input new.streams.input) → EndsWithStatus ending unsaved status old.faults new.faults
     → unsaved ≡ may_write && last.desk.unsaved → ServesSession words names_bytes old new status
 served words names_bytes old new status name may_write first last ending unsaved named begins none answers history failures counts not_passed told left
     ends same =
@@ -81,34 +82,35 @@ served words names_bytes old new status name may_write first last ending unsaved
       not_passed = not_passed;
       told = told;
       left = left;
-      ends = subst (λ (u : Bool). EndsWithStatus ending u status (faults_of old) (faults_of new)) same ends;
+      ends = subst (λ (u : Bool). EndsWithStatus ending u status old.faults new.faults) same ends;
     }))
 
 -- the same as `served`, for a host `seen` that equals the old host
-pub served_as : (words : List Text) (names_bytes : Bool) (seen old new : HostView) (status : ℕ) (name : Text) (may_write : Bool) (first last : SessionView)
-    (ending : Ending) (unsaved : Bool) → seen ≡ old
+pub served_as : (words : List Text) (names_bytes : Bool) (seen old new : SessionHostView) (status : ℕ) (name : Text) (may_write : Bool)
+    (first last : SessionView) (ending : Ending) (unsaved : Bool) → seen ≡ old
     → NamesSession words name may_write → BeginsAt name seen.history first → first.failures ≡ seen.folder_failures
-    → AnswersLines (setting name may_write names_bytes) first last seen.input seen.output new.output ending
+    → AnswersLines (setting name may_write names_bytes) first last seen.streams.input seen.streams.output new.streams.output [] seen.streams.exchanges
+    new.streams.exchanges ending
     → new.history ≡ last.history → new.folder_failures ≡ last.failures
-    → CountsStreams ending seen.input_failures new.input_failures seen.output_failures new.output_failures
-    → (seen.ended ≡ false → new.passed ≡ seen.passed) → (seen.ended ≡ false → ending ≡ Ended → new.ended ≡ true)
-    → (ending ≡ Ended → LeavesNone seen.input new.input) → EndsWithStatus ending unsaved status (faults_of seen) (faults_of new)
+    → CountsStreams ending seen.streams.input_failures new.streams.input_failures seen.streams.output_failures new.streams.output_failures
+    → (seen.streams.ended ≡ false → new.streams.passed ≡ seen.streams.passed) → (seen.streams.ended ≡ false → ending ≡ Ended → new.streams.ended ≡ true)
+    → (ending ≡ Ended → LeavesNone seen.streams.input new.streams.input) → EndsWithStatus ending unsaved status seen.faults new.faults
     → unsaved ≡ may_write && last.desk.unsaved → ServesSession words names_bytes old new status
 served_as words names_bytes seen old new status name may_write first last ending unsaved is named begins none answers history failures counts stops told
     left ends same =
-    subst (λ (host : HostView). ServesSession words names_bytes host new status) is
+    subst (λ (host : SessionHostView). ServesSession words names_bytes host new status) is
     (served words names_bytes seen new status name may_write first last ending unsaved named begins none answers history failures counts stops told left
     ends same)
 
 -- if the state's file was looked at, but no state could be read from it, the start was refused as the
 -- contract of `serve_session` says. The host `seen` equals the old host
-pub refused_as : (words : List Text) (names_bytes : Bool) (seen old new : HostView) (status : ℕ) (name : Text) (may_write : Bool) (fault : OfficeFault)
+pub refused_as : (words : List Text) (names_bytes : Bool) (seen old new : SessionHostView) (status : ℕ) (name : Text) (may_write : Bool) (fault : OfficeFault)
     → seen ≡ old → NamesSession words name may_write
     → LooksAndOpens name (IsWhyNot RefusesToReceive fault) seen.history new.history
-    → IsCounted (status_of (Office fault)) seen.folder_failures new.folder_failures → LeavesStreams seen new → status ≡ status_of (Office fault)
-    → TellsText (fault_line (Office fault) ++ []) (faults_of seen) (faults_of new) → ServesSession words names_bytes old new status
+    → IsCounted (status_of (Office fault)) seen.folder_failures new.folder_failures → new.streams ≡ seen.streams → status ≡ status_of (Office fault)
+    → TellsText (fault_line (Office fault) ++ []) seen.faults new.faults → ServesSession words names_bytes old new status
 refused_as words names_bytes seen old new status name may_write fault is named opens counted streams status_is tells =
-    subst (λ (host : HostView). ServesSession words names_bytes host new status) is
+    subst (λ (host : SessionHostView). ServesSession words names_bytes host new status) is
     (inr (inl (record {
       name = name;
       may_write = may_write;
@@ -118,5 +120,5 @@ refused_as words names_bytes seen old new status name may_write fault is named o
       counted = subst (λ (n : ℕ). IsCounted n seen.folder_failures new.folder_failures) (sym status_is) counted;
       streams = streams;
       status_is = status_is;
-      tells = subst (λ (line : List ℕ). TellsText line (faults_of seen) (faults_of new)) (append-nil (fault_line (Office fault))) tells;
+      tells = subst (λ (line : List ℕ). TellsText line seen.faults new.faults) (append-nil (fault_line (Office fault))) tells;
     })))

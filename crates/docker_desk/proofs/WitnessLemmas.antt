@@ -12,7 +12,7 @@ use Rattle.docker_cmd.specs.FaultLine.{status_of}
 use Rattle.docker_cmd.specs.Prepared.{most_bytes}
 use Rattle.docker_cmd.specs.declared.fault.Fault.TheVariants.{Office}
 use Rattle.docker_host.specs.History.{Bytes, Event, Text, closed, looked, opened, placed}
-use Rattle.docker_host.specs.Host.{HostView}
+use Rattle.docker_host.specs.SessionHost.{SessionHostView}
 use Rattle.docker_host.specs.Shelf.{IsShelfHistory}
 use Rattle.docker_desk.specs.Lines.{AreLines, LineView, whole_line}
 use Rattle.docker_desk.specs.Requests.{AsksFor, IsRequestOf, RequestView, print_request, permanent_request, train_request, trains_request, files_request}
@@ -187,16 +187,16 @@ asks_nothing Version same =
 
 -- suppose that STATE holds the text of a state without files, and that `files` is the only line of
 -- the input. Then the desk answers that there are no files, or that memory ran out
-pub files_answered : (text : List ℕ) (old new : HostView) (status : ℕ) → HoldsState dks_2 most_bytes (Some text) no_state
-    → old.history ≡ placed (codes "S") (Some text) ∷ [] → old.input ≡ Some (codes "files\n") → old.output ≡ Some []
-    → IsShelfHistory new.history → status ≡ 0 → Serves (codes "S" ∷ []) true old new status → IsAnswered new.output
+pub files_answered : (text : List ℕ) (old new : SessionHostView) (status : ℕ) → HoldsState dks_2 most_bytes (Some text) no_state
+    → old.history ≡ placed (codes "S") (Some text) ∷ [] → old.streams.input ≡ Some (codes "files\n") → old.streams.output ≡ Some []
+    → IsShelfHistory new.history → status ≡ 0 → Serves (codes "S" ∷ []) true old new status → IsAnswered new.streams.output
 files_answered text old new status holds history input output met none (inl asked) = absurd (asks_nothing asked.question asked.words_are)
 files_answered text old new status holds history input output met none (inr (unasked, inl misused)) =
     let two = misused.status_is in absurd (omega (arith, none, two))
 files_answered text old new status holds history input output met none (inr (unasked, inr (inl refused))) =
     absurd (some_status refused.fault (sym refused.status_is ∙ none))
 files_answered text old new status holds history input output met none (inr (unasked, inr (inr served))) =
-    all_steps text holds old.history new.output history (setting served.name served.may_write true) served.first served.last served.answers.steps
+    all_steps text holds old.history new.streams.output history (setting served.name served.may_write true) served.first served.last served.answers.steps
     served.begins (named_so (codes "S") served.name served.may_write served.words_are.words_are)
     (one_reading (codes "files\n") (lines_of served.answers.steps) (whole_line asked_line ∷ []) ends.0 one_line)
     served.answers.are (subst IsShelfHistory served.history met) ends.1
@@ -204,11 +204,11 @@ files_answered text old new status holds history input output met none (inr (una
     ended : served.ending ≡ Ended
     ended = ended_well served.ending _ (sym served.ends.status_is ∙ none)
 
-    ends : EndsSession Ended (Some (codes "files\n")) served.answers.steps (Some []) new.output
+    ends : EndsSession Ended (Some (codes "files\n")) served.answers.steps (Some []) new.streams.output
     ends =
-        subst (λ (i : Bytes). EndsSession Ended i served.answers.steps (Some []) new.output) input
-        (subst (λ (o : Bytes). EndsSession Ended old.input served.answers.steps o new.output) output
-        (subst (λ (e : Ending). EndsSession e old.input served.answers.steps old.output new.output) ended served.answers.ends))
+        subst (λ (i : Bytes). EndsSession Ended i served.answers.steps (Some []) new.streams.output) input
+        (subst (λ (o : Bytes). EndsSession Ended old.streams.input served.answers.steps o new.streams.output) output
+        (subst (λ (e : Ending). EndsSession e old.streams.input served.answers.steps old.streams.output new.streams.output) ended served.answers.ends))
 
 -- ---- the text of the state
 
@@ -232,11 +232,11 @@ bytes_answered taken (inr refused) = inr (unsome taken memory_answer refused)
     unsome one two equal = cc
 
 -- the same as `files_answered`, for a host `seen` that equals the new host
-pub files_told : (text : List ℕ) (old seen new : HostView) (status : ℕ) (taken : List ℕ) → Serves (codes "S" ∷ []) true old new status → seen ≡ new
+pub files_told : (text : List ℕ) (old seen new : SessionHostView) (status : ℕ) (taken : List ℕ) → Serves (codes "S" ∷ []) true old new status → seen ≡ new
     → text ≡ state_text dks_2 no_state → length text ≤ 100 → IsValid no_state → old.history ≡ placed (codes "S") (Some text) ∷ []
-    → old.input ≡ Some (codes "files\n") → old.output ≡ Some [] → IsShelfHistory seen.history → status ≡ 0 → seen.output ≡ Some taken
+    → old.streams.input ≡ Some (codes "files\n") → old.streams.output ≡ Some [] → IsShelfHistory seen.history → status ≡ 0 → seen.streams.output ≡ Some taken
     → (taken ≡ codes "0 0 0\n") ⊎ (taken ≡ memory_answer)
 files_told text old seen new status taken serves same is few valid history input output met none told =
     bytes_answered taken (subst IsAnswered told
     (files_answered text old seen status (holds_none text is few valid) history input output met none
-    (subst (λ (host : HostView). Serves (codes "S" ∷ []) true old host status) (sym same) serves)))
+    (subst (λ (host : SessionHostView). Serves (codes "S" ∷ []) true old host status) (sym same) serves)))

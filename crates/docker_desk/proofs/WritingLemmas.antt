@@ -1,10 +1,13 @@
 -- What a sink has taken after two writes, one after the other.
 use Rattle.std.proofs.Common.{◌≡◌, ℕ, ◌+◌, List, ◌++◌, ◌-◌, arith, length, take, drop, Option, None}
 use Rattle.std.proofs.Common.{Some, ap, sym, subst, ◌∙◌, append_assoc, length-append, slice_range}
-use Rattle.std.specs.Prelude.{option_map}
+use Rattle.std.specs.Prelude.{option_map, Result, Ok, Err, ⊤}
 use Rattle.std.proofs.lemmas.List.{take-append-le}
 use Rattle.std.proofs.Math.Seq.{take-add, take-append-add, take-length}
 use Rattle.cif_device.specs.Device.{Takes, TakesPart}
+use Rattle.cif_device.specs.declared.device.Failed.{Failed}
+use Rattle.docker_host.specs.Streams.{EndsWriting, StreamsView, WritesWhole}
+use Rattle.docker_host.proofs.StreamsLemmas.{part_of_second, whole_both}
 
 -- if a part was written and then a second part, their concatenation was written
 pub both_taken : (first second third : Option (List ℕ)) (front back : List ℕ) → Takes first front second → Takes second back third
@@ -31,6 +34,13 @@ part_of_back first second third front back one (n, short, taken) =
       subst (λ bytes. Takes first bytes third) (sym (take-append-add front back n))
           (both_taken first second third front (take n back) one taken),
     )
+
+-- if the output took a whole text, and writing a second text ended with this result, writing their
+-- concatenation ended with this result
+pub ends_second : (result : Result ⊤ Failed) (first second : List ℕ) (old mid new : StreamsView) → WritesWhole first old mid
+    → EndsWriting result second mid new → EndsWriting result (first ++ second) old new
+ends_second (Ok done) first second old mid new one two = whole_both first second old mid new one two
+ends_second (Err failed) first second old mid new one two = part_of_second first second old mid new one two
 
 -- if a piece follows the first `at` bytes of a text, these bytes and the piece together are the
 -- first `at + length piece` bytes of the text

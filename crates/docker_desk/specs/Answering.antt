@@ -3,7 +3,10 @@ use Rattle.std.specs.Prelude.{◌≡◌, ℕ, ◌+◌, ◌-◌, ◌^◌, ◌≤�
 use Rattle.std.specs.List.{flat_map}
 use Rattle.cif_device.specs.Device.{Takes, TakesPart}
 use Rattle.docker_cmd.specs.Prepared.{DeviceBytes}
-use Rattle.docker_desk.specs.Lines.{AreLines, IsNextLine, LineView, ReadsNext, whole_line, bad_line, cut_line}
+use Rattle.docker_host.specs.History.{Text}
+use Rattle.docker_host.specs.Exchanges.{Exchange, IsRead, AreWrites, bytes_read, bytes_written}
+use Rattle.docker_host.specs.Streams.{StreamsView, WritesPart, WritesWhole}
+use Rattle.docker_desk.specs.Lines.{AreLines, IsNextLine, IsWithoutFeed, LineView, ReadsInLine, ReadsNext, whole_line, bad_line, cut_line, with_ahead}
 use Rattle.docker_desk.specs.Replies.{AnswerView, answer_bytes}
 use Rattle.docker_desk.specs.declared.ending.Ending.{Ending}
 use Rattle.docker_desk.specs.declared.ending.Ending.TheVariants.{Ended, InputFailed, InputEndless, OutputFailed}
@@ -78,13 +81,63 @@ EndsSession InputEndless input steps output output_now =
 EndsSession OutputFailed input steps output output_now =
     BeginsWith input (lines_of steps) × BreaksOff steps output output_now
 
+-- ---- the order of reads and writes
+
+-- the session has made these exchanges, and has answered each line that it has read as a whole. The
+-- bytes that were read are the lines of the first steps, followed by bytes without a line feed. The
+-- bytes that were written are exactly the answers of these steps. `ahead` had been read before
+pub record HasAnswered (ahead : Text) (steps : List Step) (exchanges : List Exchange) : Type 0 where
+  pub earlier : List Step
+  pub later : List Step
+  pub first : steps ≡ earlier ++ later
+  pub rest : Text
+  pub lines : AreFirstLines (ahead ++ bytes_read exchanges) (lines_of earlier) rest
+  pub one : IsWithoutFeed rest
+  pub told : bytes_written exchanges ≡ answers_text earlier
+
+-- whenever the input was read, each line that had been read as a whole had been answered. So a
+-- person at a terminal gets each answer before the desk waits for the next line
+abbrev pub AnswersBeforeReading : Text → List Step → List Exchange → Type 0
+AnswersBeforeReading ahead steps exchanges =
+    (before after : List Exchange) (exchange : Exchange) → exchanges ≡ before ++ exchange ∷ after
+    → IsRead exchange → HasAnswered ahead steps before
+
+-- the exchanges of a session with these steps that ended in this way. The lines of the steps are the
+-- lines of the bytes that were read, and the bytes that were written are the answers of the steps.
+-- This holds for real devices too, since exchanges have the bytes. `ahead` had been read before
+pub record TakesTurns (ending : Ending) (ahead : Text) (steps : List Step)
+    (exchanges exchanges_now : List Exchange) : Type 0 where
+  pub gained : List Exchange
+  pub exchanged : exchanges_now ≡ exchanges ++ gained
+  pub ends : EndsSession ending (Some (ahead ++ bytes_read gained)) steps (Some [])
+      (Some (bytes_written gained))
+  pub order : AnswersBeforeReading ahead steps gained
+
+-- the exchanges in which one line was read and answered: first the reads, none of them after the line
+-- feed of this line, and then the writes of the answer. `ahead` had been read before, and
+-- `ahead_now` are the bytes that were read beyond the line
+pub record TakesOneTurn (line : LineView) (answer : AnswerView) (ahead ahead_now : Text)
+    (exchanges exchanges_now : List Exchange) : Type 0 where
+  pub reads : List Exchange
+  pub writes : List Exchange
+  pub exchanged : exchanges_now ≡ exchanges ++ (reads ++ writes)
+  pub are_reads : ReadsInLine ahead reads
+  pub are_writes : AreWrites writes
+  pub line_is : IsNextLine (ahead ++ bytes_read reads) line ahead_now
+  pub told : bytes_written writes ≡ answer_bytes answer
+
+-- ---- answering lines
+
 -- the lines of an input were answered on an output. The steps begin at the point `before` and end
--- at the point `after`. The session then ended in this way
+-- at the point `after`. The session then ended in this way. `ahead` had been read from the input
+-- before
 pub record AnswersLines (setting : Setting) (before after : SessionView)
-    (input output output_now : DeviceBytes) (ending : Ending) : Type 0 where
+    (input output output_now : DeviceBytes) (ahead : Text)
+    (exchanges exchanges_now : List Exchange) (ending : Ending) : Type 0 where
   pub steps : List Step
   pub are : AreSteps setting before steps after
   pub ends : EndsSession ending input steps output output_now
+  pub turns : TakesTurns ending ahead steps exchanges exchanges_now
 
 -- the failure counts of the input and the output changed as in a session that ends in this way
 abbrev pub CountsStreams : Ending → ℕ → ℕ → ℕ → ℕ → Type 0
@@ -103,15 +156,19 @@ IsFollowed bad_line = ⊤
 IsFollowed cut_line = ⊥
 
 -- one line was answered, or the session ended at this line. With None, the line was answered and
--- the session continues. Otherwise the session ended in this way
-abbrev pub ServesNext : Setting → SessionView → SessionView → DeviceBytes → DeviceBytes
-    → DeviceBytes → DeviceBytes → Option Ending → Type 0
-ServesNext setting before after input input_now output output_now None =
+-- the session continues. Otherwise the session ended in this way. `ahead` are the bytes that were
+-- read beyond the lines before
+abbrev pub ServesNext : Setting → SessionView → SessionView → (ahead ahead_now : Text)
+    → (old new : StreamsView) → Option Ending → Type 0
+ServesNext setting before after ahead ahead_now old new None =
     (line : LineView) × (answer : AnswerView) × (IsFollowed line
     × (DoesLine setting line before answer after
-    × (ReadsNext input line input_now × Takes output (answer_bytes answer) output_now)))
-ServesNext setting before after input input_now output output_now (Some ending) =
-    AnswersLines setting before after input output output_now ending
+    × ((ReadsNext (with_ahead ahead old.input) line (with_ahead ahead_now new.input)
+    × Takes old.output (answer_bytes answer) new.output)
+    × TakesOneTurn line answer ahead ahead_now old.exchanges new.exchanges)))
+ServesNext setting before after ahead ahead_now old new (Some ending) =
+    AnswersLines setting before after (with_ahead ahead old.input) old.output new.output ahead
+    old.exchanges new.exchanges ending
 
 -- the failure counts of the input and the output changed as they do when answering one line has
 -- this outcome
@@ -131,9 +188,7 @@ pub record StopsAtEnd (result : Option Ending) (ended ended_now passed passed_no
 -- writing an answer to the output ended with this result. Two cases are possible: the answer was
 -- written and the result is `next`, or the output failed after a proper prefix of the answer and
 -- the result is `OutputFailed`
-abbrev pub TellsAnswer : List ℕ → Option Ending → DeviceBytes → DeviceBytes → ℕ → ℕ → Option Ending
-    → Type 0
-TellsAnswer told next output output_now failures failures_now result =
-    ((result ≡ next) × (Takes output told output_now × (failures_now ≡ failures)))
-    ⊎ ((result ≡ Some OutputFailed)
-    × (TakesPart output told output_now × (failures_now ≡ failures + 1)))
+abbrev pub TellsAnswer : List ℕ → Option Ending → StreamsView → StreamsView → Option Ending → Type 0
+TellsAnswer told next old new result =
+    ((result ≡ next) × WritesWhole told old new)
+    ⊎ ((result ≡ Some OutputFailed) × WritesPart told old new)

@@ -1,12 +1,12 @@
 -- What the words `--help` and `--version` print.
-use Rattle.std.specs.Prelude.{◌≡◌, ◌≢◌, ℕ, ◌+◌, Bool, true, false, List, [], ◌∷◌, ◌++◌, Option, Some, None, ◌⊎◌, codes}
+use Rattle.std.specs.Prelude.{◌≡◌, ◌≢◌, ℕ, Bool, true, false, List, [], ◌∷◌, ◌++◌, Option, Some, None, ◌⊎◌, codes}
 use Rattle.std.specs.List.{flat_map}
 use Rattle.docker_model.specs.state.StateText.{dks_2, mark}
-use Rattle.cif_device.specs.Device.{Takes, TakesPart}
 use Rattle.docker_cmd.specs.FaultLine.{device_line}
 use Rattle.docker_cmd.specs.Words.{Text, usage_with}
-use Rattle.docker_host.specs.FaultSink.{TellsText, faults_of}
-use Rattle.docker_host.specs.Host.{HostView}
+use Rattle.docker_host.specs.FaultSink.{TellsText}
+use Rattle.docker_host.specs.SessionHost.{SessionHostView}
+use Rattle.docker_host.specs.Streams.{WritesPart, WritesWhole}
 use Rattle.docker_desk.specs.Requests.{RequestRow, row_of, verbs}
 use Rattle.docker_desk.specs.declared.help.Question.{Question}
 use Rattle.docker_desk.specs.declared.help.Question.TheVariants.{Help, Version}
@@ -46,20 +46,13 @@ text_about Version = codes "desk: STATE has the format " ++ mark dks_2 ++ codes 
 
 -- the output took this text and the status is 0. Or the output failed and took only a proper prefix
 -- of the text, the failure was reported to the sink of faults, and the status is 4
-abbrev pub Prints : Text → HostView → HostView → ℕ → Type 0
+abbrev pub Prints : Text → SessionHostView → SessionHostView → ℕ → Type 0
 Prints text old new status =
-    ((status ≡ 0) × (new.output_failures ≡ old.output_failures)
-    × Takes old.output text new.output × (faults_of new ≡ faults_of old))
-    ⊎ ((status ≡ 4) × (new.output_failures ≡ old.output_failures + 1)
-    × TakesPart old.output text new.output × TellsText device_line (faults_of old) (faults_of new))
+    ((status ≡ 0) × WritesWhole text old.streams new.streams × (new.faults ≡ old.faults))
+    ⊎ ((status ≡ 4) × WritesPart text old.streams new.streams
+    × TellsText device_line old.faults new.faults)
 
--- the answer to this question was printed. No device but the output and the sink of faults was used
-pub record AnswersQuestion (question : Question) (old new : HostView) (status : ℕ) : Type 0 where
-  pub untouched : new
-      ≡ record old {
-        output = new.output;
-        output_failures = new.output_failures;
-        faults = new.faults;
-        faults_failures = new.faults_failures;
-      }
+-- the answer to this question was printed. The input and the folder weren't used
+pub record AnswersQuestion (question : Question) (old new : SessionHostView) (status : ℕ) : Type 0 where
+  pub untouched : new ≡ record old { streams = new.streams; faults = new.faults }
   pub prints : Prints (text_about question) old new status

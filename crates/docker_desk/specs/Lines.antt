@@ -3,6 +3,9 @@ use Rattle.std.specs.Prelude.{◌≡◌, ◌≢◌, ℕ, ◌-◌, ◌^◌, ◌�
 use Rattle.std.specs.List.{AllByRecursion}
 use Rattle.cif_device.specs.Device.{Reads, IsEnd}
 use Rattle.docker_cmd.specs.JobLine.{IsLineText, IsJobLine}
+use Rattle.docker_host.specs.History.{Text}
+use Rattle.docker_host.specs.Exchanges.{Exchange, read, unread, wrote, unwritten, bytes_read}
+use Rattle.docker_host.specs.Streams.{StreamsView}
 use Rattle.docker_desk.specs.declared.lines.Asked.{Asked}
 use Rattle.docker_desk.specs.declared.lines.Asked.TheVariants as asked
 use Rattle.docker_desk.specs.declared.lines.InputFault.{InputFault}
@@ -142,3 +145,50 @@ EndsSkipping old (Ok asked.Cut) new = SkipsAll old new
 EndsSkipping old (Ok asked.End) new = ⊥
 EndsSkipping old (Err Failed) new = ReadsMany 0 old new
 EndsSkipping old (Err Endless) new = ReadsMany (2 ^ 64 - 1) old new
+
+-- ---- the reads of a line
+
+-- these exchanges are reads, and each was made while the bytes read before it had no line feed:
+-- `text`, and then the bytes that the reads before it returned
+abbrev pub ReadsInLine : Text → List Exchange → Type 0
+ReadsInLine text [] = ⊤
+ReadsInLine text (read bytes ∷ exchanges) =
+    IsWithoutFeed text × ReadsInLine (text ++ bytes) exchanges
+ReadsInLine text (unread ∷ exchanges) = IsWithoutFeed text × ReadsInLine text exchanges
+ReadsInLine text (wrote bytes ∷ exchanges) = ⊥
+ReadsInLine text (unwritten ∷ exchanges) = ⊥
+
+-- the input was read in these exchanges, and the output wasn't used. `ahead` had been read before.
+-- No read was made once a line feed had been read
+pub record OnlyReads (ahead : Text) (gained : List Exchange) (old new : StreamsView) : Type 0 where
+  pub reads : ReadsInLine ahead gained
+  pub only : new
+      ≡ record old {
+        input = new.input;
+        ended = new.ended;
+        passed = new.passed;
+        input_failures = new.input_failures;
+        exchanges = old.exchanges ++ gained;
+      }
+
+-- the bytes `used` were taken from the bytes that had been read ahead and from what was then read.
+-- The bytes `ahead_now` are read ahead now
+pub record Uses (used ahead ahead_now : Text) (old new : StreamsView) : Type 0 where
+  pub gained : List Exchange
+  pub reads : OnlyReads ahead gained old new
+  pub whole : ahead ++ bytes_read gained ≡ used ++ ahead_now
+
+-- the byte that was read, as a text; empty if no byte was read
+abbrev pub byte_text : {E : Type 0} → Result (Option ℕ) E → Text
+byte_text (Ok (Some byte)) = byte ∷ []
+byte_text (Ok None) = []
+byte_text (Err fault) = []
+
+-- the exchanges in which a line was read, or the rest of a bad line. `Ends` says how that can end,
+-- in terms of the bytes that were to be read. Here these are the bytes that had been read ahead,
+-- and the bytes that the reads returned. So this holds for real devices too
+pub record UsesLine (Ends : Option (List ℕ) → Result Asked InputFault → Option (List ℕ) → Type 0)
+    (ahead ahead_now : Text) (old new : StreamsView) (result : Result Asked InputFault) : Type 0 where
+  pub gained : List Exchange
+  pub reads : OnlyReads ahead gained old new
+  pub ends : Ends (Some (ahead ++ bytes_read gained)) result (Some ahead_now)

@@ -1,12 +1,15 @@
 -- A whole session: its words, its start and its end.
-use Rattle.std.specs.Prelude.{◌≡◌, ℕ, Bool, true, false, ◌&&◌, List, [], ◌∷◌, ◌++◌, codes, length, Option, Result, Ok, Err, ◌⊎◌}
+use Rattle.std.specs.Prelude.{◌≡◌, ℕ, Bool, true, false, ◌&&◌, List, [], ◌∷◌, ◌++◌, codes, length, map, String, string_bytes, Option, Result, Ok, Err, ◌⊎◌}
+use Rattle.std.specs.Global.{Global, Vec}
 use Rattle.docker_model.specs.state.StateText.{dks_2}
 use Rattle.docker_cmd.specs.FaultLine.{IsCounted, device_line, fault_line, status_of}
 use Rattle.docker_cmd.specs.Prepared.{ReadsFewOfState, most_bytes}
-use Rattle.docker_cmd.specs.declared.fault.Fault.TheVariants.{Office}
+use Rattle.docker_cmd.specs.declared.fault.Fault.TheVariants.{Job, Office}
+use Rattle.docker_cmd.specs.declared.job_fault.JobFault.{JobFault}
+use Rattle.docker_cmd.specs.declared.job_fault.JobFault.TheVariants as job
 use Rattle.docker_host.specs.History.{Bytes, Event, Text, closed, looked, opened}
-use Rattle.docker_host.specs.FaultSink.{FaultsView, TellsText, faults_of}
-use Rattle.docker_host.specs.Host.{HostView}
+use Rattle.docker_host.specs.FaultSink.{FaultsView, TellsText}
+use Rattle.docker_host.specs.SessionHost.{SessionHostView}
 use Rattle.docker_bytes.specs.SourceRead.{ReadsState}
 use Rattle.docker_office.specs.declared.fault.OfficeFault.{OfficeFault}
 use Rattle.docker_desk.specs.Requests.{NamesFile, usage_line}
@@ -99,40 +102,32 @@ pub record EndsWithStatus (ending : Ending) (unsaved : Bool) (status : ℕ) (old
 
 -- these words aren't the words of a session. The usage line was written to the sink of faults, and
 -- nothing else changed
-pub record IsMisused (words : List Text) (old new : HostView) (status : ℕ) : Type 0 where
+pub record IsMisused (words : List Text) (old new : SessionHostView) (status : ℕ) : Type 0 where
   pub none : NameNoSession words
-  pub untouched : new ≡ record old { faults = new.faults; faults_failures = new.faults_failures }
+  pub untouched : new ≡ record old { faults = new.faults }
   pub status_is : status ≡ 2
-  pub tells : TellsText usage_line (faults_of old) (faults_of new)
-
--- the input and the output are unchanged
-pub record LeavesStreams (old new : HostView) : Type 0 where
-  pub input : new.input ≡ old.input
-  pub ended : new.ended ≡ old.ended
-  pub passed : new.passed ≡ old.passed
-  pub output : new.output ≡ old.output
-  pub input_failures : new.input_failures ≡ old.input_failures
-  pub output_failures : new.output_failures ≡ old.output_failures
+  pub tells : TellsText usage_line old.faults new.faults
 
 -- the state's file was looked at. But the file couldn't be opened, or no state could be read from
 -- it. The fault was reported, and the session ended
-pub record IsRefusedStart (words : List Text) (old new : HostView) (status : ℕ) : Type 0 where
+pub record IsRefusedStart (words : List Text) (old new : SessionHostView) (status : ℕ) : Type 0 where
   pub name : Text
   pub may_write : Bool
   pub words_are : NamesSession words name may_write
   pub fault : OfficeFault
   pub opens : LooksAndOpens name (IsWhyNot RefusesToReceive fault) old.history new.history
   pub counted : IsCounted status old.folder_failures new.folder_failures
-  pub streams : LeavesStreams old new
+  pub streams : new.streams ≡ old.streams
   pub status_is : status ≡ status_of (Office fault)
-  pub tells : TellsText (fault_line (Office fault)) (faults_of old) (faults_of new)
+  pub tells : TellsText (fault_line (Office fault)) old.faults new.faults
 
 -- the session started, the lines of the input were answered, and then the session ended. Unsaved
 -- changes are reported only if the desk may write. If the input hadn't reported its end at the
 -- start, it wasn't read past its end. If the session ended because the input ended, the input has
--- reported its end, and no byte is left in it
-pub record IsServed (words : List Text) (names_bytes : Bool) (old new : HostView) (status : ℕ)
-    : Type 0 where
+-- reported its end, and no byte is left in it. `answers` also says that each line was answered
+-- before the input was read for the next line
+pub record IsServed (words : List Text) (names_bytes : Bool) (old new : SessionHostView)
+    (status : ℕ) : Type 0 where
   pub name : Text
   pub may_write : Bool
   pub words_are : NamesSession words name may_write
@@ -141,33 +136,56 @@ pub record IsServed (words : List Text) (names_bytes : Bool) (old new : HostView
   pub none : first.failures ≡ old.folder_failures
   pub last : SessionView
   pub ending : Ending
-  pub answers : AnswersLines (setting name may_write names_bytes) first last old.input old.output
-      new.output ending
+  pub answers : AnswersLines (setting name may_write names_bytes) first last old.streams.input
+      old.streams.output new.streams.output [] old.streams.exchanges new.streams.exchanges ending
   pub history : new.history ≡ last.history
   pub failures : new.folder_failures ≡ last.failures
-  pub counts : CountsStreams ending old.input_failures new.input_failures old.output_failures
-      new.output_failures
-  pub not_passed : old.ended ≡ false → new.passed ≡ old.passed
-  pub told : old.ended ≡ false → ending ≡ Ended → new.ended ≡ true
-  pub left : ending ≡ Ended → LeavesNone old.input new.input
-  pub ends : EndsWithStatus ending (may_write && last.desk.unsaved) status (faults_of old)
-      (faults_of new)
+  pub counts : CountsStreams ending old.streams.input_failures new.streams.input_failures
+      old.streams.output_failures new.streams.output_failures
+  pub not_passed : old.streams.ended ≡ false → new.streams.passed ≡ old.streams.passed
+  pub told : old.streams.ended ≡ false → ending ≡ Ended → new.streams.ended ≡ true
+  pub left : ending ≡ Ended → LeavesNone old.streams.input new.streams.input
+  pub ends : EndsWithStatus ending (may_write && last.desk.unsaved) status old.faults new.faults
 
 -- the program was run with these words, which ask no question. Either they aren't the words of a
 -- session, or the start was refused, or the lines of the input were answered
-abbrev pub ServesSession : List Text → Bool → HostView → HostView → ℕ → Type 0
+abbrev pub ServesSession : List Text → Bool → SessionHostView → SessionHostView → ℕ → Type 0
 ServesSession words names_bytes old new status =
     IsMisused words old new status
     ⊎ (IsRefusedStart words old new status ⊎ IsServed words names_bytes old new status)
 
 -- the words ask a question about the program, and its answer was printed
-pub record IsAsked (words : List Text) (old new : HostView) (status : ℕ) : Type 0 where
+pub record IsAsked (words : List Text) (old new : SessionHostView) (status : ℕ) : Type 0 where
   pub question : Question
   pub words_are : words ≡ word_of question ∷ []
   pub answers : AnswersQuestion question old new status
 
 -- the program was run with these words. Either they ask a question about the program, or a session
 -- was served
-abbrev pub Serves : List Text → Bool → HostView → HostView → ℕ → Type 0
+abbrev pub Serves : List Text → Bool → SessionHostView → SessionHostView → ℕ → Type 0
 Serves words names_bytes old new status =
     IsAsked words old new status ⊎ (AskNoQuestion words × ServesSession words names_bytes old new status)
+
+-- ---- the words that the system gave the program
+
+-- the bytes of each of these words
+abbrev pub word_bytes : List (String Global) → List Text
+word_bytes = map (λ word. string_bytes word)
+
+-- the words couldn't be read, because of this fault. The fault was reported to the sink of faults,
+-- and no other device changed
+pub record HasNoWords (fault : JobFault) (old new : SessionHostView) (status : ℕ) : Type 0 where
+  pub untouched : new ≡ record old { faults = new.faults }
+  pub tells : TellsText (fault_line (Job fault)) old.faults new.faults
+  pub status_is : status ≡ status_of (Job fault)
+
+-- the program was started with the words that the system gave it, and ended with this status.
+-- `given` has these words, or the fault because of which they couldn't be read. If a word isn't
+-- valid UTF-8, the fault is `Usage`, and the program does what it does without words
+abbrev pub ServesGiven : (given : Result (Vec (String Global)) JobFault) → Bool → SessionHostView
+    → SessionHostView → ℕ → Type 0
+ServesGiven (Ok words) names_bytes old new status =
+    Serves (word_bytes words.items) names_bytes old new status
+ServesGiven (Err job.Usage) names_bytes old new status = Serves [] names_bytes old new status
+ServesGiven (Err job.Source) names_bytes old new status = HasNoWords job.Source old new status
+ServesGiven (Err job.Memory) names_bytes old new status = HasNoWords job.Memory old new status

@@ -1,10 +1,11 @@
 //! Bytes that were read from a source before a line needed them.
-ghost use Rattle.std.specs.Prelude.{◌≡◌, ◌≢◌, ◌+◌, ◌-◌, ◌^◌, ◌<◌, ◌↔◌, [], ◌∷◌, false, true, IsTrue, IfOk, IsErr, OnOk, OnErr, MatchOption};
+ghost use Rattle.std.specs.Prelude.{◌≡◌, ◌≢◌, ◌+◌, ◌-◌, ◌^◌, ◌<◌, ◌↔◌, [], ◌∷◌, false, true, IsTrue, IfOk, IsErr, None, OnOk, OnErr, MatchOption};
 ghost use Rattle.cif_device.specs.Device.{CountsFailure, IsEnd};
 ghost use Rattle.docker_cmd.specs.JobLine.{ReadsByte};
-ghost use Rattle.docker_desk.specs.Lines.{MeetsEnd, is_end_of_bytes, with_ahead};
+ghost use Rattle.docker_desk.specs.Lines.{MeetsEnd, Uses, byte_text, is_end_of_bytes, with_ahead};
 
-use cif_line::{Failed, Source};
+use cif_line::{Failed, Sink, Source};
+use docker_host::Streams;
 use std::marker::Model;
 
 /// The most bytes that one read requests.
@@ -60,45 +61,51 @@ impl Ahead {
         Some(byte)
     }
 
-    /// If there are no bytes, reads from the source once. If there are still none, the source is at
-    /// its end.
-    fn make_ready<S: Source>(&mut self, source: &mut S) -> Result<(), Failed>
-        requires { S.failures source.old < 2 ^ 64 - 1 }
-        ensures same { with_ahead self.new (S.left source.new)
-            ≡ with_ahead self.old (S.left source.old) }
+    /// If there are no bytes, reads the input once. If there are still none, the input is at its
+    /// end.
+    fn make_ready<S: Source, K: Sink>(&mut self, streams: &mut Streams<S, K>) -> Result<(), Failed>
+        requires { streams.old.input_failures < 2 ^ 64 - 1 }
+        ensures same { with_ahead self.new streams.new.input
+            ≡ with_ahead self.old streams.old.input }
         ensures end { OnOk result (self.new ≡ []
-            → IsEnd (with_ahead self.new (S.left source.new))) }
-        ensures ended { OnOk result (self.new ≡ [] → S.ended source.new ≡ true) }
-        ensures going { OnOk result (self.new ≢ [] → S.ended source.new ≡ S.ended source.old) }
-        ensures still { OnErr result (S.ended source.new ≡ S.ended source.old) }
-        ensures not_passed { S.ended source.old ≡ false
-            → S.passed source.new ≡ S.passed source.old }
+            → IsEnd (with_ahead self.new streams.new.input)) }
+        ensures ended { OnOk result (self.new ≡ [] → streams.new.ended ≡ true) }
+        ensures going { OnOk result (self.new ≢ [] → streams.new.ended ≡ streams.old.ended) }
+        ensures still { OnErr result (streams.new.ended ≡ streams.old.ended) }
+        ensures not_passed { streams.old.ended ≡ false
+            → streams.new.passed ≡ streams.old.passed }
         ensures failures { CountsFailure (IsErr result)
-            (S.failures source.old) (S.failures source.new) }
+            streams.old.input_failures streams.new.input_failures }
+        ensures uses { Uses [] self.old self.new streams.old streams.new }
     {
         if !self.is_empty() {
             return Ok(());
         }
         self.at = 0;
         self.end = 0;
-        self.end = source.read(&mut self.bytes)?;
+        self.end = streams.read(&mut self.bytes)?;
         Ok(())
     }
 
-    /// Takes the next byte of a source. Returns `None` once the source has reported its end. If the
-    /// source fails, no byte is lost.
-    pub(crate) fn next_byte<S: Source>(&mut self, source: &mut S) -> Result<Option<u8>, Failed>
-        requires { S.failures source.old < 2 ^ 64 - 1 }
-        ensures byte { IfOk result (λ byte. ReadsByte (with_ahead self.old (S.left source.old))
-            byte (with_ahead self.new (S.left source.new))) }
-        ensures unmoved { OnErr result (with_ahead self.new (S.left source.new)
-            ≡ with_ahead self.old (S.left source.old)) }
+    /// Takes the next byte of the input. Returns `None` once the input has reported its end. If the
+    /// input fails, no byte is lost.
+    pub(crate) fn next_byte<S: Source, K: Sink>(
+        &mut self,
+        streams: &mut Streams<S, K>,
+    ) -> Result<Option<u8>, Failed>
+        requires { streams.old.input_failures < 2 ^ 64 - 1 }
+        ensures byte { IfOk result (λ byte. ReadsByte (with_ahead self.old streams.old.input)
+            byte (with_ahead self.new streams.new.input)) }
+        ensures unmoved { OnErr result (with_ahead self.new streams.new.input
+            ≡ with_ahead self.old streams.old.input) }
         ensures meets_end { MeetsEnd (is_end_of_bytes result)
-            (S.ended source.old) (S.ended source.new) (S.passed source.old) (S.passed source.new) }
+            streams.old.ended streams.new.ended streams.old.passed streams.new.passed }
         ensures failures { CountsFailure (IsErr result)
-            (S.failures source.old) (S.failures source.new) }
+            streams.old.input_failures streams.new.input_failures }
+        ensures uses { Uses (byte_text result) self.old self.new streams.old streams.new }
+        ensures none { IfOk result (λ byte. byte ≡ None → self.new ≡ []) }
     {
-        self.make_ready(source)?;
+        self.make_ready(streams)?;
         Ok(self.take_first())
     }
 }

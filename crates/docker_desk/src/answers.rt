@@ -1,10 +1,11 @@
 //! Writes an answer.
-ghost use Rattle.std.specs.Prelude.{◌≡◌, ◌-◌, ◌^◌, ◌<◌, IsErr, OnOk, OnErr};
-ghost use Rattle.cif_device.specs.Device.{CountsFailure, Takes, TakesPart};
+ghost use Rattle.std.specs.Prelude.{◌≡◌, ◌-◌, ◌^◌, ◌<◌, ◌++◌};
+ghost use Rattle.docker_host.specs.Streams.{EndsWriting};
 ghost use Rattle.docker_desk.specs.Answers.{answer_text, header_text, line_count};
 
 use arrayvec::ArrayVec;
-use cif_line::{Failed, Sink, write_all};
+use cif_line::{Failed, Sink, Source};
+use docker_host::Streams;
 use fixed_text::put;
 use itoa::Buffer;
 
@@ -12,18 +13,32 @@ use itoa::Buffer;
 type AnswerHeader = ArrayVec<u8, 64>;
 
 /// Writes the answer with a status and a text: its header, and then the text unchanged. If a write
-/// fails, the sink has gained a proper prefix of the answer.
-pub fn write_answer<K: Sink>(status: u8, text: &[u8], sink: &mut K) -> Result<(), Failed>
-    requires { K.failures sink.old < 2 ^ 64 - 1 }
-    ensures whole { OnOk result (Takes (K.taken sink.old) (answer_text status text.now)
-        (K.taken sink.new)) }
-    ensures part { OnErr result (TakesPart (K.taken sink.old) (answer_text status text.now)
-        (K.taken sink.new)) }
-    ensures failures { CountsFailure (IsErr result) (K.failures sink.old) (K.failures sink.new) }
+/// fails, the output has gained a proper prefix of the answer.
+pub fn write_answer<S: Source, K: Sink>(
+    status: u8,
+    text: &[u8],
+    streams: &mut Streams<S, K>,
+) -> Result<(), Failed>
+    requires { streams.old.output_failures < 2 ^ 64 - 1 }
+    ensures { EndsWriting result (answer_text status text.now) streams.old streams.new }
 {
     let header = header(status, line_feeds(text), text.len());
-    write_all(sink, header.as_slice())?;
-    write_all(sink, text)
+    write_both(header.as_slice(), text, streams)
+}
+
+/// Writes a text, and then a second one.
+pub(crate) fn write_both<S: Source, K: Sink>(
+    first: &[u8],
+    second: &[u8],
+    streams: &mut Streams<S, K>,
+) -> Result<(), Failed>
+    requires { streams.old.output_failures < 2 ^ 64 - 1 }
+    ensures { EndsWriting result (first.now ++ second.now) streams.old streams.new }
+{
+    match streams.write_all(first) {
+        Ok(()) => streams.write_all(second),
+        Err(failed) => Err(failed),
+    }
 }
 
 /// Returns the header of an answer.

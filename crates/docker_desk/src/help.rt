@@ -1,17 +1,18 @@
 //! Answers the words `--help` and `--version`, which ask about the program.
-ghost use Rattle.std.specs.Prelude.{◌≡◌, ◌≢◌, ◌+◌, ◌-◌, ◌^◌, ◌<◌, ◌++◌, ◌∷◌, IfSome, IsNone, OnOk, OnErr};
+ghost use Rattle.std.specs.Prelude.{◌≡◌, ◌≢◌, ◌-◌, ◌^◌, ◌<◌, ◌++◌, ◌∷◌, IfSome, IsNone, codes};
 ghost use Rattle.std.specs.List.{flat_map};
-ghost use Rattle.cif_device.specs.Device.{Takes, TakesPart};
 ghost use Rattle.docker_cmd.specs.Words.{texts};
-ghost use Rattle.docker_host.specs.Host.{AreFew};
+ghost use Rattle.docker_host.specs.SessionHost.{FailedFew};
+ghost use Rattle.docker_host.specs.Streams.{EndsWriting};
 ghost use Rattle.docker_desk.specs.Requests.{row_meant, row_of};
 ghost use Rattle.docker_desk.specs.Help.{AnswersQuestion, AsksAbout, leave_text, request_line, text_about, word_of};
 
+use crate::answers::write_both;
 use crate::ending::tell_failure;
 use crate::requests::{RequestRow, Verb};
-use cif_line::{Failed, Sink, Source, write_all};
+use cif_line::{Failed, Sink, Source};
 use docker_cmd::{Fault, OfficeFault};
-use docker_host::{Folder, Host};
+use docker_host::{Folder, SessionHost, Streams};
 
 /// The first line of the text that `--help` prints.
 const HEAD: &[u8] = b"desk: usage: [--write] STATE, and then a line for each request:\n";
@@ -56,106 +57,102 @@ fn question_named(word: &str) -> Option<Question>
 /// fails.
 pub(crate) fn answer_question<S: Source, D: Folder, K: Sink, L: Sink>(
     question: Question,
-    host: &mut Host<S, D, K, L>,
+    host: &mut SessionHost<S, D, K, L>,
 ) -> u8
-    requires { AreFew host.old }
+    requires { FailedFew host.old }
     ensures { AnswersQuestion question host.old host.new result }
 {
-    match write_about(question, &mut host.output) {
+    match write_about(question, &mut host.streams) {
         Ok(()) => 0,
         Err(_) => tell_failure(&Fault::Office(OfficeFault::Sink), false, &mut host.faults),
     }
 }
 
 /// Writes the answer to a question.
-fn write_about<K: Sink>(question: Question, sink: &mut K) -> Result<(), Failed>
-    requires { K.failures sink.old < 2 ^ 64 - 1 }
-    ensures whole { OnOk result (Takes (K.taken sink.old) (text_about question)
-        (K.taken sink.new)) }
-    ensures part { OnErr result (TakesPart (K.taken sink.old) (text_about question)
-        (K.taken sink.new)) }
-    ensures no_failure { OnOk result (K.failures sink.new ≡ K.failures sink.old) }
-    ensures counted { OnErr result (K.failures sink.new ≡ K.failures sink.old + 1) }
+fn write_about<S: Source, K: Sink>(
+    question: Question,
+    streams: &mut Streams<S, K>,
+) -> Result<(), Failed>
+    requires { streams.old.output_failures < 2 ^ 64 - 1 }
+    ensures { EndsWriting result (text_about question) streams.old streams.new }
 {
     match question {
-        Question::Help => write_help(sink),
-        Question::Version => write_all(sink, VERSION),
+        Question::Help => write_help(streams),
+        Question::Version => streams.write_all(VERSION),
     }
 }
 
 /// Writes what `--help` prints.
-fn write_help<K: Sink>(sink: &mut K) -> Result<(), Failed>
-    requires { K.failures sink.old < 2 ^ 64 - 1 }
-    ensures whole { OnOk result (Takes (K.taken sink.old) (text_about Question.Help)
-        (K.taken sink.new)) }
-    ensures part { OnErr result (TakesPart (K.taken sink.old) (text_about Question.Help)
-        (K.taken sink.new)) }
-    ensures no_failure { OnOk result (K.failures sink.new ≡ K.failures sink.old) }
-    ensures counted { OnErr result (K.failures sink.new ≡ K.failures sink.old + 1) }
+fn write_help<S: Source, K: Sink>(streams: &mut Streams<S, K>) -> Result<(), Failed>
+    requires { streams.old.output_failures < 2 ^ 64 - 1 }
+    ensures { EndsWriting result (text_about Question.Help) streams.old streams.new }
 {
-    write_all(sink, HEAD)?;
-    write_requests(Verb::all(), sink)
+    match streams.write_all(HEAD) {
+        Ok(()) => write_requests(Verb::all(), streams),
+        Err(failed) => Err(failed),
+    }
 }
 
 /// Writes a line for each of these verbs.
-fn write_requests<K: Sink>(verbs: &[Verb], sink: &mut K) -> Result<(), Failed>
-    requires { K.failures sink.old < 2 ^ 64 - 1 }
-    ensures whole { OnOk result (Takes (K.taken sink.old)
-        (flat_map (λ verb. request_line (row_of verb)) verbs.now) (K.taken sink.new)) }
-    ensures part { OnErr result (TakesPart (K.taken sink.old)
-        (flat_map (λ verb. request_line (row_of verb)) verbs.now) (K.taken sink.new)) }
-    ensures no_failure { OnOk result (K.failures sink.new ≡ K.failures sink.old) }
-    ensures counted { OnErr result (K.failures sink.new ≡ K.failures sink.old + 1) }
+fn write_requests<S: Source, K: Sink>(
+    verbs: &[Verb],
+    streams: &mut Streams<S, K>,
+) -> Result<(), Failed>
+    requires { streams.old.output_failures < 2 ^ 64 - 1 }
+    ensures { EndsWriting result (flat_map (λ verb. request_line (row_of verb)) verbs.now)
+        streams.old streams.new }
 {
     for verb in verbs {
-        write_request(&verb.row(), sink)?;
+        match write_request(&verb.row(), streams) {
+            Ok(()) => {}
+            Err(failed) => return Err(failed),
+        }
     }
     Ok(())
 }
 
 /// Writes the line that shows a request.
-fn write_request<K: Sink>(row: &RequestRow<'_>, sink: &mut K) -> Result<(), Failed>
-    requires { K.failures sink.old < 2 ^ 64 - 1 }
-    ensures whole { OnOk result (Takes (K.taken sink.old)
-        (request_line (row_meant row.now)) (K.taken sink.new)) }
-    ensures part { OnErr result (TakesPart (K.taken sink.old)
-        (request_line (row_meant row.now)) (K.taken sink.new)) }
-    ensures no_failure { OnOk result (K.failures sink.new ≡ K.failures sink.old) }
-    ensures counted { OnErr result (K.failures sink.new ≡ K.failures sink.old + 1) }
+fn write_request<S: Source, K: Sink>(
+    row: &RequestRow<'_>,
+    streams: &mut Streams<S, K>,
+) -> Result<(), Failed>
+    requires { streams.old.output_failures < 2 ^ 64 - 1 }
+    ensures { EndsWriting result (request_line (row_meant row.now)) streams.old streams.new }
 {
-    write_both(leave(row.writes), row.name.as_bytes(), sink)?;
-    write_words(row.ids, sink)?;
-    write_all(sink, b"\n")
+    match write_both(leave(row.writes), row.name.as_bytes(), streams) {
+        Ok(()) => write_rest(row.ids, streams),
+        Err(failed) => Err(failed),
+    }
+}
+
+/// Writes these words, each after a space, and then a line feed.
+fn write_rest<S: Source, K: Sink>(words: &[&str], streams: &mut Streams<S, K>) -> Result<(), Failed>
+    requires { streams.old.output_failures < 2 ^ 64 - 1 }
+    ensures { EndsWriting result (flat_map (λ word. 32 ∷ word.now) words.now ++ codes "\n")
+        streams.old streams.new }
+{
+    match write_words(words, streams) {
+        Ok(()) => streams.write_all(b"\n"),
+        Err(failed) => Err(failed),
+    }
 }
 
 /// Writes these words, each after a space.
-fn write_words<K: Sink>(words: &[&str], sink: &mut K) -> Result<(), Failed>
-    requires { K.failures sink.old < 2 ^ 64 - 1 }
-    ensures whole { OnOk result (Takes (K.taken sink.old)
-        (flat_map (λ word. 32 ∷ word.now) words.now) (K.taken sink.new)) }
-    ensures part { OnErr result (TakesPart (K.taken sink.old)
-        (flat_map (λ word. 32 ∷ word.now) words.now) (K.taken sink.new)) }
-    ensures no_failure { OnOk result (K.failures sink.new ≡ K.failures sink.old) }
-    ensures counted { OnErr result (K.failures sink.new ≡ K.failures sink.old + 1) }
+fn write_words<S: Source, K: Sink>(
+    words: &[&str],
+    streams: &mut Streams<S, K>,
+) -> Result<(), Failed>
+    requires { streams.old.output_failures < 2 ^ 64 - 1 }
+    ensures { EndsWriting result (flat_map (λ word. 32 ∷ word.now) words.now)
+        streams.old streams.new }
 {
     for word in words {
-        write_both(b" ", word.as_bytes(), sink)?;
+        match write_both(b" ", word.as_bytes(), streams) {
+            Ok(()) => {}
+            Err(failed) => return Err(failed),
+        }
     }
     Ok(())
-}
-
-/// Writes a text, and then a second one.
-fn write_both<K: Sink>(first: &[u8], second: &[u8], sink: &mut K) -> Result<(), Failed>
-    requires { K.failures sink.old < 2 ^ 64 - 1 }
-    ensures whole { OnOk result (Takes (K.taken sink.old)
-        (first.now ++ second.now) (K.taken sink.new)) }
-    ensures part { OnErr result (TakesPart (K.taken sink.old)
-        (first.now ++ second.now) (K.taken sink.new)) }
-    ensures no_failure { OnOk result (K.failures sink.new ≡ K.failures sink.old) }
-    ensures counted { OnErr result (K.failures sink.new ≡ K.failures sink.old + 1) }
-{
-    write_all(sink, first)?;
-    write_all(sink, second)
 }
 
 /// Returns the words before a request that is allowed only if the desk may write.

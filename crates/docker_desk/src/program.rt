@@ -1,7 +1,7 @@
 //! Serves a whole session.
 ghost use Rattle.std.specs.Prelude.{◌≡◌, ◌-◌, ◌<◌};
 ghost use Rattle.docker_cmd.specs.Words.{texts};
-ghost use Rattle.docker_host.specs.Host.{AreFew};
+ghost use Rattle.docker_host.specs.SessionHost.{FailedFew};
 ghost use Rattle.docker_desk.specs.Serving.{Serves, ServesSession};
 
 use crate::ending::{end_session, tell_failure};
@@ -12,7 +12,7 @@ use crate::serving::serve_lines;
 use crate::session_words::session_words_in;
 use cif_line::{Sink, Source};
 use docker_cmd::Fault;
-use docker_host::{Folder, Host, tell_text};
+use docker_host::{Folder, SessionHost, tell_text};
 use std::alloc::Global;
 use std::mem;
 
@@ -24,9 +24,9 @@ use std::mem;
 pub fn serve<S: Source, D: Folder, K: Sink, L: Sink>(
     alloc: Global,
     words: &[&str],
-    host: &mut Host<S, D, K, L>,
+    host: &mut SessionHost<S, D, K, L>,
 ) -> u8
-    requires few { AreFew host.old }
+    requires few { FailedFew host.old }
     requires none { host.old.folder_failures ≡ 0 }
     ensures { Serves (texts words.now) D.names_bytes host.old host.new result }
 {
@@ -42,9 +42,9 @@ pub fn serve<S: Source, D: Folder, K: Sink, L: Sink>(
 fn serve_session<S: Source, D: Folder, K: Sink, L: Sink>(
     alloc: Global,
     words: &[&str],
-    host: &mut Host<S, D, K, L>,
+    host: &mut SessionHost<S, D, K, L>,
 ) -> u8
-    requires few { AreFew host.old }
+    requires few { FailedFew host.old }
     requires none { host.old.folder_failures ≡ 0 }
     ensures { ServesSession (texts words.now) D.names_bytes host.old host.new result }
 {
@@ -54,13 +54,7 @@ fn serve_session<S: Source, D: Folder, K: Sink, L: Sink>(
     };
     match open_session(alloc, named.name, &mut host.folder) {
         Ok(mut session) => {
-            let ending = serve_lines(
-                &named,
-                &mut session,
-                &mut host.input,
-                &mut host.folder,
-                &mut host.output,
-            );
+            let ending = serve_lines(&named, &mut session, &mut host.streams, &mut host.folder);
             let unsaved = session.desk.is_unsaved();
             // The program ends here. The state isn't freed piece by piece, because the system takes
             // back all of the program's memory at once.

@@ -5,7 +5,7 @@ ghost use Rattle.docker_desk.specs.Replies.{memory_answer};
 use crate::program::serve;
 use cif_line::{Bytes, Kept, Memory};
 use docker_cmd::Office;
-use docker_host::{Host, Shelf};
+use docker_host::{SessionHost, Shelf, Streams};
 use std::alloc::Global;
 
 /// The most bytes that the text of an empty state may have.
@@ -32,17 +32,17 @@ pub fn files_of_none(alloc: Global) -> Result<Kept, Memory>
     }
     let mut folder = Shelf::new(alloc, 0);
     folder.put("S", bytes)?;
-    let mut host = Host {
-        input: Bytes::new(b"files\n", 1),
+    let mut host = SessionHost {
+        streams: Streams::new(Bytes::new(b"files\n", 1), Kept::new(alloc, ROOM)?),
         folder,
-        output: Kept::new(alloc, ROOM)?,
         faults: Kept::new(alloc, ROOM)?,
     };
     let status = serve(alloc, &["S"], &mut host);
     // This call is made only for its contract: each file held the text that was last placed under
     // its name.
     host.folder.tell();
-    let Host { output, .. } = host;
+    let SessionHost { streams, .. } = host;
+    let (_, output) = streams.into_parts();
     if status != 0 {
         return Err(Memory);
     }

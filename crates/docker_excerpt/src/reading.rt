@@ -1,5 +1,6 @@
 //! Reads a CIF file from a source, and keeps only what the docker of one place on one day needs.
 ghost use Rattle.std.specs.Prelude.{◌≡◌, ◌-◌, ◌^◌, ◌<◌, ◌≤◌};
+ghost use Rattle.cif_device.specs.Device.{IsNotPassed};
 ghost use Rattle.cif_file.specs.FileEnds.{EndsReadingFile};
 ghost use Rattle.cif_file.specs.SourceRead.{WantsMemory};
 ghost use Rattle.docker_excerpt.specs.ThinEnded.{ReadsThin};
@@ -23,8 +24,10 @@ pub fn read_thin<S: Source>(
 ) -> Result<ThinFile, ReadFault>
     requires failures { S.failures source.old < 2 ^ 64 - 1 }
     requires limit { limit ≤ MOST_RECORDS }
-    ensures { EndsReadingFile WantsMemory S.left S.failures limit
+    ensures reads { EndsReadingFile WantsMemory S.left S.failures limit
         (ReadsThin place day limit (S.left source.old)) source.old source.new result }
+    ensures not_passed { IsNotPassed (S.ended source.old)
+        (S.passed source.old) (S.passed source.new) }
 {
     thin_at::<Brand, S>(alloc, source, place, day, limit)
 }
@@ -41,8 +44,10 @@ fn thin_at<P: PlaceDay, S: Source>(
     requires limit { limit ≤ MOST_RECORDS }
     requires place { place ≡ P.place }
     requires day { day ≡ P.day }
-    ensures { EndsReadingFile WantsMemory S.left S.failures limit
+    ensures reads { EndsReadingFile WantsMemory S.left S.failures limit
         (ReadsThin place day limit (S.left source.old)) source.old source.new result }
+    ensures not_passed { IsNotPassed (S.ended source.old)
+        (S.passed source.old) (S.passed source.new) }
 {
     let keeper: ThinSoFar<P> = ThinSoFar::new(alloc, place, day);
     match read_kept(alloc, source, keeper, limit) {

@@ -3,3 +3,5 @@ pub mod CopyLemmas
 pub mod PageLemmas
 pub mod StandingLemmas
 pub mod ShelfLemmas
+pub mod TransferLemmas
+pub mod StreamsLemmas

@@ -10,3 +10,8 @@ pub mod Host
 pub mod FaultSink
 pub mod Opening
 pub mod Asked
+pub mod Exchanges
+pub mod Calls
+pub mod Streams
+pub mod SessionHost
+pub mod Versions

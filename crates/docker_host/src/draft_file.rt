@@ -2,25 +2,26 @@
 //! The draft is then renamed over the file. So the file is complete at any time: it has the old
 //! text or the new text. A pipe or a device is written to directly, without a draft. One look
 //! decides which of these is done. What came under the name after the look is never written to.
-ghost use Rattle.std.specs.Prelude.{◌≡◌, None, IfOk};
+ghost use Rattle.std.specs.Prelude.{◌≡◌, ◌+◌, ◌-◌, ◌^◌, ◌<◌, ◌≤◌, None, IfOk, OnOk, OnErr, length};
+ghost use Rattle.std.specs.Io.KnownBytes.{WriteAppends};
 
 use crate::draft_place::DraftPlace;
 use crate::folder::OpenFault;
 use crate::missing::path_of_missing;
-use crate::transfers::write_some;
+use crate::output_device::OutputDevice;
 use crate::version::Version;
 use cif_device::{Failed, Sink};
 use std::fs;
 use std::fs::File;
+use std::io::Write;
 use std::marker::Model;
 
-/// A draft: the new text of a file, while this text is being written.
+/// A draft: the new text of a file, while this text is being written to a writer.
 #[derive(Drop)]
-pub struct DraftFile {
+pub struct DraftFile<W> {
     name: String,
-    file: File,
+    file: OutputDevice<W>,
     place: Option<DraftPlace>,
-    failures: u64,
 }
 
 /// A draft that has replaced a named file.
@@ -32,15 +33,15 @@ pub(crate) struct Placed {
     pub(crate) version: Version,
 }
 
-impl Model for DraftFile {
+impl<W> Model for DraftFile<W> {
     ghost use Rattle.docker_host.specs.RealDevices.{OutputView};
 
-    ghost Value = { OutputView };
+    ghost Value = { OutputView W };
 
-    ghost view = { λ draft. record { failures = draft.failures } };
+    ghost view = { λ draft. draft.file };
 }
 
-impl DraftFile {
+impl DraftFile<File> {
     /// Makes an empty draft for the named file, if the file under the name is still the one that
     /// was seen. The draft is in the folder of the file, even if the file doesn't exist yet. If the
     /// name is a link, the draft is in the folder of the file to which the link leads.
@@ -48,16 +49,15 @@ impl DraftFile {
         rt: &HostRuntime,
         name: &str,
         seen: Option<Version>,
-    ) -> Result<DraftFile, OpenFault>
+    ) -> Result<DraftFile<File>, OpenFault>
         ensures { IfOk result (λ draft. draft.failures ≡ 0) }
     {
         let own = String::from_str(rt.alloc(), name)?;
         let (file, place) = open_draft(rt, name, seen)?;
         Ok(DraftFile {
             name: own,
-            file,
+            file: OutputDevice::new(file),
             place,
-            failures: 0,
         })
     }
 
@@ -66,31 +66,27 @@ impl DraftFile {
     /// device, which was written directly. If the draft's version can't be read, or the file can't
     /// be replaced, removes the draft if possible and returns `Failed`.
     pub(crate) fn place(self, rt: &HostRuntime) -> Result<Option<Placed>, Failed> {
-        let DraftFile {
-            name,
-            file,
-            place,
-            ..
-        } = self;
+        let DraftFile { name, file, place } = self;
         let Some(place) = place else {
             return Ok(None);
         };
+        let file = file.writer();
         // The version is read from the open draft, before the draft has the name of the file. So
         // the version can't be the version of any other file.
-        let version = Version::of_open(&file);
+        let version = Version::of_open(file);
         if let Some(version) = version {
-            if place.put(rt, name.as_str(), &file).is_ok() {
+            if place.put(rt, name.as_str(), file).is_ok() {
                 return Ok(Some(Placed { name, version }));
             }
         }
-        place.remove(rt, &file);
+        place.remove(rt, file);
         Err(Failed)
     }
 
     /// Removes the draft, if possible.
     pub(crate) fn remove(&self, rt: &HostRuntime) {
         if let Some(place) = &self.place {
-            place.remove(rt, &self.file);
+            place.remove(rt, self.file.writer());
         }
     }
 }
@@ -140,22 +136,28 @@ fn open_pipe(rt: &HostRuntime, name: &str, seen: Version) -> Result<File, OpenFa
     }
 }
 
-impl Sink for DraftFile {
+impl<W: Write> Sink for DraftFile<W> {
     ghost taken = { λ _. None };
 
     ghost failures = { λ draft. draft.failures };
 
-    fn write(&mut self, piece: &[u8]) -> Result<usize, Failed> {
-        match write_some(&mut self.file, piece) {
-            Some(n) => Ok(n),
-            None => {
-                self.failures += 1;
-                Err(Failed)
-            }
-        }
+    fn write(&mut self, piece: &[u8]) -> Result<usize, Failed>
+        requires failures { self.old.failures < 2 ^ 64 - 1 }
+        requires piece { 0 < length piece.now }
+        ensures within { IfOk result (λ n. n ≤ length piece.now) }
+        ensures progress { IfOk result (λ n. 0 < n) }
+        ensures no_failure { OnOk result (self.new.failures ≡ self.old.failures) }
+        ensures counted { OnErr result (self.new.failures ≡ self.old.failures + 1) }
+
+        // The contract of every sink has the clauses above. Only the contract of this sink has the
+        // clause below.
+        ensures bytes { WriteAppends (W.contents self.old.writer) (W.contents self.new.writer)
+            result piece.now }
+    {
+        self.file.write(piece)
     }
 
     fn failures(&self) -> u64 {
-        self.failures
+        self.file.failures()
     }
 }

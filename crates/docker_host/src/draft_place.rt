@@ -2,6 +2,9 @@
 //! runs, and has the draft bit until it has replaced its file. So a draft with this bit but without
 //! a lock was left by a command that was stopped. The next command removes this draft. If no file was
 //! there, a draft gets the name of its file only if nothing has come under that name.
+ghost use Rattle.std.specs.Prelude.{◌↔◌, IsTrue};
+ghost use Rattle.docker_host.specs.Versions.{HasDraftBit};
+
 use crate::folder::OpenFault;
 use crate::missing::{is_free, is_missing};
 use crate::version::Version;
@@ -129,7 +132,9 @@ fn draft_bit_of(file: &str) -> u32 {
 }
 
 /// Whether a file is a regular file with the draft bit.
-fn has_draft_bit(file: &Metadata) -> bool {
+fn has_draft_bit(file: &Metadata) -> bool
+    ensures { IsTrue result ↔ HasDraftBit file.now }
+{
     file.is_file() && file.permissions().mode() & DRAFT_BIT != 0
 }
 

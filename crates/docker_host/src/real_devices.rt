@@ -6,10 +6,13 @@ use crate::host::Host;
 use crate::input_device::InputDevice;
 use crate::output_device::OutputDevice;
 use crate::real_folder::RealFolder;
+use std::io::{Stderr, Stdin, Stdout};
 
 /// Returns the real devices: the standard streams and the real files. No device has failed, and the
 /// history of the folder is empty.
-pub fn real_host(rt: &HostRuntime) -> Host<InputDevice, RealFolder, OutputDevice, OutputDevice>
+pub fn real_host(
+    rt: &HostRuntime,
+) -> Host<InputDevice<Stdin>, RealFolder, OutputDevice<Stdout>, OutputDevice<Stderr>>
     ensures few { AreFew result }
     ensures no_failure { result.folder_failures ≡ 0 }
     ensures history { result.history ≡ [] }

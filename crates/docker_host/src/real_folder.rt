@@ -7,9 +7,10 @@ ghost use Rattle.docker_host.specs.History.{placed, unplaced, dropped};
 use crate::draft_file::{DraftFile, Placed};
 use crate::folder::{Drafted, Folder, OpenFault};
 use crate::history::{History, Note, Position};
-use crate::open_file::OpenFile;
+use crate::input_device::InputDevice;
 use crate::version::Version;
 use cif_device::{Failed, Sink, Source};
+use std::fs::File;
 use std::marker::Model;
 
 /// The result of a look at a real file.
@@ -70,9 +71,9 @@ impl RealFolder {
 }
 
 impl Folder for RealFolder {
-    type File = OpenFile;
+    type File = InputDevice<File>;
 
-    type Draft = DraftFile;
+    type Draft = DraftFile<File>;
 
     type Seen = Seen;
 
@@ -96,8 +97,8 @@ impl Folder for RealFolder {
         Seen { file, position }
     }
 
-    fn open(&mut self, name: &str) -> Result<OpenFile, OpenFault> {
-        match OpenFile::open(&self.rt, name) {
+    fn open(&mut self, name: &str) -> Result<InputDevice<File>, OpenFault> {
+        match InputDevice::open(&self.rt, name) {
             Ok(file) => {
                 self.history = self.history.then(&Note::OpenedUnnamed(name));
                 Ok(file)
@@ -114,7 +115,7 @@ impl Folder for RealFolder {
         }
     }
 
-    fn close(&mut self, file: OpenFile) {
+    fn close(&mut self, file: InputDevice<File>) {
         self.failures += file.failures();
         self.history = self.history.then(&Note::ClosedUnnamed);
     }
@@ -123,7 +124,7 @@ impl Folder for RealFolder {
         &mut self,
         name: &'a str,
         seen: &Seen,
-    ) -> Result<Drafted<'a, DraftFile>, OpenFault> {
+    ) -> Result<Drafted<'a, DraftFile<File>>, OpenFault> {
         self.placed = None;
         match DraftFile::make(&self.rt, name, seen.file) {
             Ok(draft) => {
@@ -142,7 +143,7 @@ impl Folder for RealFolder {
         }
     }
 
-    fn complete(&mut self, made: Drafted<'_, DraftFile>) -> Result<(), Failed>
+    fn complete(&mut self, made: Drafted<'_, DraftFile<File>>) -> Result<(), Failed>
         requires { self.old.failures + made.draft.failures < 2 ^ 64 - 1 }
         ensures asked { OnOk result (self.new.events ≡ self.old.events
             ++ placed made.entry.name.now None ∷ []) }
@@ -167,7 +168,7 @@ impl Folder for RealFolder {
         }
     }
 
-    fn discard(&mut self, made: Drafted<'_, DraftFile>)
+    fn discard(&mut self, made: Drafted<'_, DraftFile<File>>)
         requires { self.old.failures + made.draft.failures < 2 ^ 64 }
         ensures asked { self.new.events ≡ self.old.events ++ dropped made.entry.name.now ∷ [] }
         ensures counted { self.new.failures ≡ self.old.failures + made.entry.draft.failures }

@@ -1,4 +1,8 @@
 //! Versions of files. A file and a file that has replaced it have different versions.
+ghost use Rattle.std.specs.Prelude.{◌≡◌, ◌↔◌, IsTrue};
+ghost use Rattle.std.specs.Fs.{IsFile, file_type};
+ghost use Rattle.docker_host.specs.Versions.{AreOfOnePipe};
+
 use std::fs;
 use std::fs::{File, Metadata};
 use std::os::unix::fs::MetadataExt;
@@ -20,7 +24,9 @@ pub(crate) struct Version {
 
 impl Version {
     /// Returns the version of the file with this metadata.
-    pub(crate) fn of(file: &Metadata) -> Version {
+    pub(crate) fn of(file: &Metadata) -> Version
+        ensures { IsTrue result.regular ↔ IsFile (file_type file.now) }
+    {
         Version {
             device: file.dev(),
             node: file.ino(),
@@ -44,13 +50,17 @@ impl Version {
     }
 
     /// Whether this is the version of a regular file.
-    pub(crate) fn is_regular(&self) -> bool {
+    pub(crate) fn is_regular(&self) -> bool
+        ensures { result ≡ self.now.regular }
+    {
         self.regular
     }
 
     /// Whether both versions are of the same pipe or device. The times of the last write are
     /// ignored.
-    pub(crate) fn is_same_pipe(&self, other: &Version) -> bool {
+    pub(crate) fn is_same_pipe(&self, other: &Version) -> bool
+        ensures { IsTrue result ↔ AreOfOnePipe self.now other.now }
+    {
         !self.regular
             && !other.regular
             && self.device == other.device

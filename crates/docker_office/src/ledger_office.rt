@@ -1,5 +1,6 @@
 //! An office that can only list the files of a state. So it keeps only the state's ledger.
 ghost use Rattle.std.specs.Prelude.{◌≡◌, ◌-◌, ◌^◌, ◌<◌, IfOk, IfErr, OnOk, OnErr, Err};
+ghost use Rattle.cif_device.specs.Device.{IsNotPassed};
 ghost use Rattle.cif_device.specs.Device.{CountsFailure, Takes, TakesPart};
 ghost use Rattle.docker_bytes.specs.SourceRead.{ReadsState};
 ghost use Rattle.docker_model.specs.docker.DockerText.{files_text};
@@ -42,6 +43,8 @@ impl LedgerOffice {
         requires { S.failures source.old < 2 ^ 64 - 1 }
         ensures reads { EndsReadingState S.left S.failures dks_2 limit
             (ReadsState dks_2 limit (S.left source.old)) source.old source.new result }
+        ensures not_passed { IsNotPassed (S.ended source.old)
+            (S.passed source.old) (S.passed source.new) }
         ensures sent { IfOk result (λ office. (sent : states.State)
             → HoldsState dks_2 limit (S.left source.old) sent → office ≡ sent) }
     {

@@ -1,5 +1,6 @@
 //! An office, and its calls.
 ghost use Rattle.std.specs.Prelude.{◌≡◌, ℕ, List, [], ◌-◌, ◌^◌, ◌<◌, ◌≤◌, ◌⊎◌, ◌↔◌, max, IsOk, IsErr, IfErr, OnOk, OnErr, Err};
+ghost use Rattle.cif_device.specs.Device.{IsNotPassed};
 ghost use Rattle.cif_device.specs.Device.{CountsFailure, Takes, TakesPart};
 ghost use Rattle.docker_bytes.specs.SourceRead.{JoinsState, RaisesState, ReadsState};
 ghost use Rattle.docker_model.specs.docker.DockerText.{files_text};
@@ -62,9 +63,11 @@ impl Office {
         limit: u64,
     ) -> Result<Office, OfficeFault>
         requires { S.failures source.old < 2 ^ 64 - 1 }
-        ensures { EndsReadingState S.left S.failures (format_meant format) limit
+        ensures reads { EndsReadingState S.left S.failures (format_meant format) limit
             (ReadsState (format_meant format) limit (S.left source.old))
             source.old source.new result }
+        ensures not_passed { IsNotPassed (S.ended source.old)
+            (S.passed source.old) (S.passed source.new) }
     {
         let state = read_unindexed(alloc, format, source, limit)?;
         Ok(Office { alloc, state })
@@ -90,6 +93,8 @@ impl Office {
         ensures takes { EndsTakingFile S.left S.failures limit
             (λ _. TakesFile limit (S.left source.old) self.old self.new)
             source.old source.new result }
+        ensures not_passed { IsNotPassed (S.ended source.old)
+            (S.passed source.old) (S.passed source.new) }
         ensures summary { IsOk result → (files : List (List (List ℕ))) (horizon : ℕ)
             → IsSummary files horizon self.old
             → KnowsFileToo limit (S.left source.old) files horizon self.new }
@@ -130,6 +135,8 @@ impl Office {
         ensures reads { EndsReadingState S.left S.failures dks_2 limit
             (λ _. JoinsState dks_2 limit (S.left source.old) self.old self.new)
             source.old source.new result }
+        ensures not_passed { IsNotPassed (S.ended source.old)
+            (S.passed source.old) (S.passed source.new) }
         ensures summary { IsOk result
             → JoinsSummaries limit (S.left source.old) self.old self.new }
         ensures unchanged { IsErr result → self.new ≡ self.old }
@@ -147,6 +154,8 @@ impl Office {
         ensures reads { EndsReadingState S.left S.failures dks_2 limit
             (λ _. ReadsState dks_2 limit (S.left source.old) self.new)
             source.old source.new result }
+        ensures not_passed { IsNotPassed (S.ended source.old)
+            (S.passed source.old) (S.passed source.new) }
         ensures sent { IsOk result → (sent : states.State)
             → HoldsState dks_2 limit (S.left source.old) sent → self.new ≡ sent }
         ensures unchanged { IsErr result → self.new ≡ self.old }
@@ -168,6 +177,8 @@ impl Office {
         ensures reads { EndsReadingState S.left S.failures dks_2 limit
             (λ _. RaisesState dks_2 limit (S.left source.old) day self.new)
             source.old source.new result }
+        ensures not_passed { IsNotPassed (S.ended source.old)
+            (S.passed source.old) (S.passed source.new) }
         ensures sent { IsOk result → (sent : states.State)
             → HoldsState dks_2 limit (S.left source.old) sent
             → self.new ≡ raise_horizon day sent }
@@ -186,6 +197,8 @@ impl Office {
         ensures reads { EndsReadingState S.left S.failures dks_1 limit
             (λ _. ReadsState dks_1 limit (S.left source.old) self.new)
             source.old source.new result }
+        ensures not_passed { IsNotPassed (S.ended source.old)
+            (S.passed source.old) (S.passed source.new) }
         ensures unchanged { IsErr result → self.new ≡ self.old }
     {
         self.state = migrate(self.alloc, source, limit)?;

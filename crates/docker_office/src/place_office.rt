@@ -1,6 +1,7 @@
 //! An office that prints the docker of one timing point and one day. It keeps only the part of a
 //! state from which this docker is made.
 ghost use Rattle.std.specs.Prelude.{◌≡◌, ◌-◌, ◌^◌, ◌<◌, ◌≤◌, ◌⊎◌, ◌↔◌, IsOk, IfOk, IfErr, Err};
+ghost use Rattle.cif_device.specs.Device.{IsNotPassed};
 ghost use Rattle.cif_device.specs.Device.{CountsFailure};
 ghost use Rattle.docker_bytes.specs.SourceRead.{ReadsState};
 ghost use Rattle.docker_model.specs.state.Lapse.{IsDayRefused};
@@ -54,6 +55,8 @@ impl PlaceOffice {
         ensures reads { EndsReadingState S.left S.failures dks_2 limit
             (λ office. ReadsState dks_2 limit (S.left source.old) office.state)
             source.old source.new result }
+        ensures not_passed { IsNotPassed (S.ended source.old)
+            (S.passed source.old) (S.passed source.new) }
         ensures sent { IfOk result (λ office. (sent : states.State)
             → HoldsState dks_2 limit (S.left source.old) sent → office.state ≡ sent) }
         ensures place { IfOk result (λ office. office.place ≡ place) }
@@ -79,6 +82,8 @@ impl PlaceOffice {
         ensures takes { EndsTakingFile S.left S.failures limit
             (λ office. TakesFile limit (S.left source.old) no_state office.state)
             source.old source.new result }
+        ensures not_passed { IsNotPassed (S.ended source.old)
+            (S.passed source.old) (S.passed source.new) }
         ensures place { IfOk result (λ office. office.place ≡ place) }
         ensures day { IfOk result (λ office. office.day ≡ day) }
     {

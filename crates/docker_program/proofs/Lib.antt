@@ -1,8 +1,12 @@
 pub mod JobSourcesLemmas
 pub mod ProgramLemmas
+pub mod GivenLemmas
 pub mod PrintingLemmas
 pub mod EndingLemmas
 pub mod CommandLemmas
 pub mod VersionLemmas
 pub mod ReplacingLemmas
 pub mod ShelfRunLemmas
+pub mod TwoOfficesFiles
+pub mod TwoOfficesDocker
+pub mod TwoOfficesSteps

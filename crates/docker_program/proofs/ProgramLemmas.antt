@@ -1,5 +1,6 @@
 -- How the program ends depends on which step of its job failed, if any.
 use Rattle.std.proofs.Common.{◌≡◌, ◌≢◌, ◌≤◌, ◌↔◌, ℕ, Bool, List, [], ◌∷◌, Option, None, Some, Err, arith, ap, inl, inr, refl, sym, ◌∙◌, subst}
+use Rattle.cif_device.specs.Device.{IsNotPassed}
 use Rattle.docker_host.specs.History.{Bytes, Event}
 use Rattle.docker_host.specs.FaultSink.{FaultsView, TellsText, faults_of, faults_view}
 use Rattle.docker_host.specs.Host.{HostView}
@@ -93,6 +94,13 @@ ends_done words names_bytes before old new shown read job rest prepared same see
       };
     })
 
+-- suppose that the input wasn't read after its end while the job was found, and hadn't reported its
+-- end since then. If it wasn't read after its end later, it never was
+pub never_passed : (before old : HostView) (mid_ended mid_passed passed : Bool) → before ≡ old → mid_ended ≡ before.ended
+    → IsNotPassed before.ended before.passed mid_passed → IsNotPassed mid_ended mid_passed passed → IsNotPassed old.ended old.passed passed
+never_passed before old mid_ended mid_passed passed same still first second =
+    subst (λ (host : HostView). IsNotPassed host.ended host.passed passed) same (λ unended. second (still ∙ unended) ∙ first unended)
+
 -- the host after its sink of faults has changed: the sink now has these bytes and this failure
 -- count
 abbrev pub with_faults : HostView → Bytes → ℕ → HostView
@@ -147,10 +155,10 @@ ends_still words names_bytes old new faults failures (Office office.Sink) ends =
 -- `perform` says
 pub performs_telling : (words : List Text) (names_bytes : Bool) (old shown new : HostView) (faults : Bytes) (failures : ℕ) (fault : Fault) (status : ℕ)
     → shown ≡ new → EndsBy words names_bytes old new (Some fault) → IsCounted (status_of fault) (failures_of old) (failures_of new)
-    → new.faults ≡ old.faults → new.faults_failures ≡ old.faults_failures → status ≡ status_of fault
+    → IsNotPassed old.ended old.passed new.passed → new.faults ≡ old.faults → new.faults_failures ≡ old.faults_failures → status ≡ status_of fault
     → TellsText (fault_line fault) (faults_of shown) (faults_view faults failures)
     → Performs words names_bytes old (with_faults shown faults failures) status
-performs_telling words names_bytes old shown new faults failures fault status same ends counted kept untold is tells = record {
+performs_telling words names_bytes old shown new faults failures fault status same ends counted not_passed kept untold is tells = record {
   ending = Some fault;
   ends = ends_still words names_bytes old shown faults failures fault
       (subst (λ (host : HostView). EndsBy words names_bytes old host (Some fault)) (sym same) ends);
@@ -159,6 +167,7 @@ performs_telling words names_bytes old shown new faults failures fault status sa
       (ap faults_of same ∙ (λ i. faults_view (kept i) (untold i))) tells;
   counted = subst (λ (n : ℕ). IsCounted n (failures_of old) (failures_of shown)) (sym is)
       (subst (λ (host : HostView). IsCounted (status_of fault) (failures_of old) (failures_of host)) (sym same) counted);
+  not_passed = subst (λ (host : HostView). IsNotPassed old.ended old.passed host.passed) (sym same) not_passed;
 }
 
 -- if there are words and a job was found (`IsAsked`), the words name a job

@@ -5,3 +5,4 @@ pub mod Program
 pub mod Commands
 pub mod Replacing
 pub mod ShelfRuns
+pub mod TwoOffices

@@ -1,5 +1,7 @@
 -- What the program does when it is started with these words, and how its devices change.
-use Rattle.std.specs.Prelude.{◌≡◌, ◌≢◌, ◌↔◌, ℕ, ◌+◌, Bool, List, [], ◌∷◌, length, Option, Some, None, Result, Ok, Err, ◌⊎◌}
+use Rattle.std.specs.Prelude.{◌≡◌, ◌≢◌, ◌↔◌, ℕ, ◌+◌, Bool, List, [], ◌∷◌, length, map, String, string_bytes, Option, Some, None, Result, Ok, Err, ◌⊎◌}
+use Rattle.std.specs.Global.{Global, Vec}
+use Rattle.cif_device.specs.Device.{IsNotPassed}
 use Rattle.docker_host.specs.History.{Bytes, Event}
 use Rattle.docker_host.specs.FaultSink.{FaultsView, TellsText, faults_of}
 use Rattle.docker_host.specs.Host.{HostView}
@@ -7,6 +9,7 @@ use Rattle.docker_office.specs.declared.fault.OfficeFault.TheVariants as office
 use Rattle.docker_cmd.specs.Words.{Text}
 use Rattle.docker_cmd.specs.Job.{JobView, IsJobOf, NameNoJob}
 use Rattle.docker_cmd.specs.JobLine.{ReadsAtMost, ReadsJob, HasJob, HasNoJob}
+use Rattle.docker_cmd.specs.declared.job_fault.JobFault.{JobFault}
 use Rattle.docker_cmd.specs.declared.job_fault.JobFault.TheVariants as job
 use Rattle.docker_cmd.specs.Prepared.{PreparedView}
 use Rattle.docker_cmd.specs.FaultLine.{IsCounted, fault_line, status_of}
@@ -147,7 +150,8 @@ abbrev pub failures_of : HostView → ℕ
 failures_of host = host.input_failures + host.folder_failures + host.output_failures
 
 -- the program was started with these words, and ended with this status. The fields give the fault
--- that ended the program (if there was one), its requests to the folder, and its output.
+-- that ended the program (if there was one), its requests to the folder, and its output. Standard
+-- input wasn't read after it had reported its end.
 -- `names_bytes` says whether contracts can say which bytes were written to the folder's drafts
 pub record Performs (words : List Text) (names_bytes : Bool) (old new : HostView)
     (status : ℕ) : Type 0 where
@@ -156,6 +160,26 @@ pub record Performs (words : List Text) (names_bytes : Bool) (old new : HostView
   pub status_is : status ≡ ending_status ending
   pub tells : Tells ending (faults_of old) (faults_of new)
   pub counted : IsCounted status (failures_of old) (failures_of new)
+  pub not_passed : IsNotPassed old.ended old.passed new.passed
+
+-- the bytes of each of these words
+abbrev pub word_bytes : List (String Global) → List Text
+word_bytes = map (λ word. string_bytes word)
+
+-- the program's words couldn't be read, because of this fault. The fault was reported to the sink
+-- of faults, and nothing else changed
+pub record HasNoWords (fault : JobFault) (old new : HostView) (status : ℕ) : Type 0 where
+  pub untouched : new ≡ record old { faults = new.faults; faults_failures = new.faults_failures }
+  pub status_is : status ≡ status_of (Job fault)
+  pub tells : TellsText (fault_line (Job fault)) (faults_of old) (faults_of new)
+
+-- the program was started, and ended with this status. `given` has its words, or the fault because
+-- of which they couldn't be read
+abbrev pub PerformsGiven : (given : Result (Vec (String Global)) JobFault) → Bool → HostView → HostView
+    → ℕ → Type 0
+PerformsGiven (Ok words) names_bytes old new status =
+    Performs (word_bytes words.items) names_bytes old new status
+PerformsGiven (Err fault) names_bytes old new status = HasNoWords fault old new status
 
 -- if there are words, the status is 2 (usage) if and only if the words name no job
 abbrev pub IsUsageStatus : List Text → ℕ → Type 0

@@ -1,5 +1,6 @@
 //! Opens, reads and closes the sources of a job.
 ghost use Rattle.std.specs.Prelude.{◌≡◌, ◌+◌, ◌-◌, ◌^◌, ◌<◌, OnOk};
+ghost use Rattle.cif_device.specs.Device.{IsNotPassed};
 ghost use Rattle.docker_cmd.specs.FaultLine.{IsCounted, result_status};
 ghost use Rattle.docker_host.specs.History.{Bytes as HeldBytes};
 ghost use Rattle.docker_program.specs.SourceNames.{file_and_input, two_files};
@@ -29,6 +30,7 @@ pub(crate) fn read_sources<'a, S: Source, D: Folder>(
         (S.failures stdin.old + D.failures folder.old)
         (S.failures stdin.new + D.failures folder.new) }
     ensures stdin_kept { OnOk result (S.failures stdin.new ≡ S.failures stdin.old) }
+    ensures not_passed { IsNotPassed (S.ended stdin.old) (S.passed stdin.old) (S.passed stdin.new) }
     ensures folder_kept { OnOk result (D.failures folder.new ≡ D.failures folder.old) }
 {
     match names(job) {
@@ -58,6 +60,8 @@ fn read_file_and_second<'a, T: Source, D: Folder>(
         (T.failures second.old + D.failures folder.old)
         (T.failures second.new + D.failures folder.new) }
     ensures second_kept { OnOk result (T.failures second.new ≡ T.failures second.old) }
+    ensures not_passed { IsNotPassed (T.ended second.old)
+        (T.passed second.old) (T.passed second.new) }
     ensures folder_kept { OnOk result (D.failures folder.new ≡ D.failures folder.old) }
 {
     let mut file = match folder.open(name) {

@@ -1,7 +1,7 @@
 //! Laws that hold for each command, and for each list of versions of STATE files. Each law is the
 //! contract of a function that does nothing. The law holds for all values of the variables in the
 //! function's clauses.
-ghost use Rattle.std.specs.Prelude.{◌≡◌, ◌≢◌, ℕ, List, Some};
+ghost use Rattle.std.specs.Prelude.{◌≡◌, ◌≢◌, ◌≤◌, ℕ, List, Some};
 ghost use Rattle.docker_model.specs.state.StateText.{dks_2};
 ghost use Rattle.docker_model.specs.state.Summary.{HaveDistinctMoments};
 ghost use Rattle.docker_model.specs.state.Table.{Table, IsPlainTable};
@@ -12,6 +12,7 @@ ghost use Rattle.docker_cmd.specs.Job.{JobView};
 ghost use Rattle.docker_cmd.specs.Words.{Text};
 ghost use Rattle.docker_program.specs.Commands.{AreVersions, IsDone, IsKnownText, IsRun, IsUndone, IsVersion, Knows, MayStore, Prints, PrintsKnown, Run, Stores, Version, WritesKnown, printing};
 ghost use Rattle.docker_host.specs.Standing.{IsStandingOf, Standing};
+ghost use Rattle.docker_program.specs.Program.{IsUsageStatus};
 ghost use Rattle.docker_program.specs.Replacing.{ReplacesRead};
 ghost use Rattle.docker_program.specs.Sources.{SourcesRead};
 
@@ -23,6 +24,13 @@ pub fn commands_store_or_print()
     ensures done { (run : Run) → IsRun run 0 → IsDone run }
     ensures undone { (run : Run) (status : ℕ) → IsRun run status → status ≢ 0
         → IsUndone run status }
+{}
+
+/// If a command is started with words, its status is 2 if and only if the words name no job. No
+/// status is greater than 4.
+pub fn commands_end_with_few_statuses()
+    ensures usage { (run : Run) (status : ℕ) → IsRun run status → IsUsageStatus run.words status }
+    ensures few { (run : Run) (status : ℕ) → IsRun run status → status ≤ 4 }
 {}
 
 /// A command never overwrites a text unread. Suppose that contracts can say which bytes the files of

@@ -1,5 +1,6 @@
 //! The program: the order in which it looks, reads and writes.
 ghost use Rattle.std.specs.Prelude.{◌≡◌};
+ghost use Rattle.cif_device.specs.Device.{IsNotPassed};
 ghost use Rattle.docker_cmd.specs.FaultLine.{IsCounted};
 ghost use Rattle.docker_cmd.specs.Words.{texts};
 ghost use Rattle.docker_host.specs.Host.{AreFew};
@@ -29,6 +30,7 @@ fn do_job<S: Source, D: Folder, K: Sink, L: Sink>(
         (failures_of host.old) (failures_of host.new) }
     ensures faults { host.new.faults ≡ host.old.faults }
     ensures untold { host.new.faults_failures ≡ host.old.faults_failures }
+    ensures not_passed { IsNotPassed host.old.ended host.old.passed host.new.passed }
 {
     let job = requested_job(alloc, words, &mut host.input)?;
     let looked = look_at_stored(&job, &mut host.folder);

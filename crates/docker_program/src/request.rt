@@ -1,6 +1,6 @@
 //! Finds the job that is named by the words or by the first line of standard input.
-ghost use Rattle.std.specs.Prelude.{◌≡◌, ◌-◌, ◌^◌, ◌<◌, [], IfOk, Err};
-ghost use Rattle.cif_device.specs.Device.{CountsFailure};
+ghost use Rattle.std.specs.Prelude.{◌≡◌, ◌-◌, ◌^◌, ◌<◌, [], IfOk, OnOk, Err};
+ghost use Rattle.cif_device.specs.Device.{CountsFailure, IsNotPassed};
 ghost use Rattle.docker_cmd.specs.Words.{texts};
 ghost use Rattle.docker_program.specs.Program.{AskForNone, AskForSome, AsksAtMost, AsksFor};
 
@@ -26,6 +26,8 @@ pub(crate) fn requested_job<S: Source>(
     ensures line { (result ≡ Err JobFault.Source) → texts words.now ≡ [] }
     ensures failures { CountsFailure (result ≡ Err JobFault.Source)
         (S.failures stdin.old) (S.failures stdin.new) }
+    ensures not_ended { OnOk result (S.ended stdin.new ≡ S.ended stdin.old) }
+    ensures not_passed { IsNotPassed (S.ended stdin.old) (S.passed stdin.old) (S.passed stdin.new) }
 {
     if words.is_empty() {
         job_line(alloc, stdin)

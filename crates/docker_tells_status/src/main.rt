@@ -2,7 +2,8 @@
 //! each list it prints the exit status.
 #![tactic(auto)]
 
-use docker_program::run_words;
+use docker_host::real_host;
+use docker_program::perform;
 use std::io;
 
 fn main(rt: HostRuntime) -> io::Result<()> {
@@ -23,7 +24,7 @@ fn main(rt: HostRuntime) -> io::Result<()> {
         &["check", "stdin"],
     ];
     for words in rows {
-        let status = run_words(&rt, words);
+        let status = perform(rt.alloc(), words, &mut real_host(&rt));
         println!(rt; "status {status}")?;
     }
     Ok(())

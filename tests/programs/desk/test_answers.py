@@ -5,10 +5,12 @@ import subprocess
 
 import desk_extracts as extracts
 import records
-from desks import DAY_REFUSED, DEVICE, DONE, MEMORY, NOTHING, Answer, Desk, desk, docker, ends_well, written
+from desks import DAY_REFUSED, DEVICE, DONE, MEMORY, NOTHING, Answer, Desk, desk, docker, ends_well
+from given import BAD_STATES
 from lists import train_text
-from mirror import BAD_STATES, WRITING_LINES, bad_states, give_large, give_taken, mirrored, reading, state_of, writing
-from programs import Ended, give, held, in_memory
+from mirror import WRITING_LINES, give_large, mirrored, reading, state_of, writing
+from outcomes import state_refused
+from programs import give, held, in_memory
 from tables import each
 
 PLACE_DAYS = [
@@ -108,25 +110,21 @@ def test_a_file_that_is_refused_changes_nothing(name):
         assert (asked.ask("files"), asked.ask("print ASHFELD 2024-06-12")) == before
 
 
-@each("name", BAD_STATES)
-def test_a_state_that_is_refused_is_not_merged(name):
-    give(bad_states()[name], "other")
+@each("text, offset, cause", BAD_STATES)
+def test_a_state_that_is_refused_is_not_merged(text, offset, cause):
+    give(text, "other")
     with writing("monday") as asked:
         before = asked.ask("files"), asked.ask("print ASHFELD 2024-06-12")
-        wanted = docker("merge", "STATE", "other")
-        assert wanted.status == 1
-        assert asked.ask("merge other") == wanted
+        asked.gives(Answer(1, state_refused(offset, cause).errors), "merge other")
         assert (asked.ask("files"), asked.ask("print ASHFELD 2024-06-12")) == before
 
 
-@each("name", BAD_STATES)
-def test_renew_refuses_a_state_that_is_none_now(name):
+@each("bad, offset, cause", BAD_STATES)
+def test_renew_refuses_a_state_that_is_none_now(bad, offset, cause):
     with writing("full") as asked:
         before, good = asked.ask("files"), held()
-        bad = give(bad_states()[name])
-        wanted = docker("files", "STATE")
-        assert wanted.status == 1
-        assert asked.ask("renew") == wanted
+        give(bad)
+        asked.gives(Answer(1, state_refused(offset, cause).errors), "renew")
         assert asked.ask("files") == before
         assert asked.ask("save") == DEVICE
         assert held() == bad
@@ -232,7 +230,7 @@ def renamed(text):
 def test_a_file_that_changes_between_two_takes_of_its_name(comes):
     """Each `take` takes what the file holds when that `take` opens it."""
     with mirrored("full") as (asked, mirror):
-        for name in ("monday", "night", "field", "tuesday", "cut", "last", "monday"):
+        for name in ("monday", "night", "no_day", "tuesday", "cut", "last", "monday"):
             comes(held(name))
             assert asked.ask("take extract") == mirror.answer("take", name), name
             mirror.agrees(asked, "files", "print ASHFELD 2024-06-12", "print CORHAM 2024-06-18")
@@ -263,27 +261,3 @@ def test_a_docker_of_more_than_a_million_bytes():
     assert (wanted.status, len(wanted.text)) == (0, 57 * 18002)
     is_same = desk("STATE", given=b"print ASHFELD 2024-06-12\n").output == wanted.written()
     assert is_same, "another answer"
-
-
-def trip_between(number, places):
-    """A schedule between three of the places. The places depend on its number."""
-    hour = f"{number % 24:02}"
-    first, second, third = (places[number * by % len(places)] for by in (1, 7, 11))
-    return (
-        records.basic("N", f"T{number:05}", "240101", records.NO_END, records.ALWAYS, "1T00")
-        + records.origin(first, f"{hour}00")
-        + records.calls(second, f"{hour}10", f"{hour}11")
-        + records.terminus(third, f"{hour}45")
-    )
-
-
-def test_the_same_dockers_as_docker_print_of_50_places():
-    places = [f"P{n:05}" for n in range(50)]
-    trips = "".join(trip_between(number, places) for number in range(500))
-    codes = "".join(records.place("TI", code, f"PLACE {code}") for code in places)
-    give_taken(records.extract(records.header("240609"), codes, trips))
-    lines = "".join(f"print {code} 2024-06-12\n" for code in places)
-    ended = desk("STATE", given=lines.encode())
-    wanted = [docker("print", "STATE", code, "2024-06-12") for code in places]
-    assert all(answer.text.count(b"\n") > 4 for answer in wanted), "each docker has lines"
-    assert ended == Ended(0, written(wanted), b"")

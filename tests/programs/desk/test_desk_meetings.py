@@ -5,7 +5,7 @@ import typing
 
 import pytest
 from desks import DEVICE, DONE, NOT_SAVED, answers_in, written
-from meetings import BECOMES_PIPE, DRAFTS, GOES, Draft, Losing, Names, at_each_call, calls_of, met
+from meetings import DRAFTS, Draft, at_each_call, calls_of, met
 from mirror import by_docker, given, state_of
 from programs import DESK, DOCKER, Ended, give, held
 from tables import each
@@ -204,17 +204,6 @@ def test_a_text_that_is_written_just_after_a_save_in_which_a_look_fails(device, 
         assert held("STATE") == came, what
         assert answers_in(found.ended.output)[-1] == DEVICE, what
         assert (found.ended.status, found.ended.errors) == (1, NOT_SAVED), what
-
-
-@pytest.mark.timeout(120)
-@each("name, line", GOES | BECOMES_PIPE)
-def test_a_state_that_is_read_and(device, name, line):
-    """A save between the reading and its last look at STATE is refused, and writes nothing."""
-    names = Names(state_of("full"), state_of("tuesday"))
-    wanted = Ended(1, written([DONE, DEVICE]), NOT_SAVED)
-    command = [DESK, "--write", name]
-    losing = Losing(device, names, command, b"take monday\nsave\n", wanted)
-    losing.at_each(name, line, "open monday")
 
 
 @each("is_locked, mode", DRAFTS)

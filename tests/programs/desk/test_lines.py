@@ -8,9 +8,9 @@ import termios
 
 import desk_extracts as extracts
 from checks import soon
-from desks import NOTHING, USAGE, Desk, desk, docker, ends_well, written
+from desks import NOTHING, Desk, desk, docker, ends_well, written
 from mirror import WRITING_LINES, give_large, mirrored, reading, state_of, writing
-from programs import ROOT, Ended, give, held
+from programs import Ended, give, held
 from tables import each
 
 GOOD_LINE = "print ASHFELD 2024-06-12"
@@ -33,13 +33,6 @@ def test_lines_that_ask_for_nothing():
         asked.gives(NOTHING, *NOT_ASKED)
         assert asked.ask("files") == docker("files", "STATE")
     assert held() == state_of("full")
-
-
-def test_the_usage_line_is_the_one_of_formats():
-    give(state_of())
-    lines = (ROOT / "docs/FORMATS.md").read_text(encoding="utf-8").split("\n")
-    assert USAGE.decode().removesuffix("\n") in lines
-    assert desk("STATE", given=b"\n").output == NOTHING.written()
 
 
 BYTES = (0x00, 0x01, 0x09, 0x0D, 0x1B, 0x1F, 0x7F, 0x80, 0xA0, 0xC3, 0xFF)

@@ -11,12 +11,9 @@ import time
 import pytest
 from desks import DEVICE, DONE, Desk, desk, docker, ends_well
 from mirror import give_large, mirrored, state_of, writing
+from outcomes import holds_only
 from programs import Ended, give, held
 from tables import alone, each
-
-
-def no_draft():
-    assert not os.path.lexists("STATE.new"), "a draft is left"
 
 
 def with_large():
@@ -30,8 +27,7 @@ def test_save_twice_in_a_row_and_with_nothing_changed():
     with mirrored("full") as (asked, mirror):
         for line in ("save", "save", "take monday", "save", "save", "files", "save"):
             assert asked.ask(line) == mirror.answer(*line.split()), line
-            assert held() == mirror.stored
-            no_draft()
+            holds_only("STATE", mirror.stored)
 
 
 def test_save_keeps_the_permissions_of_state_and_its_link():
@@ -59,15 +55,13 @@ def test_a_disk_that_is_full_at(size):
         limit_files(asked.process, size)
         for _ in range(2):
             assert asked.ask("save") == DEVICE
-            assert held() == before
-            no_draft()
+            holds_only("STATE", before)
         files = asked.ask("files")
         assert asked.ask("print ASHFELD 2024-06-14").text.count(b" L0") == 800
         limit_files(asked.process, resource.RLIM_INFINITY)
         asked.does("save")
-        assert held() == with_large()
+        holds_only("STATE", with_large())
         assert files == docker("files", "STATE")
-        no_draft()
 
 
 ON_SMALL = 'mount -t tmpfs -o size=512k none small && cp STATE small/STATE && exec "$@"'
@@ -120,8 +114,7 @@ def test_a_file_that_has_the_drafts_name_and_is_no_draft():
         assert (held("STATE.new"), held()) == (b"mine", state_of("full"))
         os.remove("STATE.new")
         asked.does("save")
-        assert held() == state_of("full", "monday")
-        no_draft()
+        holds_only("STATE", state_of("full", "monday"))
 
 
 def test_a_draft_that_a_killed_command_left():
@@ -131,8 +124,7 @@ def test_a_draft_that_a_killed_command_left():
         assert asked.ask("files") == docker("files", "STATE")
         assert os.path.exists("STATE.new"), "it is gone before a save"
         asked.does("take monday", "save")
-        no_draft()
-    assert held() == state_of("full", "monday")
+        holds_only("STATE", state_of("full", "monday"))
 
 
 SIGNALS = ["SIGINT", "SIGTERM"]
@@ -183,8 +175,7 @@ def test_a_signal_at_random_moments_of_a_save(name):
         met.add(signalled(which, before, wanted, numbers.uniform(0, longest)))
         ended = desk("--write", "STATE", given=b"take large\nsave\n")
         assert ended == Ended(0, DONE.written() * 2, b"")
-        assert held() == wanted
-        no_draft()
+        holds_only("STATE", wanted)
     assert (True, True) in met, "no signal met a save"
 
 
@@ -196,5 +187,4 @@ def test_a_signal_between_requests(name):
         asked.does("take monday")
         asked.process.send_signal(which)
         assert asked.ended() == Ended(-which, b"", b"")
-    assert held() == before
-    no_draft()
+    holds_only("STATE", before)

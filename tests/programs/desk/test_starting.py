@@ -2,9 +2,11 @@
 import os
 
 from desks import DONE, USAGE, Answer, Desk, desk, docker, written
+from given import BAD_STATES
 from lists import train_text
-from mirror import BAD_STATES, Mirror, bad_states, state_of
-from programs import DESK, DEVICE_LINE, Ended, give, held, run
+from mirror import Mirror, state_of
+from outcomes import state_refused
+from programs import CLOSED, DESK, DEVICE_LINE, Ended, give, held, preloading, redirected, run
 from tables import each
 
 REFUSED_WORDS = [
@@ -39,13 +41,11 @@ def test_a_state_by_any_name_that_is_a_plain_word(name):
     assert held(name) == mirror.stored
 
 
-@each("name", BAD_STATES)
-def test_a_state_that_is_refused(name):
-    text = give(bad_states()[name])
-    wanted = docker("files", "STATE")
-    assert wanted.status == 1
+@each("text, offset, cause", BAD_STATES)
+def test_a_state_that_is_refused(text, offset, cause):
+    give(text)
     for words in (("STATE",), ("--write", "STATE")):
-        assert unread_by(*words) == (Ended(1, b"", wanted.text), SAVING)
+        assert unread_by(*words) == (state_refused(offset, cause), SAVING)
     assert held() == text
 
 
@@ -74,55 +74,44 @@ def test_a_state_that_is_there_but_empty_of_files():
     assert ended == Ended(0, written(wanted), b"")
 
 
-def closing(*numbers):
-    """The words that close these streams of the program that they start."""
-    return lambda: [os.close(number) for number in numbers]
-
-
 LINES = b"take monday\nsave\nfiles\n"
-STREAMS = ("stdin", "stdout", "stderr")
-CLOSED = [(0,), (1,), (2,), (0, 1), (0, 2), (1, 2), (0, 1, 2)]
+
+
+def without(streams, *words, given=b""):
+    """How a desk ends that is started with these streams closed."""
+    return run([*redirected(streams), DESK, *words], given)
 
 
 def test_standard_input_that_is_closed():
     before = give(state_of("full"))
-    ended = run([DESK, "--write", "STATE"], stdin=None, preexec_fn=closing(0))
-    assert ended == Ended(4, b"", DEVICE_LINE)
+    assert without("<&-", "--write", "STATE") == Ended(4, b"", DEVICE_LINE)
     assert held() == before
 
 
 def test_standard_output_that_is_closed():
     give(state_of("full"))
-    ended = run([DESK, "STATE"], LINES, stdout=None, preexec_fn=closing(1))
-    assert ended == Ended(4, None, DEVICE_LINE)
-    ended = run([DESK, "STATE"], b"", stdout=None, preexec_fn=closing(1))
-    assert ended == Ended(0, None, b"")
+    assert without(">&-", "STATE", given=LINES) == Ended(4, b"", DEVICE_LINE)
+    assert without(">&-", "STATE") == Ended(0, b"", b"")
 
 
 def test_standard_error_that_is_closed():
     mirror = Mirror("full")
     give(mirror.stored)
-    ended = run([DESK, "--write", "STATE"], LINES, stderr=None, preexec_fn=closing(2))
     wanted = [mirror.answer("take", "monday"), mirror.answer("save"), mirror.answer("files")]
-    assert ended == Ended(0, written(wanted), None)
+    assert without("2>&-", "--write", "STATE", given=LINES) == Ended(0, written(wanted), b"")
     assert held() == mirror.stored
-    ended = run([DESK, "--write", "STATE"], b"take night\n", stderr=None, preexec_fn=closing(2))
-    assert ended.status == 1
+    assert without("2>&-", "--write", "STATE", given=b"take night\n").status == 1
     for words, status in (((), 2), (("missing",), 4), (("full",), 1)):
-        ended = run([DESK, *words], b"", stderr=None, preexec_fn=closing(2))
-        assert ended == Ended(status, b"", None), f"the end of {words}"
+        assert without("2>&-", *words) == Ended(status, b"", b""), f"the end of {words}"
 
 
-def test_state_is_not_opened_under_the_number_of_a_stream_that_is_closed(device):
+@each("streams", CLOSED)
+def test_state_is_not_opened_under_the_number_of_a_stream_that_is_closed(device, streams):
     before = give(state_of("full"))
-    environment = os.environ | {"LD_PRELOAD": device, "WRONG": f"{os.getcwd()}/wrong"}
-    for numbers in CLOSED:
-        options = {STREAMS[number]: None for number in numbers}
-        options |= {"env": environment, "preexec_fn": closing(*numbers)}
-        ended = run([DESK, "--write", "STATE"], b"take full\nfiles\nsave\n", **options)
-        assert ended.status == (0 if numbers == (2,) else 4), f"the status without {numbers}"
-        assert held() == before, f"STATE without {numbers}"
-        assert not os.path.exists("wrong"), f"a file has a stream's number without {numbers}"
+    ended = run([*redirected(streams), *preloading(device, WRONG="wrong"), DESK, "--write", "STATE"], b"take full\nfiles\nsave\n")
+    assert ended.status == (0 if streams == "2>&-" else 4)
+    assert held() == before
+    assert not os.path.exists("wrong"), "a file has the number of a stream"
 
 
 def test_a_desk_leaves_the_folder_as_it_was_if_it_only_reads():

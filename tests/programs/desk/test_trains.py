@@ -1,16 +1,12 @@
 """The request `trains`, compared with an independent reading of extracts."""
 import datetime
-import random
 
 import lists
+import plans
 import pytest
 import records
 from desks import DAY_REFUSED, Answer, Desk
 from mirror import give_taken
-
-PLACES = ["ASHFELD", "BRAYTON", "CORHAM"]
-IDENTITIES = ["1A10", "1A11", "2B20"]
-DAYS = [datetime.date(2024, 6, day) for day in range(8, 18)]
 
 
 def identities(lines):
@@ -21,18 +17,18 @@ def identities(lines):
 
 def trains_text(files, identity, day):
     """The expected answer for these files."""
-    uids = {line[3:9] for text in files for line in text.split("\n") if line[:2] == "BS"}
-    lines = []
-    for uid in sorted(uids):
-        found = lists.chosen(files, uid, day)
-        if found and found[0][3] != "C" and identity in identities(found[1].lines):
-            lines.append(f"{uid} {day.isoformat()} {found[0][3]}\n")
-    return "".join(lines).encode()
+    text = ""
+    for uid in sorted({line[3:9] for text in files for line in text.split("\n") if line[:2] == "BS"}):
+        schedules = lists.schedules_of(files, uid)
+        key = lists.chosen(schedules, datetime.date.fromisoformat(day))
+        if key and key[-1] != "C" and identity in identities(schedules[key]):
+            text += f"{uid} {day} {key[-1]}\n"
+    return text.encode()
 
 
 def schedule(uid, dates, days, train, stp="P", changed=""):
-    """A schedule that calls at three places. Its train gets the identity `changed`, if there is
-    one, at the second place. A cancellation has only its basic schedule."""
+    """A schedule that calls at three places. Its train gets the identity `changed`, if there is one, at the second place. A cancellation has only its basic
+    schedule."""
     basic = records.basic("N", uid, *dates, days, train, stp)
     if stp == "C":
         return basic
@@ -73,29 +69,11 @@ def test_a_day_before_the_horizon():
         assert now.ask("trains 1A10 2024-06-12") == Answer(0, b"C10001 2024-06-12 P\n")
 
 
-class Plan(random.Random):
-    """Random schedules of one week, with few UIDs and few train identities."""
-
-    def dates(self):
-        first, last = sorted(self.choices(range(8, 17), k=2))
-        return f"2406{first:02}", f"2406{last:02}"
-
-    def schedule(self):
-        days = self.choice([records.ALWAYS, records.ALWAYS, "1010101", "0101010"])
-        train, changed = self.choice(IDENTITIES), self.choice(["", "", *IDENTITIES])
-        return schedule(f"C1000{self.randrange(8)}", self.dates(), days, train, self.choice("PPPONC"), changed)
-
-    def text(self, *header):
-        return records.extract(records.header(*header), *(self.schedule() for _ in range(40)))
-
-
 @pytest.mark.parametrize("seed", range(6))
 def test_random_extracts(seed):
-    plan = Plan(f"trains {seed}")
-    files = plan.text("240601", "DFROC1A", "F"), plan.text("240602", "DFROC1B", "U")
+    files = plans.Plan(f"trains {seed}").files()
     give_taken(*files)
     with Desk("STATE") as now:
-        for identity in [*IDENTITIES, "9Z99"]:
-            for day in DAYS:
-                wanted = Answer(0, trains_text(files, identity, day))
-                assert now.ask(f"trains {identity} {day}") == wanted, (identity, day)
+        for identity in [*plans.IDENTITIES, "9Z99"]:
+            for day in plans.DAYS:
+                now.gives(Answer(0, trains_text(files, identity, day)), f"trains {identity} {day}")

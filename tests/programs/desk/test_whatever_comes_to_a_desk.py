@@ -21,9 +21,11 @@ SAVE = Subject(
 )
 # A desk that renews also knows what it read at its start.
 RENEWED = {text: WITH_THIRD[STATE_OF_BOTH] for text in TEXTS} | {STATE_OF_ONE: WITH_THIRD[STATE_OF_ONE]}
+BY_LINK = SAVE._replace(command=[DESK, "--write", "leading"], name="leading", links={"leading": "office"})
 SUBJECTS = {
     "that saves": SAVE,
-    "that saves by a link": SAVE._replace(command=[DESK, "--write", "leading"], name="leading", links={"leading": "office"}),
+    "that saves by a link": BY_LINK,
+    "that saves by a link that changes": BY_LINK._replace(at="leading"),
     "that renews and saves": SAVE._replace(given=b"take ../third\nrenew\nsave\n", renews=RENEWED),
 }
 

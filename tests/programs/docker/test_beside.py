@@ -30,36 +30,6 @@ def leave_draft(number):
         assert docker("take", "office", "large", before=ended_on_disk(8)).status < 0
 
 
-@pytest.fixture(scope="session")
-def larger_texts(work, large_texts):
-    """A file of 3,000 schedules, its state, and the state of all files."""
-    file, state, both = (str(work / name) for name in ("larger", "wanted_larger", "wanted_all"))
-    text = many_trips("DFROC1B", "DFROC1A", "240611", range(30000, 33000)).encode()
-    give(text, file)
-    give(STATE_OF_BOTH, state)
-    give(large_texts.wanted_large, both)
-    wanted = {"wanted_larger": takes_more(state, file), "wanted_all": takes_more(both, file)}
-    return {"larger": text} | wanted
-
-
-@pytest.fixture
-def larger(large, larger_texts):
-    for name, text in larger_texts.items():
-        give(text, name)
-
-
-def test_a_hundred_pairs_of_takes_at_once(larger):
-    """Two takes at the same time. Either both files are known, or one command was refused and only the other command's file is known."""
-    commands = [("take", "office", name) for name in ("large", "larger")]
-    wanted = {(DONE, DONE): "wanted_all", (DONE, DEVICE): "wanted_large", (DEVICE, DONE): "wanted_larger"}
-    for number in range(1, 101):
-        give(STATE_OF_BOTH, "office")
-        leave_draft(number)
-        ends = tuple(at_once(commands))
-        assert ends in wanted, f"pair {number}"
-        holds_only("office", held(wanted[ends]))
-
-
 @pytest.fixture
 def eight_files(large):
     for day in range(8):
@@ -68,9 +38,9 @@ def eight_files(large):
 
 
 def test_eight_takes_at_once_again_and_again(eight_files):
-    """The state knows the files of all commands that succeeded."""
+    """The state knows the files of all commands that succeeded. The others were refused."""
     names = [f"of_day_{day}" for day in range(8)]
-    for number in range(1, 26):
+    for number in range(1, 51):
         give(STATE_OF_BOTH, "office")
         give(STATE_OF_BOTH, "wanted_state")
         leave_draft(number)
@@ -86,10 +56,10 @@ def test_eight_takes_at_once_again_and_again(eight_files):
 # cases pass even then, and don't show that the locks hold. The cases in test_meetings.py show it: while a draft is there, any other command is refused.
 
 
-def meanwhile(state, change):
+def meanwhile(change):
     """A `take` that has read its state waits for its file, while `change` changes what is in the folder. Returns how the `take` ends."""
     os.mkfifo("queue")
-    command = [DOCKER, "take", state, "queue"]
+    command = [DOCKER, "take", "office", "queue"]
     pipes = {"stdout": subprocess.PIPE, "stderr": subprocess.PIPE}
     with subprocess.Popen(command, stdin=subprocess.DEVNULL, **pipes) as taking:
         with open("queue", "wb") as queue:
@@ -99,14 +69,10 @@ def meanwhile(state, change):
         return ends_of([taking])[0]
 
 
-def takes_revised():
-    assert docker("take", "office", "revised") == DONE
-
-
 def test_a_take_that_was_overtaken():
     """The state that the other command stored stays."""
     give(STATE_OF_ONE, "office")
-    assert meanwhile("office", takes_revised) == DEVICE
+    assert meanwhile(lambda: takes_more("office", "revised")) == DEVICE
     holds_only("office", STATE_OF_BOTH)
 
 
@@ -115,59 +81,20 @@ THEN = 1718010000_500000000
 SECOND = 1000000000
 
 
-def in_place(text, at=None):
-    """Writes the text in place. If there is a time, the file gets it."""
+def in_place(text, at):
+    """Writes the text in place. The file gets this time."""
     give(text, "office")
-    if at:
-        os.utime("office", ns=(at, at))
+    os.utime("office", ns=(at, at))
 
 
-def replaced_by(text):
-    """Another file with the same time takes its place."""
-    give(text, "came")
-    os.utime("came", ns=(THEN, THEN))
-    os.replace("came", "office")
-
-
-# The states of a file and of its revision have the same size.
-@each("change, wanted", {
-    "is written in place": (lambda: in_place(STATE_OF_REVISED), STATE_OF_REVISED),
-    "is written in place within the second": (lambda: in_place(STATE_OF_REVISED, THEN + 1), STATE_OF_REVISED),
-    "is written in place, and nanoseconds are equal": (lambda: in_place(STATE_OF_REVISED, THEN + SECOND), STATE_OF_REVISED),
-    "differs only in size": (lambda: in_place(STATE_OF_BOTH, THEN), STATE_OF_BOTH),
-    "differs only in being another file": (lambda: replaced_by(STATE_OF_REVISED), STATE_OF_REVISED),
-    "goes away": (lambda: os.remove("office"), None),
+# The states of a file and of its revision have the same size. In test_whatever_comes.py other programs change STATE in more ways, at each call of a take.
+@each("text, at", {
+    "is written in place within the second": (STATE_OF_REVISED, THEN + 1),
+    "is written in place, and nanoseconds are equal": (STATE_OF_REVISED, THEN + SECOND),
+    "differs only in size": (STATE_OF_BOTH, THEN),
 })
-def test_a_take_whose_state(change, wanted):
+def test_a_take_whose_state(text, at):
     """The `take` is refused, and the changed state stays."""
     in_place(STATE_OF_ONE, THEN)
-    assert meanwhile("office", change) == DEVICE
-    if wanted is None:
-        assert not os.path.lexists("office")
-        assert not os.path.lexists("office.new")
-    else:
-        holds_only("office", wanted)
-
-
-# A link is followed: its target is what counts.
-
-
-def leads_elsewhere():
-    os.remove("leading")
-    os.symlink("elsewhere", "leading")
-
-
-@each("change, office", {
-    "leads elsewhere meanwhile": (leads_elsewhere, STATE_OF_ONE),
-    "leads to a file that is written in place": (lambda: in_place(STATE_OF_REVISED), STATE_OF_REVISED),
-    "leads to a file into which another take stored": (takes_revised, STATE_OF_BOTH),
-})
-def test_a_take_by_a_link_that(change, office):
-    """What the changes leave stays: in the link's old target, and in its new one."""
-    for name, text in (("office", STATE_OF_ONE), ("elsewhere", STATE_OF_REVISED)):
-        give(text, name)
-        os.utime(name, ns=(THEN, THEN))
-    os.symlink("office", "leading")
-    assert meanwhile("leading", change) == DEVICE
-    holds_only("office", office)
-    holds_only("elsewhere", STATE_OF_REVISED)
+    assert meanwhile(lambda: in_place(text, at)) == DEVICE
+    holds_only("office", text)

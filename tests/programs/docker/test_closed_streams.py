@@ -3,7 +3,7 @@ import os
 
 from given import STATE_OF_BOTH, STATE_OF_ONE
 from outcomes import DEVICE, DONE, holds_only, keeps, stores
-from programs import Ended, docker, give, preloading, redirected
+from programs import CLOSED, Ended, docker, give, preloading, redirected
 from tables import each
 
 ALL_CLOSED = redirected("<&- >&- 2>&-")
@@ -26,7 +26,7 @@ def test_done_and_stores(before):
     stores(STATE_OF_BOTH, "take", "office", "revised", before=before)
 
 
-@each("closed", ["<&-", ">&-", "2>&-", "<&- >&-", "<&- 2>&-", ">&- 2>&-", "<&- >&- 2>&-"])
+@each("closed", CLOSED)
 def test_each_of_the_streams_closed(device, closed):
     """No file is opened under the number of a closed stream."""
     before = (*redirected(closed), *preloading(device, WRONG="wrong"))

@@ -10,7 +10,7 @@ from comings import taken_from
 from given import STATES
 from meetings import at_each_call, calls_of, met
 from outcomes import DEVICE, DONE, holds_only
-from programs import DOCKER, give, held, preloading, run
+from programs import DOCKER, docker, give, held, in_turn, preloading, run
 from tables import each
 
 NO_FILES = STATES["no_files"]
@@ -108,6 +108,17 @@ def test_another_pipe_that_has_no_name(device):
     assert (taken_from(seen), taken_from(other)) == (b"", b"")
     for pipe in (seen, to_seen, other, to_other):
         os.close(pipe)
+
+
+def test_a_pipe_at_which_a_look_fails(device):
+    """A command looks at a pipe before it opens the pipe and afterwards. If either look fails, it writes nothing."""
+    with Pipes() as pipes:
+        def trial(number):
+            return docker("new", "pipe", before=preloading(device, CALL="statx", FAIL_AT=number, TOLD="met"))
+
+        assert [ended for _, ended, met in in_turn(trial) if met] == [DEVICE, DEVICE]
+        # In the last trial no look failed.
+        assert taken_from(pipes.pipe) == NO_FILES
 
 
 # Some file systems have no hard links. There a draft is renamed, if nothing has come until then.

@@ -1,26 +1,30 @@
-"""`print` keeps only the part of a state that one timing point needs, and `day` keeps only the part
-of a file that may count there. Both have to give the same docker for every timing point."""
-import medium_extract
+"""`print` keeps only the part of a state that one timing point needs, and `day` keeps only the part of a file that may count there. Both have to give the same
+docker for every timing point. The files are random extracts with records in any order. If an extract has few UIDs, most of its keys are changed more than once."""
+import lists
+import plans
 import pytest
-from outcomes import DONE, accepted, takes, takes_more
+from outcomes import DONE, accepted, takes
 from programs import docker, give, held
 
-DAYS = [f"2024-06-{day:02}" for day in (9, 10, 11, 12, 13)]
-LATER_DAYS = ["2024-06-15", "2024-06-16"]
-HORIZON = "2024-06-12"
+HORIZON, LATER_DAYS = "2024-06-12", plans.DAYS[7:]
 
 
-@pytest.fixture(autouse=True)
-def extracts(given):
-    for name in ("before", "update", "after"):
-        give(getattr(medium_extract, name)().encode(), f"medium_{name}")
+@pytest.fixture(params=[(8, 0), (60, 1), (60, 2)], ids=lambda it: f"{it[0]} UIDs, {it[1]}")
+def files(request, given):
+    """A full extract of some hundred records, larger than a piece of a file, and its update."""
+    plan = plans.Plan(f"places {request.param}")
+    plan.uids = request.param[0]
+    found = plan.files(size=200)
+    for name, text in zip(("full_extract", "update"), found):
+        give(text.encode(), name)
+    return found
 
 
 def print_as_day(state, file, days):
     """Checks that `print` and `day` give the same dockers. Returns the lines of these dockers."""
     lines = []
     for day in days:
-        for place in (*medium_extract.PLACES, "NOWHERE"):
+        for place in (*plans.CODES, "NOWHERE"):
             printed = docker("print", state, place, day)
             assert printed.status == 0
             assert printed == docker("day", file, place, day), f"{place} on {day}"
@@ -28,47 +32,24 @@ def print_as_day(state, file, days):
     return lines
 
 
-def test_a_medium_extract():
-    assert docker("check", "medium_before") == accepted(1271, 319)
+def test_the_records_and_changes_of_a_random_extract(files):
+    for name, text in zip(("full_extract", "update"), files):
+        assert docker("check", name) == accepted(text.count("\n"), len(lists.puts_of(text)))
 
 
-def test_print_of_every_timing_point():
-    takes("office", "medium_before")
-    print_as_day("office", "medium_before", DAYS)
-
-
-def test_print_of_every_timing_point_after_the_update():
-    takes("office", "medium_before", "medium_update")
-    print_as_day("office", "medium_after", DAYS + LATER_DAYS)
-
-
-def test_print_of_every_timing_point_after_a_horizon():
-    takes("office", "medium_before", "medium_update")
-    before = held("office")
-    assert docker("horizon", "office", HORIZON) == DONE
-    assert held("office") != before
-    print_as_day("office", "medium_after", LATER_DAYS)
-
-
-def test_day_of_an_extract_in_reverse():
-    give(medium_extract.in_reverse().encode(), "in_reverse")
-    takes("office", "in_reverse")
-    print_as_day("office", "in_reverse", DAYS)
-
-
-@pytest.mark.parametrize("apart", (False, True))
-def test_day_of_an_extract_that_changes_each_key_twice(apart):
-    give(medium_extract.changed_twice(apart).encode(), "twice")
-    takes("office", "twice")
-    lines = print_as_day("office", "twice", DAYS)
-    assert {line[6] for line in lines} >= set("NPV")
-
-
-def test_each_kind_of_line_is_among_these_dockers():
-    takes("office", "medium_before")
-    lines = print_as_day("office", "medium_before", DAYS)
-    takes_more("office", "medium_update")
-    lines += print_as_day("office", "medium_after", DAYS + LATER_DAYS)
+def test_print_of_every_timing_point(files):
+    takes("office", "full_extract")
+    lines = print_as_day("office", "full_extract", plans.DAYS)
     assert {line[6] for line in lines} == set("ADJNPV")
     assert any(line[20] == "O" for line in lines), "no overlay"
     assert any("????" in line for line in lines), "no train that is unknown"
+
+
+def test_print_of_every_timing_point_after_the_update(files):
+    """A full extract of what the two files leave has the same dockers, under a horizon too."""
+    before = takes("office", "full_extract", "update")
+    give(plans.left_by(files).encode(), "left")
+    print_as_day("office", "left", plans.DAYS)
+    assert docker("horizon", "office", HORIZON) == DONE
+    assert held("office") != before
+    print_as_day("office", "left", LATER_DAYS)

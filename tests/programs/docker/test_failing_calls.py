@@ -113,15 +113,12 @@ ENDED = {
 
 
 @pytest.mark.timeout(600)
-@each("words, before, after", ENDED)
-def test_ended_at_each_of_its_calls(device, large, words, before, after):
-    assert Tried(words, before, held(after), DONE).at_each_call(device, "END_AT") > 9
-
-
-@pytest.mark.timeout(600)
-@each("words, before, after", {name: ENDED[name] for name in ("take", "merge")})
-def test_of_which_each_call_fails(device, large, words, before, after):
-    assert Tried(words, before, held(after), DONE).at_each_call(device, "FAIL_AT") > 9
+@each("how, words, before, after", {
+    **{f"{name}, ended": ("END_AT", *row) for name, row in ENDED.items()},
+    **{f"{name}, failing": ("FAIL_AT", *ENDED[name]) for name in ("take", "merge")},
+})
+def test_large_states_at_each_call(device, large, how, words, before, after):
+    assert Tried(words, before, held(after), DONE).at_each_call(device, how) > 9
 
 
 @each("words, before, after, wanted", {

@@ -26,13 +26,9 @@ def test_accepts(words, wanted):
 
 
 @each("name, _text, fault", BAD)
-def test_check_refuses(name, _text, fault):
-    assert docker("check", name) == file_refused(fault)
-
-
-@each("name, _text, fault", BAD)
-def test_day_refuses(name, _text, fault):
-    assert docker("day", name, "ASHFELD", "2024-06-10") == file_refused(fault)
+@each("words", ["check", "day"])
+def test_refuses(words, name, _text, fault):
+    assert docker(words, name, *(["ASHFELD", "2024-06-10"] if words == "day" else [])) == file_refused(fault)
 
 
 def test_the_example_with_associations():

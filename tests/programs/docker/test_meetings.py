@@ -4,11 +4,12 @@ import os
 import stat
 
 import pytest
+from comings import PLACED, TEXTS, THIRD, TO_STATE, WITH_THIRD, Coming, Subject, make_room
 from given import FIRST, STATE_OF_BOTH, STATE_OF_ONE, STATE_OF_REVISED, STATES, trip
-from meetings import BECOMES_PIPE, DRAFTS, GOES, Draft, Losing, Names, at_each_call, calls_of, met, what_is
+from meetings import DRAFTS, Draft, at_each_call, calls_of, met
 from outcomes import DEVICE, DONE, holds_only
 from programs import DOCKER, docker, give, held
-from states import lines, older, schedule, state
+from states import lines, schedule, state
 from tables import each
 
 LOOK = "statx office"
@@ -24,13 +25,6 @@ def one_by_one(before, *commands):
     for words in commands:
         ended = docker(*words.split())
     return ended, held("office")
-
-
-def looks_of(device, before, words):
-    """How often a command looks at STATE before it puts its draft in place."""
-    give(before, "office")
-    calls = calls_of(device, command_of(words))
-    return calls[:calls.index("rename office.new office")].count(LOOK)
 
 
 # Before its first look at STATE a command has read nothing. So a change of STATE before this look has the same effect as a change before the command.
@@ -91,111 +85,23 @@ def test_another_command_meets(device, before, words, other):
     assert set(found) == {"other first", "refused", "other refused", "other last"}
 
 
-# A time of STATE, in nanoseconds.
-THEN = 1718010000_500000000
-WAYS = {"renamed into its place": "mv -f came office", "written in place": "cat came >office"}
-
-
-def state_of_many(hour):
-    """The text of a state of 1,000 trains that leave at this hour. It is read and written in pieces."""
+def state_of_many(hour, files=(FIRST,), entries=()):
+    """The text of a state of 1,000 trains that leave at this hour, and of these entries. It is read and written in pieces."""
     uids = [f"C{number}" for number in range(20000, 21000)]
-    trips = [lines(trip(hour).replace("C10001", uid)) for uid in uids]
-    return state([FIRST], [FIRST.put(schedule(uid), text) for uid, text in zip(uids, trips)])
+    return state(files, [*entries, *(FIRST.put(schedule(uid), lines(trip(hour).replace("C10001", uid))) for uid in uids)])
 
 
-class Coming:
-    """A command, and a text that a program which ignores drafts puts in STATE's place in the middle of it."""
-
-    def __init__(self, device, before, words, came):
-        self.before, self.words, self.came = before, words, came
-        self.alone = one_by_one(before, words)
-        self.came_first = one_by_one(came, words)
-        self.looks = looks_of(device, before, words)
-
-    def at(self, device, number, way):
-        """The text comes at this call. Returns whether the command was refused. The text before it has the same length, and was written long before."""
-        give(self.before, "office")
-        os.utime("office", ns=(THEN, THEN))
-        give(self.came, "came")
-        found = met(device, number, way, command_of(self.words))
-        if found is None:
-            return None
-        assert found.status == 0
-        assert not os.path.lexists("office.new"), "a draft is left"
-        assert (found.ended, held("office")) == self.wanted(found)
-        return found.ended == DEVICE
-
-    def wanted(self, found):
-        if not found.looks("office"):
-            return self.came_first
-        if found.has_placed("office.new"):
-            return DONE, self.came
-        if "flock" in found.before and found.looks("office") == self.looks:
-            # A program that ignores drafts may store a text after the last look. The command doesn't notice that text.
-            return self.alone
-        return DEVICE, self.came
+LARGE = {state_of_many(hour): state_of_many(hour, (FIRST, THIRD), (PLACED,)) for hour in ("09", "10")}
+TAKES = Subject(command_of("take office ../third"), TEXTS, WITH_THIRD)
 
 
-@pytest.mark.timeout(120)
-@each("way", WAYS)
-@each("before, words, came", {
-    "take": (STATE_OF_ONE, "take office places", STATE_OF_REVISED),
-    "merge": (STATE_OF_ONE, "merge office state_of_renamed", STATE_OF_REVISED),
-    "horizon": (STATE_OF_ONE, "horizon office 2024-06-12", STATE_OF_REVISED),
-    "new": (STATE_OF_ONE, "new office", STATE_OF_REVISED),
-    "migrate": (STATES["old_state"], "migrate office", older(STATE_OF_REVISED)),
-    "take into a large state": (state_of_many("09"), "take office revised", state_of_many("10")),
-})
-def test_a_text_that_comes_is_seen_until_the_last_look(device, before, words, came, way):
-    """The last look comes after the draft is locked."""
-    coming = Coming(device, before, words, came)
-    found = at_each_call(lambda number: coming.at(device, number, way))
-    assert {True, False} == set(found)
-
-
-# STATE goes away, or becomes something else, between the first look at it and the last.
-
-NAMES = Names(STATE_OF_ONE, STATE_OF_REVISED)
-
-
-def losing(device, words):
-    return Losing(device, NAMES, command_of(words), b"", DEVICE)
-
-
-@pytest.mark.timeout(120)
-@each("name, line", GOES | BECOMES_PIPE)
-def test_new_over_a_state_that(device, name, line):
-    losing(device, f"new {name}").at_each(name, line, f"statx {name}")
-
-
-@pytest.mark.timeout(120)
-@each("name, line", GOES)
-def test_take_into_a_state_that(device, name, line):
-    losing(device, f"take {name} revised").at_each(name, line, f"statx {name}")
-
-
-@pytest.mark.timeout(120)
-@each("name, line", BECOMES_PIPE)
-def test_take_into_a_state_that_is_read_and(device, name, line):
-    losing(device, f"take {name} revised").at_each(name, line, f"open {name}")
-
-
-# Writes a state to a pipe when something opens the pipe for reading.
-GIVES = "timeout 5 sh -c 'cat elsewhere >{}' >/dev/null 2>&1 &"
-
-
-@each("name, line", BECOMES_PIPE)
-def test_take_of_what_a_pipe_gives_into_a_state_that(device, name, line):
-    """STATE becomes a pipe before it is read. The program reads a state from the pipe, and writes nothing to it."""
-    taking = command_of(f"take {name} revised")
-    NAMES.make()
-    calls = calls_of(device, taking)
-    for number in range(calls.index(f"statx {name}") + 2, calls.index(f"open {name}") + 2):
-        NAMES.make()
-        found = met(device, number, f"{line}; {GIVES.format(name)}", taking)
-        assert found.ended == DEVICE
-        assert not os.path.isfile(name)
-        assert not os.path.lexists("office.new"), "a draft is left"
+@pytest.mark.usefixtures("given")
+@each("act", {"renamed into its place": TO_STATE["mv"], "written in place": TO_STATE["cp"]})
+@each("subject", {"take": TAKES, "take into a large state": TAKES._replace(texts=(*LARGE, STATE_OF_BOTH), stores=WITH_THIRD | LARGE)})
+def test_a_text_that_comes_is_seen_until_the_last_look(device, subject, act):
+    """The last look comes after the draft is locked. test_whatever_comes.py has other commands and other acts."""
+    make_room()
+    Coming(device, subject, act).is_as_promised()
 
 
 # The drafts of other programs. The first look at the draft's name is for a draft that a killed command left.
@@ -250,32 +156,6 @@ def test_what_takes_the_place_of_a_draft_that_is_just_made(device, is_locked, mo
         os.remove("office.new")
 
 
-@each("words, before, placed", {
-    "take": ("take office revised", STATE_OF_ONE, "rename office.new office"),
-    "new where no file is": ("new office", None, "link office.new office"),
-})
-def test_what_takes_the_name_of_a_draft_that_is_being_written(device, words, before, placed):
-    """The command is refused until its last look at the draft's name. The other file stays."""
-    def begin():
-        for name in ("office", "office.new"):
-            if os.path.lexists(name):
-                os.remove(name)
-        if before is not None:
-            give(before, "office")
-
-    begin()
-    calls = calls_of(device, command_of(words))
-    calls = calls[:calls.index(placed)]
-    assert last_of(calls, DRAFT_LOOK) > calls.index("fsync")
-    for number in range(calls.index("flock") + 2, last_of(calls, DRAFT_LOOK) + 2):
-        begin()
-        came = give(b"DKS2 by another program", "came")
-        found = met(device, number, "mv -f came office.new", command_of(words))
-        assert (found.ended, found.status) == (DEVICE, 0), f"before {found.after[:3]}"
-        assert held("office.new") == came
-        assert (held("office") if os.path.lexists("office") else None) == before
-
-
 def calls_with_left_over(device):
     """The calls of a command that finds a left-over draft, up to the call that removes it."""
     left_over()
@@ -326,42 +206,3 @@ def test_a_draft_that_is_put_in_place_while_it_is_taken_for_a_left_over(device):
         assert (found.ended, found.status) == (DEVICE, 0)
         holds_only("office", STATE_OF_REVISED)
         assert stat.S_IMODE(os.stat("office").st_mode) == 0o640
-
-
-# Files that can't be drafts, each with a line of the shell that makes it.
-NO_DRAFTS = {
-    "a pipe": "mkfifo office.new",
-    "a folder": "mkdir office.new",
-    "a link to a pipe": "mkfifo queue; ln -s queue office.new",
-    "a link to nothing": "ln -s nowhere office.new",
-}
-
-
-def refuses_at(device, number, line, command):
-    """At this call, something that can't be a draft gets the name of the draft. The command is refused without waiting for anything, and changes nothing."""
-    found = met(device, number, line, command)
-    assert (found.ended, found.status) == (DEVICE, 0), f"before {found.after[:3]}"
-    now = what_is("office.new")
-    assert held("office") == STATE_OF_ONE
-    os.system("rm -rf office.new queue")
-    assert os.system(line) == 0
-    assert what_is("office.new") == now
-    os.system("rm -rf office.new queue")
-
-
-@each("line", NO_DRAFTS)
-@each("words", {"take": "take office revised", "new": "new office"})
-def test_the_name_of_a_draft_is_given_to(device, words, line):
-    give(STATE_OF_ONE, "office")
-    calls = calls_of(device, command_of(words))
-    for number in range(1, calls.index("create office.new") + 2):
-        give(STATE_OF_ONE, "office")
-        refuses_at(device, number, line, command_of(words))
-
-
-@each("line", NO_DRAFTS)
-def test_what_can_be_no_draft_takes_the_place_of_one_that_is_left_over(device, line):
-    calls = calls_with_left_over(device)
-    for number in range(1, last_of(calls, "flock", DRAFT_LOOK) + 2):
-        left_over()
-        refuses_at(device, number, f"rm -f office.new; {line}", TAKE)

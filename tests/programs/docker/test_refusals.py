@@ -51,23 +51,10 @@ def test_merge_of(text, offset, cause):
 
 
 @each("text, offset, cause", BAD_STATES)
-def test_print_of(text, offset, cause):
+@each("words", ["print bad NOWHERE 2024-06-10", "files bad"])
+def test_read_of(words, text, offset, cause):
     give(text, "bad")
-    assert docker("print", "bad", "NOWHERE", "2024-06-10") == state_refused(offset, cause)
-
-
-@each("text, offset, cause", BAD_STATES)
-def test_files_of(text, offset, cause):
-    give(text, "bad")
-    assert docker("files", "bad") == state_refused(offset, cause)
-
-
-def test_print_of_a_file():
-    assert docker("print", "one", "ASHFELD", "2024-06-10") == MARK_REFUSED
-
-
-def test_files_of_a_file():
-    assert docker("files", "one") == MARK_REFUSED
+    assert docker(*words.split()) == state_refused(offset, cause)
 
 
 @each("words", {"take into a file": "take one one", "horizon of a file": "horizon one 2024-06-10"})

@@ -25,28 +25,34 @@ BAD_JOB_LINES = {
 }
 
 
-@each("text, wanted", {
-    "a job line before its file": (DAY_OF_STDIN + b"\n" + FILE, ASHFELD),
-    "a job line with more spaces": (b"  check   stdin \n" + FILE, ACCEPTED),
-    "a job line that names a file": (b"check one\n", ACCEPTED),
-    "a job line of 255 bytes": (DAY_OF_STDIN.ljust(255) + b"\n" + FILE, ASHFELD),
-    "a job line of print": (b"print stdin ASHFELD 2024-06-10\n" + STATE_OF_ONE, ASHFELD),
-    "a job line of files": (b"files stdin\n" + STATE_OF_ONE, done(FILES_LINE)),
-} | {name: (text, USAGE) for name, text in BAD_JOB_LINES.items()})
-def test_job_line(text, wanted):
-    assert docker(given=text) == wanted
+@each("words, text, wanted", {
+    "a job line before its file": ("", DAY_OF_STDIN + b"\n" + FILE, ASHFELD),
+    "a job line with more spaces": ("", b"  check   stdin \n" + FILE, ACCEPTED),
+    "a job line that names a file": ("", b"check one\n", ACCEPTED),
+    "a job line of 255 bytes": ("", DAY_OF_STDIN.ljust(255) + b"\n" + FILE, ASHFELD),
+    "a job line of print": ("", b"print stdin ASHFELD 2024-06-10\n" + STATE_OF_ONE, ASHFELD),
+    "a job line of files": ("", b"files stdin\n" + STATE_OF_ONE, done(FILES_LINE)),
+    "nothing on standard input": ("check stdin", b"", NO_END),
+    "print of standard input": ("print stdin ASHFELD 2024-06-10", STATE_OF_ONE, ASHFELD),
+    "files of standard input": ("files stdin", STATE_OF_ONE, done(FILES_LINE)),
+    "a file through a pipe": ("day stdin ASHFELD 2024-06-10", FILE, ASHFELD),
+} | {name: ("", text, USAGE) for name, text in BAD_JOB_LINES.items()})
+def test_standard_input(words, text, wanted):
+    assert docker(*words.split(), given=text) == wanted
 
 
-@each("before, text, wanted", {
-    "a job line of new": (b"", b"new office\n" + FILE, STATES["no_files"]),
-    "a job line of take": (STATES["no_files"], b"take office stdin\n" + FILE, STATE_OF_ONE),
-    "a job line of merge": (STATE_OF_ONE, b"merge office stdin\n" + STATES["state_of_revised"], STATE_OF_BOTH),
-    "a job line of horizon": (STATE_OF_ONE, b"horizon office 2024-06-14\n", under("2024-06-14", STATE_OF_ONE)),
-    "a job line of migrate": (STATES["old_state"], b"migrate office\n", STATE_OF_ONE),
+@each("before, words, text, wanted", {
+    "a job line of new": (b"", "", b"new office\n" + FILE, STATES["no_files"]),
+    "a job line of take": (STATES["no_files"], "", b"take office stdin\n" + FILE, STATE_OF_ONE),
+    "a job line of merge": (STATE_OF_ONE, "", b"merge office stdin\n" + STATES["state_of_revised"], STATE_OF_BOTH),
+    "a job line of horizon": (STATE_OF_ONE, "", b"horizon office 2024-06-14\n", under("2024-06-14", STATE_OF_ONE)),
+    "a job line of migrate": (STATES["old_state"], "", b"migrate office\n", STATE_OF_ONE),
+    "take of standard input": (STATES["no_files"], "take office stdin", FILE, STATE_OF_ONE),
+    "merge of standard input": (STATE_OF_ONE, "merge office stdin", STATES["state_of_revised"], STATE_OF_BOTH),
 })
-def test_job_line_that_stores(before, text, wanted):
+def test_stores_from_standard_input(before, words, text, wanted):
     give(before, "office")
-    stores(wanted, given=text)
+    stores(wanted, *words.split(), given=text)
 
 
 def test_a_job_line_that_stores_to_standard_input():
@@ -54,28 +60,9 @@ def test_a_job_line_that_stores_to_standard_input():
     keeps(USAGE, given=b"take stdin office\n" + FILE)
 
 
-@each("words, text, wanted", {
-    "nothing on standard input": ("check stdin", b"", NO_END),
-    "print of standard input": ("print stdin ASHFELD 2024-06-10", STATE_OF_ONE, ASHFELD),
-    "files of standard input": ("files stdin", STATE_OF_ONE, done(FILES_LINE)),
-    "a file through a pipe": ("day stdin ASHFELD 2024-06-10", FILE, ASHFELD),
-})
-def test_standard_input(words, text, wanted):
-    assert docker(*words.split(), given=text) == wanted
-
-
 def test_a_file_from_standard_input():
     with open("one", "rb") as source:
         assert docker("check", "stdin", stdin=source) == ACCEPTED
-
-
-@each("before, words, text, wanted", {
-    "take of standard input": (STATES["no_files"], "take office stdin", FILE, STATE_OF_ONE),
-    "merge of standard input": (STATE_OF_ONE, "merge office stdin", STATES["state_of_revised"], STATE_OF_BOTH),
-})
-def test_stores_from_standard_input(before, words, text, wanted):
-    give(before, "office")
-    stores(wanted, *words.split(), given=text)
 
 
 def piped(line, *words, before=()):
@@ -174,17 +161,22 @@ def test_a_folder(words):
         os.close(source)
 
 
-@each("words, wanted", {
-    "a full device under check": ("check one", DEVICE),
-    "a full device under day": ("day one ASHFELD 2024-06-10", DEVICE),
-    "a full device, and a file that is refused": ("check short", file_refused("2: Length")),
-    "a full device under print": ("print state_of_both ASHFELD 2024-06-10", DEVICE),
-    "a full device under files": ("files state_of_both", DEVICE),
-    "nor does files of no file": ("files no_files", DONE),
+@each("words, stream, wanted", {
+    "a full device under check": ("check one", ">/dev/full", DEVICE),
+    "a full device under day": ("day one ASHFELD 2024-06-10", ">/dev/full", DEVICE),
+    "a full device, and a file that is refused": ("check short", ">/dev/full", file_refused("2: Length")),
+    "a full device under print": ("print state_of_both ASHFELD 2024-06-10", ">/dev/full", DEVICE),
+    "a full device under files": ("files state_of_both", ">/dev/full", DEVICE),
+    "nor does files of no file": ("files no_files", ">/dev/full", DONE),
+    "a full standard error": ("check short", "2>/dev/full", Ended(1, b"", b"")),
+    "standard input that is closed": ("check stdin", "<&-", DEVICE),
+    "no job line, for standard input is closed": ("", "<&-", DEVICE),
+    "standard output that is closed": ("check one", ">&-", DEVICE),
+    "print with standard output closed": ("print state_of_one ASHFELD 2024-06-10", ">&-", DEVICE),
 })
-def test_full_output(words, wanted):
+def test_a_stream_that_is_full_or_closed(words, stream, wanted):
     """Commands that write to standard output fail; other commands don't."""
-    assert docker(*words.split(), before=redirected(">/dev/full")) == wanted
+    assert docker(*words.split(), before=redirected(stream)) == wanted
 
 
 def test_take_writes_nothing_to_standard_output():
@@ -192,20 +184,7 @@ def test_take_writes_nothing_to_standard_output():
     stores(STATE_OF_BOTH, "take", "office", "revised", before=redirected(">/dev/full"))
 
 
-@each("words, closed", {
-    "standard input that is closed": ("check stdin", "<&-"),
-    "no job line, for standard input is closed": ("", "<&-"),
-    "standard output that is closed": ("check one", ">&-"),
-    "print with standard output closed": ("print state_of_one ASHFELD 2024-06-10", ">&-"),
-})
-def test_without(words, closed):
-    assert docker(*words.split(), before=redirected(closed)) == DEVICE
-
-
-@each("words", {
-    "a reader that went away": "check one",
-    "a reader that went away, under day": "day one ASHFELD 2024-06-10",
-})
+@each("words", {"a reader that went away": "check one", "a reader that went away, under day": "day one ASHFELD 2024-06-10"})
 def test_no_reader(words):
     """The only reader of the pipe ends before the program starts."""
     reader, writer = os.pipe()
@@ -215,10 +194,6 @@ def test_no_reader(words):
     finally:
         os.close(writer)
     assert ended == DEVICE._replace(output=None)
-
-
-def test_a_full_standard_error():
-    assert docker("check", "short", before=redirected("2>/dev/full")) == Ended(1, b"", b"")
 
 
 def test_an_output_that_is_taken_in_part():

@@ -1,8 +1,12 @@
-"""Commands that write STATE, when another program does something just before one of their calls of
-the file system. Each act of shared/comings.py is tried at each call of each command."""
+"""Commands that write STATE, when another program does something just before one of their calls of the file system. Each act of shared/comings.py is tried at
+each call of each command."""
+import os
+
 import pytest
 from comings import TEXTS, TO_DRAFT, TO_STATE, WITH_THIRD, Coming, Subject, make_room
 from given import STATES
+from meetings import calls_of, met
+from outcomes import DEVICE
 from programs import DOCKER
 from states import older, under
 from tables import each
@@ -31,6 +35,7 @@ SUBJECTS = {
     "take beside a left-over draft": TAKE._replace(leaves=True),
     "take by a link": TAKE_BY_LINK,
     "take by a link that changes": TAKE_BY_LINK._replace(at="leading"),
+    "new by a link": NEW_BY_LINK,
     "new by a link that changes": NEW_BY_LINK._replace(at="leading"),
     "new where nothing is": subject("new office", ANEW, NOTHING),
     "new by a link to nothing": NEW_BY_LINK._replace(texts=NOTHING),
@@ -45,3 +50,20 @@ SUBJECTS = {
 def test_another_program_comes(device, subject, act):
     make_room()
     Coming(device, subject, act).is_as_promised()
+
+
+@pytest.mark.usefixtures("given")
+@each("act", {name: act for name, act in TO_STATE.items() if act.changes == "a pipe"})
+@each("subject", {name: SUBJECTS[name] for name in ("take", "take by a link", "take by a link that changes")})
+def test_a_state_that_becomes_a_pipe_before_it_is_read(device, subject, act):
+    """The command reads a state from the pipe, and writes nothing to it."""
+    make_room()
+    subject.make(subject.texts[0])
+    calls = calls_of(device, subject.command)
+    for number in range(calls.index(f"statx {subject.name}") + 2, calls.index(f"open {subject.name}") + 2):
+        subject.make(subject.texts[0])
+        gives = f"timeout 5 sh -c 'cat elsewhere >{subject.name}' >/dev/null 2>&1 &"
+        found = met(device, number, f"{subject.line(act)}; {gives}", subject.command)
+        assert found.ended == DEVICE
+        assert not os.path.isfile(subject.name)
+        assert not os.path.lexists(subject.draft), "a draft is left"

@@ -13,7 +13,7 @@ from docker_lines import event, works_on
 from outcomes import DONE, accepted, done, holds_only, prints, ran_out
 from programs import docker, give, held, preloading
 from records import ALWAYS, NO_END, association, basic, extract, header, intermediate, origin, terminus
-from states import File, older, state
+from states import ledger, older
 from tables import each
 
 # One process runs all of these cases, because it keeps the large states.
@@ -58,12 +58,6 @@ def units(half):
     yield schedule("Z00000", origin("BEYOND", "1000"), *between, terminus("MEETING", "1030"))
 
 
-def ledger(half):
-    """A state that knows these files, and has no entries."""
-    numbers = (f"{number:07}" for number in half.known)
-    return state([File("2005-09-26", it, last="LASTREF", time="0105") for it in numbers])
-
-
 @pytest.fixture(scope="module")
 def large(work):
     """A folder with the two extracts, the states before and after they are taken, and the state that joins the two states."""
@@ -72,7 +66,7 @@ def large(work):
     for name, half in HALVES.items():
         file, after = folder / f"{name}.cif", folder / f"{name}.state"
         give(extract(header("240609", half.reference), *units(half)).encode(), file)
-        give(give(ledger(half), folder / f"{name}.ledger"), after)
+        give(give(ledger(half.known), folder / f"{name}.ledger"), after)
         assert docker("take", after, file) == DONE
     give(held(folder / "first.state"), folder / "joined.state")
     assert docker("merge", folder / "joined.state", folder / "second.state") == DONE

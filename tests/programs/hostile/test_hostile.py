@@ -12,7 +12,7 @@ from docker_lines import event, works_on
 from outcomes import DONE, done, holds_only, prints
 from programs import DESK, Ended, docker, give, in_seconds, run
 from records import ALWAYS, NO_END, association, basic, extract, header, origin, record, terminus
-from states import File, state
+from states import ledger
 from tables import by_itself, each
 
 pytestmark = [by_itself, pytest.mark.timeout(60)]
@@ -167,11 +167,6 @@ def test_details_of_a_hostile_file(units):
         assert line[403:].strip() == "" if kind in "AD" else line[406:418] == uid + line[41:47], line
     events = [it for it in numbers if it[2] in "AD"]
     assert len(events) == sum(line[6:7] in (b"A", b"D") for line in plain.text.split(b"\n")[1:-2])
-
-
-def ledger(numbers):
-    """A state that knows the files with these numbers, and has no entries."""
-    return state([File("2005-09-26", f"{it:07}", last="LASTREF", time="0105") for it in numbers])
 
 
 def test_merge_of_two_ledgers_of_100_000_files():

@@ -9,6 +9,7 @@ import fcntl
 import os
 import pathlib
 import signal
+import stat
 import typing
 
 from checks import named
@@ -21,14 +22,14 @@ from states import File, description, state, tiploc
 
 # What doesn't hold, and why. There are no other exceptions. *When other programs write STATE* in docs/PROOF.md lists them for users.
 EXCEPTIONS = {
-    "an unseen text": "it comes after the last look at STATE, and before the rename over STATE. The"
-    " system can't rename a file over another one only if that one is still the same",
-    "an unseen draft": "it gets the draft's name after a look at this name, and before the call"
-    " that renames, links or removes what has the name. The system can't do so by an open file",
-    "a locked draft": "another program locks the draft before the command does. It may be about to"
-    " remove the draft. So the command leaves the draft, which the next command removes",
-    "a pipe to read": "the pipe comes before STATE is read. The program waits until another program"
-    " writes to the pipe, as it does if STATE was a pipe from the beginning",
+    "an unseen text": "it comes after the last look at STATE, and before the rename over STATE. The system can't rename a file over another one only if that one is"
+    " still the same",
+    "an unseen draft": "it gets the draft's name after a look at this name, and before the call that renames, links or removes what has the name. The system can't"
+    " do so by an open file",
+    "a locked draft": "another program locks the draft before the command does. It may be about to remove the draft. So the command leaves the draft, which the"
+    " next command removes",
+    "a pipe to read": "the pipe comes before STATE is read. The program waits until another program writes to the pipe, as it does if STATE was a pipe from the"
+    " beginning",
 }
 # The texts of STATE before, of the state with which the other program comes, and of a state elsewhere. The first two have the same length.
 TEXTS = (STATE_OF_ONE, STATE_OF_REVISED, STATE_OF_BOTH)
@@ -63,14 +64,20 @@ TO_STATE = {
     "docker new and docker take": TWO_COMMANDS,
     "a link": Act('ln -fns elsewhere "$at"'),
     "a link to nothing": Act('ln -fns nowhere "$at"'),
+    "a folder": Act('rm "$at" && mkdir "$at"'),
     "a pipe": Act('mv -f pipe "$at"', "a pipe"),
+    "a link to a pipe": Act('ln -fns pipe "$at"', "a pipe"),
 }
 TO_DRAFT = {
     "a lock on the draft": Act('exec 9<"$draft" && flock -n 9 || exit 1; sleep 60 </dev/null >/dev/null & echo $! >../holder', "the lock"),
     "a pipe for the draft": Act('rm -f "$draft"; mkfifo "$draft" && chmod 1644 "$draft"', "the draft"),
+    "a pipe without a mark for the draft": Act('rm -f "$draft"; mkfifo "$draft"', "the draft"),
     "a folder for the draft": Act('rm -f "$draft"; mkdir "$draft" && chmod 1755 "$draft"', "the draft"),
+    "a folder without a mark for the draft": Act('rm -f "$draft"; mkdir "$draft"', "the draft"),
     "a text for the draft": Act('mv -f came "$draft"', "the draft"),
     "a link for the draft": Act('ln -fs elsewhere "$draft"', "the draft"),
+    "a link to a pipe for the draft": Act('ln -fs pipe "$draft"', "the draft"),
+    "a link to nothing for the draft": Act('ln -fs nowhere "$draft"', "the draft"),
 }
 
 
@@ -186,6 +193,9 @@ class Coming:
         self.device, self.subject, self.act = device, subject, act
         self.stored = subject.stores[subject.texts[0]]
         self.alone, self.leads_to, self.is_in_place = subject.left_by(act, subject.texts[0])
+        # The text to which STATE's name leads if only the act is done; None if there is no text.
+        text = self.alone.get(self.leads_to)
+        self.text = text if isinstance(text, bytes) else None
         self.last, _, _ = subject.left_by(act, self.stored)
         subject.make(subject.texts[0])
         self.undisturbed = subject.there() | {subject.file: self.stored}
@@ -234,7 +244,7 @@ class Coming:
             return self.ends(found, subject.done, self.last, "last")
         wanted = (f"statx {self.changed()}", subject.placing)
         uses = [call for call in found.after if call in wanted]
-        if uses and uses[0].startswith("rename "):
+        if uses and uses[0].startswith("rename ") and not self.is_folder(subject.file):
             there = self.alone | {subject.file: self.stored}
             return self.ends(found, subject.done, there, "an unseen text")
         if subject.texts[0] is None:
@@ -243,16 +253,23 @@ class Coming:
             return self.came_before_reading(found)
         return self.came_after_reading(found)
 
+    def is_folder(self, name):
+        """Whether the act leaves a folder of this name. No file can be renamed over it."""
+        there = self.alone.get(name)
+        return isinstance(there, int) and stat.S_ISDIR(there)
+
     def has_read(self, found):
         """Whether the program has read what was there before. Once it has opened a file, it reads only that file, even if another file takes its place."""
         opening = f"open {self.subject.name}"
         if opening not in found.before:
             return False
-        return not self.is_in_place or "read" in found.before[found.before.index(opening):]
+        # A folder may get the number of the file in whose place it comes.
+        is_same = self.is_in_place and self.text is not None
+        return not is_same or "read" in found.before[found.before.index(opening):]
 
     def came_before_reading(self, found):
         """The program reads what the other program has left."""
-        subject, text = self.subject, self.alone.get(self.leads_to)
+        subject, text = self.subject, self.text
         if text is None:
             return self.ends(found, DEVICE, self.alone, "refused")
         if text in subject.renews:
@@ -262,7 +279,7 @@ class Coming:
 
     def came_after_reading(self, found):
         """The program is refused, unless it is a desk that then renews."""
-        subject, text = self.subject, self.alone.get(self.leads_to)
+        subject, text = self.subject, self.text
         if text in subject.renews and found.looks(subject.name) == 1:
             there = self.alone | {self.leads_to: subject.renews[text]}
             return self.ends(found, subject.done, there, "read again")
@@ -282,10 +299,10 @@ class Coming:
 
     def came_first(self, found):
         """The program found what the other program had done."""
-        subject, text = self.subject, self.alone.get(self.leads_to)
+        subject, text = self.subject, self.text
         if self.act.changes == "a pipe":
             return self.ends(found, subject.done, self.alone, "first", self.stored)
-        if subject.reads and text not in subject.stores:
+        if subject.reads and text not in subject.stores or self.is_folder(self.leads_to):
             self.came_before_reading(found)
         else:
             there = self.alone | {self.leads_to: subject.stores.get(text, self.stored)}
@@ -338,7 +355,7 @@ class Coming:
             return {"a locked draft": 1}
         if self.act.changes == "the draft":
             return {"an unseen draft": 3 + subject.leaves}
-        if is_over and self.act is not TWO_COMMANDS:
+        if is_over and self.act is not TWO_COMMANDS and not self.is_folder(subject.file):
             return {"an unseen text": 1 if self.changed() == subject.file else 2}
         return {}
 

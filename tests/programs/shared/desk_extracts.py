@@ -1,5 +1,6 @@
 """The extracts about which desks are asked."""
-from records import ALWAYS, NO_END, TRAILER, association, basic, calls, extract, header, origin, passes, place, record, terminus
+import given
+from records import ALWAYS, NO_END, association, basic, calls, extract, header, origin, passes, place, terminus
 
 
 def trip(uid, train, first="240101", last=NO_END, days=ALWAYS, stp="P", hour="09", transaction="N"):
@@ -47,29 +48,11 @@ GOOD = {
         place("TA", "CORHAM", "CORHAM CENTRAL", "CORHAM"),
     ),
     "night": extract(header("240611", "DFROC1E", minute="2359"), night("A00006", "5N06"), place("TD", "BRAYTON")),
-    "second": extract(
-        header("240615", "DFROC1F", "F"),
-        PLACES,
-        trip("A00001", "1S10", hour="08"),
-        night("A00007", "5N07"),
-    ),
-    "last": extract(
-        header("240616", "DFROC1G"),
-        basic("N", "A00001", "240618", "240619", ALWAYS, stp="C"),
-        trip("A00002", "2L20"),
-    ),
+    "second": extract(header("240615", "DFROC1F", "F"), PLACES, trip("A00001", "1S10", hour="08"), night("A00007", "5N07")),
+    "last": extract(header("240616", "DFROC1G"), basic("N", "A00001", "240618", "240619", ALWAYS, stp="C"), trip("A00002", "2L20")),
     "my file": extract(header("240617", "DFROC1H"), trip("A00008", "1M08")),
     "my file ": extract(header("240617", "DFROC1I", minute="2200"), trip("A00008", "1M09")),
 }
 # Refused files by name, each with its cause as in docs/FORMATS.md.
-BAD = {
-    "short": (extract(header("240610"), "TIASHFELD\n"), "record 2: Length"),
-    "cut": (header("240610") + trip("A00001", "1A10"), "record 6: NoEnd"),
-    "field": (extract(header("240610"), trip("A00001", "1A10", "240631")), "record 2: Field 10"),
-    "byte": (extract(header("240610"), place("TI", "ASHFELD", "A\tB")), "record 2: Byte 20"),
-    "kind": (extract(header("240610"), record("LNNOTE")), "record 2: Kind"),
-    "order": (extract(header("240610"), origin("ASHFELD", "0900")), "record 2: Place"),
-    "more": (extract(header("240610"), TRAILER), "record 3: After"),
-    "nothing": ("", "record 1: NoEnd"),
-}
+BAD = {name: (text, f"record {fault}") for name, text, fault in given.BAD.values()}
 UIDS = [f"A0000{n}" for n in range(1, 10)]

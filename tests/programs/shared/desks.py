@@ -7,33 +7,10 @@ import typing
 
 import checks
 from checks import Unlike, holds, same
-from programs import DAY_LINE, DESK, DEVICE_LINE, DOCKER, MEMORY_LINE, Ended, run
+from programs import DAY_LINE, DESK, DEVICE_LINE, DOCKER, FORMATS, MEMORY_LINE, Ended, run
 
-# Lines from docs/FORMATS.md.
-USAGE = (
-    b"desk: usage: [--write] STATE, and then a line for each request: print TIPLOC DATE"
-    b" | permanent TIPLOC DATE | detail TIPLOC DATE | permanent-detail TIPLOC DATE | train UID DATE"
-    b" | trains IDENTITY DATE | files | places | known | renew | with --write take FILE"
-    b" | merge OTHER | horizon DATE | save\n"
-)
-HELP = b"""\
-desk: usage: [--write] STATE, and then a line for each request:
-print TIPLOC DATE
-permanent TIPLOC DATE
-detail TIPLOC DATE
-permanent-detail TIPLOC DATE
-train UID DATE
-trains IDENTITY DATE
-files
-places
-known
-renew
-with --write take FILE
-with --write merge OTHER
-with --write horizon DATE
-with --write save
-"""
-VERSION = b"desk: STATE has the format DKS2\n"
+# The texts that docs/FORMATS.md shows: what --help and --version print, and the answer to a line that isn't a request.
+HELP, VERSION, USAGE = (text.encode() for text in re.findall(r"^```\n(desk: (?:.*\n)+?)```$", FORMATS, re.M))
 NOT_SAVED = b"desk: changes not saved\n"
 # The form of an answer's header, and the most bytes of a header.
 HEADER = re.compile(rb"(0|[1-9][0-9]*) (0|[1-9][0-9]*) (0|[1-9][0-9]*)\n")

@@ -1,8 +1,6 @@
-"""Dockers with their details, by an independent reading of extracts: the answers to `detail` and
-`permanent-detail`.
+"""Dockers with their details, by an independent reading of extracts: the answers to `detail` and `permanent-detail`.
 
-It follows docs/FORMATS.md and shares nothing with the program. Files are a tuple of their texts,
-and a day is a date."""
+It follows docs/FORMATS.md and shares nothing with the program. Files are a tuple of their texts, and a day is a date."""
 import collections
 import datetime
 import functools
@@ -18,8 +16,7 @@ ONE_DAY = datetime.timedelta(1)
 
 
 class Event(typing.NamedTuple):
-    """An event of a train: its number, the index of its record, its kind, its time in half minutes,
-    and how often the train has passed midnight."""
+    """An event of a train: its number, the index of its record, its kind, its time in half minutes, and how often the train has passed midnight."""
 
     number: int
     at: int
@@ -29,8 +26,7 @@ class Event(typing.NamedTuple):
 
 
 class Plan(typing.NamedTuple):
-    """The schedules of each UID, and the associations of each group, each with its STP indicator,
-    its first day and its records. Also the descriptions of timing points."""
+    """The schedules of each UID and the associations of each group, as records by their keys. Also the descriptions of timing points."""
 
     schedules: dict
     groups: dict
@@ -46,9 +42,7 @@ def half_minutes(field):
 
 def times_of(line):
     """The kinds and times of the events at a location record."""
-    fields = {
-        "LO": (("D", 10),), "LI": (("A", 10), ("P", 20), ("D", 15)), "LT": (("A", 10),),
-    }.get(line[:2], ())
+    fields = {"LO": (("D", 10),), "LI": (("A", 10), ("P", 20), ("D", 15)), "LT": (("A", 10),)}.get(line[:2], ())
     times = ((kind, half_minutes(line[column:column + 5])) for kind, column in fields)
     return [(kind, time) for kind, time in times if time is not None]
 
@@ -68,47 +62,28 @@ def events_of(lines):
 @functools.cache
 def plan_of(files, is_permanent):
     """What these files say, without short-term entries if `is_permanent`."""
-    plan = Plan(collections.defaultdict(list), collections.defaultdict(list), {})
-    for key, lines in lists.live_of(files).items():
-        first, *others = lines
+    plan = Plan(collections.defaultdict(dict), collections.defaultdict(dict), {})
+    for key, (first, *others) in lists.live_of(files).items():
         if key[0] == "1":
             plan.names[key[1]] = first[18:44]
         elif is_permanent and key[-1] != "P":
             continue
         elif key[0] == "3":
-            kept = ("BSN" + first[3:], *others)
-            plan.schedules[key[1]].append((key[3], key[2], kept))
+            plan.schedules[key[1]][key] = ("BSN" + first[3:], *others)
         else:
-            kept = ("AAN" + first[3:],)
-            plan.groups[key[1], key[2], key[4], key[5]].append((key[6], key[3], kept))
+            plan.groups[key[1], key[2], key[4], key[5]][key] = ("AAN" + first[3:],)
     return plan
 
 
-def runs(first, last, days, day):
-    end = last != lists.NO_END and lists.day_of(last) < day
-    return lists.day_of(first) <= day and not end and days[day.weekday()] == "1"
+def counting(entries, day):
+    """The STP indicator and the records of the schedule or association that counts on a day; None if there is none, or if it cancels."""
+    key = lists.chosen(entries, day)
+    return (key[-1], entries[key]) if key and key[-1] != "C" else None
 
 
 def train_on(plan, uid, day):
-    """The STP indicator and the records of the train of a UID that starts on a day; None if there
-    is none."""
-    running = [
-        it for it in plan.schedules.get(uid, ())
-        if runs(it[2][0][9:15], it[2][0][15:21], it[2][0][21:28], day)
-    ]
-    best = min(running, key=lambda it: (it[0], -it[1].toordinal()), default=None)
-    return None if best is None or best[0] == "C" else (best[0], best[2])
-
-
-def association_on(plan, group, day):
-    """The association of a group that counts for a start day of the base train; None if there is
-    none."""
-    running = [
-        it for it in plan.groups[group]
-        if runs(it[2][0][15:21], it[2][0][21:27], it[2][0][27:34], day)
-    ]
-    best = min(running, key=lambda it: (it[0], -it[1].toordinal()), default=None)
-    return None if best is None or best[0] == "C" else best[2][0]
+    """The STP indicator and the records of the train of a UID that starts on a day; None if there is none."""
+    return counting(plan.schedules.get(uid, {}), day)
 
 
 def last_change(lines, event):
@@ -149,10 +124,7 @@ def front(time, kind, identity, uid, stp, at):
 
 def origin(start, event, lines, association):
     """The columns of a line after the docker's own: what the line came from."""
-    records = (
-        lines[0], first_of(lines, "BX"), last_change(lines, event) or BLANK, lines[event.at],
-        association or BLANK,
-    )
+    records = lines[0], first_of(lines, "BX"), last_change(lines, event) or BLANK, lines[event.at], association or BLANK
     return f" {start.isoformat()} {event.number:10} {' '.join(records)}"
 
 
@@ -168,10 +140,7 @@ def rows_of_train(plan, place, day, uid, start):
         if at[2:9] != place or start + event.midnights * ONE_DAY != day:
             continue
         platform, track, path, public = columns_at(at, event.kind)
-        text = (
-            front(event.time, event.kind, identity_at(lines, event), uid, stp, at)
-            + f"{platform:3} {track:3} {path:3} {shown(public):4} {ends}"
-        )
+        text = front(event.time, event.kind, identity_at(lines, event), uid, stp, at) + f"{platform:3} {track:3} {path:3} {shown(public):4} {ends}"
         rank = (event.time, ORDER.index(event.kind), uid, start, event.number, "")
         yield rank, text + origin(start, event, lines, None)
 
@@ -186,37 +155,39 @@ def partner_identity(plan, association, start):
 def rows_of_group(plan, day, group, start):
     """The line of a group of associations for a start day of the base train, if there is one."""
     base, partner, place, suffix = group
-    association = association_on(plan, group, start)
-    train = train_on(plan, base, start)
-    if not association or not train or association[36] not in "S NP":
+    found, train = counting(plan.groups[group], start), train_on(plan, base, start)
+    if not found or not train:
         return
+    association = found[1][0]
     kind, lines = CATEGORIES.get(association[34:36]), train[1]
     event = next((it for it in events_of(lines) if lines[it.at][2:10] == place + suffix), None)
-    if not kind or not event or start + event.midnights * ONE_DAY != day:
+    if not kind or association[36] not in "S NP" or not event or start + event.midnights * ONE_DAY != day:
         return
     at = lines[event.at]
     platform = columns_at(at, event.kind)[0]
-    text = (
-        front(event.time, kind, identity_at(lines, event), base, association[79], at)
-        + f"{platform:3}{'':14}{partner}  {partner_identity(plan, association, start)}   "
-    )
+    text = front(event.time, kind, identity_at(lines, event), base, association[79], at)
+    text += f"{platform:3}{'':14}{partner}  {partner_identity(plan, association, start)}   "
     rank = (event.time, ORDER.index(kind), base, start, event.number, partner)
     yield rank, text + origin(start, event, lines, association)
 
 
-def detailed_text(files, place, date, is_permanent=False):
-    """The detailed docker of a timing point on a date YYYY-MM-DD."""
-    plan, day = plan_of(files, is_permanent), datetime.date.fromisoformat(date)
-    rows = []
+def rows_of(files, place, day, is_permanent=False):
+    """The lines of a timing point on a day, in their order. Each follows what it is sorted by, which begins with its time, its kind, its UID and its start day."""
+    plan, rows = plan_of(files, is_permanent), []
     for start in (day, day - ONE_DAY, day - 2 * ONE_DAY):
         for uid in plan.schedules:
-            rows += rows_of_train(plan, place, day, uid, start)
+            rows += rows_of_train(plan, f"{place:7}", day, uid, start)
         for group in plan.groups:
-            if group[2] == place:
+            if group[2] == f"{place:7}":
                 rows += rows_of_group(plan, day, group, start)
-    heading = f"DOCKER {place} {date} {plan.names.get(place, ''):26}"
-    texts = [heading, *(text for _, text in sorted(rows)), "END"]
-    return "".join(f"{text:{DETAILED_WIDTH}}\n" for text in texts).encode()
+    return sorted(rows)
+
+
+def detailed_text(files, place, date, is_permanent=False):
+    """The detailed docker of a timing point on a date YYYY-MM-DD."""
+    rows = rows_of(files, place, datetime.date.fromisoformat(date), is_permanent)
+    heading = f"DOCKER {place:7} {date} {plan_of(files, is_permanent).names.get(f'{place:7}', ''):26}"
+    return "".join(f"{text:{DETAILED_WIDTH}}\n" for text in [heading, *(text for _, text in rows), "END"]).encode()
 
 
 def docker_part(text):

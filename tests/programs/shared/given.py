@@ -158,6 +158,9 @@ def changed(offset, text):
 ENDLESS = b"\xff" * 8
 # Texts that aren't states, each with the offset and the cause of the fault.
 BAD_STATES = {
+    "nothing": (b"", 0, "Short"),
+    "half a state": (STATE_OF_ONE[:155], 41, "Short"),
+    "a state without its last byte": (STATE_OF_ONE[:-1], 41, "Short"),
     "a state and a byte": (STATE_OF_ONE + b"x", 311, "Tail"),
     "the older mark": (changed(0, b"DKS1"), 0, "Mark"),
     "a horizon that is no day": (changed(4, b"\x8e\xad"), 4, "Horizon"),

@@ -149,24 +149,37 @@ def known_text(files, horizon=FIRST_DAY):
     return "".join(f"{name:12} {value}\n" for name, value in rows).encode()
 
 
-def runs(key, put, day):
-    last = end_of(key, put.lines) or day
-    return key[2] <= day <= last and put.lines[0][21 + day.weekday()] == "1"
+def first_day(line):
+    """The first day of a schedule or an association, by its first record."""
+    return day_of(line[9:15] if line[:2] == "BS" else line[15:21])
+
+
+def runs(line, day):
+    """Whether a schedule or an association with this first record runs on a day."""
+    last, days = (line[15:21], line[21:28]) if line[:2] == "BS" else (line[21:27], line[27:34])
+    return first_day(line) <= day and (last == NO_END or day <= day_of(last)) and days[day.weekday()] == "1"
+
+
+def chosen(entries, day):
+    """Of the schedules of a UID, or of the associations of a group, the key of the one that counts on a day; None if none runs. Entries are lines by their
+    keys, and a key ends in its STP indicator."""
+    found = [key for key, lines in entries.items() if runs(lines[0], day)]
+    return min(found, key=lambda key: (key[-1], -first_day(entries[key][0]).toordinal()), default=None)
 
 
 @functools.cache
-def chosen(files, uid, day):
-    """The key and the put of the schedule that is chosen for the UID on the day; None if there is none."""
-    found = [(key, put) for key, put in latest_of(files).items() if key[:2] == ("3", uid) and put.lines and runs(key, put, day)]
-    return min(found, key=lambda it: (it[0][3], -it[0][2].toordinal()), default=None)
+def schedules_of(files, uid):
+    """The schedules of a UID: the lines of each by its key."""
+    return {key: put.lines for key, put in latest_of(files).items() if key[:2] == ("3", uid) and put.lines}
 
 
 def train_text(files, uid, date):
     """The answer to `train` for a UID and a date YYYY-MM-DD, as in *The schedule of a UID on a day* of docs/FORMATS.md."""
-    found = chosen(tuple(sorted(files)), uid, datetime.date.fromisoformat(date))
+    files = tuple(sorted(files))
+    key = chosen(schedules_of(files, uid), datetime.date.fromisoformat(date))
     head, lines = f"{'TRAIN':7}{uid:8}{date:10}   NONE", ()
-    if found:
-        (_, _, _, stp), (stamp, number, (basic, *rest)) = found
+    if key:
+        stp, (stamp, number, (basic, *rest)) = key[-1], latest_of(files)[key]
         what = "CANCELLED" if stp == "C" else "RUNS"
         head = f"{'TRAIN':7}{uid:8}{date:10} {stp} {what:10}{stamp.day.isoformat():11}{stamp.minute:5}{stamp.reference:8}{number:10}"
         lines = ["BSN" + basic[3:], *rest]

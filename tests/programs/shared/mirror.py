@@ -71,24 +71,6 @@ def state_of(*names, horizon=""):
     return text
 
 
-def bad_states():
-    """Texts that aren't states."""
-    good = state_of("full")
-    return {
-        "an extract": extracts.GOOD["full"].encode(),
-        "nothing": b"",
-        "a cut state": good[:-1],
-        "half a state": good[:len(good) // 2],
-        "a byte more": good + b"\0",
-        "the older format": b"DKS1" + good[6:],
-        "a horizon too high": good[:4] + b"\xff\xff" + good[6:],
-        "a tag that isn't one": good[:14 + 19 + 8] + b"\x09" + good[14 + 19 + 9:],
-    }
-
-
-BAD_STATES = ("an extract", "nothing", "a cut state", "half a state", "a byte more", "the older format", "a horizon too high", "a tag that isn't one")
-
-
 def give_taken(*texts, state="STATE", file="{state}{number}"):
     """Makes files with these texts, and a state that takes them."""
     give(state_of(), state)

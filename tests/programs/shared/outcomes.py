@@ -1,14 +1,12 @@
 """The ways in which a command of `docker` may end, and what it prints."""
 import os
+import re
 
 from checks import same
-from programs import DAY_LINE, DEVICE_LINE, MEMORY_LINE, Ended, docker, held
+from programs import DAY_LINE, DEVICE_LINE, FORMATS, MEMORY_LINE, Ended, docker, held
 
-USAGE_LINE = (
-    b"docker: usage: new STATE | check FILE | day FILE TIPLOC DATE | take STATE FILE"
-    b" | merge STATE OTHER | print STATE TIPLOC DATE | files STATE | horizon STATE DATE"
-    b" | migrate STATE\n"
-)
+# The line of FORMATS, whose table has a backslash before each bar.
+USAGE_LINE = re.search(r"`(docker: usage: .*?)`", FORMATS)[1].replace("\\|", "|").encode() + b"\n"
 DONE = Ended(0, b"", b"")
 USAGE = Ended(2, b"", USAGE_LINE)
 MEMORY = Ended(3, b"", MEMORY_LINE)

@@ -3,6 +3,8 @@ import itertools
 import os
 import pathlib
 import subprocess
+import sys
+import tempfile
 import typing
 
 import checks
@@ -14,6 +16,7 @@ DESK = os.environ.get("DESK") or str(ROOT / "crates/desk/out/desk")
 # The program that makes calls of the crates.
 CALLS = os.environ.get("HOSTILE_TESTS") or str(ROOT / "crates/hostile_tests/out/hostile_tests")
 
+FORMATS = (ROOT / "docs/FORMATS.md").read_text(encoding="utf-8")
 # Lines from docs/FORMATS.md.
 DEVICE_LINE = b"docker: device failed\n"
 MEMORY_LINE = b"docker: want of memory\n"
@@ -71,6 +74,10 @@ def redirected(text):
     return ("sh", "-c", f'exec "$@" {text}', "sh")
 
 
+# Redirections by which a program starts with one of its standard streams closed, or several.
+CLOSED = ["<&-", ">&-", "2>&-", "<&- >&-", "<&- 2>&-", ">&- 2>&-", "<&- >&- 2>&-"]
+
+
 def preloading(library, **settings):
     """The words that run the program with this library and these settings for it."""
     words = [f"{name}={value}" for name, value in settings.items()]
@@ -82,6 +89,14 @@ def as_nobody():
     if os.getuid():
         return ()
     return ("setpriv", "--reuid=65534", "--regid=65534", "--clear-groups")
+
+
+def builds():
+    """Has the launchers build the programs if needed, by making and reading a first state."""
+    with tempfile.TemporaryDirectory() as work:
+        for name, words in (("docker", ["new", f"{work}/state"]), ("desk", [f"{work}/state"])):
+            if not os.environ.get(name.upper()) and (status := subprocess.run([ROOT / name, *words], stdin=subprocess.DEVNULL, check=False).returncode):
+                sys.exit(status)
 
 
 def build_library(source, target):

@@ -54,9 +54,9 @@ def place(identity, code, description="", new=""):
     return record(f"{text:72}{new:7}")
 
 
-def association(base, other, first, last, at, category="NP", date="S", suffix="", days="1111111", stp="P"):
+def association(base, other, first, last, at, category="NP", date="S", suffix="", days="1111111", stp="P", transaction="N"):
     """An association of two trains, with its date indicator and the base train's suffix."""
-    return record(f"AAN{base}{other}{first}{last}{days}{category:2}{date}{at:7}{suffix:1} TP", stp)
+    return record(f"AA{transaction}{base}{other}{first}{last:6}{days:7}{category:2}{date:1}{at:7}{suffix:1} TP", stp)
 
 
 TRAILER = record("ZZ")

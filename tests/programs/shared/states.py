@@ -61,6 +61,11 @@ def state(files=(), entries=(), horizon=None, mark=MARK):
     return text + number(len(entries), 8) + b"".join(entries)
 
 
+def ledger(numbers):
+    """The text of a state that knows old files with these numbers, and has no entries."""
+    return state([File("2005-09-26", f"{it:07}", last="LASTREF", time="0105") for it in numbers])
+
+
 def under(horizon, text):
     """The text of a state, changed to another horizon."""
     return text[:4] + day(horizon) + text[6:]

@@ -12,8 +12,8 @@ feed_all-requires-clause-taking g c = record {
   taken = at_start g.K.Keeper.keeps c.args.limit c.new-reading.result c.new-reading.ensures c.requires.limit;
 }
 
-pub returns-in-Ok : goal.returns-in-Ok
-returns-in-Ok g c =
+pub returns-in-Ok-clause-reads : goal.returns-in-Ok-clause-reads
+returns-in-Ok-clause-reads g c =
     let start = at_start g.K.Keeper.keeps c.args.limit c.new-reading.result c.new-reading.ensures c.requires.limit in
     let left = g.S.Source.left c.args.source.now in
     let left_now = g.S.Source.left c.feed_all.new.source in
@@ -24,8 +24,8 @@ returns-in-Ok g c =
     (c.in-Ok.ensures.failures.1 (λ is. cc))
     c.ended_of.ensures.ok c.ended_of.ensures.file c.ended_of.ensures.memory c.ended_of.ensures.source
 
-pub returns-in-Err-Source : goal.returns-in-Err-Source
-returns-in-Err-Source g c =
+pub returns-in-Err-Source-clause-reads : goal.returns-in-Err-Source-clause-reads
+returns-in-Err-Source-clause-reads g c =
     let start = at_start g.K.Keeper.keeps c.args.limit c.new-reading.result c.new-reading.ensures c.requires.limit in
     record {
       no_further = no_further g.K.Keeper.keeps c.args.limit (g.S.Source.left c.args.source.now) (g.S.Source.left c.feed_all.new.source)
@@ -34,8 +34,8 @@ returns-in-Err-Source g c =
       failures = c.in-Err-Source.ensures.failures.0.0 (ap Err c.in-Err-Source.field-0-is);
     }
 
-pub returns-in-Err-Memory : goal.returns-in-Err-Memory
-returns-in-Err-Memory g c =
+pub returns-in-Err-Memory-clause-reads : goal.returns-in-Err-Memory-clause-reads
+returns-in-Err-Memory-clause-reads g c =
     let start = at_start g.K.Keeper.keeps c.args.limit c.new-reading.result c.new-reading.ensures c.requires.limit in
     let left = g.S.Source.left c.args.source.now in
     let left_now = g.S.Source.left c.feed_all.new.source in
@@ -48,8 +48,8 @@ returns-in-Err-Memory g c =
           c.in-Err-Memory.field-0-is c.in-Err-Memory.ensures.failures;
     }
 
-pub returns : goal.returns
-returns g c =
+pub returns-clause-reads : goal.returns-clause-reads
+returns-clause-reads g c =
     let start = at_start g.K.Keeper.keeps c.args.limit c.new-reading.result c.new-reading.ensures c.requires.limit in
     let left = g.S.Source.left c.args.source.now in
     let left_now = g.S.Source.left c.feed_all.new.source in

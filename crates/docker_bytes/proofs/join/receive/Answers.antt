@@ -20,7 +20,7 @@ returns-in-Err-clause-reads g c =
     ends_early dks_2 c.args.limit left left_now fault failed failed_now
     (as_asked c.new-parser.result dks_2 c.args.limit []
     (λ f n. StopsReading f n left left_now (IsWhyUnread WantsSoFar f n left left_now (Some fault)) (CountsWhy (Some fault) failed failed_now))
-    c.new-parser.ensures c.in-Err.ensures)
+    c.new-parser.ensures c.in-Err.ensures.reads)
 
 pub returns-clause-reads : goal.returns-clause-reads
 returns-clause-reads g c =
@@ -30,7 +30,7 @@ returns-clause-reads g c =
     let failed_now = g.S.Source.failures c.read_pieces.new.source in
     let parser = c.read_pieces.new.parser in
     let read = as_asked c.new-parser.result dks_2 c.args.limit []
-    (λ f n. StopsReading f n left left_now (ReadsAll f n left parser) (failed_now ≡ failed)) c.new-parser.ensures c.in_default.ensures in
+    (λ f n. StopsReading f n left left_now (ReadsAll f n left parser) (failed_now ≡ failed)) c.new-parser.ensures c.in_default.ensures.reads in
     ends_whole dks_2 c.args.limit left left_now parser failed failed_now
     (λ text (_ : ⊤). JoinsText dks_2 c.args.limit text g.R.Receiver.own c.join.result.0)
     (λ _. JoinsState dks_2 c.args.limit left c.args.own c.join.result.0) c.join.result.1 read (c.join.ensures.ends dks_2 c.args.limit)

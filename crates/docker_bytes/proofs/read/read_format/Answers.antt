@@ -10,8 +10,8 @@ use Rattle.docker_bytes.proofs.read.read_format.Goals as goal
 pub read_pieces-requires-clause-unread : goal.read_pieces-requires-clause-unread
 read_pieces-requires-clause-unread g c = unread c.new-parser.result (format_meant c.args.format) c.args.limit [] c.new-parser.ensures
 
-pub returns : goal.returns
-returns g c =
+pub returns-clause-reads : goal.returns-clause-reads
+returns-clause-reads g c =
     let format = format_meant c.args.format in
     let left = g.S.Source.left c.args.source.now in
     let left_now = g.S.Source.left c.read_pieces.new.source in
@@ -19,13 +19,13 @@ returns g c =
     let failed_now = g.S.Source.failures c.read_pieces.new.source in
     let parser = c.read_pieces.new.parser in
     let read = as_asked c.new-parser.result format c.args.limit []
-    (λ f n. StopsReading f n left left_now (ReadsAll f n left parser) (failed_now ≡ failed)) c.new-parser.ensures c.in_ok-read_pieces.ensures in
+    (λ f n. StopsReading f n left left_now (ReadsAll f n left parser) (failed_now ≡ failed)) c.new-parser.ensures c.in_ok-read_pieces.ensures.reads in
     ends_whole format c.args.limit left left_now parser failed failed_now (IsMadeOf g.K.Maker.makes format c.args.limit)
     (ReadsMade g.K.Maker.makes format c.args.limit left) c.finish.result read (c.finish.ensures format c.args.limit)
     (λ text made held of. record { text = text; held = held; of = of })
 
-pub returns-in_err-read_pieces : goal.returns-in_err-read_pieces
-returns-in_err-read_pieces g c =
+pub returns-in_err-read_pieces-clause-reads : goal.returns-in_err-read_pieces-clause-reads
+returns-in_err-read_pieces-clause-reads g c =
     let same = err_from_is_err_and c.from_residual.result c.from_residual.ensures.1 in
     let format = format_meant c.args.format in
     let left = g.S.Source.left c.args.source.now in
@@ -35,5 +35,5 @@ returns-in_err-read_pieces g c =
     let fault = c.in_err-read_pieces.field-0.0 in
     let read = as_asked c.new-parser.result format c.args.limit []
     (λ f n. StopsReading f n left left_now (IsWhyUnread WantsSoFar f n left left_now (Some fault)) (CountsWhy (Some fault) failed failed_now))
-    c.new-parser.ensures c.in_err-read_pieces.ensures in
+    c.new-parser.ensures c.in_err-read_pieces.ensures.reads in
     rw (same.1, same.2) (ends_early format c.args.limit left left_now fault failed failed_now read)

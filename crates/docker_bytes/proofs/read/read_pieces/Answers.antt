@@ -12,8 +12,8 @@ feed_all-requires-clause-taking g c = record {
   taken = at_start c.args.parser.now c.requires.unread c.requires.limit;
 }
 
-pub returns-in-Ok : goal.returns-in-Ok
-returns-in-Ok g c =
+pub returns-in-Ok-clause-reads : goal.returns-in-Ok-clause-reads
+returns-in-Ok-clause-reads g c =
     let settings = settings_of c.args.parser.now in
     let start = at_start c.args.parser.now c.requires.unread c.requires.limit in
     let left = g.S.Source.left c.args.source.now in
@@ -24,8 +24,8 @@ returns-in-Ok g c =
       failures = c.in-Ok.ensures.failures.1 (λ is. cc);
     }
 
-pub returns-in-Err-Source : goal.returns-in-Err-Source
-returns-in-Err-Source g c =
+pub returns-in-Err-Source-clause-reads : goal.returns-in-Err-Source-clause-reads
+returns-in-Err-Source-clause-reads g c =
     let settings = settings_of c.args.parser.now in
     let start = at_start c.args.parser.now c.requires.unread c.requires.limit in
     record {
@@ -35,8 +35,8 @@ returns-in-Err-Source g c =
       failures = c.in-Err-Source.ensures.failures.0.0 (ap Err c.in-Err-Source.field-0-is);
     }
 
-pub returns-in-Err-Memory : goal.returns-in-Err-Memory
-returns-in-Err-Memory g c =
+pub returns-in-Err-Memory-clause-reads : goal.returns-in-Err-Memory-clause-reads
+returns-in-Err-Memory-clause-reads g c =
     let settings = settings_of c.args.parser.now in
     let start = at_start c.args.parser.now c.requires.unread c.requires.limit in
     let left = g.S.Source.left c.args.source.now in
@@ -50,8 +50,8 @@ returns-in-Err-Memory g c =
       failures = c.in-Err-Memory.ensures.failures.1 (λ is. cc);
     }
 
-pub returns-in-Err-Refused : goal.returns-in-Err-Refused
-returns-in-Err-Refused g c =
+pub returns-in-Err-Refused-clause-reads : goal.returns-in-Err-Refused-clause-reads
+returns-in-Err-Refused-clause-reads g c =
     let settings = settings_of c.args.parser.now in
     let start = at_start c.args.parser.now c.requires.unread c.requires.limit in
     let left = g.S.Source.left c.args.source.now in

@@ -29,6 +29,7 @@ returns-in-New g c =
             counted = (refl, refl);
           });
       written = ap output_of at;
+      not_passed = (λ _. refl, λ _. refl);
     }
 
 pub returns-in_ok-counts_of_file-in-Check : goal.returns-in_ok-counts_of_file-in-Check
@@ -47,6 +48,7 @@ returns-in_ok-counts_of_file-in-Check g c =
           (record { first_few = ended.first_few; second_few = refl; ends = ((refl, ended.ends.0), ended.ends.1) })
           (read.ensures.counted (g.T.Source.failures second)));
       written = ap output_of at;
+      not_passed = (read.ensures.not_passed, λ _. refl);
     }
 
 pub returns-in_err-counts_of_file-in-Check : goal.returns-in_err-counts_of_file-in-Check
@@ -67,6 +69,7 @@ returns-in_err-counts_of_file-in-Check g c =
           ended
           (read.ensures.counted (g.T.Source.failures second)));
       written = tt;
+      not_passed = (read.ensures.not_passed, λ _. refl);
     })
 
 pub returns-in_ok-office-in-Day : goal.returns-in_ok-office-in-Day
@@ -84,6 +87,7 @@ returns-in_ok-office-in-Day g c =
           taken_file first now second (Ok (Place read.office)) (λ none. cc)
           (record { first_few = took.no_further; second_few = refl; ends = took.outcome }) (took.failures, refl));
       written = ap output_of at ∙ sym (λ i. docker_written (read.ensures.place i) (read.ensures.day i));
+      not_passed = (read.ensures.not_passed, λ _. refl);
     }
 
 pub returns-in_err-office-in-Day : goal.returns-in_err-office-in-Day
@@ -105,6 +109,7 @@ returns-in_err-office-in-Day g c =
           (g.S.Source.left first) (g.S.Source.left now) (g.T.Source.left second) _ took.no_further took.outcome)
           (file_failed_alone Excerpt (g.S.Source.failures first) (g.S.Source.failures now) (g.T.Source.failures second) _ took.failures));
       written = tt;
+      not_passed = (read.ensures.not_passed, λ _. refl);
     })
 
 pub returns-in_ok-office_of_state_and_file-in-Take : goal.returns-in_ok-office_of_state_and_file-in-Take
@@ -116,8 +121,9 @@ returns-in_ok-office_of_state_and_file-in-Take g c =
     let read = c.in_ok-office_of_state_and_file-in-Take in
     record {
       reads = held_for g.S.Source.left g.S.Source.failures g.T.Source.left g.T.Source.failures _ take_task
-          first now second c.office_of_state_and_file.new.second (Ok (Whole read.field-0)) at read.ensures;
+          first now second c.office_of_state_and_file.new.second (Ok (Whole read.field-0)) at read.ensures.reads;
       written = ap output_of at;
+      not_passed = read.ensures.not_passed;
     }
 
 pub returns-in_err-office_of_state_and_file-in-Take : goal.returns-in_err-office_of_state_and_file-in-Take
@@ -131,8 +137,9 @@ returns-in_err-office_of_state_and_file-in-Take g c =
     let same = err_from_is_err_and residual.result residual.ensures.1 in
     rw (same.1, same.2) (record {
       reads = held_for g.S.Source.left g.S.Source.failures g.T.Source.left g.T.Source.failures _ take_task
-          first now second c.office_of_state_and_file.new.second (Err _) at read.ensures;
+          first now second c.office_of_state_and_file.new.second (Err _) at read.ensures.reads;
       written = tt;
+      not_passed = read.ensures.not_passed;
     })
 
 pub returns-in_ok-office_of_two_states-in-Merge : goal.returns-in_ok-office_of_two_states-in-Merge
@@ -144,8 +151,9 @@ returns-in_ok-office_of_two_states-in-Merge g c =
     let read = c.in_ok-office_of_two_states-in-Merge in
     record {
       reads = held_for g.S.Source.left g.S.Source.failures g.T.Source.left g.T.Source.failures _ merge_task
-          first now second c.office_of_two_states.new.second (Ok (Whole read.field-0)) at read.ensures;
+          first now second c.office_of_two_states.new.second (Ok (Whole read.field-0)) at read.ensures.reads;
       written = ap output_of at;
+      not_passed = read.ensures.not_passed;
     }
 
 pub returns-in_err-office_of_two_states-in-Merge : goal.returns-in_err-office_of_two_states-in-Merge
@@ -159,8 +167,9 @@ returns-in_err-office_of_two_states-in-Merge g c =
     let same = err_from_is_err_and residual.result residual.ensures.1 in
     rw (same.1, same.2) (record {
       reads = held_for g.S.Source.left g.S.Source.failures g.T.Source.left g.T.Source.failures _ merge_task
-          first now second c.office_of_two_states.new.second (Err _) at read.ensures;
+          first now second c.office_of_two_states.new.second (Err _) at read.ensures.reads;
       written = tt;
+      not_passed = read.ensures.not_passed;
     })
 
 pub returns-in_ok-office-in-Print : goal.returns-in_ok-office-in-Print
@@ -174,6 +183,7 @@ returns-in_ok-office-in-Print g c =
       reads = state_held g.S.Source.left g.S.Source.failures g.T.Source.left g.T.Source.failures dks_2 _ (print_task c.in-Print.place c.in-Print.day)
           first now second (Place read.office) at refl read.ensures.reads;
       written = ap output_of at ∙ sym (λ i. docker_written (read.ensures.place i) (read.ensures.day i));
+      not_passed = (read.ensures.not_passed, λ _. refl);
     }
 
 pub returns-in_err-office-in-Print : goal.returns-in_err-office-in-Print
@@ -189,6 +199,7 @@ returns-in_err-office-in-Print g c =
       reads = state_unheld g.S.Source.left g.S.Source.failures g.T.Source.left g.T.Source.failures dks_2 _ (print_task c.in-Print.place c.in-Print.day)
           first now second _ at refl read.ensures.reads;
       written = tt;
+      not_passed = (read.ensures.not_passed, λ _. refl);
     })
 
 pub returns-in_ok-read-in-Files : goal.returns-in_ok-read-in-Files
@@ -202,6 +213,7 @@ returns-in_ok-read-in-Files g c =
       reads = state_held g.S.Source.left g.S.Source.failures g.T.Source.left g.T.Source.failures dks_2 _ files_task
           first now second (Ledger read.field-0) at refl read.ensures.reads;
       written = ap output_of at;
+      not_passed = (read.ensures.not_passed, λ _. refl);
     }
 
 pub returns-in_err-read-in-Files : goal.returns-in_err-read-in-Files
@@ -217,6 +229,7 @@ returns-in_err-read-in-Files g c =
       reads = state_unheld g.S.Source.left g.S.Source.failures g.T.Source.left g.T.Source.failures dks_2 _ files_task
           first now second _ at refl read.ensures.reads;
       written = tt;
+      not_passed = (read.ensures.not_passed, λ _. refl);
     })
 
 pub returns-in_ok-office_raised-in-Horizon : goal.returns-in_ok-office_raised-in-Horizon
@@ -228,8 +241,9 @@ returns-in_ok-office_raised-in-Horizon g c =
     let read = c.in_ok-office_raised-in-Horizon in
     record {
       reads = state_held g.S.Source.left g.S.Source.failures g.T.Source.left g.T.Source.failures dks_2 _ (horizon_task c.in-Horizon.day)
-          first now second (Whole read.field-0) at refl read.ensures;
+          first now second (Whole read.field-0) at refl read.ensures.reads;
       written = ap output_of at;
+      not_passed = (read.ensures.not_passed, λ _. refl);
     }
 
 pub returns-in_err-office_raised-in-Horizon : goal.returns-in_err-office_raised-in-Horizon
@@ -243,8 +257,9 @@ returns-in_err-office_raised-in-Horizon g c =
     let same = err_from_is_err_and residual.result residual.ensures.1 in
     rw (same.1, same.2) (record {
       reads = state_unheld g.S.Source.left g.S.Source.failures g.T.Source.left g.T.Source.failures dks_2 _ (horizon_task c.in-Horizon.day)
-          first now second _ at refl read.ensures;
+          first now second _ at refl read.ensures.reads;
       written = tt;
+      not_passed = (read.ensures.not_passed, λ _. refl);
     })
 
 pub returns-in_ok-office-in-Migrate : goal.returns-in_ok-office-in-Migrate
@@ -256,8 +271,9 @@ returns-in_ok-office-in-Migrate g c =
     let read = c.in_ok-office-in-Migrate in
     record {
       reads = state_held g.S.Source.left g.S.Source.failures g.T.Source.left g.T.Source.failures dks_1 _ migrate_task
-          first now second (Whole read.office) at refl read.ensures;
+          first now second (Whole read.office) at refl read.ensures.reads;
       written = ap output_of at;
+      not_passed = (read.ensures.not_passed, λ _. refl);
     }
 
 pub returns-in_err-office-in-Migrate : goal.returns-in_err-office-in-Migrate
@@ -271,6 +287,7 @@ returns-in_err-office-in-Migrate g c =
     let same = err_from_is_err_and residual.result residual.ensures.1 in
     rw (same.1, same.2) (record {
       reads = state_unheld g.S.Source.left g.S.Source.failures g.T.Source.left g.T.Source.failures dks_1 _ migrate_task
-          first now second _ at refl read.ensures;
+          first now second _ at refl read.ensures.reads;
       written = tt;
+      not_passed = (read.ensures.not_passed, λ _. refl);
     })

@@ -1,4 +1,5 @@
 use Rattle.std.proofs.Common.{◌≡◌, length}
+use Rattle.cif_device.specs.Device.{IsNotPassed}
 use Rattle.cif_device.specs.Device.{Reads}
 use Rattle.docker_cmd.proofs.LineOfJobLemmas.{ArePrintable}
 use Rattle.docker_cmd.proofs.line_of_job.read_line.Given as goal
@@ -10,4 +11,6 @@ invariant-loop g l = record {
   printable : ArePrintable l.line.items;
   counted : length l.line.items ≡ l.counter;
   no_failure : g.S.Source.failures l.source ≡ g.S.Source.failures l.fn.source;
+  not_ended : g.S.Source.ended l.source ≡ g.S.Source.ended l.fn.source;
+  not_passed : IsNotPassed (g.S.Source.ended l.fn.source) (g.S.Source.passed l.fn.source) (g.S.Source.passed l.source);
 }

@@ -7,8 +7,8 @@ use Rattle.docker_office.specs.Office.{TakesFile}
 use Rattle.docker_cmd.proofs.ReadingLemmas.{file_failed, file_refused, file_unread, state_failed_alone, state_refused_alone}
 use Rattle.docker_cmd.proofs.sources.office_of_state_and_file.Goals as goal
 
-pub returns-in_err-taker : goal.returns-in_err-taker
-returns-in_err-taker g c =
+pub returns-in_err-taker-clause-reads : goal.returns-in_err-taker-clause-reads
+returns-in_err-taker-clause-reads g c =
     let same = err_from_is_err_and c.from_residual.result c.from_residual.ensures.1 in
     let first = g.S.Source.left c.args.first.now in
     let left = g.S.Source.left c.read.new.source in
@@ -16,16 +16,16 @@ returns-in_err-taker g c =
     let failed = g.S.Source.failures c.args.first.now in
     let failed_now = g.S.Source.failures c.read.new.source in
     rw (same.1, same.2) (record {
-      outcome = file_unread first left second _ (state_refused_alone dks_2 first left second failed failed_now _ c.in_err-taker.ensures);
+      outcome = file_unread first left second _ (state_refused_alone dks_2 first left second failed failed_now _ c.in_err-taker.ensures.reads);
       none = λ none. let never : ⊥ = cc in absurd never;
       order = inl refl;
-      counted = state_failed_alone failed failed_now (g.T.Source.failures c.args.second.now) _ c.in_err-taker.ensures.failures;
+      counted = state_failed_alone failed failed_now (g.T.Source.failures c.args.second.now) _ c.in_err-taker.ensures.reads.failures;
     })
 
-pub returns-in_err-take : goal.returns-in_err-take
-returns-in_err-take g c =
+pub returns-in_err-take-clause-reads : goal.returns-in_err-take-clause-reads
+returns-in_err-take-clause-reads g c =
     let same = err_from_is_err_and c.from_residual-in_err-take.result c.from_residual-in_err-take.ensures.1 in
-    let first = c.in_ok-taker.ensures in
+    let first = c.in_ok-taker.ensures.reads in
     let second = g.T.Source.left c.args.second.now in
     let took = c.in_err-take.ensures.takes in
     rw (same.1, same.2) (record {
@@ -37,9 +37,9 @@ returns-in_err-take g c =
       counted = file_failed ⊤ _ _ _ _ _ first.failures took.failures;
     })
 
-pub returns : goal.returns
-returns g c =
-    let first = c.in_ok-taker.ensures in
+pub returns-clause-reads : goal.returns-clause-reads
+returns-clause-reads g c =
+    let first = c.in_ok-taker.ensures.reads in
     let took = c.in_ok-take.ensures.takes in
     record {
       outcome = record {

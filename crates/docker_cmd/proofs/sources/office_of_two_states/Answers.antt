@@ -4,8 +4,8 @@ use Rattle.docker_model.specs.state.StateText.{dks_2}
 use Rattle.docker_cmd.proofs.ReadingLemmas.{state_failed, state_failed_alone, state_refused, state_refused_alone, state_unread}
 use Rattle.docker_cmd.proofs.sources.office_of_two_states.Goals as goal
 
-pub returns-in_err-receiver : goal.returns-in_err-receiver
-returns-in_err-receiver g c =
+pub returns-in_err-receiver-clause-reads : goal.returns-in_err-receiver-clause-reads
+returns-in_err-receiver-clause-reads g c =
     let same = err_from_is_err_and c.from_residual.result c.from_residual.ensures.1 in
     let first = g.S.Source.left c.args.first.now in
     let left = g.S.Source.left c.read.new.source in
@@ -13,16 +13,16 @@ returns-in_err-receiver g c =
     let failed = g.S.Source.failures c.args.first.now in
     let failed_now = g.S.Source.failures c.read.new.source in
     rw (same.1, same.2) (record {
-      outcome = state_unread first left second _ (state_refused_alone dks_2 first left second failed failed_now _ c.in_err-receiver.ensures);
+      outcome = state_unread first left second _ (state_refused_alone dks_2 first left second failed failed_now _ c.in_err-receiver.ensures.reads);
       none = λ none. let never : ⊥ = cc in absurd never;
       order = inl refl;
-      counted = state_failed_alone failed failed_now (g.T.Source.failures c.args.second.now) _ c.in_err-receiver.ensures.failures;
+      counted = state_failed_alone failed failed_now (g.T.Source.failures c.args.second.now) _ c.in_err-receiver.ensures.reads.failures;
     })
 
-pub returns-in_err-receive : goal.returns-in_err-receive
-returns-in_err-receive g c =
+pub returns-in_err-receive-clause-reads : goal.returns-in_err-receive-clause-reads
+returns-in_err-receive-clause-reads g c =
     let same = err_from_is_err_and c.from_residual-in_err-receive.result c.from_residual-in_err-receive.ensures.1 in
-    let first = c.in_ok-receiver.ensures in
+    let first = c.in_ok-receiver.ensures.reads in
     let received = c.in_err-receive.ensures.reads in
     let failed = g.T.Source.failures c.args.second.now in
     let failed_now = g.T.Source.failures c.receive.new.source in
@@ -34,9 +34,9 @@ returns-in_err-receive g c =
       counted = state_failed _ _ failed failed_now _ first.failures received.failures;
     })
 
-pub returns : goal.returns
-returns g c =
-    let first = c.in_ok-receiver.ensures in
+pub returns-clause-reads : goal.returns-clause-reads
+returns-clause-reads g c =
+    let first = c.in_ok-receiver.ensures.reads in
     let received = c.in_ok-receive.ensures.reads in
     record {
       outcome = record {

@@ -1,11 +1,11 @@
-use Rattle.std.proofs.Common.{◌≡◌, ◌∷◌, drop, List, ℕ}
+use Rattle.std.proofs.Common.{◌∷◌, take, List, ℕ}
 use Rattle.std.specs.Borrow.{Bor}
-use Rattle.docker_day.proofs.Written.{Leads}
+use Rattle.std.specs.List.{flat_map}
+use Rattle.docker_host.specs.Streams.{WritesWhole}
 use Rattle.docker_desk.proofs.help.write_words.Given as goal
 
--- the sink has gained the words before the current word, each after a space
+-- the output has gained the words before the current word, each after a space
 abbrev pub invariant-loop-word : goal.invariant-loop-word
 invariant-loop-word g l = record {
-  leads : Leads (λ (word : Bor (List ℕ)). 32 ∷ word.now) l.words (drop l.word-index l.words) (g.K.Sink.taken l.fn.sink) (g.K.Sink.taken l.sink);
-  no_failure : g.K.Sink.failures l.sink ≡ g.K.Sink.failures l.fn.sink;
+  so_far : WritesWhole (flat_map (λ (word : Bor (List ℕ)). 32 ∷ word.now) (take l.word-index l.words)) l.fn.streams l.streams;
 }

@@ -1,17 +1,18 @@
 use Rattle.std.proofs.Common.{◌≡◌, ◌≤◌, length, false}
 use Rattle.cif_device.specs.Device.{Reads}
-use Rattle.docker_desk.specs.Lines.{with_ahead}
+use Rattle.docker_desk.specs.Lines.{Uses, with_ahead}
 use Rattle.docker_desk.proofs.LineLemmas.{ArePrintable}
 use Rattle.docker_desk.proofs.lines.next_line.Given as goal
 
 -- the bytes read so far are the bytes of the line
 abbrev pub invariant-loop : goal.invariant-loop
 invariant-loop g l = record {
-  so_far : Reads (with_ahead l.fn.ahead (g.S.Source.left l.fn.source)) l.line.items (with_ahead l.ahead (g.S.Source.left l.source));
+  so_far : Reads (with_ahead l.fn.ahead l.fn.streams.input) l.line.items (with_ahead l.ahead l.streams.input);
+  uses : Uses l.line.items l.fn.ahead l.ahead l.fn.streams l.streams;
   printable : ArePrintable l.line.items;
   short : length l.line.items ≤ 255;
   counted : length l.line.items ≡ l.counter;
-  no_failure : g.S.Source.failures l.source ≡ g.S.Source.failures l.fn.source;
-  not_ended : g.S.Source.ended l.fn.source ≡ false → g.S.Source.ended l.source ≡ false;
-  not_passed : g.S.Source.ended l.fn.source ≡ false → g.S.Source.passed l.source ≡ g.S.Source.passed l.fn.source;
+  no_failure : l.streams.input_failures ≡ l.fn.streams.input_failures;
+  not_ended : l.fn.streams.ended ≡ false → l.streams.ended ≡ false;
+  not_passed : l.fn.streams.ended ≡ false → l.streams.passed ≡ l.fn.streams.passed;
 }

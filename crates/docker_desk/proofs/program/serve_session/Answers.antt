@@ -24,5 +24,5 @@ pub returns-in-Err : goal.returns-in-Err
 returns-in-Err g c =
     refused_as (texts c.args.words.now) g.D.Folder.names_bytes _ _ _ c.tell_failure.result c.in-Some.named.name.now c.in-Some.named.may_write
     c.in-Err.fault c.host.view_is c.in-Some.ensures.named c.in-Err.ensures.opens c.in-Err.ensures.counted
-    (record { input = refl; ended = refl; passed = refl; output = refl; input_failures = refl; output_failures = refl })
+    refl
     c.tell_failure.ensures.status c.tell_failure.ensures.tells

@@ -5,7 +5,7 @@ use Rattle.docker_desk.proofs.serving.serve_lines.Goals as goal
 
 pub loop-init : goal.loop-init
 loop-init g c = record {
-  so_far = so_far_first _ _ c.new-ahead.result _ _ c.new-ahead.ensures;
+  so_far = so_far_first _ _ c.new-ahead.result _ _ _ c.new-ahead.ensures;
   few = (let none = c.requires.none in omega (arith, none));
   input = refl;
   output = refl;
@@ -16,7 +16,10 @@ pub loop-preserved : goal.loop-preserved
 loop-preserved g c =
     let counts = counts_on c.serve_next-next.result _ _ _ _ c.in_default.is c.serve_next-next.ensures.counted in
     record {
-      so_far = so_far_on _ c.loop.counter _ _ _ _ _ _ _ _ _ c.serve_next-next.result c.loop.invariant.so_far c.in_default.is c.serve_next-next.ensures.serves;
+      so_far =
+          so_far_on _ c.loop.counter _ _ c.args.streams.now.input c.args.streams.now.output c.loop.ahead c.args.streams.now.exchanges c.loop.streams
+          c.loop.invariant.so_far _ c.serve_next-next.new.ahead c.serve_next-next.new.streams c.serve_next-next.result c.in_default.is
+          c.serve_next-next.ensures.serves;
       few = (let few = c.loop.invariant.few in let more = c.serve_next-next.ensures.few in omega (arith, few, more));
       input = counts.0 ∙ c.loop.invariant.input;
       output = counts.1 ∙ c.loop.invariant.output;
@@ -28,11 +31,14 @@ loop-preserved g c =
 
 pub returns-in-Some-clause-answers : goal.returns-in-Some-clause-answers
 returns-in-Some-clause-answers g c =
-    ended_after _ c.in-Some.ending c.loop.counter _ _ _ _ _ _ _ _ c.loop.invariant.so_far c.in-Some.ensures.serves
+    ended_after _ c.loop.counter _ _ c.args.streams.now.input c.args.streams.now.output c.loop.ahead c.args.streams.now.exchanges c.loop.streams
+    c.loop.invariant.so_far c.in-Some.ending _ c.serve_next-next.new.streams c.in-Some.ensures.serves
 
 pub returns-clause-answers : goal.returns-clause-answers
 returns-clause-answers g c =
-    let full : c.loop.counter ≡ 2 ^ 64 - 1 = omega arith in ended_endless _ c.loop.counter _ _ _ _ _ _ full c.loop.invariant.so_far
+    let full : c.loop.counter ≡ 2 ^ 64 - 1 = omega arith in
+    ended_endless _ c.loop.counter _ _ c.args.streams.now.input c.args.streams.now.output c.loop.ahead c.args.streams.now.exchanges c.loop.streams
+    c.loop.invariant.so_far full
 
 pub returns-in-Some-clause-not_passed : goal.returns-in-Some-clause-not_passed
 returns-in-Some-clause-not_passed g c = λ before.

@@ -9,10 +9,10 @@ invariant-loop g l = record {
   so_far : IsSoFar (setting l.fn.words.name.now l.fn.words.may_write g.D.Folder.names_bytes) l.counter
       (session_view l.fn.session.desk (g.D.Folder.look_of l.fn.session.seen) (g.D.Folder.history l.fn.folder) (g.D.Folder.failures l.fn.folder))
       (session_view l.session.desk (g.D.Folder.look_of l.session.seen) (g.D.Folder.history l.folder) (g.D.Folder.failures l.folder))
-      (g.S.Source.left l.fn.input) (with_ahead l.ahead (g.S.Source.left l.input)) (g.K.Sink.taken l.fn.output) (g.K.Sink.taken l.output);
+      l.fn.streams.input (with_ahead l.ahead l.streams.input) l.fn.streams.output l.streams.output l.ahead l.fn.streams.exchanges
+      l.streams.exchanges;
   few : g.D.Folder.failures l.folder ≤ l.counter;
-  input : g.S.Source.failures l.input ≡ g.S.Source.failures l.fn.input;
-  output : g.K.Sink.failures l.output ≡ g.K.Sink.failures l.fn.output;
-  going : g.S.Source.ended l.fn.input ≡ false
-      → (g.S.Source.passed l.input ≡ g.S.Source.passed l.fn.input) × (g.S.Source.ended l.input ≡ false);
+  input : l.streams.input_failures ≡ l.fn.streams.input_failures;
+  output : l.streams.output_failures ≡ l.fn.streams.output_failures;
+  going : l.fn.streams.ended ≡ false → (l.streams.passed ≡ l.fn.streams.passed) × (l.streams.ended ≡ false);
 }

@@ -11,27 +11,27 @@ returns-in_err-file-clause-takes g c =
     let left = g.S.Source.left c.args.source.now in
     rw (same.1, same.2) (untaken c.args.limit (λ (_ : ⊤). TakesFile c.args.limit left c.args.self.now c.args.self.now) left
     (g.S.Source.left c.read_file.new.source)
-    (g.S.Source.failures c.args.source.now) (g.S.Source.failures c.read_file.new.source) _ c.in_err-file.ensures)
+    (g.S.Source.failures c.args.source.now) (g.S.Source.failures c.read_file.new.source) _ c.in_err-file.ensures.reads)
 
 pub returns-in_default-clause-takes : goal.returns-in_default-clause-takes
 returns-in_default-clause-takes g c = record {
-  no_further = c.in_ok-file.ensures.no_further;
-  outcome = inr (holds_file c.args.limit (g.S.Source.left c.args.source.now) c.in_ok-file.file c.in_ok-file.ensures.outcome.0);
-  failures = c.in_ok-file.ensures.failures;
+  no_further = c.in_ok-file.ensures.reads.no_further;
+  outcome = inr (holds_file c.args.limit (g.S.Source.left c.args.source.now) c.in_ok-file.file c.in_ok-file.ensures.reads.outcome.0);
+  failures = c.in_ok-file.ensures.reads.failures;
 }
 
 pub returns-clause-takes : goal.returns-clause-takes
 returns-clause-takes g c =
     let left = g.S.Source.left c.args.source.now in
     taken_whole c.args.limit (λ _. TakesFile c.args.limit left c.args.self.now c.join.new.self) left (g.S.Source.left c.read_file.new.source)
-    (g.S.Source.failures c.args.source.now) (g.S.Source.failures c.read_file.new.source) c.in_ok-file.file c.join.result c.in_ok-file.ensures
-    (λ _ is. takes_file c.args.limit left c.in_ok-file.file c.args.self.now c.in-Ok.taken c.join.new.self c.in_ok-file.ensures.outcome.0 c.in-Ok.ensures.ok
-    (c.join.ensures.ok (subst IsOk (sym is) refl)))
+    (g.S.Source.failures c.args.source.now) (g.S.Source.failures c.read_file.new.source) c.in_ok-file.file c.join.result c.in_ok-file.ensures.reads
+    (λ _ is. takes_file c.args.limit left c.in_ok-file.file c.args.self.now c.in-Ok.taken c.join.new.self c.in_ok-file.ensures.reads.outcome.0
+    c.in-Ok.ensures.ok (c.join.ensures.ok (subst IsOk (sym is) refl)))
     c.join.ensures.only
 
 pub returns-clause-summary : goal.returns-clause-summary
 returns-clause-summary g c = λ done files horizon is.
     let left = g.S.Source.left c.args.source.now in
     knows_file_too c.args.limit left c.args.self.now c.join.new.self files horizon
-    (takes_file c.args.limit left c.in_ok-file.file c.args.self.now c.in-Ok.taken c.join.new.self c.in_ok-file.ensures.outcome.0 c.in-Ok.ensures.ok
+    (takes_file c.args.limit left c.in_ok-file.file c.args.self.now c.in-Ok.taken c.join.new.self c.in_ok-file.ensures.reads.outcome.0 c.in-Ok.ensures.ok
     (c.join.ensures.ok done)) is

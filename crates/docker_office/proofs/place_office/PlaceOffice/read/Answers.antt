@@ -6,7 +6,7 @@ use Rattle.docker_office.proofs.place_office.PlaceOffice.read.Goals as goal
 
 pub returns-clause-reads : goal.returns-clause-reads
 returns-clause-reads g c =
-    let read = c.in_ok-excerpt.ensures in
+    let read = c.in_ok-excerpt.ensures.reads in
     record {
       few = read.few;
       outcome = state_read c.args.place c.args.day c.args.limit (g.S.Source.left c.args.source.now) c.in_ok-excerpt.excerpt read.outcome;
@@ -15,18 +15,18 @@ returns-clause-reads g c =
 
 pub returns-clause-sent : goal.returns-clause-sent
 returns-clause-sent g c =
-    one_excerpt c.args.place c.args.day c.args.limit (g.S.Source.left c.args.source.now) c.in_ok-excerpt.excerpt c.in_ok-excerpt.ensures.outcome
+    one_excerpt c.args.place c.args.day c.args.limit (g.S.Source.left c.args.source.now) c.in_ok-excerpt.excerpt c.in_ok-excerpt.ensures.reads.outcome
 
 pub returns-clause-place : goal.returns-clause-place
 returns-clause-place g c =
-    place_read c.args.place c.args.day c.args.limit (g.S.Source.left c.args.source.now) c.in_ok-excerpt.excerpt c.in_ok-excerpt.ensures.outcome
+    place_read c.args.place c.args.day c.args.limit (g.S.Source.left c.args.source.now) c.in_ok-excerpt.excerpt c.in_ok-excerpt.ensures.reads.outcome
 
 pub returns-clause-day : goal.returns-clause-day
 returns-clause-day g c =
-    day_read c.args.place c.args.day c.args.limit (g.S.Source.left c.args.source.now) c.in_ok-excerpt.excerpt c.in_ok-excerpt.ensures.outcome
+    day_read c.args.place c.args.day c.args.limit (g.S.Source.left c.args.source.now) c.in_ok-excerpt.excerpt c.in_ok-excerpt.ensures.reads.outcome
 
 pub returns-in_err-excerpt-clause-reads : goal.returns-in_err-excerpt-clause-reads
 returns-in_err-excerpt-clause-reads g c =
     let same = err_from_is_err_and c.from_residual.result c.from_residual.ensures.1 in
     rw (same.1, same.2) (unread_by_office WantsMemory dks_2 c.args.limit (g.S.Source.left c.args.source.now) (g.S.Source.left c.read_excerpt.new.source)
-    (g.S.Source.failures c.args.source.now) (g.S.Source.failures c.read_excerpt.new.source) _ c.in_err-excerpt.ensures)
+    (g.S.Source.failures c.args.source.now) (g.S.Source.failures c.read_excerpt.new.source) _ c.in_err-excerpt.ensures.reads)

@@ -1,0 +1,386 @@
+-- The docker of the worked example: what the two files print for ASHFELD on 10 June 2024.
+use Rattle.std.proofs.Common.{◌≡◌, ℕ, zero, suc, ◌+◌, List, [], ◌∷◌, length, refl, inl, inr, Some, None, lit<}
+use Rattle.std.proofs.Common.{◌<◌, arith, ap, sym, ◌∙◌, subst, Contains, get_or, Bool, true, false, ◌⊎◌, ◌++◌, fold, cond}
+use Rattle.std.specs.Prelude.{codes, Option, slice_index}
+use Rattle.std.specs.Ordering.{is_eq}
+use Rattle.std.specs.declared.cmp.Ordering.{Ordering}
+use Rattle.std.specs.declared.cmp.Ordering.TheVariants.{Less, Equal, Greater}
+use Rattle.jiff_core.specs.Calendar.{days_from_civil, day_count, days_of_years, days_of_months}
+use Rattle.docker_model.specs.records.Record.{columns}
+use Rattle.docker_model.specs.file.Change.{Key, tiploc_key, schedule_key, association_key, ScheduleKey, Body, schedule_body, association_body}
+use Rattle.docker_model.specs.file.Journey.{arrival, departure}
+use Rattle.docker_model.specs.state.Op.{key_cmp}
+use Rattle.docker_model.specs.state.Stamp.{Moment, moment_of}
+use Rattle.docker_model.specs.state.Summary.{HaveDistinctMoments}
+use Rattle.docker_model.specs.state.Table.{Table, IsPlainTable, after_change, after_files, empty_table}
+use Rattle.docker_model.specs.run.Run.{Files}
+use Rattle.docker_model.specs.run.Knowledge.{HaveSameFiles}
+use Rattle.docker_model.specs.docker.Event.{Event, events_of, event_line, event_day}
+use Rattle.docker_model.specs.docker.Choice.{IsRunning, TrainRuns, schedule_choice_cmp}
+use Rattle.docker_model.specs.docker.DockerLine.{DockerLine, line_of_event}
+use Rattle.docker_model.specs.docker.Association.{IsAssociationLine}
+use Rattle.docker_model.specs.docker.DockerList.{IsEventLine, IsDockerList}
+use Rattle.docker_model.specs.docker.DockerText.{IsDockerText, docker_text}
+use Rattle.cif_laws.proofs.lists.Membership.{Contains-cons, Contains-single, cons-Contains, cons-Contains-first}
+use Rattle.cif_laws.proofs.orders.Orders.{exact_key}
+use Rattle.state_laws.proofs.states.OneJoin.{docker_unique}
+use Rattle.state_laws.proofs.states.OnePlainTable.{one_plain_table}
+use Rattle.docker_program.proofs.TwoOfficesFiles.{full_file, update_file, first_key, second_key, second_schedule, revised_schedule, place}
+use Rattle.docker_program.proofs.TwoOfficesFiles.{first_schedule, description, changes_of_full, changes_of_update}
+
+-- ---- the plain table of the two files
+
+-- the two files, the older first
+abbrev pub both : Files
+both = full_file ∷ update_file ∷ []
+
+one_of_both : (file : List (List ℕ)) → Contains both file → (full_file ≡ file) ⊎ (update_file ≡ file)
+one_of_both file among = by (Contains-cons full_file (update_file ∷ []) file among)
+  where
+    by : (full_file ≡ file) ⊎ Contains (update_file ∷ []) file → (full_file ≡ file) ⊎ (update_file ≡ file)
+    by (inl same) = inl same
+    by (inr inside) = inr (Contains-single update_file file inside)
+
+day_of_moment : Moment → ℕ
+day_of_moment moment = moment.day
+
+days_differ : moment_of full_file ≡ moment_of update_file → ⊥
+unfolding days_from_civil day_count days_of_years days_of_months day_of_moment
+days_differ same =
+    let days : ◌≡◌ {A = ℕ} 23535 23536 = ap day_of_moment same in
+    let never : ⊥ = omega arith in
+    never
+
+distinct_by : (first second : List (List ℕ)) → (full_file ≡ first) ⊎ (update_file ≡ first) → (full_file ≡ second) ⊎ (update_file ≡ second)
+    → moment_of first ≡ moment_of second → first ≡ second
+distinct_by first second (inl one) (inl two) same = sym one ∙ two
+distinct_by first second (inl one) (inr two) same = absurd (days_differ (ap moment_of one ∙ same ∙ ap moment_of (sym two)))
+distinct_by first second (inr one) (inl two) same = absurd (days_differ (ap moment_of two ∙ sym same ∙ ap moment_of (sym one)))
+distinct_by first second (inr one) (inr two) same = sym one ∙ two
+
+-- the two files have different moments
+pub both_distinct : (files : Files) → HaveSameFiles both files → HaveDistinctMoments files
+both_distinct files same first second in_first in_second =
+    distinct_by first second (one_of_both first ((same first).1 in_first)) (one_of_both second ((same second).1 in_second))
+
+-- the plain table of the two files
+abbrev the_table : Table
+the_table = after_files empty_table both
+
+table_is : (files : Files) → HaveSameFiles both files → IsPlainTable files the_table
+unfolding days_from_civil day_count days_of_years days_of_months
+table_is files same = record {
+  ordered = both;
+  order = record { same = same; ascending = ((refl, tt), (tt, tt)) };
+  is = λ key. refl;
+}
+
+plain_is : (files : Files) (plain : Table) → HaveSameFiles both files → IsPlainTable files plain → plain ≡ the_table
+plain_is files plain same is = one_plain_table files plain the_table is (table_is files same)
+
+-- ---- what is under each key
+
+found : Bool → Bool → Bool → Option Body
+found true second named = Some (schedule_body revised_schedule)
+found false true named = Some (schedule_body second_schedule)
+found false false true = Some description
+found false false false = None
+
+-- the table after the changes, each of which is found by a test
+abbrev listed : Bool → Bool → Bool → Option Body
+listed first second named =
+    cond first (Some (schedule_body revised_schedule)) (cond second (Some (schedule_body second_schedule))
+    (cond first (Some (schedule_body first_schedule)) (cond named (Some description) None)))
+
+listed_found : (first second named : Bool) → listed first second named ≡ found first second named
+unfolding found
+listed_found true second named = refl
+listed_found false true named = refl
+listed_found false false true = refl
+listed_found false false false = refl
+
+is_first : Key → Bool
+is_first key = is_eq (key_cmp (schedule_key first_key) key)
+
+is_second : Key → Bool
+is_second key = is_eq (key_cmp (schedule_key second_key) key)
+
+is_place : Key → Bool
+is_place key = is_eq (key_cmp (tiploc_key place) key)
+
+under : (key : Key) → the_table key ≡ found (is_first key) (is_second key) (is_place key)
+unfolding is_first is_second is_place
+under key =
+    (λ i. fold after_change (fold after_change empty_table (changes_of_full i)) (changes_of_update i) key)
+    ∙ listed_found (is_first key) (is_second key) (is_place key)
+
+equal_by_test : (o : Ordering) → is_eq o ≡ true → o ≡ Equal
+equal_by_test Less h = cc
+equal_by_test Equal h = refl
+equal_by_test Greater h = cc
+
+-- ---- the trains
+
+abbrev Schedules : Type 0
+Schedules = ScheduleKey × List (List ℕ)
+
+schedule_key_of : Key → ScheduleKey
+schedule_key_of (schedule_key key) = key
+schedule_key_of _ = first_key
+
+lines_in : Body → List (List ℕ)
+lines_in (schedule_body lines) = lines
+lines_in _ = []
+
+first_same : (key : ScheduleKey) → is_first (schedule_key key) ≡ true → first_key ≡ key
+unfolding is_first schedule_key_of
+first_same key h = ap schedule_key_of (exact_key (schedule_key first_key) (schedule_key key) (equal_by_test _ h))
+
+second_same : (key : ScheduleKey) → is_second (schedule_key key) ≡ true → second_key ≡ key
+unfolding is_second schedule_key_of
+second_same key h = ap schedule_key_of (exact_key (schedule_key second_key) (schedule_key key) (equal_by_test _ h))
+
+some_body : (one two : Body) → ◌≡◌ {A = Option Body} (Some one) (Some two) → one ≡ two
+some_body one two same = cc
+
+none_some : (body : Body) → ◌≡◌ {A = Option Body} None (Some body) → ⊥
+none_some body is = cc
+
+description_no_lines : (lines : List (List ℕ)) → description ≡ schedule_body lines → ⊥
+description_no_lines lines same = cc
+
+-- the only schedules in the table are the revision of the first train and the second train
+abbrev IsTrain : ScheduleKey → List (List ℕ) → Type 0
+IsTrain key lines = ((first_key ≡ key) × (revised_schedule ≡ lines)) ⊎ ((second_key ≡ key) × (second_schedule ≡ lines))
+
+only_trains : (key : ScheduleKey) (lines : List (List ℕ)) → the_table (schedule_key key) ≡ Some (schedule_body lines) → IsTrain key lines
+unfolding found lines_in
+only_trains key lines live =
+    by (is_first (schedule_key key)) (is_second (schedule_key key)) (is_place (schedule_key key)) refl refl (sym (under (schedule_key key)) ∙ live)
+  where
+    by : (first second named : Bool) → is_first (schedule_key key) ≡ first → is_second (schedule_key key) ≡ second
+        → found first second named ≡ Some (schedule_body lines) → IsTrain key lines
+    by true second named one two is = inl (first_same key one, ap lines_in (some_body (schedule_body revised_schedule) (schedule_body lines) is))
+    by false true named one two is = inr (second_same key two, ap lines_in (some_body (schedule_body second_schedule) (schedule_body lines) is))
+    by false false true one two is = absurd (description_no_lines lines (some_body description (schedule_body lines) is))
+    by false false false one two is = absurd (none_some (schedule_body lines) is)
+
+no_association : (key : Key) (line : List ℕ) → the_table key ≡ Some (association_body line) → ⊥
+unfolding found
+no_association key line live = by (is_first key) (is_second key) (is_place key) (sym (under key) ∙ live)
+  where
+    by : (first second named : Bool) → found first second named ≡ Some (association_body line) → ⊥
+    by true second named is = let same : schedule_body revised_schedule ≡ association_body line = some_body _ _ is in cc
+    by false true named is = let same : schedule_body second_schedule ≡ association_body line = some_body _ _ is in cc
+    by false false true is = let same : description ≡ association_body line = some_body _ _ is in cc
+    by false false false is = none_some (association_body line) is
+
+-- each train runs on 10 June
+runs_if : (key : ScheduleKey) (lines : List (List ℕ))
+    → ((other : ScheduleKey) (others : List (List ℕ)) → IsRunning the_table key.uid 23537 other others → key ≡ other)
+    → IsRunning the_table key.uid 23537 key lines → ¬ (schedule_choice_cmp key key ≡ Greater) → ¬ (key.indicator ≡ 67)
+    → TrainRuns the_table key.uid 23537 key lines
+runs_if key lines only running level no_cancellation = record {
+  chosen = record {
+    running = running;
+    first = λ other others is greater. level (subst (λ k. schedule_choice_cmp key k ≡ Greater) (sym (only other others is)) greater);
+  };
+  no_cancellation = no_cancellation;
+}
+
+uids_differ : codes "C10001" ≡ codes "C20002" → ⊥
+uids_differ same =
+    let second : ◌≡◌ {A = ℕ} 49 50 = ap (λ bytes. slice_index bytes 1) same in
+    let never : ⊥ = omega arith in
+    never
+
+uid_of : ScheduleKey → List ℕ
+uid_of key = key.uid
+
+only_first : (other : ScheduleKey) (others : List (List ℕ)) → IsRunning the_table (codes "C10001") 23537 other others → first_key ≡ other
+unfolding uid_of
+only_first other others running = by (only_trains other others running.is_live)
+  where
+    by : IsTrain other others → first_key ≡ other
+    by (inl same) = same.0
+    by (inr same) = absurd (uids_differ (sym (ap uid_of same.0 ∙ running.uid_is)))
+
+only_second : (other : ScheduleKey) (others : List (List ℕ)) → IsRunning the_table (codes "C20002") 23537 other others → second_key ≡ other
+unfolding uid_of
+only_second other others running = by (only_trains other others running.is_live)
+  where
+    by : IsTrain other others → second_key ≡ other
+    by (inl same) = absurd (uids_differ (ap uid_of same.0 ∙ running.uid_is))
+    by (inr same) = same.0
+
+first_runs : TrainRuns the_table (codes "C10001") 23537 first_key revised_schedule
+unfolding days_from_civil day_count days_of_years days_of_months
+first_runs =
+    runs_if first_key revised_schedule only_first (record { uid_is = refl; is_live = refl; runs_then = refl }) (λ greater. cc)
+    (λ cancelled. omega arith)
+
+second_runs : TrainRuns the_table (codes "C20002") 23537 second_key second_schedule
+unfolding days_from_civil day_count days_of_years days_of_months
+second_runs =
+    runs_if second_key second_schedule only_second (record { uid_is = refl; is_live = refl; runs_then = refl }) (λ greater. cc)
+    (λ cancelled. omega arith)
+
+-- ---- the lines of the docker
+
+-- the first train leaves ASHFELD at 09:05
+abbrev leaves : Event
+leaves = record { number = 1; place = 1; occasion = departure; time = 1090 }
+
+-- the first train ends at BRAYTON at 09:35
+abbrev leaves_off : Event
+leaves_off = record { number = 2; place = 2; occasion = arrival; time = 1150 }
+
+-- the second train starts at BRAYTON at 08:20
+abbrev sets_out : Event
+sets_out = record { number = 1; place = 1; occasion = departure; time = 1000 }
+
+-- the second train arrives at ASHFELD at 08:50
+abbrev arrives : Event
+arrives = record { number = 2; place = 2; occasion = arrival; time = 1060 }
+
+abbrev arrival_line : DockerLine
+arrival_line = line_of_event second_key 23537 second_schedule arrives
+
+abbrev departure_line : DockerLine
+departure_line = line_of_event first_key 23537 revised_schedule leaves
+
+departs : IsEventLine the_table place 23537 departure_line
+departs = record {
+  start = 23537;
+  key = first_key;
+  schedule = revised_schedule;
+  train_runs = first_runs;
+  event = leaves;
+  among = (0, lit< tt, refl);
+  here = refl;
+  today = refl;
+  is = refl;
+}
+
+comes : IsEventLine the_table place 23537 arrival_line
+comes = record {
+  start = 23537;
+  key = second_key;
+  schedule = second_schedule;
+  train_runs = second_runs;
+  event = arrives;
+  among = (1, lit< tt, refl);
+  here = refl;
+  today = refl;
+  is = refl;
+}
+
+events_of_first : (event : Event) → Contains (events_of revised_schedule) event → (leaves ≡ event) ⊎ (leaves_off ≡ event)
+events_of_first event among = by among.0 among.1 among.2
+  where
+    by : (k : ℕ) → k < length (events_of revised_schedule) → get_or (events_of revised_schedule) k event ≡ event → (leaves ≡ event) ⊎ (leaves_off ≡ event)
+    by zero below is = inl is
+    by (suc zero) below is = inr is
+    by (suc (suc k)) below is = absurd (omega arith)
+
+events_of_second : (event : Event) → Contains (events_of second_schedule) event → (sets_out ≡ event) ⊎ (arrives ≡ event)
+events_of_second event among = by among.0 among.1 among.2
+  where
+    by : (k : ℕ) → k < length (events_of second_schedule) → get_or (events_of second_schedule) k event ≡ event → (sets_out ≡ event) ⊎ (arrives ≡ event)
+    by zero below is = inl is
+    by (suc zero) below is = inr is
+    by (suc (suc k)) below is = absurd (omega arith)
+
+places_differ : codes "BRAYTON" ≡ codes "ASHFELD" → ⊥
+places_differ same =
+    let first : ◌≡◌ {A = ℕ} 66 65 = ap (λ bytes. slice_index bytes 0) same in
+    let never : ⊥ = omega arith in
+    never
+
+-- the first train's only event at ASHFELD on 10 June is its departure
+first_there : (start : ℕ) (event : Event) → Contains (events_of revised_schedule) event → columns 3 9 (event_line revised_schedule event) ≡ place
+    → event_day start revised_schedule event ≡ 23537 → (leaves ≡ event) × (start ≡ 23537)
+first_there start event among here today = by (events_of_first event among)
+  where
+    by : (leaves ≡ event) ⊎ (leaves_off ≡ event) → (leaves ≡ event) × (start ≡ 23537)
+    by (inl same) =
+        let then : start + 0 ≡ 23537 = subst (λ e. event_day start revised_schedule e ≡ 23537) (sym same) today in
+        (same, omega arith)
+    by (inr same) = absurd (places_differ (subst (λ e. columns 3 9 (event_line revised_schedule e) ≡ place) (sym same) here))
+
+-- the second train's only event at ASHFELD on 10 June is its arrival
+second_there : (start : ℕ) (event : Event) → Contains (events_of second_schedule) event → columns 3 9 (event_line second_schedule event) ≡ place
+    → event_day start second_schedule event ≡ 23537 → (arrives ≡ event) × (start ≡ 23537)
+second_there start event among here today = by (events_of_second event among)
+  where
+    by : (sets_out ≡ event) ⊎ (arrives ≡ event) → (arrives ≡ event) × (start ≡ 23537)
+    by (inl same) = absurd (places_differ (subst (λ e. columns 3 9 (event_line second_schedule e) ≡ place) (sym same) here))
+    by (inr same) =
+        let then : start + 0 ≡ 23537 = subst (λ e. event_day start second_schedule e ≡ 23537) (sym same) today in
+        (same, omega arith)
+
+only_event_lines : (line : DockerLine) → IsEventLine the_table place 23537 line → (arrival_line ≡ line) ⊎ (departure_line ≡ line)
+only_event_lines line made = by (only_trains made.key made.schedule made.train_runs.chosen.running.is_live)
+  where
+    by : IsTrain made.key made.schedule → (arrival_line ≡ line) ⊎ (departure_line ≡ line)
+    by (inl same) =
+        let among : Contains (events_of revised_schedule) made.event = subst (λ s. Contains (events_of s) made.event) (sym same.1) made.among in
+        let here : columns 3 9 (event_line revised_schedule made.event) ≡ place =
+        subst (λ s. columns 3 9 (event_line s made.event) ≡ place) (sym same.1) made.here in
+        let today : event_day made.start revised_schedule made.event ≡ 23537 = subst (λ s. event_day made.start s made.event ≡ 23537) (sym same.1) made.today in
+        let told = first_there made.start made.event among here today in
+        inr ((λ i. line_of_event (same.0 i) (sym told.1 i) (same.1 i) (told.0 i)) ∙ sym made.is)
+    by (inr same) =
+        let among : Contains (events_of second_schedule) made.event = subst (λ s. Contains (events_of s) made.event) (sym same.1) made.among in
+        let here : columns 3 9 (event_line second_schedule made.event) ≡ place =
+        subst (λ s. columns 3 9 (event_line s made.event) ≡ place) (sym same.1) made.here in
+        let today : event_day made.start second_schedule made.event ≡ 23537 = subst (λ s. event_day made.start s made.event ≡ 23537) (sym same.1) made.today in
+        let told = second_there made.start made.event among here today in
+        inl ((λ i. line_of_event (same.0 i) (sym told.1 i) (same.1 i) (told.0 i)) ∙ sym made.is)
+
+-- the docker of ASHFELD on 10 June has these two lines
+abbrev the_lines : List DockerLine
+the_lines = arrival_line ∷ departure_line ∷ []
+
+is_docker : IsDockerList the_table place 23537 the_lines
+is_docker = record {
+  ascending = ((refl, tt), (tt, tt));
+  members = λ line. (λ among. is_line line (Contains-cons arrival_line (departure_line ∷ []) line among), λ made. among_lines line made);
+}
+  where
+    is_line : (line : DockerLine) → (arrival_line ≡ line) ⊎ Contains (departure_line ∷ []) line
+        → IsEventLine the_table place 23537 line ⊎ IsAssociationLine the_table place 23537 line
+    is_line line (inl same) = inl (subst (IsEventLine the_table place 23537) same comes)
+    is_line line (inr inside) = inl (subst (IsEventLine the_table place 23537) (Contains-single departure_line line inside) departs)
+
+    among_by : (line : DockerLine) → (arrival_line ≡ line) ⊎ (departure_line ≡ line) → Contains the_lines line
+    among_by line (inl same) = subst (Contains the_lines) same (cons-Contains-first arrival_line (departure_line ∷ []))
+    among_by line (inr same) =
+        subst (Contains the_lines) same (cons-Contains arrival_line (departure_line ∷ []) departure_line (cons-Contains-first departure_line []))
+
+    among_lines : (line : DockerLine) → IsEventLine the_table place 23537 line ⊎ IsAssociationLine the_table place 23537 line → Contains the_lines line
+    among_lines line (inl made) = among_by line (only_event_lines line made)
+    among_lines line (inr made) = absurd (no_association (association_key made.key) made.association made.chosen.associated.is_live)
+
+-- ---- the text of the docker
+
+abbrev pub the_docker : List ℕ
+the_docker =
+    codes "DOCKER ASHFELD 2024-06-10 ASHFELD JUNCTION              \n"
+    ++ codes "0850  A 2B20 C20002 P   2       UL  0850 BRAYTON ASHFELD\n"
+    ++ codes "0905  D 1A10 C10001 P   3   SL      0905 ASHFELD BRAYTON\n"
+    ++ codes "END                                                     \n"
+
+the_text : docker_text the_table place 23537 the_lines ≡ the_docker
+unfolding days_from_civil day_count days_of_years days_of_months
+the_text = refl
+
+text_of_table : (text : List ℕ) → IsDockerText the_table place 23537 text → text ≡ the_docker
+text_of_table text is =
+    is.2 ∙ ap (docker_text the_table place 23537) (docker_unique _ is.0 the_lines is.1 is_docker) ∙ the_text
+
+-- the docker of the plain table of the two files
+pub text_of_both : (files : Files) (plain : Table) (text : List ℕ) → HaveSameFiles both files → IsPlainTable files plain
+    → IsDockerText plain place 23537 text → text ≡ the_docker
+text_of_both files plain text same is told =
+    text_of_table text (subst (λ (t : Table). IsDockerText t place 23537 text) (plain_is files plain same is) told)
