@@ -68,7 +68,8 @@ impl<E> Table<E> {
     }
 
     /// The rows, in the order of their keys, in a vector with room for `more` further rows. If
-    /// memory runs out, returns the table unchanged.
+    /// memory runs out, returns the table unchanged. A vector with more room is shrunk first,
+    /// because a join moves rows through all of its room.
     pub fn with_room(self, more: usize) -> Result<Vec<(Key, E)>, Table<E>>
         ensures rows { IfOk result (λ rows. rows.items ≡ self) }
         ensures room { IfOk result (λ rows. vec_len rows + more ≤ vec_capacity rows) }
@@ -76,6 +77,7 @@ impl<E> Table<E> {
         ensures err { IfErr result (λ back. back ≡ self) }
     {
         let mut rows = self.into_rows();
+        rows.shrink_to(rows.len().saturating_add(more));
         match rows.reserve_exact(more) {
             Ok(()) => Ok(rows),
             Err(_) => Err(Table::from_rows(rows)),
