@@ -16,7 +16,7 @@ use Rattle.cif_file.specs.declared.opened.Opened.{Opened}
 use Rattle.docker_excerpt.specs.declared.thinned.Thinned.{Thinned}
 use Rattle.docker_excerpt.specs.declared.thin_kept.ThinSoFar.{ThinSoFar}
 use Rattle.cif_file.specs.KeeperRead.{change_opened, with_new_first}
-use Rattle.cif_file.specs.MadeChanges.{HasMade}
+use Rattle.docker_excerpt.specs.Elsewhere.{all_kept, HaveSame}
 
 abbrev Lines : Type 0
 Lines = List (List ℕ)
@@ -29,12 +29,13 @@ has_key keys key = set.contains (on key_meant key_cmp) keys key
 abbrev pub HasKeysOf : BTreeSet Key → List Change → Type 0
 HasKeysOf keys kept = (change : Change) → Contains kept change → (key : Key) → key_meant key ≡ change.key → has_key keys key ≡ true
 
--- Says that the kept changes are a thinning of these changes for the place and the day. Also says that the keys of all kept changes are in the set.
+-- Says that a thinning of these changes for the place and the day was kept, though perhaps in another order. Also says that the keys of all kept changes are
+-- in the set.
 pub record HasThinned (place : List ℕ) (day : ℕ) (thinned : Thinned) (all : List Change) : Type 0 where
   pub place_is : thinned.place ≡ place
   pub day_is : thinned.day ≡ day
   pub kept : List Change
-  pub made : HasMade thinned.made kept
+  pub made : HaveSame kept (all_kept place thinned.made thinned.elsewhere)
   pub thinning : IsThinning place day all kept
   pub known : HasKeysOf thinned.keys kept
 

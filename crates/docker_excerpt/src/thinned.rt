@@ -5,17 +5,20 @@ ghost use Rattle.docker_model.specs.file.Change.{delete};
 ghost use Rattle.docker_laws.specs.Thinning.{may_matter, thin_act, thin_change};
 ghost use Rattle.cif_change.specs.Meaning.{change_meant, key_meant};
 ghost use Rattle.cif_file.specs.SingleChanges.{PutNoSchedules, PutsNoSchedule, listed};
+ghost use Rattle.docker_excerpt.specs.Elsewhere.{elsewhere_meant};
 ghost use Rattle.docker_excerpt.specs.ThinKept.{has_key, HasThinned, Thins, ThinsAll, ThinsOpened};
 
+use crate::elsewhere::Elsewhere;
 use crate::needs::may_matter;
-use crate::thin_lines::lines_for;
 use cif_change::{Act, Body, Change, Key};
-use cif_file::{Opened, SingleChanges};
+use cif_file::{Opened, SingleChanges, body_of, calls_at};
 use cif_line::{Day, Line, Tiploc};
 use std::alloc::{AllocError, Global};
 use std::collections::BTreeSet;
 
-/// The changes that are kept for the docker of one place on one day, and the set of their keys.
+/// The changes that are kept for the docker of one place on one day, and the set of their keys. A
+/// schedule that doesn't call at the place is in `elsewhere`, without a body. All other changes are
+/// in `made`.
 #[derive(Debug, Drop)]
 pub(crate) struct Thinned {
     alloc: Global,
@@ -23,6 +26,7 @@ pub(crate) struct Thinned {
     pub(crate) day: Day,
     keys: BTreeSet<Key>,
     pub(crate) made: Vec<Change>,
+    pub(crate) elsewhere: Vec<Elsewhere>,
 }
 
 impl Thinned {
@@ -36,6 +40,7 @@ impl Thinned {
             day,
             keys: BTreeSet::new(alloc),
             made: Vec::new(alloc),
+            elsewhere: Vec::new(alloc),
         }
     }
 
@@ -72,6 +77,22 @@ impl Thinned {
         match self.keys.insert(change.key) {
             Ok(_) => {
                 self.made.push(change)?;
+                Ok(())
+            }
+            Err(_) => Err(AllocError),
+        }
+    }
+
+    /// Keeps a schedule that doesn't call at the place, and adds its key to the set.
+    fn keep_elsewhere(&mut self, schedule: Elsewhere) -> Result<(), AllocError>
+        ensures { OnOk result ((place : List ℕ) (day : ℕ) (whole : model.Change)
+            → may_matter place whole.key ≡ true
+            → thin_change place day whole ≡ elsewhere_meant place schedule
+            → Thins place day self.old whole self.new) }
+    {
+        match self.keys.insert(Key::Schedule(schedule.key)) {
+            Ok(_) => {
+                self.elsewhere.push(schedule)?;
                 Ok(())
             }
             Err(_) => Err(AllocError),
@@ -139,11 +160,21 @@ impl Thinned {
         if opened.progress.is_deletion() | !runs_near {
             return self.delete(opened.number, key);
         }
-        let body = lines_for(self.alloc, &self.place, lines)?;
-        self.keep(Change {
+        if calls_at(&self.place, lines) {
+            let body = body_of(self.alloc, lines)?;
+            return self.keep(Change {
+                number: opened.number,
+                key,
+                act: Act::Put(Body::Schedule(body)),
+            });
+        }
+        let Some(basic) = lines.first() else {
+            return Ok(());
+        };
+        self.keep_elsewhere(Elsewhere {
             number: opened.number,
-            key,
-            act: Act::Put(Body::Schedule(body)),
+            key: opened.key,
+            basic: *basic,
         })
     }
 }
