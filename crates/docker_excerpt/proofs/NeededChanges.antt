@@ -1,5 +1,6 @@
 -- Lemmas on the changes that remain of a thin file: those that the docker of its place needs.
-use Rattle.std.proofs.Common.{◌≡◌, ℕ, zero, suc, ◌+◌, ◌<◌, ◌≤◌, arith, length, get_or, List, [], ◌∷◌, ◌++◌, map, refl, ap, sym, ◌∙◌, subst, inl, inr, ◌⊎◌, Bool, true, false, Some, None, Contains}
+use Rattle.std.proofs.Common.{◌≡◌, ℕ, zero, suc, ◌+◌, ◌<◌, ◌≤◌, arith, length, get_or, List, [], ◌∷◌, ◌++◌, map, refl, ap, sym, ◌∙◌, subst}
+use Rattle.std.proofs.Common.{inl, inr, ◌⊎◌, Bool, true, false, Some, None, Contains}
 use Rattle.std.specs.Prelude.{Option, ◌↔◌, ◌||◌, ◌&&◌, filter, take}
 use Rattle.std.specs.Option.{option_to_list}
 use Rattle.std.specs.Global.{Vec}
@@ -12,7 +13,6 @@ use Rattle.std.proofs.lemmas.List.Sorted.{Contains-permutation, IsPermutation-sy
 use Rattle.std.proofs.lemmas.Slice.Eq.{bytes_eq-Decides}
 use Rattle.docker_model.specs.records.Record.{basic_schedule, HasKind, columns, is_location}
 use Rattle.docker_model.specs.file.Journey.{calls_at}
-use Rattle.docker_model.specs.file.File.{first_record}
 use Rattle.docker_model.specs.file.Change.{Key, tiploc_key, association_key, schedule_key, AssociationKey, ScheduleKey}
 use Rattle.docker_model.specs.file.Change.{Act, put, association_body, schedule_body}
 use Rattle.docker_model.specs.file.Change as model
@@ -22,7 +22,7 @@ use Rattle.docker_laws.specs.Thinning.{ends_elsewhere, is_wanted, wanted_changes
 use Rattle.docker_laws.proofs.dockers.ThinBody.{ends_apart}
 use Rattle.docker_laws.proofs.dockers.NeededChanges.{wanted_uid}
 use Rattle.cif_laws.proofs.lists.Membership.{Contains-map, map-Contains}
-use Rattle.cif_laws.proofs.lists.FilteredMembers.{filter_back, filter_forth, part_back, part_forth}
+use Rattle.cif_laws.proofs.lists.FilteredMembers.{filter_back, filter_forth, part_forth}
 use Rattle.state_laws.proofs.indexes.CallsTest.{any_back}
 use Rattle.cif_change.specs.declared.change.Change.{Change}
 use Rattle.cif_change.specs.declared.key.Key.TheVariants as key
@@ -47,7 +47,8 @@ says_wanted uids key b says = by b (is_wanted uids (schedule_key key)) refl refl
         sym is ∙ says.1 (subst (Contains uids) ((bytes_eq-Decides found.0 key.uid).0 found.2) found.1)
 
 -- the UIDs that the keys of changes name, found from the code's changes
-pub uids_of_changes : (changes : List Change) → filter_map (λ (change : Change). uid_named (key_meant change.key)) changes ≡ uids_named (map change_meant changes)
+uids_of_changes : (changes : List Change)
+    → filter_map (λ (change : Change). uid_named (key_meant change.key)) changes ≡ uids_named (map change_meant changes)
 uids_of_changes [] = refl
 uids_of_changes (change ∷ changes) = ap (cons_option (uid_named (key_meant change.key))) (uids_of_changes changes)
 

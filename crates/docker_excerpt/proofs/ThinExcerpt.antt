@@ -1,9 +1,9 @@
 -- The changes that the docker of one place and day needs of a file make a state. Each docker of
 -- this state, for the place and the day, is a docker of the whole file's state.
-use Rattle.std.proofs.Common.{◌≡◌, ℕ, ◌≤◌, List, [], ◌∷◌, length, map, refl, ap, sym, ◌∙◌, subst, cond, None}
-use Rattle.std.specs.Prelude.{Option, option_and_then, slice_index_or}
+use Rattle.std.proofs.Common.{◌≡◌, ℕ, ◌≤◌, List, [], ◌∷◌, length, map, refl, ap, sym, ◌∙◌, subst}
+use Rattle.std.specs.Prelude.{slice_index_or}
 use Rattle.docker_model.specs.file.File.{IsFile, first_record, most_records}
-use Rattle.docker_model.specs.file.Change.{Key, Body, Change, changes, tiploc_key}
+use Rattle.docker_model.specs.file.Change.{Key, Change, changes, tiploc_key}
 use Rattle.docker_model.specs.state.Op.{Entry}
 use Rattle.docker_model.specs.state.Stamp.{ledger_item_of}
 use Rattle.docker_model.specs.state.State.{State, live_table, HasGoodBodies}
@@ -49,9 +49,9 @@ module _ (place : List ℕ) (day : ℕ) (lines : List (List ℕ)) (is_file : IsF
       let excerpt = wanted_excerpt place day lines is_file few kept thinning uids part of has (summary_of lines) (summary_is lines) in
       record {
         described = ap description_in (
-          same_where_needed place (thinned place day (live_table (summary_of lines))) (live_table part) excerpt (tiploc_key place) refl
-          ∙ (thinned_stands place day (live_table (summary_of lines)) good).tiploc
-        );
+            same_where_needed place (thinned place day (live_table (summary_of lines))) (live_table part) excerpt (tiploc_key place) refl
+            ∙ (thinned_stands place day (live_table (summary_of lines)) good).tiploc
+            );
         list = λ listed.
             (wanted_list place day lines is_file few kept thinning uids part of has (summary_of lines) (summary_is lines) listed).1;
       }

@@ -5,11 +5,10 @@ use Rattle.std.proofs.Common.{length, map, subst, refl, ap, sym, Some, None, ari
 use Rattle.std.specs.Global.{Vec}
 use Rattle.std.proofs.lemmas.List.{map-append}
 use Rattle.std.specs.Prelude.{Option, Contains, ◌⊎◌, ◌||◌, not, slice_get}
-use Rattle.std.specs.Ordering.{on, is_eq}
+use Rattle.std.specs.Ordering.{is_eq}
 use Rattle.std.specs.BTreeSet as set
 use Rattle.std.specs.BTreeSet.{BTreeSet}
 use Rattle.std.specs.BTreeMap.{is_at}
-use Rattle.std.specs.declared.cmp.Ordering.{Ordering}
 use Rattle.std.specs.Cmp.{tied_itself}
 use Rattle.std.proofs.lemmas.List.Elements.{Contains-append_left, Contains-append_right, Contains-append_cases}
 use Rattle.cif_laws.proofs.lists.Membership.{nil-Contains, Contains-single}
@@ -17,55 +16,56 @@ use Rattle.docker_model.specs.records.Field.{is_deletion, as_new}
 use Rattle.docker_model.specs.file.File.{IsSchedule, first_record}
 use Rattle.docker_model.specs.file.Journey.{calls_at}
 use Rattle.docker_model.specs.file.Change.{Change, Act, tiploc_body, association_body, schedule_body, delete, put}
-use Rattle.docker_model.specs.state.Op.{key_cmp}
-use Rattle.cif_laws.proofs.orders.Orders.{key_total}
 use Rattle.docker_laws.specs.NearDay.{runs_near}
 use Rattle.docker_laws.specs.Thinning.{may_matter, thin_act, thin_change, thin_lines, lines_for, HasNoChangeOf, IsThinning}
 use Rattle.docker_laws.proofs.dockers.ThinChanges.{thinning_at_first, thinning_kept, thinning_dropped, thinning_elsewhere, act_far, near_of_new}
 use Rattle.cif_change.specs.declared.change.Change as code
-use Rattle.cif_change.specs.declared.key.Key.{Key}
+use Rattle.cif_change.specs.declared.key.ScheduleKey.{ScheduleKey}
 use Rattle.cif_change.specs.declared.key.Key.TheVariants as key
 use Rattle.cif_change.specs.JourneyRead.{progress_meant, HasLines}
+use Rattle.cif_change.specs.contracts.key.ScheduleKeyOrd.TheImpl.Laws.{total-law}
 use Rattle.cif_change.specs.Meaning.{change_meant, key_meant}
+use Rattle.cif_change.proofs.SameKeys.{same_key}
 use Rattle.cif_file.specs.declared.opened.Opened.{Opened}
 use Rattle.docker_excerpt.specs.declared.thinned.Thinned.{Thinned}
 use Rattle.docker_excerpt.specs.declared.elsewhere.Elsewhere.{Elsewhere}
 use Rattle.docker_excerpt.specs.Elsewhere.{elsewhere_meant, all_kept, HaveSame}
 use Rattle.cif_file.specs.KeeperRead.{change_opened, with_new_first}
 use Rattle.cif_file.specs.SingleChanges.{puts_schedule, PutsNoSchedule, listed_after}
-use Rattle.docker_excerpt.specs.ThinKept.{has_key, HasKeysOf, HasThinned, Thins, ThinsAll, SaysRunsNear}
+use Rattle.docker_excerpt.specs.ThinKept.{schedule_cmp, has_key, KnowsMore, HasKeysOf, HasThinned, Thins, ThinsAll, SaysRunsNear}
 
 abbrev Lines : Type 0
 Lines = List (List ℕ)
 
--- the definitions' order of keys, applied to keys of the code
-abbrev cmp : Key → Key → Ordering
-cmp = on key_meant key_cmp
+-- ---- the set of the keys of schedules
 
--- Says that the new set is the old set with one key added.
-abbrev pub HasOneMore : BTreeSet Key → Key → BTreeSet Key → Type 0
-HasOneMore old key new = set.Updates cmp old new key true
-
-still_has : (old new : BTreeSet Key) (added key : Key) → HasOneMore old added new → has_key old key ≡ true → has_key new key ≡ true
-still_has old new added key more has = more.0 key ∙ by (is_at (cmp added) key) has
+-- after a key is added to a set, the set has all earlier keys and this key
+pub set_knows : (old new : BTreeSet ScheduleKey) (added : ScheduleKey) → set.Updates schedule_cmp old new added true
+    → KnowsMore old (key_meant (key.Schedule added)) new
+set_knows old new added more = record { still = still; also = also }
   where
-    by : (b : Bool) → has_key old key ≡ true → cond b true (has_key old key) ≡ true
-    by true had = refl
-    by false had = had
+    still : (one : ScheduleKey) → has_key old one ≡ true → has_key new one ≡ true
+    still one has = more.0 one ∙ by (is_at (schedule_cmp added) one) has
+      where
+        by : (b : Bool) → has_key old one ≡ true → cond b true (has_key old one) ≡ true
+        by true had = refl
+        by false had = had
 
-has_added : (old new : BTreeSet Key) (added key : Key) → HasOneMore old added new → key_meant key ≡ key_meant added → has_key new key ≡ true
-has_added old new added key more same =
-    more.0 key ∙ (λ i. cond (is_eq (key_cmp (key_meant added) (same i))) true (has_key old key))
-    ∙ (λ i. cond (is_eq (tied_itself key_total (key_meant added) i)) true (has_key old key))
+    also : (one : ScheduleKey) → key_meant (key.Schedule one) ≡ key_meant (key.Schedule added) → has_key new one ≡ true
+    also one same =
+        let equal : key.Schedule one ≡ key.Schedule added = same_key (key.Schedule one) (key.Schedule added) same in
+        let keys : one ≡ added = cc in
+        more.0 one ∙ (λ i. cond (is_eq (schedule_cmp added (keys i))) true (has_key old one))
+        ∙ (λ i. cond (is_eq (tied_itself total-law added i)) true (has_key old one))
 
 -- after keeping a change and adding its key to the set, the set has the keys of all kept changes
-keys_of_more : (old new : BTreeSet Key) (key : Key) (added : Change) (kept : List Change) → HasOneMore old key new → key_meant key ≡ added.key
-    → HasKeysOf old kept → HasKeysOf new (kept ++ added ∷ [])
-keys_of_more old new key added kept more named known change among other same = by (Contains-append_cases kept (added ∷ []) change among)
+keys_of_more : (old new : BTreeSet ScheduleKey) (added : Change) (kept : List Change) → KnowsMore old added.key new → HasKeysOf old kept
+    → HasKeysOf new (kept ++ added ∷ [])
+keys_of_more old new added kept more known change among one same = by (Contains-append_cases kept (added ∷ []) change among)
   where
-    by : Contains kept change ⊎ Contains (added ∷ []) change → has_key new other ≡ true
-    by (inl before) = still_has old new key other more (known change before other same)
-    by (inr last) = has_added old new key other more (same ∙ sym (named ∙ ap (λ (c : Change). c.key) (Contains-single added change last)))
+    by : Contains kept change ⊎ Contains (added ∷ []) change → has_key new one ≡ true
+    by (inl before) = more.still one (known change before one same)
+    by (inr last) = more.also one (same ∙ sym (ap (λ (c : Change). c.key) (Contains-single added change last)))
 
 -- ---- the kept changes, in any order
 
@@ -154,9 +154,10 @@ none_thinned place day thinned there dated none nothing = record {
 
 module _ (place : List ℕ) (day : ℕ) (old new : Thinned) (whole : Change) where
   -- a change whose key may matter can be kept in its thin form
-  pub thin_kept : (key : Key) (change : Change) → new.place ≡ old.place → new.day ≡ old.day → HasOneMore old.keys key new.keys → key_meant key ≡ change.key
-      → KeepsMore place old.made old.elsewhere change new.made new.elsewhere → may_matter place whole.key ≡ true → thin_change place day whole ≡ change → Thins place day old whole new
-  thin_kept key change there dated more named keeps matters same all has = record {
+  pub thin_kept : (change : Change) → new.place ≡ old.place → new.day ≡ old.day → KnowsMore old.keys change.key new.keys
+      → KeepsMore place old.made old.elsewhere change new.made new.elsewhere → may_matter place whole.key ≡ true → thin_change place day whole ≡ change
+      → Thins place day old whole new
+  thin_kept change there dated more keeps matters same all has = record {
     place_is = there ∙ has.place_is;
     day_is = dated ∙ has.day_is;
     kept = has.kept ++ change ∷ [];
@@ -164,7 +165,7 @@ module _ (place : List ℕ) (day : ℕ) (old new : Thinned) (whole : Change) whe
     thinning =
         subst (λ (c : Change). IsThinning place day (all ++ whole ∷ []) (has.kept ++ c ∷ [])) same
         (thinning_kept place day all has.kept whole has.thinning matters);
-    known = keys_of_more old.keys new.keys key change has.kept more named has.known;
+    known = keys_of_more old.keys new.keys change has.kept more has.known;
   }
 
   -- a change whose key can't matter at the place can be dropped
@@ -179,9 +180,9 @@ module _ (place : List ℕ) (day : ℕ) (old new : Thinned) (whole : Change) whe
   })
 
   -- a change whose thin form is a deletion can be dropped if no change to its key was kept
-  pub deletion_dropped : (key : Key) → new ≡ old → has_key old.keys key ≡ false → whole.key ≡ key_meant key → thin_act place day whole.act ≡ delete
-      → Thins place day old whole new
-  deletion_dropped key same none named deletes all has = subst (λ (t : Thinned). HasThinned place day t (all ++ whole ∷ [])) (sym same) (record {
+  pub deletion_dropped : (one : ScheduleKey) → new ≡ old → has_key old.keys one ≡ false → whole.key ≡ key_meant (key.Schedule one)
+      → thin_act place day whole.act ≡ delete → Thins place day old whole new
+  deletion_dropped one same none named deletes all has = subst (λ (t : Thinned). HasThinned place day t (all ++ whole ∷ [])) (sym same) (record {
     place_is = has.place_is;
     day_is = has.day_is;
     kept = has.kept;
@@ -191,7 +192,7 @@ module _ (place : List ℕ) (day : ℕ) (old new : Thinned) (whole : Change) whe
   })
     where
       unknown : (kept : List Change) → HasKeysOf old.keys kept → HasNoChangeOf whole.key kept
-      unknown kept known change among is = let bad = known change among key (sym named ∙ sym is) in let both : true ≡ false = sym bad ∙ none in cc
+      unknown kept known change among is = let bad = known change among one (sym named ∙ sym is) in let both : true ≡ false = sym bad ∙ none in cc
 
 -- an act that puts no schedule is its own thin form
 never_thin : (place : List ℕ) (day : ℕ) (act : Act) → puts_schedule act ≡ false → thin_act place day act ≡ act
@@ -252,9 +253,10 @@ pub matters_here : (place : List ℕ) {day : ℕ} (change : Change) {thinned : T
 matters_here place change has matters = ap (λ p. may_matter p change.key) (sym has.place_is) ∙ matters
 
 -- a change whose thin form is a deletion can be kept as a deletion with the same number and key
-pub deletion_kept : (place : List ℕ) (day : ℕ) (whole : Change) (number : ℕ) (key : Key) → whole.number ≡ number → whole.key ≡ key_meant key
-    → thin_act place day whole.act ≡ delete → thin_change place day whole ≡ record { number = number; key = key_meant key; act = delete }
-deletion_kept place day whole number key numbered named deletes = λ i. record { number = numbered i; key = named i; act = deletes i }
+pub deletion_kept : (place : List ℕ) (day : ℕ) (whole : Change) (number : ℕ) (one : ScheduleKey) → whole.number ≡ number
+    → whole.key ≡ key_meant (key.Schedule one) → thin_act place day whole.act ≡ delete
+    → thin_change place day whole ≡ record { number = number; key = key_meant (key.Schedule one); act = delete }
+deletion_kept place day whole number one numbered named deletes = λ i. record { number = numbered i; key = named i; act = deletes i }
 
 -- ---- the changes of a record that is a unit by itself
 

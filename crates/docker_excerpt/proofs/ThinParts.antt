@@ -1,9 +1,8 @@
--- The changes that the docker of one place and day needs of a thin file make a state. Its entries are those of the wanted changes of a thinning, and it is valid.
-use Rattle.std.proofs.Common.{◌≡◌, ℕ, ◌≤◌, List, [], ◌∷◌, map, length, ap, ◌∙◌, subst, sym, Contains}
+-- The changes that the docker of one place and day needs of a thin file make a valid state. They are the wanted changes of a thinning, in any order.
+use Rattle.std.proofs.Common.{◌≡◌, ℕ, List, [], ◌∷◌, map, ap, ◌∙◌, subst, Contains}
 use Rattle.std.specs.Prelude.{◌↔◌, filter, slice_index_or}
 use Rattle.std.specs.Global.{Vec}
 use Rattle.docker_model.specs.file.Change.{Key, Change, changes}
-use Rattle.docker_model.specs.file.File.{IsFile, most_records}
 use Rattle.docker_model.specs.state.Stamp.{LedgerItem, ledger_item_of}
 use Rattle.docker_model.specs.state.Op.{Entry, op_of}
 use Rattle.docker_model.specs.state.State.{State, IsGreatestAmong}
@@ -29,7 +28,7 @@ use Rattle.docker_excerpt.proofs.ThinExcerpt.{first_is}
 item_of_header : (head : List ℕ) (lines : List (List ℕ)) → head ≡ slice_index_or lines 0 [] → ledger_item_of (head ∷ []) ≡ ledger_item_of lines
 item_of_header head lines is = ap (λ (line : List ℕ). ledger_item_of (line ∷ [])) (is ∙ first_is lines)
 
--- an entry is the greatest among the entries of some changes if it is the greatest among those of the same changes in another order
+-- which entry is the greatest for a key doesn't depend on the order of the changes
 same_greatest : (made : Change → Key × Entry) (one other : List Change) → HaveSame one other → (key : Key) (entry : Entry)
     → IsGreatestAmong (map made one) key entry → IsGreatestAmong (map made other) key entry
 same_greatest made one other same key entry is = record {

@@ -1,5 +1,5 @@
 -- Schedules that run near the day of a docker, but don't call at its place.
-use Rattle.std.specs.Prelude.{◌≡◌, ◌↔◌, ◌⊎◌, ℕ, List, ◌∷◌, ◌++◌, map, filter, Contains, Option, Some, None}
+use Rattle.std.specs.Prelude.{◌↔◌, ℕ, List, ◌∷◌, ◌++◌, map, Contains, Option, Some, None}
 use Rattle.std.specs.List.{filter_map}
 use Rattle.std.specs.Global.{Vec}
 use Rattle.docker_model.specs.file.Change.{tiploc_key, association_key, schedule_key, schedule_body, put}

@@ -40,8 +40,8 @@ thin_of_parts place day all parts elsewhere = record {
 abbrev pub AreThinParts : List ℕ → ℕ → List Change → FileParts → Vec Elsewhere → Type 0
 AreThinParts place day all parts elsewhere = IsThinRead (thin_of_parts place day all parts elsewhere)
 
--- Says that the parts have the header of the thin file, and those of its kept changes that its docker needs. All kept changes to schedules of certain UIDs are
--- needed, and those to TIPLOCs and associations.
+-- Says that the parts have the header of the thin file, and the kept changes that its docker needs. The docker needs the changes to TIPLOCs and associations,
+-- and the changes to schedules of certain UIDs.
 pub record AreNeededParts (thin : ThinRead) (parts : FileParts) : Type 0 where
   pub header : parts.header ≡ thin.file.header_line
   pub uids : List (List ℕ)

@@ -43,13 +43,21 @@ pub(crate) fn ends_elsewhere(place: &Tiploc) -> [Line; 2]
 {
     if place.bytes() == b"NOWHERE" {
         return [
-            line_of(b"LOANOTHER 0000 0000                                                             "),
-            line_of(b"LTANOTHER 0000 0000                                                             "),
+            line_of(
+                b"LOANOTHER 0000 0000                                                             ",
+            ),
+            line_of(
+                b"LTANOTHER 0000 0000                                                             ",
+            ),
         ];
     }
     [
-        line_of(b"LONOWHERE 0000 0000                                                             "),
-        line_of(b"LTNOWHERE 0000 0000                                                             "),
+        line_of(
+            b"LONOWHERE 0000 0000                                                             ",
+        ),
+        line_of(
+            b"LTNOWHERE 0000 0000                                                             ",
+        ),
     ]
 }
 

@@ -68,9 +68,8 @@ impl ThinFile {
         self.parts.header.view()
     }
 
-    /// Takes the thin file apart. The parts have only those of the kept changes that the docker
-    /// needs. A change that puts a schedule which doesn't call at the place has a made-up origin and
-    /// terminus.
+    /// Takes the thin file apart. The parts have only the kept changes that the docker needs. If a
+    /// schedule doesn't call at the place, the change that puts it has a made-up origin and terminus.
     pub fn into_needed(self, alloc: Global) -> Result<FileParts, AllocError>
         ensures { IfOk result (AreNeededParts self) }
     {

@@ -1,12 +1,11 @@
 //! Laws of thinning, which drops the changes of a file that the docker of one place on one day
 //! doesn't need. Each change is judged by itself. A law is a function with an empty body. Its
 //! contract states a fact, which holds for all values of the variables.
-ghost use Rattle.std.specs.Prelude.{◌≡◌, ℕ, ◌-◌, ◌^◌, ◌<◌, ◌≤◌, Contains, List, [], ◌∷◌, ◌++◌, ◌↔◌, ◌||◌, ◌&&◌, length, fold, true, false};
-ghost use Rattle.std.specs.Str.{bytes_eq};
-ghost use Rattle.docker_model.specs.records.Record.{IsRecord, columns, is_location, kind_of, HasKind, origin_location, terminating_location};
+ghost use Rattle.std.specs.Prelude.{◌≡◌, ℕ, ◌-◌, ◌^◌, ◌<◌, ◌≤◌, Contains, List, [], ◌∷◌, ◌++◌, ◌↔◌, length, fold, true, false};
+ghost use Rattle.docker_model.specs.records.Record.{IsRecord, HasKind, origin_location, terminating_location};
 ghost use Rattle.docker_model.specs.records.Field.{HasGoodFields, as_new};
 ghost use Rattle.docker_model.specs.file.Journey.{calls_at};
-ghost use Rattle.docker_model.specs.file.File.{IsFile, IsSchedule, first_record, most_records};
+ghost use Rattle.docker_model.specs.file.File.{IsFile, first_record, most_records};
 ghost use Rattle.docker_model.specs.file.Change.{Key, ScheduleKey, delete, put, Body, tiploc_body, association_body, schedule_body, Change, changes};
 ghost use Rattle.docker_model.specs.state.Order.{IsBelow, IsAtMost};
 ghost use Rattle.docker_model.specs.state.Op.{key_cmp, op_of};

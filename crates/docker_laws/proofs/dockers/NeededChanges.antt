@@ -14,9 +14,9 @@ use Rattle.docker_model.specs.state.Summary.{IsSummary}
 use Rattle.docker_model.specs.docker.DockerLine.{DockerLine}
 use Rattle.docker_model.specs.docker.DockerList.{IsDockerList}
 use Rattle.docker_model.specs.docker.DockerText.{IsDockerText}
-use Rattle.docker_laws.specs.Excerpt.{IsNeeded, IsConcerned, HasCall, IsNamed, IsExcerpt}
+use Rattle.docker_laws.specs.Excerpt.{IsNeeded, IsConcerned, IsExcerpt}
 use Rattle.docker_laws.specs.Thinning.{may_matter, thin_body, thinned, table_of, IsThinning, IsStateOfChanges, is_wanted, wanted_changes, HasUidsOf}
-use Rattle.cif_laws.proofs.lists.Membership.{Contains-cons, cons-Contains, cons-Contains-first}
+use Rattle.cif_laws.proofs.lists.Membership.{cons-Contains, cons-Contains-first}
 use Rattle.cif_laws.proofs.lists.FilteredMembers.{filter_back}
 use Rattle.cif_laws.proofs.orders.Orders.{same_key}
 use Rattle.cif_laws.proofs.files.ChangeOrder.{Apart}
@@ -44,8 +44,12 @@ put_or_before (change ∷ all) table key body there = by (put_or_before all (aft
 
     first : (b : Bool) → is_of key change ≡ b → after_change table change key ≡ Some body → Put (change ∷ all) ⊎ (table key ≡ Some body)
     first true h left =
-        inl (change, cons-Contains-first change all, same_key change.key key h,
-        put_by change.act body (sym (λ i. cond (h i) (left_by change.act) (table key)) ∙ left))
+        inl (
+          change,
+          cons-Contains-first change all,
+          same_key change.key key h,
+          put_by change.act body (sym (λ i. cond (h i) (left_by change.act) (table key)) ∙ left),
+        )
     first false h left = inr (sym (after_there table change key h) ∙ left)
 
     by : Put all ⊎ (after_change table change key ≡ Some body) → Put (change ∷ all) ⊎ (table key ≡ Some body)

@@ -1,6 +1,6 @@
 -- A body and its thinned form belong to the same key. The thin records of a schedule don't call at
 -- the place.
-use Rattle.std.proofs.Common.{◌≡◌, ℕ, ◌+◌, ◌≤◌, List, [], ◌∷◌, ◌++◌, length, subst, inl, inr, ◌⊎◌, refl, ap, sym}
+use Rattle.std.proofs.Common.{◌≡◌, ℕ, ◌+◌, ◌≤◌, List, [], ◌∷◌, ◌++◌, subst, inl, inr, refl, ap, sym}
 use Rattle.std.proofs.Common.{◌∙◌, Bool, true, false, cond, Some, None, Contains, map, arith}
 use Rattle.std.specs.Prelude.{Option, codes, slice_index_or, nat_lt, ◌||◌, ◌&&◌}
 use Rattle.std.specs.Str.{bytes_eq}

@@ -1,6 +1,5 @@
 -- Each change adds the UID that its key names, if there is one. Sorting changes only the order.
-use Rattle.std.proofs.Common.{◌∙◌, map, sym, ap, Vec}
-use Rattle.cif_line.specs.declared.uid.Uid.{Uid}
+use Rattle.std.proofs.Common.{◌∙◌, map, sym, ap}
 use Rattle.cif_change.specs.Meaning.{change_meant, key_meant}
 use Rattle.docker_excerpt.specs.Elsewhere.{uid_named, uids_named}
 use Rattle.docker_excerpt.proofs.WalkSteps.{names_with_some, names_with_none}
